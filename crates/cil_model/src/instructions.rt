@@ -1,0 +1,170 @@
+// The instructions of a method's body, each in its long form (ECMA-335 III.3 and III.4).
+
+use crate::sequences::Sequence;
+use crate::texts::Text;
+use crate::types::{ClassName, DeclaredType, Signature};
+
+/// An operation on two integers of one size (ECMA-335 III.1.5, table 2, and table 7 for those that check overflow).
+#[derive(Clone, Copy, PartialEq, Eq, Debug)]
+pub enum BinaryOperation {
+    Add,
+    Subtract,
+    Multiply,
+    AddOverflow,
+    SubtractOverflow,
+    MultiplyOverflow,
+    Divide,
+    Remainder,
+    And,
+    Or,
+    ExclusiveOr,
+}
+
+/// An operation on one integer (ECMA-335 III.1.5, tables 3 and 5).
+#[derive(Clone, Copy, PartialEq, Eq, Debug)]
+pub enum UnaryOperation {
+    Negate,
+    Complement,
+}
+
+/// A shift of an integer by an amount (ECMA-335 III.1.5, table 6).
+#[derive(Clone, Copy, PartialEq, Eq, Debug)]
+pub enum ShiftOperation {
+    Left,
+    Right,
+    RightUnsigned,
+}
+
+/// A comparison that gives 1 or 0 (ECMA-335 III.1.5, table 4).
+#[derive(Clone, Copy, PartialEq, Eq, Debug)]
+pub enum Comparison {
+    Equal,
+    Greater,
+    Less,
+}
+
+/// A comparison that decides a branch (ECMA-335 III.1.5, table 4).
+#[derive(Clone, Copy, PartialEq, Eq, Debug)]
+pub enum BranchComparison {
+    Equal,
+    NotEqual,
+    GreaterOrEqual,
+    Greater,
+    LessOrEqual,
+    Less,
+}
+
+/// The name of a method, or `.ctor` (ECMA-335 II.10.5.1).
+#[derive(Debug, Drop)]
+pub enum MethodName {
+    Constructor,
+    Named(Text),
+}
+
+/// `type owner::name` (ECMA-335 II.16).
+#[derive(Debug, Drop)]
+pub struct FieldReference {
+    pub field_type: DeclaredType,
+    pub owner: ClassName,
+    pub name: Text,
+}
+
+/// `type owner::name(types)` (ECMA-335 II.15.1.3).
+#[derive(Debug, Drop)]
+pub struct MethodReference {
+    pub owner: ClassName,
+    pub name: MethodName,
+    pub signature: Signature,
+}
+
+/// An instruction. The text's name of each stands beside it.
+#[derive(Debug, Drop)]
+pub enum Instruction {
+    /// `nop`
+    NoOperation,
+    /// `ldc.i4`
+    LoadInt32(i32),
+    /// `ldc.i8`
+    LoadInt64(i64),
+    /// `ldnull`
+    LoadNull,
+    /// `ldstr`
+    LoadString(Text),
+    /// `ldarg`
+    LoadArgument(i64),
+    /// `starg`
+    StoreArgument(i64),
+    /// `ldloc`
+    LoadLocal(i64),
+    /// `stloc`
+    StoreLocal(i64),
+    /// `dup`
+    Duplicate,
+    /// `pop`
+    Pop,
+    /// `add`, `sub`, `mul`, `add.ovf`, `sub.ovf`, `mul.ovf`, `div`, `rem`, `and`, `or`, `xor`
+    Binary(BinaryOperation),
+    /// `neg`, `not`
+    Unary(UnaryOperation),
+    /// `shl`, `shr`, `shr.un`
+    Shift(ShiftOperation),
+    /// `ceq`, `cgt`, `clt`
+    Compare(Comparison),
+    /// `conv.i4`
+    ConvertInt32,
+    /// `conv.i8`
+    ConvertInt64,
+    /// `br`
+    Branch(Text),
+    /// `brtrue`
+    BranchTrue(Text),
+    /// `brfalse`
+    BranchFalse(Text),
+    /// `beq`, `bne.un`, `bge`, `bgt`, `ble`, `blt`
+    BranchCompare(BranchComparison, Text),
+    /// `switch`
+    Switch(Sequence<Text>),
+    /// `ldfld`
+    LoadField(FieldReference),
+    /// `stfld`
+    StoreField(FieldReference),
+    /// `ldsfld`
+    LoadStaticField(FieldReference),
+    /// `stsfld`
+    StoreStaticField(FieldReference),
+    /// `newarr`
+    NewArray(DeclaredType),
+    /// `ldlen`
+    LoadLength,
+    /// `ldelem.i4`
+    LoadElementInt32,
+    /// `ldelem.i8`
+    LoadElementInt64,
+    /// `ldelem.ref`
+    LoadElementReference,
+    /// `stelem.i4`
+    StoreElementInt32,
+    /// `stelem.i8`
+    StoreElementInt64,
+    /// `stelem.ref`
+    StoreElementReference,
+    /// `castclass`
+    CastClass(DeclaredType),
+    /// `isinst`
+    IsInstance(DeclaredType),
+    /// `call`, with `instance` or without
+    Call {
+        is_instance: bool,
+        method: MethodReference,
+    },
+    /// `callvirt`, of no constructor
+    CallVirtual {
+        owner: ClassName,
+        name: Text,
+        signature: Signature,
+    },
+    /// `newobj`: the class, and the types of its constructor's parameters
+    NewObject(ClassName, Sequence<DeclaredType>),
+    /// `ret`
+    Return,
+}

@@ -1,0 +1,79 @@
+// Types and names of classes, as they stand in the text.
+
+ghost use Rattle.std.specs.Prelude.{◌≡◌};
+
+use crate::sequences::Sequence;
+use crate::texts::Text;
+
+/// A class by its name, and the assembly that stands before it in brackets (ECMA-335 II.7.3).
+#[derive(Debug, PartialEq, Eq, Hash, Drop)]
+pub struct ClassName {
+    pub assembly: Option<Text>,
+    pub name: Text,
+}
+
+impl ClassName {
+    ghost use Rattle.cil_model.specs.Same.{same_class};
+
+    pub fn is_same(&self, other: &ClassName) -> bool
+        ensures { result ≡ same_class self.now other.now }
+    {
+        let same_assembly = match (&self.assembly, &other.assembly) {
+            (None, None) => true,
+            (Some(own), Some(others)) => own.is_same(others),
+            _ => false,
+        };
+        same_assembly && self.name.is_same(&other.name)
+    }
+}
+
+/// A type without brackets (ECMA-335 II.7.1).
+#[derive(Debug, PartialEq, Eq, Hash, Drop)]
+pub enum Element {
+    Int32,
+    Int64,
+    Object,
+    String,
+    Class(ClassName),
+}
+
+impl Element {
+    ghost use Rattle.cil_model.specs.Same.{same_element};
+
+    pub fn is_same(&self, other: &Element) -> bool
+        ensures { result ≡ same_element self.now other.now }
+    {
+        match (self, other) {
+            (Element::Int32, Element::Int32) => true,
+            (Element::Int64, Element::Int64) => true,
+            (Element::Object, Element::Object) => true,
+            (Element::String, Element::String) => true,
+            (Element::Class(own), Element::Class(others)) => own.is_same(others),
+            _ => false,
+        }
+    }
+}
+
+/// A type: the element, and how many pairs of brackets stand after it. `Dog[][]` has two.
+#[derive(Debug, PartialEq, Eq, Hash, Drop)]
+pub struct DeclaredType {
+    pub element: Element,
+    pub brackets: u32,
+}
+
+impl DeclaredType {
+    ghost use Rattle.cil_model.specs.Same.{same_type};
+
+    pub fn is_same(&self, other: &DeclaredType) -> bool
+        ensures { result ≡ same_type self.now other.now }
+    {
+        self.element.is_same(&other.element) && self.brackets == other.brackets
+    }
+}
+
+/// What a call is found by, beside the name (ECMA-335 II.15.3). No return type is `void`.
+#[derive(Debug, Drop)]
+pub struct Signature {
+    pub parameters: Sequence<DeclaredType>,
+    pub return_type: Option<DeclaredType>,
+}
