@@ -1,0 +1,7 @@
+//! The machine: what it does on each event.
+#![tactic(auto)]
+
+mod machine;
+mod thread;
+
+pub use machine::{Machine, Refused};
