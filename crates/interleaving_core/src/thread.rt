@@ -30,6 +30,7 @@ impl Thread {
         requires ready { CanGoOn self.old }
         requires live { self.old.end ≡ None }
         ensures sound { OnOk result (self.new.end ≡ None → CanGoOn self.new) }
+        ensures moved { OnOk result (self.new.place ≡ self.old.place + 1) }
         ensures budget { self.new.steps_left ≡ self.old.steps_left }
         ensures code { self.new.body ≡ self.old.body }
         ensures refused { OnErr result ((self.new ≡ self.old) × (console.new.items ≡ console.old.items)) }
