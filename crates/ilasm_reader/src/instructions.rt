@@ -1,0 +1,217 @@
+//! Instructions.
+
+ghost use Rattle.std.specs.Prelude.{◌<◌, ◌≤◌, length, IfOk};
+
+use crate::lists::{Parse, parentheses};
+use crate::operands::{Target, field_reference, method_reference};
+use crate::single::{after_word, expect_word, integer, name, quoted};
+use crate::types::{AnyType, element};
+use cil_model::instructions::{FieldReference, Instruction, MethodName, MethodReference};
+use cil_model::texts::Text;
+use cil_model::tokens::Token;
+use cil_model::types::DeclaredType;
+use ilasm_tokens::failure::Failure;
+use ilasm_tokens::words::{Bare, FieldAccess, Form, Jump, TypeTest, WithInteger, WordUse, use_of};
+use std::alloc::Global;
+
+fn bare(which: Bare) -> Instruction {
+    match which {
+        Bare::NoOperation => Instruction::NoOperation,
+        Bare::LoadNull => Instruction::LoadNull,
+        Bare::Duplicate => Instruction::Duplicate,
+        Bare::Pop => Instruction::Pop,
+        Bare::ConvertInt32 => Instruction::ConvertInt32,
+        Bare::ConvertInt64 => Instruction::ConvertInt64,
+        Bare::LoadLength => Instruction::LoadLength,
+        Bare::LoadElementInt32 => Instruction::LoadElementInt32,
+        Bare::LoadElementInt64 => Instruction::LoadElementInt64,
+        Bare::LoadElementReference => Instruction::LoadElementReference,
+        Bare::StoreElementInt32 => Instruction::StoreElementInt32,
+        Bare::StoreElementInt64 => Instruction::StoreElementInt64,
+        Bare::StoreElementReference => Instruction::StoreElementReference,
+        Bare::Return => Instruction::Return,
+        Bare::Int32(value) => Instruction::LoadInt32(value),
+        Bare::Argument(number) => Instruction::LoadArgument(number),
+        Bare::Local(number) => Instruction::LoadLocal(number),
+        Bare::SetLocal(number) => Instruction::StoreLocal(number),
+        Bare::Binary(operation) => Instruction::Binary(operation),
+        Bare::Unary(operation) => Instruction::Unary(operation),
+        Bare::Shift(operation) => Instruction::Shift(operation),
+        Bare::Compare(comparison) => Instruction::Compare(comparison),
+    }
+}
+
+fn with_integer(which: WithInteger, value: i64) -> Instruction {
+    match which {
+        WithInteger::LoadInt64 => Instruction::LoadInt64(value),
+        WithInteger::LoadArgument => Instruction::LoadArgument(value),
+        WithInteger::StoreArgument => Instruction::StoreArgument(value),
+        WithInteger::LoadLocal => Instruction::LoadLocal(value),
+        WithInteger::StoreLocal => Instruction::StoreLocal(value),
+    }
+}
+
+fn jump(which: Jump, label: Text) -> Instruction {
+    match which {
+        Jump::Always => Instruction::Branch(label),
+        Jump::IfTrue => Instruction::BranchTrue(label),
+        Jump::IfFalse => Instruction::BranchFalse(label),
+        Jump::Compare(comparison) => Instruction::BranchCompare(comparison, label),
+    }
+}
+
+fn with_field(which: FieldAccess, field: FieldReference) -> Instruction {
+    match which {
+        FieldAccess::Load => Instruction::LoadField(field),
+        FieldAccess::Store => Instruction::StoreField(field),
+        FieldAccess::LoadStatic => Instruction::LoadStaticField(field),
+        FieldAccess::StoreStatic => Instruction::StoreStaticField(field),
+    }
+}
+
+fn with_type(which: TypeTest, its_type: DeclaredType) -> Instruction {
+    match which {
+        TypeTest::Cast => Instruction::CastClass(its_type),
+        TypeTest::IsInstance => Instruction::IsInstance(its_type),
+    }
+}
+
+/// The instruction `ldc.i4`, behind its name.
+fn load_int32(tokens: &[Token]) -> Result<(Instruction, &[Token]), Failure>
+    ensures { IfOk result (λ x. length x.1.now ≤ length tokens.now) }
+{
+    let (value, rest) = integer(tokens)?;
+    match i32::try_from(value) {
+        Ok(value) => Ok((Instruction::LoadInt32(value), rest)),
+        Err(_) => Err(Failure::Refused { left: tokens.len() }),
+    }
+}
+
+/// The instruction `call`, behind its name.
+fn call(alloc: Global, tokens: &[Token]) -> Result<(Instruction, &[Token]), Failure>
+    ensures { IfOk result (λ x. length x.1.now ≤ length tokens.now) }
+{
+    if let Some(rest) = after_word(tokens, b"instance") {
+        let (method, rest) = method_reference(alloc, rest)?;
+        let is_instance = true;
+        return Ok((
+            Instruction::Call {
+                is_instance,
+                method,
+            },
+            rest,
+        ));
+    }
+    let (method, rest) = method_reference(alloc, tokens)?;
+    let is_instance = false;
+    Ok((
+        Instruction::Call {
+            is_instance,
+            method,
+        },
+        rest,
+    ))
+}
+
+/// The instruction `callvirt`, behind its name.
+fn call_virtual(alloc: Global, tokens: &[Token]) -> Result<(Instruction, &[Token]), Failure>
+    ensures { IfOk result (λ x. length x.1.now ≤ length tokens.now) }
+{
+    let (method, rest) = method_reference(alloc, expect_word(tokens, b"instance")?)?;
+    let MethodReference {
+        owner,
+        name,
+        signature,
+    } = method;
+    match name {
+        MethodName::Constructor => Err(Failure::Refused { left: tokens.len() }),
+        MethodName::Named(name) => Ok((
+            Instruction::CallVirtual {
+                owner,
+                name,
+                signature,
+            },
+            rest,
+        )),
+    }
+}
+
+/// The instruction `newobj`, behind its name.
+fn new_object(alloc: Global, tokens: &[Token]) -> Result<(Instruction, &[Token]), Failure>
+    ensures { IfOk result (λ x. length x.1.now ≤ length tokens.now) }
+{
+    let (method, rest) = method_reference(alloc, expect_word(tokens, b"instance")?)?;
+    let MethodReference {
+        owner,
+        name,
+        signature,
+    } = method;
+    match (name, signature.return_type) {
+        (MethodName::Constructor, None) => {
+            Ok((Instruction::NewObject(owner, signature.parameters), rest))
+        }
+        _ => Err(Failure::Refused { left: tokens.len() }),
+    }
+}
+
+/// An instruction, behind its name.
+fn instruction_of(
+    alloc: Global,
+    form: Form,
+    tokens: &[Token],
+) -> Result<(Instruction, &[Token]), Failure>
+    ensures { IfOk result (λ x. length x.1.now ≤ length tokens.now) }
+{
+    match form {
+        Form::Bare(which) => Ok((bare(which), tokens)),
+        Form::Int32 => load_int32(tokens),
+        Form::Integer(which) => {
+            let (value, rest) = integer(tokens)?;
+            Ok((with_integer(which, value), rest))
+        }
+        Form::Quoted => {
+            let (characters, rest) = quoted(alloc, tokens)?;
+            Ok((Instruction::LoadString(characters), rest))
+        }
+        Form::Jump(which) => {
+            let (label, rest) = name(alloc, tokens)?;
+            Ok((jump(which, label), rest))
+        }
+        Form::Switch => {
+            let (labels, rest) = parentheses::<Target>(alloc, tokens)?;
+            Ok((Instruction::Switch(labels), rest))
+        }
+        Form::Field(which) => {
+            let (field, rest) = field_reference(alloc, tokens)?;
+            Ok((with_field(which, field), rest))
+        }
+        Form::NewArray => {
+            let (element, rest) = element(alloc, tokens)?;
+            let brackets = 0;
+            Ok((
+                Instruction::NewArray(DeclaredType { element, brackets }),
+                rest,
+            ))
+        }
+        Form::Type(which) => {
+            let (its_type, rest) = AnyType::parse(alloc, tokens)?;
+            Ok((with_type(which, its_type), rest))
+        }
+        Form::Call => call(alloc, tokens),
+        Form::CallVirtual => call_virtual(alloc, tokens),
+        Form::NewObject => new_object(alloc, tokens),
+    }
+}
+
+/// An instruction.
+pub fn instruction(alloc: Global, tokens: &[Token]) -> Result<(Instruction, &[Token]), Failure>
+    ensures { IfOk result (λ x. length x.1.now < length tokens.now) }
+{
+    let [Token::Reserved(word), rest @ ..] = tokens else {
+        return Err(Failure::Refused { left: tokens.len() });
+    };
+    match use_of(word.as_str().as_bytes()) {
+        Some(WordUse::Instruction(form)) => instruction_of(alloc, form, rest),
+        _ => Err(Failure::Refused { left: tokens.len() }),
+    }
+}

@@ -1,0 +1,82 @@
+//! Fields, methods and labels that instructions name.
+
+ghost use Rattle.std.specs.Prelude.{◌<◌, length, IfOk};
+
+use crate::lists::{Parse, parentheses};
+use crate::single::{after_word, expect_symbol, expect_word, name};
+use crate::types::{AnyType, ClassReference, return_type};
+use cil_model::instructions::{FieldReference, MethodName, MethodReference};
+use cil_model::texts::Text;
+use cil_model::tokens::{Symbol, Token};
+use cil_model::types::Signature;
+use ilasm_tokens::failure::Failure;
+use std::alloc::Global;
+
+/// A label that an instruction goes to.
+pub struct Target;
+
+impl Parse for Target {
+    type Tree = Text;
+
+    fn parse(alloc: Global, tokens: &[Token]) -> Result<(Text, &[Token]), Failure> {
+        name(alloc, tokens)
+    }
+}
+
+/// `type owner::name`.
+pub fn field_reference(
+    alloc: Global,
+    tokens: &[Token],
+) -> Result<(FieldReference, &[Token]), Failure>
+    ensures { IfOk result (λ x. length x.1.now < length tokens.now) }
+{
+    let (field_type, rest) = AnyType::parse(alloc, tokens)?;
+    let (owner, rest) = ClassReference::parse(alloc, rest)?;
+    let rest = expect_symbol(rest, Symbol::DoubleColon)?;
+    let (name, rest) = name(alloc, rest)?;
+    Ok((
+        FieldReference {
+            field_type,
+            owner,
+            name,
+        },
+        rest,
+    ))
+}
+
+/// A name, or `.ctor`.
+fn method_name(alloc: Global, tokens: &[Token]) -> Result<(MethodName, &[Token]), Failure>
+    ensures { IfOk result (λ x. length x.1.now < length tokens.now) }
+{
+    if let Some(rest) = after_word(tokens, b".ctor") {
+        return Ok((MethodName::Constructor, rest));
+    }
+    let (name, rest) = name(alloc, tokens)?;
+    Ok((MethodName::Named(name), rest))
+}
+
+/// `type owner::name(types)`, with a name or `.ctor`.
+pub fn method_reference(
+    alloc: Global,
+    tokens: &[Token],
+) -> Result<(MethodReference, &[Token]), Failure>
+    ensures { IfOk result (λ x. length x.1.now < length tokens.now) }
+{
+    let (return_type, rest) = return_type(alloc, tokens)?;
+    let (owner, rest) = ClassReference::parse(alloc, rest)?;
+    let rest = expect_symbol(rest, Symbol::DoubleColon)?;
+    let (name, rest) = method_name(alloc, rest)?;
+    let (parameters, rest) = parentheses::<AnyType>(alloc, rest)?;
+    let signature = Signature {
+        parameters,
+        return_type,
+    };
+    Ok((
+        MethodReference {
+            owner,
+            name,
+            signature,
+        },
+        rest,
+    ))
+}

@@ -1,0 +1,97 @@
+//! Reading a whole source.
+
+ghost use Rattle.std.specs.Prelude.{◌≡◌};
+ghost use Rattle.cil_model.specs.Sources.{has_foreign_byte};
+ghost use Rattle.ilasm_reader.specs.Answers.{numbered, told_at_once};
+
+use crate::classes::tree;
+use cil_model::limits::MOST_SOURCE_BYTES;
+use cil_model::trees::Tree;
+use ilasm_tokens::failure::Failure;
+use ilasm_tokens::source::{token_offset, tokens};
+use std::alloc::Global;
+use std::error::Error;
+use std::fmt;
+
+/// Why a source has no tree. Offsets are in bytes, from 0.
+#[derive(Clone, Copy, Debug, PartialEq, Eq)]
+pub enum ReadError {
+    /// It has more than `MOST_SOURCE_BYTES` bytes.
+    TooLong,
+    /// A byte is above 127; the first is at this offset.
+    NotAscii { offset: usize },
+    /// No token begins here.
+    NoToken { offset: usize },
+    /// The tokens are no sentence of the grammar; they go wrong here.
+    NoTree { offset: usize },
+    OutOfMemory,
+}
+
+impl ReadError {
+    /// The number by which a user knows the refusal.
+    pub fn number(&self) -> u16
+        ensures { result ≡ numbered self.now }
+    {
+        match self {
+            ReadError::NotAscii { .. } => 101,
+            ReadError::NoToken { .. } => 102,
+            ReadError::NoTree { .. } => 103,
+            ReadError::TooLong => 104,
+            ReadError::OutOfMemory => 105,
+        }
+    }
+}
+
+impl fmt::Display for ReadError {
+    fn fmt<W: fmt::Write>(&self, f: &mut fmt::Formatter<W>) -> fmt::Result {
+        match self {
+            ReadError::TooLong => write!(f, "the source has more than {MOST_SOURCE_BYTES} bytes"),
+            ReadError::NotAscii { offset } => write!(f, "the byte at {offset} is above 127"),
+            ReadError::NoToken { offset } => write!(f, "no token begins at byte {offset}"),
+            ReadError::NoTree { offset } => {
+                write!(f, "what begins at byte {offset} is not expected there")
+            }
+            ReadError::OutOfMemory => write!(f, "out of memory"),
+        }
+    }
+}
+
+impl Error for ReadError {}
+
+/// Whether a byte is above 127.
+fn has_foreign_byte(source: &[u8]) -> bool
+    ensures { result ≡ has_foreign_byte source.now }
+{
+    source.iter().any(|byte| *byte > 127)
+}
+
+/// The tree of a source (ECMA-335 II.5; the grammar is this profile's).
+pub fn read(alloc: Global, source: &[u8]) -> Result<Tree, ReadError>
+    ensures { told_at_once source.now result }
+{
+    if source.len() > MOST_SOURCE_BYTES {
+        return Err(ReadError::TooLong);
+    }
+    if has_foreign_byte(source) {
+        let offset = source.iter().take_while(|byte| **byte <= 127).count();
+        return Err(ReadError::NotAscii { offset });
+    }
+    let tokens = match tokens(alloc, source) {
+        Ok(tokens) => tokens,
+        Err(Failure::Refused { left }) => {
+            let offset = source.len().saturating_sub(left);
+            return Err(ReadError::NoToken { offset });
+        }
+        Err(Failure::OutOfMemory) => return Err(ReadError::OutOfMemory),
+    };
+    match tree(alloc, &tokens) {
+        Ok(tree) => Ok(tree),
+        Err(Failure::Refused { left }) => {
+            match token_offset(alloc, source, tokens.len().saturating_sub(left)) {
+                Ok(offset) => Err(ReadError::NoTree { offset }),
+                Err(_) => Err(ReadError::OutOfMemory),
+            }
+        }
+        Err(Failure::OutOfMemory) => Err(ReadError::OutOfMemory),
+    }
+}

@@ -1,0 +1,66 @@
+//! What a byte may begin.
+
+use cil_model::tokens::Symbol;
+
+/// What a byte may begin.
+#[derive(Clone, Copy, Debug, PartialEq, Eq)]
+pub enum Kind {
+    /// A word: a letter, `_` or `.`.
+    Word,
+    /// An integer.
+    Digit,
+    /// An integer, by its sign.
+    Minus,
+    /// A string literal.
+    Quote,
+    /// One colon or two.
+    Colon,
+    /// A symbol of this byte alone.
+    Single(Symbol),
+    /// No token.
+    Nothing,
+}
+
+pub fn kind_of(byte: u8) -> Kind {
+    match byte {
+        b'A'..=b'Z' | b'a'..=b'z' | b'_' | b'.' => Kind::Word,
+        b'0'..=b'9' => Kind::Digit,
+        b'-' => Kind::Minus,
+        b'"' => Kind::Quote,
+        b':' => Kind::Colon,
+        b'{' => Kind::Single(Symbol::OpenBrace),
+        b'}' => Kind::Single(Symbol::CloseBrace),
+        b'(' => Kind::Single(Symbol::OpenParenthesis),
+        b')' => Kind::Single(Symbol::CloseParenthesis),
+        b'[' => Kind::Single(Symbol::OpenBracket),
+        b']' => Kind::Single(Symbol::CloseBracket),
+        b',' => Kind::Single(Symbol::Comma),
+        _ => Kind::Nothing,
+    }
+}
+
+/// A letter, a digit, `_` or `.`.
+pub fn is_word_byte(byte: u8) -> bool {
+    matches!(byte, b'A'..=b'Z' | b'a'..=b'z' | b'0'..=b'9' | b'_' | b'.')
+}
+
+/// Tab, line feed, carriage return or space.
+pub fn is_white(byte: u8) -> bool {
+    matches!(byte, b'\t' | b'\n' | b'\r' | b' ')
+}
+
+/// A byte of a string literal that stands for itself.
+pub fn is_plain(byte: u8) -> bool {
+    byte >= b' ' && byte <= b'~' && byte != b'"' && byte != b'\\'
+}
+
+/// The byte for which a backslash and this byte stand.
+pub fn escaped(byte: u8) -> Option<u8> {
+    match byte {
+        b'n' => Some(b'\n'),
+        b't' => Some(b'\t'),
+        b'\\' => Some(b'\\'),
+        b'"' => Some(b'"'),
+        _ => None,
+    }
+}

@@ -1,0 +1,30 @@
+//! Why a part of a source could not be read.
+
+ghost use Rattle.std.specs.Prelude.{◌≡◌};
+ghost use Rattle.ilasm_tokens.specs.declared.failure.Failure.TheVariants.{OutOfMemory};
+
+use std::alloc::{AllocError, AllocFailed};
+
+/// Why a part of a source could not be read.
+#[derive(Clone, Copy, Debug, PartialEq, Eq)]
+pub enum Failure {
+    /// What was read is not of the form that is wanted here. It began where `left` items, bytes or tokens, were left.
+    Refused { left: usize },
+    OutOfMemory,
+}
+
+impl From<AllocError> for Failure {
+    ghost from_gives = { λ _ e. e ≡ OutOfMemory };
+
+    fn from(_refused: AllocError) -> Failure {
+        Failure::OutOfMemory
+    }
+}
+
+impl<T: Drop> From<AllocFailed<T>> for Failure {
+    ghost from_gives = { λ _ e. e ≡ OutOfMemory };
+
+    fn from(_refused: AllocFailed<T>) -> Failure {
+        Failure::OutOfMemory
+    }
+}

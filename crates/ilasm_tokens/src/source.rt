@@ -1,0 +1,44 @@
+//! The tokens of a whole source.
+
+ghost use Rattle.std.specs.Prelude.{◌<◌, ◌≤◌, length, IfOk};
+
+use crate::failure::Failure;
+use crate::lexemes::lexeme;
+use crate::spaces::after_spaces;
+use cil_model::tokens::Token;
+use std::alloc::Global;
+
+/// A token, and what is left behind the white space and comments that follow it.
+fn spaced_lexeme(alloc: Global, bytes: &[u8]) -> Result<(Token, &[u8]), Failure>
+    ensures { IfOk result (λ x. length x.1.now < length bytes.now) }
+{
+    let (token, rest) = lexeme(alloc, bytes)?;
+    Ok((token, after_spaces(rest)?))
+}
+
+/// The tokens of a source.
+pub fn tokens(alloc: Global, source: &[u8]) -> Result<Vec<Token>, Failure> {
+    let mut tokens = Vec::new(alloc);
+    let mut rest = after_spaces(source)?;
+    while !rest.is_empty() {
+        let (token, after) = spaced_lexeme(alloc, rest)?;
+        tokens.push(token)?;
+        rest = after;
+    }
+    Ok(tokens)
+}
+
+/// Where a token of a source begins, counted in bytes; for messages. The end of the source, if it has no token of that number.
+pub fn token_offset(alloc: Global, source: &[u8], number: usize) -> Result<usize, Failure>
+    ensures { IfOk result (λ offset. offset ≤ length source.now) }
+{
+    let mut rest = after_spaces(source)?;
+    for _ in 0..number {
+        if rest.is_empty() {
+            break;
+        }
+        let (_token, after) = spaced_lexeme(alloc, rest)?;
+        rest = after;
+    }
+    Ok(source.len() - rest.len())
+}

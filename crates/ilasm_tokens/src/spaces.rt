@@ -1,0 +1,65 @@
+//! White space and comments.
+
+ghost use Rattle.std.specs.Prelude.{◌≤◌, length, IfOk, IfSome};
+
+use crate::bytes::is_white;
+use crate::failure::Failure;
+
+/// What is left behind a comment that goes on to the end of the line.
+fn after_line(bytes: &[u8]) -> &[u8]
+    ensures within { length result.now ≤ length bytes.now }
+{
+    let mut rest = bytes;
+    while let [byte, after @ ..] = rest {
+        rest = after;
+        if *byte == b'\n' {
+            return rest;
+        }
+    }
+    rest
+}
+
+/// What is left behind a comment that goes on to the next `*/`.
+fn after_block(bytes: &[u8]) -> Option<&[u8]>
+    ensures within { IfSome result (λ r. length r.now ≤ length bytes.now) }
+{
+    let mut rest = bytes;
+    let mut star = false;
+    while let [byte, after @ ..] = rest {
+        rest = after;
+        if star && *byte == b'/' {
+            return Some(rest);
+        }
+        star = *byte == b'*';
+    }
+    None
+}
+
+/// What is left behind white space and comments.
+pub fn after_spaces(bytes: &[u8]) -> Result<&[u8], Failure>
+    ensures within { IfOk result (λ r. length r.now ≤ length bytes.now) }
+{
+    let mut rest = bytes;
+    while let [first, after @ ..] = rest {
+        if is_white(*first) {
+            rest = after;
+        } else if *first == b'/' {
+            let [second, behind @ ..] = after else {
+                return Ok(rest);
+            };
+            if *second == b'/' {
+                rest = after_line(behind);
+            } else if *second == b'*' {
+                let Some(outside) = after_block(behind) else {
+                    return Err(Failure::Refused { left: rest.len() });
+                };
+                rest = outside;
+            } else {
+                return Ok(rest);
+            }
+        } else {
+            return Ok(rest);
+        }
+    }
+    Ok(rest)
+}

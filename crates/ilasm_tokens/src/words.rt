@@ -1,0 +1,510 @@
+//! The reserved words, and what they are for.
+
+ghost use Rattle.std.specs.Prelude.{◌<◌};
+
+use cil_model::instructions::{
+    BinaryOperation, BranchComparison, Comparison, ShiftOperation, UnaryOperation,
+};
+
+/// What a reserved word is for.
+#[derive(Clone, Copy, Debug)]
+pub enum WordUse {
+    /// A word of the grammar alone.
+    Grammar,
+    /// The name of an instruction.
+    Instruction(Form),
+}
+
+/// The operands that follow an instruction's name, and the instruction that they make.
+#[derive(Clone, Copy, Debug)]
+pub enum Form {
+    /// None.
+    Bare(Bare),
+    /// An integer of 32 bits, of `ldc.i4`.
+    Int32,
+    /// An integer.
+    Integer(WithInteger),
+    /// A string literal, of `ldstr`.
+    Quoted,
+    /// A label.
+    Jump(Jump),
+    /// Labels, of `switch`.
+    Switch,
+    /// A field.
+    Field(FieldAccess),
+    /// A type without brackets, of `newarr`.
+    NewArray,
+    /// A type.
+    Type(TypeTest),
+    /// A method, of `call`.
+    Call,
+    /// A method, of `callvirt`.
+    CallVirtual,
+    /// A constructor, of `newobj`.
+    NewObject,
+}
+
+/// Instructions whose name says all. Those of a short form have their operand in it.
+#[derive(Clone, Copy, Debug)]
+pub enum Bare {
+    NoOperation,
+    LoadNull,
+    Duplicate,
+    Pop,
+    ConvertInt32,
+    ConvertInt64,
+    LoadLength,
+    LoadElementInt32,
+    LoadElementInt64,
+    LoadElementReference,
+    StoreElementInt32,
+    StoreElementInt64,
+    StoreElementReference,
+    Return,
+    /// `ldc.i4.3` and its like
+    Int32(i32),
+    /// `ldarg.0` and its like
+    Argument(i64),
+    /// `ldloc.0` and its like
+    Local(i64),
+    /// `stloc.0` and its like
+    SetLocal(i64),
+    Binary(BinaryOperation),
+    Unary(UnaryOperation),
+    Shift(ShiftOperation),
+    Compare(Comparison),
+}
+
+/// Instructions with an integer of 64 bits.
+#[derive(Clone, Copy, Debug)]
+pub enum WithInteger {
+    LoadInt64,
+    LoadArgument,
+    StoreArgument,
+    LoadLocal,
+    StoreLocal,
+}
+
+/// Instructions with one label.
+#[derive(Clone, Copy, Debug)]
+pub enum Jump {
+    Always,
+    IfTrue,
+    IfFalse,
+    Compare(BranchComparison),
+}
+
+/// Instructions with a field.
+#[derive(Clone, Copy, Debug)]
+pub enum FieldAccess {
+    Load,
+    Store,
+    LoadStatic,
+    StoreStatic,
+}
+
+/// Instructions with a type.
+#[derive(Clone, Copy, Debug)]
+pub enum TypeTest {
+    Cast,
+    IsInstance,
+}
+
+/// The reserved words, in the bucket of each.
+static BUCKETS: [&[(&[u8], WordUse)]; 64] = [
+    &[],
+    &[
+        (
+            b"conv.i4",
+            WordUse::Instruction(Form::Bare(Bare::ConvertInt32)),
+        ),
+        (
+            b"castclass",
+            WordUse::Instruction(Form::Type(TypeTest::Cast)),
+        ),
+    ],
+    &[
+        (b"specialname", WordUse::Grammar),
+        (
+            b"ldc.i8",
+            WordUse::Instruction(Form::Integer(WithInteger::LoadInt64)),
+        ),
+        (
+            b"blt",
+            WordUse::Instruction(Form::Jump(Jump::Compare(BranchComparison::Less))),
+        ),
+        (
+            b"ldelem.i8",
+            WordUse::Instruction(Form::Bare(Bare::LoadElementInt64)),
+        ),
+    ],
+    &[
+        (
+            b"sub.ovf",
+            WordUse::Instruction(Form::Bare(Bare::Binary(BinaryOperation::SubtractOverflow))),
+        ),
+        (
+            b"div",
+            WordUse::Instruction(Form::Bare(Bare::Binary(BinaryOperation::Divide))),
+        ),
+        (
+            b"clt",
+            WordUse::Instruction(Form::Bare(Bare::Compare(Comparison::Less))),
+        ),
+        (
+            b"stloc.0",
+            WordUse::Instruction(Form::Bare(Bare::SetLocal(0))),
+        ),
+    ],
+    &[
+        (b".class", WordUse::Grammar),
+        (
+            b"rem",
+            WordUse::Instruction(Form::Bare(Bare::Binary(BinaryOperation::Remainder))),
+        ),
+        (
+            b"stloc.1",
+            WordUse::Instruction(Form::Bare(Bare::SetLocal(1))),
+        ),
+    ],
+    &[
+        (
+            b"conv.i8",
+            WordUse::Instruction(Form::Bare(Bare::ConvertInt64)),
+        ),
+        (b"newobj", WordUse::Instruction(Form::NewObject)),
+        (
+            b"stloc.2",
+            WordUse::Instruction(Form::Bare(Bare::SetLocal(2))),
+        ),
+    ],
+    &[
+        (
+            b"bne.un",
+            WordUse::Instruction(Form::Jump(Jump::Compare(BranchComparison::NotEqual))),
+        ),
+        (
+            b"ldfld",
+            WordUse::Instruction(Form::Field(FieldAccess::Load)),
+        ),
+        (
+            b"stloc.3",
+            WordUse::Instruction(Form::Bare(Bare::SetLocal(3))),
+        ),
+    ],
+    &[
+        (b"virtual", WordUse::Grammar),
+        (
+            b"mul.ovf",
+            WordUse::Instruction(Form::Bare(Bare::Binary(BinaryOperation::MultiplyOverflow))),
+        ),
+        (
+            b"shl",
+            WordUse::Instruction(Form::Bare(Bare::Shift(ShiftOperation::Left))),
+        ),
+    ],
+    &[(b"static", WordUse::Grammar)],
+    &[(b"dup", WordUse::Instruction(Form::Bare(Bare::Duplicate)))],
+    &[
+        (b".entrypoint", WordUse::Grammar),
+        (b".maxstack", WordUse::Grammar),
+        (
+            b"ldarg",
+            WordUse::Instruction(Form::Integer(WithInteger::LoadArgument)),
+        ),
+        (
+            b"sub",
+            WordUse::Instruction(Form::Bare(Bare::Binary(BinaryOperation::Subtract))),
+        ),
+        (
+            b"ldc.i4.m1",
+            WordUse::Instruction(Form::Bare(Bare::Int32(-1))),
+        ),
+    ],
+    &[
+        (b"ldnull", WordUse::Instruction(Form::Bare(Bare::LoadNull))),
+        (b"ret", WordUse::Instruction(Form::Bare(Bare::Return))),
+    ],
+    &[(b"newslot", WordUse::Grammar)],
+    &[
+        (b"managed", WordUse::Grammar),
+        (b"nop", WordUse::Instruction(Form::Bare(Bare::NoOperation))),
+        (
+            b"shr",
+            WordUse::Instruction(Form::Bare(Bare::Shift(ShiftOperation::Right))),
+        ),
+    ],
+    &[
+        (b".assembly", WordUse::Grammar),
+        (
+            b"ldloc",
+            WordUse::Instruction(Form::Integer(WithInteger::LoadLocal)),
+        ),
+        (
+            b"mul",
+            WordUse::Instruction(Form::Bare(Bare::Binary(BinaryOperation::Multiply))),
+        ),
+    ],
+    &[
+        (b"pop", WordUse::Instruction(Form::Bare(Bare::Pop))),
+        (b"newarr", WordUse::Instruction(Form::NewArray)),
+        (b"ldlen", WordUse::Instruction(Form::Bare(Bare::LoadLength))),
+    ],
+    &[(
+        b"stsfld",
+        WordUse::Instruction(Form::Field(FieldAccess::StoreStatic)),
+    )],
+    &[(
+        b"not",
+        WordUse::Instruction(Form::Bare(Bare::Unary(UnaryOperation::Complement))),
+    )],
+    &[(b"switch", WordUse::Instruction(Form::Switch))],
+    &[],
+    &[
+        (b"abstract", WordUse::Grammar),
+        (b"br", WordUse::Instruction(Form::Jump(Jump::Always))),
+        (b"brtrue", WordUse::Instruction(Form::Jump(Jump::IfTrue))),
+    ],
+    &[
+        (b"instance", WordUse::Grammar),
+        (
+            b"stelem.i4",
+            WordUse::Instruction(Form::Bare(Bare::StoreElementInt32)),
+        ),
+    ],
+    &[(b"extern", WordUse::Grammar), (b"class", WordUse::Grammar)],
+    &[(b"string", WordUse::Grammar)],
+    &[],
+    &[
+        (
+            b"xor",
+            WordUse::Instruction(Form::Bare(Bare::Binary(BinaryOperation::ExclusiveOr))),
+        ),
+        (
+            b"stelem.i8",
+            WordUse::Instruction(Form::Bare(Bare::StoreElementInt64)),
+        ),
+    ],
+    &[(
+        b"isinst",
+        WordUse::Instruction(Form::Type(TypeTest::IsInstance)),
+    )],
+    &[],
+    &[
+        (b"call", WordUse::Instruction(Form::Call)),
+        (
+            b"ldc.i4.0",
+            WordUse::Instruction(Form::Bare(Bare::Int32(0))),
+        ),
+    ],
+    &[
+        (
+            b"stfld",
+            WordUse::Instruction(Form::Field(FieldAccess::Store)),
+        ),
+        (
+            b"ldc.i4.1",
+            WordUse::Instruction(Form::Bare(Bare::Int32(1))),
+        ),
+    ],
+    &[
+        (
+            b"shr.un",
+            WordUse::Instruction(Form::Bare(Bare::Shift(ShiftOperation::RightUnsigned))),
+        ),
+        (
+            b"ldelem.ref",
+            WordUse::Instruction(Form::Bare(Bare::LoadElementReference)),
+        ),
+        (
+            b"ldc.i4.2",
+            WordUse::Instruction(Form::Bare(Bare::Int32(2))),
+        ),
+    ],
+    &[
+        (b"brfalse", WordUse::Instruction(Form::Jump(Jump::IfFalse))),
+        (
+            b"ldc.i4.3",
+            WordUse::Instruction(Form::Bare(Bare::Int32(3))),
+        ),
+    ],
+    &[(
+        b"ldc.i4.4",
+        WordUse::Instruction(Form::Bare(Bare::Int32(4))),
+    )],
+    &[
+        (
+            b"starg",
+            WordUse::Instruction(Form::Integer(WithInteger::StoreArgument)),
+        ),
+        (
+            b"or",
+            WordUse::Instruction(Form::Bare(Bare::Binary(BinaryOperation::Or))),
+        ),
+        (b"callvirt", WordUse::Instruction(Form::CallVirtual)),
+        (
+            b"ldc.i4.5",
+            WordUse::Instruction(Form::Bare(Bare::Int32(5))),
+        ),
+    ],
+    &[
+        (
+            b"add.ovf",
+            WordUse::Instruction(Form::Bare(Bare::Binary(BinaryOperation::AddOverflow))),
+        ),
+        (
+            b"ldc.i4.6",
+            WordUse::Instruction(Form::Bare(Bare::Int32(6))),
+        ),
+    ],
+    &[(
+        b"ldc.i4.7",
+        WordUse::Instruction(Form::Bare(Bare::Int32(7))),
+    )],
+    &[(
+        b"ldc.i4.8",
+        WordUse::Instruction(Form::Bare(Bare::Int32(8))),
+    )],
+    &[(
+        b"stloc",
+        WordUse::Instruction(Form::Integer(WithInteger::StoreLocal)),
+    )],
+    &[(b".ctor", WordUse::Grammar)],
+    &[],
+    &[
+        (b"rtspecialname", WordUse::Grammar),
+        (
+            b"ldarg.0",
+            WordUse::Instruction(Form::Bare(Bare::Argument(0))),
+        ),
+    ],
+    &[
+        (b"ldstr", WordUse::Instruction(Form::Quoted)),
+        (
+            b"add",
+            WordUse::Instruction(Form::Bare(Bare::Binary(BinaryOperation::Add))),
+        ),
+        (
+            b"ldarg.1",
+            WordUse::Instruction(Form::Bare(Bare::Argument(1))),
+        ),
+    ],
+    &[(
+        b"ldarg.2",
+        WordUse::Instruction(Form::Bare(Bare::Argument(2))),
+    )],
+    &[
+        (b"ansi", WordUse::Grammar),
+        (
+            b"ldarg.3",
+            WordUse::Instruction(Form::Bare(Bare::Argument(3))),
+        ),
+    ],
+    &[
+        (b".locals", WordUse::Grammar),
+        (b"ldloc.0", WordUse::Instruction(Form::Bare(Bare::Local(0)))),
+    ],
+    &[(b"ldloc.1", WordUse::Instruction(Form::Bare(Bare::Local(1))))],
+    &[
+        (
+            b"bge",
+            WordUse::Instruction(Form::Jump(Jump::Compare(BranchComparison::GreaterOrEqual))),
+        ),
+        (b"ldloc.2", WordUse::Instruction(Form::Bare(Bare::Local(2)))),
+    ],
+    &[
+        (b".method", WordUse::Grammar),
+        (b"ldloc.3", WordUse::Instruction(Form::Bare(Bare::Local(3)))),
+    ],
+    &[(b"int32", WordUse::Grammar)],
+    &[(b"interface", WordUse::Grammar)],
+    &[(b"void", WordUse::Grammar), (b".field", WordUse::Grammar)],
+    &[
+        (
+            b"and",
+            WordUse::Instruction(Form::Bare(Bare::Binary(BinaryOperation::And))),
+        ),
+        (
+            b"ble",
+            WordUse::Instruction(Form::Jump(Jump::Compare(BranchComparison::LessOrEqual))),
+        ),
+    ],
+    &[(b"init", WordUse::Grammar)],
+    &[
+        (b"int64", WordUse::Grammar),
+        (
+            b"stelem.ref",
+            WordUse::Instruction(Form::Bare(Bare::StoreElementReference)),
+        ),
+    ],
+    &[],
+    &[(b"object", WordUse::Grammar)],
+    &[
+        (b"hidebysig", WordUse::Grammar),
+        (b"cil", WordUse::Grammar),
+        (
+            b"beq",
+            WordUse::Instruction(Form::Jump(Jump::Compare(BranchComparison::Equal))),
+        ),
+    ],
+    &[
+        (b"auto", WordUse::Grammar),
+        (
+            b"ceq",
+            WordUse::Instruction(Form::Bare(Bare::Compare(Comparison::Equal))),
+        ),
+        (
+            b"ldsfld",
+            WordUse::Instruction(Form::Field(FieldAccess::LoadStatic)),
+        ),
+    ],
+    &[(
+        b"neg",
+        WordUse::Instruction(Form::Bare(Bare::Unary(UnaryOperation::Negate))),
+    )],
+    &[(b"extends", WordUse::Grammar)],
+    &[],
+    &[(
+        b"bgt",
+        WordUse::Instruction(Form::Jump(Jump::Compare(BranchComparison::Greater))),
+    )],
+    &[
+        (b"implements", WordUse::Grammar),
+        (b"ldc.i4", WordUse::Instruction(Form::Int32)),
+        (
+            b"cgt",
+            WordUse::Instruction(Form::Bare(Bare::Compare(Comparison::Greater))),
+        ),
+        (
+            b"ldelem.i4",
+            WordUse::Instruction(Form::Bare(Bare::LoadElementInt32)),
+        ),
+    ],
+    &[(b"public", WordUse::Grammar)],
+];
+
+/// The bucket in which a word stands, if it is reserved: the sum of its bytes, modulo the number of buckets.
+fn bucket_of(word: &[u8]) -> usize
+    ensures { result < 64 }
+{
+    let mut sum = 0;
+    for byte in word {
+        sum = (sum + usize::from(*byte)) % BUCKETS.len();
+    }
+    sum
+}
+
+/// What the word is for among these.
+fn look_up(entries: &[(&[u8], WordUse)], word: &[u8]) -> Option<WordUse> {
+    for (reserved, its_use) in entries {
+        if *reserved == word {
+            return Some(*its_use);
+        }
+    }
+    None
+}
+
+/// What the word is for, if it is reserved.
+pub fn use_of(word: &[u8]) -> Option<WordUse> {
+    look_up(BUCKETS[bucket_of(word)], word)
+}
