@@ -1,0 +1,125 @@
+//! The commands that clap reads, with their help.
+ghost use Rattle.std.specs.Prelude.{◌≡◌, IfOk, Some, pos, false};
+ghost use Rattle.std.specs.Prelude.{codes, ◌≤◌, ◌^◌, ◌<◌};
+ghost use Rattle.clap.specs.Words.{app_of, new_app, rule_of};
+ghost use Rattle.clap.specs.declared.builder.command.Command.TheViews.{out-Command};
+ghost use Rattle.cilvm.specs.CommandLine.{check_app, cilvm_app, file_rule, number_rule, run_app};
+ghost use Rattle.cilvm.specs.CommandLine.{text_rule, with_limits, with_required_subcommand};
+
+use cil_model::limits::{LEAST_WORDS, MOST_BUDGET, MOST_DEPTH, MOST_WORDS};
+use clap::{Arg, Command, value_parser};
+use std::alloc::{AllocError, Global};
+
+fn file_argument<'a>(alloc: Global, id: &'a str, name: &'a str, help: &'a str) -> Arg<'a>
+    ensures rule { rule_of result ≡ file_rule id.entry.now }
+    ensures local { result.global ≡ false }
+{
+    Arg::new(alloc, id)
+        .required(true)
+        .value_name(name)
+        .help(help)
+}
+
+fn text_option<'a>(alloc: Global, id: &'a str, name: &'a str, help: &'a str) -> Arg<'a>
+    ensures rule { rule_of result ≡ text_rule id.entry.now }
+    ensures local { result.global ≡ false }
+{
+    Arg::new(alloc, id).long(id).value_name(name).help(help)
+}
+
+fn number_option<'a>(alloc: Global, id: &'a str, least: u32, most: u32, help: &'a str) -> Arg<'a>
+    ensures rule { rule_of result ≡ number_rule id.entry.now least most }
+    ensures local { result.global ≡ false }
+{
+    Arg::new(alloc, id)
+        .long(id)
+        .value_name("N")
+        .help(help)
+        .value_parser(value_parser!(u32).range(i64::from(least)..=i64::from(most)))
+}
+
+fn with_limits<'a>(alloc: Global, command: Command<'a>) -> Result<Command<'a>, AllocError>
+    requires { (out-Command command).has_globals ≡ false }
+    ensures app { IfOk result (λ c. app_of c ≡ with_limits (app_of command.entry)) }
+    ensures local { IfOk result (λ c. (out-Command c).has_globals ≡ false) }
+{
+    let words = number_option(
+        alloc,
+        "words",
+        LEAST_WORDS,
+        MOST_WORDS,
+        "Words of 64 bits in a space, 64 to 1048576",
+    )
+    .default_value("65536");
+    let budget = number_option(
+        alloc,
+        "budget",
+        1,
+        MOST_BUDGET,
+        "Steps that each thread may take, 1 to 1000000",
+    )
+    .default_value("100000");
+    let depth = number_option(
+        alloc,
+        "depth",
+        1,
+        MOST_DEPTH,
+        "Calls that a thread may have open, 1 to 256",
+    )
+    .default_value("64");
+    command.arg(words)?.arg(budget)?.arg(depth)
+}
+
+fn check_command<'a>(alloc: Global) -> Result<Command<'a>, AllocError>
+    ensures app { IfOk result (λ c. app_of c ≡ check_app) }
+    ensures local { IfOk result (λ c. (out-Command c).has_globals ≡ false) }
+{
+    let file = file_argument(alloc, "file", "FILE", "The source, in ilasm text");
+    Command::new(alloc, "check")
+        .about("Says whether a source is accepted")
+        .after_help("Example:\n  cilvm check examples/add.il")
+        .arg(file)
+}
+
+fn run_command<'a>(alloc: Global) -> Result<Command<'a>, AllocError>
+    ensures app { IfOk result (λ c. app_of c ≡ run_app) }
+    ensures local { IfOk result (λ c. (out-Command c).has_globals ≡ false) }
+{
+    let file = file_argument(alloc, "file", "FILE", "The source, in ilasm text");
+    let schedule = text_option(
+        alloc,
+        "schedule",
+        "EVENTS",
+        "The events in their order, as 's0*5'",
+    )
+    .required(true);
+    let command = Command::new(alloc, "run")
+        .about("Runs a source by a schedule given on the command line")
+        .after_help(
+            "Events, with spaces between them:\n  s0    a step of thread 0: one instruction\n  s0*5  five steps of it\nThe threads have the numbers 0 to 15, and a schedule has at most 1000000 events.\n\nExample, which prints 5:\n  cilvm run examples/add.il --schedule 's0*5'",
+        )
+        .arg(file)?
+        .arg(schedule)?;
+    with_limits(alloc, command)
+}
+
+fn program<'a>(alloc: Global) -> Command<'a>
+    ensures { app_of result ≡ with_required_subcommand (new_app (codes "cilvm")) }
+{
+    Command::new(alloc, "cilvm")
+        .about("A machine that runs CIL threads while a collector copies their heap")
+        .after_help(
+            "'cilvm COMMAND --help' says what a command takes.\n\nExample, which prints 5:\n  cilvm run examples/add.il --schedule 's0*5'",
+        )
+        .subcommand_required(true)
+        .arg_required_else_help(true)
+}
+
+/// The whole command line.
+pub fn cilvm_command<'a>(alloc: Global) -> Result<Command<'a>, AllocError>
+    ensures { IfOk result (λ c. app_of c ≡ cilvm_app) }
+{
+    let check = check_command(alloc)?;
+    let run = run_command(alloc)?;
+    program(alloc).subcommand(check)?.subcommand(run)
+}

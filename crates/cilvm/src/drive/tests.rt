@@ -1,0 +1,242 @@
+use super::drive;
+use crate::line::order;
+use crate::orders::Order;
+use cil_model::limits::Limits;
+use std::alloc::Global;
+use std::io;
+use std::io::Write;
+use std::process::Abort;
+
+/// Adds 2 and 3, and prints the sum.
+static SUM: &str = ".assembly extern mscorlib {}
+.class public auto ansi P extends [mscorlib]System.Object {
+ .method public static void Main() cil managed {
+  .entrypoint .maxstack 2
+  ldc.i4 2
+  ldc.i4.3
+  add
+  call void [mscorlib]System.Console::WriteLine(int32)
+  ret } }";
+
+/// The status of a command line on a source, and what it writes to the two outputs.
+fn driven<'a>(
+    rt: &(impl Abort + AllocGlobal),
+    words: &'a [&'a str],
+    source: &[u8],
+) -> (u8, Vec<u8>, Vec<u8>) {
+    let alloc = rt.alloc();
+    match order(alloc, words) {
+        Ok(order) => driven_order(alloc, &order, source),
+        Err(_) => panic!(rt; "{words:?} hold no order"),
+    }
+}
+
+fn driven_order(alloc: Global, order: &Order<'_>, source: &[u8]) -> (u8, Vec<u8>, Vec<u8>) {
+    let mut out = Vec::new(alloc);
+    let mut err = Vec::new(alloc);
+    let mut record = Vec::new(alloc);
+    let status = drive(alloc, order, source, &[], &mut out, &mut err, &mut record);
+    (status, out, err)
+}
+
+/// Asserts what a run by this schedule leaves.
+fn assert_run(
+    rt: &(impl Abort + AllocGlobal),
+    source: &[u8],
+    schedule: &str,
+    wanted: (u8, &str, &str),
+) {
+    let words = ["cilvm", "run", "add.il", "--schedule", schedule];
+    assert_driven(rt, words.as_slice(), source, wanted);
+}
+
+fn assert_driven<'a>(
+    rt: &(impl Abort + AllocGlobal),
+    words: &'a [&'a str],
+    source: &[u8],
+    wanted: (u8, &str, &str),
+) {
+    let (status, out, err) = driven(rt, words, source);
+    assert!(rt; status == wanted.0, "{status} at {words:?}");
+    assert!(rt;
+        out.as_slice() == wanted.1.as_bytes(),
+        "output at {words:?}"
+    );
+    assert!(rt;
+        err.as_slice() == wanted.2.as_bytes(),
+        "errors at {words:?}"
+    );
+}
+
+#[test]
+fn runs_a_sum(rt: HostRuntime) {
+    let source = SUM.as_bytes();
+    assert_run(&rt, source, "s0*5", (0, "5\n", "thread 0: done\n"));
+    assert_run(&rt, source, "s0 s0*4", (0, "5\n", "thread 0: done\n"));
+    assert_run(&rt, source, "s0*9", (0, "5\n", "thread 0: done\n"));
+    assert_run(&rt, source, "s0*4", (4, "5\n", "thread 0: live\n"));
+    assert_run(&rt, source, "s0*3", (4, "", "thread 0: live\n"));
+    assert_run(&rt, source, "", (4, "", "thread 0: live\n"));
+}
+
+#[test]
+fn passes_over_threads_that_are_absent(rt: HostRuntime) {
+    let source = SUM.as_bytes();
+    assert_run(&rt, source, "s7", (4, "", "thread 0: live\n"));
+    assert_run(&rt, source, "s7*9 s0*5 s15", (0, "5\n", "thread 0: done\n"));
+}
+
+#[test]
+fn keeps_the_budget(rt: HostRuntime) {
+    let source = SUM.as_bytes();
+    let words = [
+        "cilvm",
+        "run",
+        "add.il",
+        "--schedule",
+        "s0*9",
+        "--budget",
+        "3",
+    ];
+    assert_driven(&rt, words.as_slice(), source, (3, "", "thread 0: budget\n"));
+    let words = [
+        "cilvm",
+        "run",
+        "add.il",
+        "--schedule",
+        "s0*5",
+        "--budget",
+        "5",
+    ];
+    assert_driven(
+        &rt,
+        words.as_slice(),
+        source,
+        (0, "5\n", "thread 0: done\n"),
+    );
+}
+
+#[test]
+fn wraps_a_sum(rt: HostRuntime) {
+    let source = SUM
+        .replace(
+            rt.alloc(),
+            "ldc.i4 2\n  ldc.i4.3",
+            "ldc.i4 2147483647\n  ldc.i4.1",
+        )
+        .expect(&rt, "memory");
+    let wanted = (0, "-2147483648\n", "thread 0: done\n");
+    assert_run(&rt, source.as_bytes(), "s0*5", wanted);
+}
+
+#[test]
+fn refuses_bad_schedules(rt: HostRuntime) {
+    let source = SUM.as_bytes();
+    assert_run(&rt, source, "s16", (1, "", "error 502\n"));
+    assert_run(&rt, source, "s0*0", (1, "", "error 501\n"));
+    assert_run(&rt, source, "g", (1, "", "error 501\n"));
+    assert_run(&rt, source, "s0*1000001", (1, "", "error 503\n"));
+    assert_run(&rt, source, "s0*5 s0*0", (1, "", "error 501\n"));
+}
+
+/// Asserts that a run and a check of a source are refused, the run before its schedule is read.
+fn assert_refused(rt: &(impl Abort + AllocGlobal), source: &[u8], message: &str) {
+    assert_run(rt, source, "s0*5", (1, "", message));
+    assert_run(rt, source, "x", (1, "", message));
+    let words = ["cilvm", "check", "add.il"];
+    assert_driven(rt, words.as_slice(), source, (1, "", message));
+}
+
+#[test]
+fn refuses_bad_sources(rt: HostRuntime) {
+    for (old, new, message) in [
+        ("ret }", "}", "error 301\n"),
+        (".maxstack 2", ".maxstack 1", "error 301\n"),
+        (".entrypoint", "", "error 206\n"),
+        ("ret } }", "ret }", "error 103\n"),
+        ("ret } }", "ret } /* }", "error 102\n"),
+    ] {
+        let source = SUM.replace(rt.alloc(), old, new).expect(&rt, "memory");
+        assert_refused(&rt, source.as_bytes(), message);
+    }
+}
+
+#[test]
+fn refuses_bytes_beyond_ascii(rt: HostRuntime) {
+    let mut source = Vec::from_slice(rt.alloc(), SUM.as_bytes()).expect(&rt, "memory");
+    if let Some(first) = source.first_mut() {
+        *first = 200;
+    }
+    assert_refused(&rt, source.as_slice(), "error 101\n");
+}
+
+#[test]
+fn refuses_sources_that_are_too_long(rt: HostRuntime) {
+    let mut source = Vec::new(rt.alloc());
+    source.resize(1_048_576, b'(').expect(&rt, "memory");
+    assert_refused(&rt, source.as_slice(), "error 103\n");
+    source.push(b'(').expect(&rt, "memory");
+    assert_refused(&rt, source.as_slice(), "error 104\n");
+}
+
+#[test]
+fn accepts_a_sum(rt: HostRuntime) {
+    let words = ["cilvm", "check", "add.il"];
+    assert_driven(&rt, words.as_slice(), SUM.as_bytes(), (0, "accepted\n", ""));
+}
+
+#[test]
+fn looks_at_the_limits_after_the_source(rt: HostRuntime) {
+    let limits = Limits {
+        words: 63,
+        budget: 100_000,
+        depth: 64,
+    };
+    let order = Order::Run {
+        file: "add.il",
+        schedule: "x",
+        limits,
+    };
+    let (status, out, err) = driven_order(rt.alloc(), &order, SUM.as_bytes());
+    assert!(rt; status == 2 && out.is_empty());
+    assert!(rt; err.as_slice() == b"error 401\n".as_slice());
+    let (status, _, err) = driven_order(rt.alloc(), &order, b"{");
+    assert!(rt; status == 1);
+    assert!(rt; err.as_slice() == b"error 103\n".as_slice());
+}
+
+/// An output that takes nothing.
+#[derive(Drop)]
+struct Closed;
+
+impl Write for Closed {
+    fn write(&mut self, _bytes: &[u8]) -> io::Result<usize> {
+        Ok(0)
+    }
+
+    fn flush(&mut self) -> io::Result<()> {
+        Ok(())
+    }
+}
+
+#[test]
+fn tells_of_outputs_that_fail(rt: HostRuntime) {
+    let alloc = rt.alloc();
+    let source = SUM.as_bytes();
+    let order = Order::Check { file: "add.il" };
+    let mut err = Vec::new(alloc);
+    let mut record = Vec::new(alloc);
+    let status = drive(
+        alloc,
+        &order,
+        source,
+        &[],
+        &mut Closed,
+        &mut err,
+        &mut record,
+    );
+    assert!(rt; status == 5);
+    assert!(rt; err.as_slice() == b"device\n".as_slice());
+    let status = drive(alloc, &order, b"{", &[], &mut err, &mut Closed, &mut record);
+    assert!(rt; status == 5);
+}

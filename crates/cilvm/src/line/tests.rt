@@ -1,0 +1,118 @@
+use super::{LineFault, order};
+use crate::orders::Order;
+use cil_model::limits::Limits;
+use std::process::Abort;
+use std::test::Fail;
+
+static GOOD: Limits = Limits {
+    words: 65536,
+    budget: 100_000,
+    depth: 64,
+};
+
+#[test]
+fn reads_each_command(rt: HostRuntime) -> Result<(), Fail> {
+    let alloc = rt.alloc();
+    let words = ["cilvm", "check", "p.il"];
+    let check = order(alloc, words.as_slice()).ok();
+    assert!(rt; check == Some(Order::Check { file: "p.il" }));
+
+    let words = ["cilvm", "run", "p.il", "--schedule", "s0*5"];
+    let run = order(alloc, words.as_slice()).ok();
+    assert!(rt;
+        run == Some(Order::Run {
+            file: "p.il",
+            schedule: "s0*5",
+            limits: GOOD
+        })
+    );
+
+    let words = [
+        "cilvm",
+        "run",
+        "--depth",
+        "256",
+        "--schedule=",
+        "--words",
+        "1048576",
+        "p.il",
+        "--budget=3",
+    ];
+    let run = order(alloc, words.as_slice()).ok();
+    let limits = Limits {
+        words: 1_048_576,
+        budget: 3,
+        depth: 256,
+    };
+    assert!(rt;
+        run == Some(Order::Run {
+            file: "p.il",
+            schedule: "",
+            limits
+        })
+    );
+    Ok(())
+}
+
+/// Asserts that the words are refused with a text that has this part.
+fn assert_bad(rt: &(impl Abort + AllocGlobal), words: &[&str], part: &str) {
+    match order(rt.alloc(), words) {
+        Err(LineFault::Bad(text)) => assert!(rt; text.contains(part), "{text}"),
+        _ => panic!(rt; "{part}"),
+    }
+}
+
+#[test]
+fn refuses_wrong_words(rt: HostRuntime) {
+    assert_bad(&rt, &["cilvm"], "Usage: cilvm <COMMAND>");
+    assert_bad(&rt, &["cilvm", "chekc"], "unrecognized subcommand 'chekc'");
+    assert_bad(&rt, &["cilvm", "check"], "  <FILE>");
+    assert_bad(
+        &rt,
+        &["cilvm", "check", "a", "b"],
+        "unexpected argument 'b'",
+    );
+    assert_bad(&rt, &["cilvm", "run", "a"], "  --schedule <EVENTS>");
+    assert_bad(
+        &rt,
+        &["cilvm", "run", "a", "--schedule"],
+        "a value is required",
+    );
+    assert_bad(
+        &rt,
+        &["cilvm", "replay", "a", "b"],
+        "unrecognized subcommand",
+    );
+    let run = ["cilvm", "run", "a", "--schedule", "s0"];
+    for (option, number, part) in [
+        ("--wrds", "64", "a similar argument exists: '--words'"),
+        ("--words", "63", "63 is not in 64..=1048576"),
+        ("--words", "1048577", "1048577 is not in 64..=1048576"),
+        ("--budget", "0", "0 is not in 1..=1000000"),
+        ("--depth", "x", "invalid digit found in string"),
+        ("--schedule", "s1", "cannot be used multiple times"),
+    ] {
+        let [a, b, c, d, e] = run;
+        assert_bad(&rt, &[a, b, c, d, e, option, number], part);
+    }
+}
+
+/// Asserts that the words ask for a help text that has this part.
+fn assert_help(rt: &(impl Abort + AllocGlobal), words: &[&str], part: &str) {
+    match order(rt.alloc(), words) {
+        Err(LineFault::Help(text)) => assert!(rt; text.contains(part), "{text}"),
+        _ => panic!(rt; "{part}"),
+    }
+}
+
+#[test]
+fn shows_help(rt: HostRuntime) {
+    assert_help(&rt, &["cilvm", "--help"], "Usage: cilvm <COMMAND>");
+    assert_help(
+        &rt,
+        &["cilvm", "-h"],
+        "cilvm run examples/add.il --schedule 's0*5'",
+    );
+    assert_help(&rt, &["cilvm", "run", "-h"], "s0*5  five steps of it");
+    assert_help(&rt, &["cilvm", "help", "check"], "Usage: cilvm check");
+}
