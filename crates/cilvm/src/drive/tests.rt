@@ -1,7 +1,10 @@
-use super::drive;
+use super::{accept, drive};
 use crate::line::order;
 use crate::orders::Order;
+use cil_model::events::Event;
 use cil_model::limits::Limits;
+use cil_model::reports::{End, Report};
+use interleaving_core::{Machine, Refused};
 use std::alloc::Global;
 use std::io;
 use std::io::Write;
@@ -203,6 +206,101 @@ fn looks_at_the_limits_after_the_source(rt: HostRuntime) {
     let (status, _, err) = driven_order(rt.alloc(), &order, b"{");
     assert!(rt; status == 1);
     assert!(rt; err.as_slice() == b"error 103\n".as_slice());
+}
+
+/// The machine of the sum with this budget and this many words.
+fn machine(rt: &(impl Abort + AllocGlobal), words: u32, budget: u32) -> Result<Machine, Refused> {
+    let alloc = rt.alloc();
+    let limits = Limits {
+        words,
+        budget,
+        depth: 64,
+    };
+    match accept(alloc, SUM.as_bytes()) {
+        Ok(verified) => Machine::new(alloc, verified, limits),
+        Err(_) => panic!(rt; "the sum is refused"),
+    }
+}
+
+#[test]
+fn reports_each_event(rt: HostRuntime) {
+    let mut machine = machine(&rt, 65536, 3).expect(&rt, "a machine");
+    let mut reports = Vec::new(rt.alloc());
+    let steps = [Event::Step(0); 9];
+    machine.run(&steps, &mut reports).expect(&rt, "memory");
+    let ended = Report::Ended(End::Budget);
+    let (ran, absent) = (Report::Ran, Report::Absent);
+    let wanted = [
+        ran, ran, ended, absent, absent, absent, absent, absent, absent,
+    ];
+    assert!(rt; reports.as_slice() == wanted.as_slice());
+    assert!(rt; machine.end_of(0) == Some(End::Budget) && machine.end_of(1).is_none());
+    assert!(rt; !machine.is_live(0) && machine.live() == 0 && machine.started() == 1);
+    assert!(rt; machine.console().is_empty());
+}
+
+#[test]
+fn passes_over_events_without_a_collector(rt: HostRuntime) {
+    let mut machine = machine(&rt, 64, 5).expect(&rt, "a machine");
+    for (event, wanted) in [
+        (Event::Gc, Report::Waiting),
+        (Event::Ack(0), Report::NothingPosted),
+        (Event::Ack(1), Report::Absent),
+        (Event::Step(7), Report::Absent),
+        (Event::Step(0), Report::Ran),
+    ] {
+        assert!(rt; machine.step(event) == Ok(wanted), "{wanted:?}");
+    }
+    assert!(rt; machine.is_live(0) && machine.live() == 1);
+    assert!(rt; machine.end_of(0).is_none());
+}
+
+#[test]
+fn refuses_limits_out_of_range(rt: HostRuntime) {
+    for (words, budget, is_taken) in [
+        (63, 1, false),
+        (64, 1, true),
+        (1_048_576, 1_000_000, true),
+        (1_048_577, 1, false),
+        (64, 0, false),
+        (64, 1_000_001, false),
+    ] {
+        match machine(&rt, words, budget) {
+            Ok(_) => assert!(rt; is_taken, "{words} words, a budget of {budget}"),
+            Err(refused) => assert!(rt; !is_taken && refused.number() == 401, "{words}, {budget}"),
+        }
+    }
+}
+
+/// Asserts that a command is answered as usual, or that memory ran out. A test run in which some
+/// allocation fails shows that no other answer comes.
+fn assert_usual_or_memory<'a>(
+    rt: &(impl Abort + AllocGlobal),
+    words: &'a [&'a str],
+    source: &[u8],
+    usual: (u8, &str, &str),
+) {
+    let alloc = rt.alloc();
+    let Ok(order) = order(alloc, words) else {
+        return;
+    };
+    let (status, out, err) = driven_order(alloc, &order, source);
+    let is_usual = status == usual.0
+        && out.as_slice() == usual.1.as_bytes()
+        && err.as_slice() == usual.2.as_bytes();
+    let is_told = err.is_empty() || err.as_slice() == b"memory\n".as_slice();
+    assert!(rt; is_usual || status == 5 && is_told, "{status} at {words:?}");
+}
+
+#[test]
+fn answers_as_usual_or_has_no_memory(rt: HostRuntime) {
+    let source = SUM.as_bytes();
+    let run = ["cilvm", "run", "add.il", "--schedule", "s0*5"];
+    let usual = (0, "5\n", "thread 0: done\n");
+    assert_usual_or_memory(&rt, run.as_slice(), source, usual);
+    let check = ["cilvm", "check", "add.il"];
+    assert_usual_or_memory(&rt, check.as_slice(), source, (0, "accepted\n", ""));
+    assert_usual_or_memory(&rt, check.as_slice(), b"}", (1, "", "error 103\n"));
 }
 
 /// An output that takes nothing.
