@@ -1,3 +1,4 @@
 pub mod CommandLine
+pub mod Failures
 pub mod Schedules
 pub mod Statuses

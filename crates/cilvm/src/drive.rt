@@ -3,10 +3,12 @@ ghost use Rattle.std.specs.Prelude.{◌≡◌, ◌≢◌, ◌⊎◌, ◌++◌, �
 ghost use Rattle.std.specs.List.{list_all, list_any};
 ghost use Rattle.std.specs.Io.KnownBytes.{Appends};
 ghost use Rattle.cil_model.specs.Ranges.{are_in_range};
-ghost use Rattle.cilvm.specs.Statuses.{IsStatus, IsStatusOf, PrintsError, is_check, is_out_of_range};
-ghost use Rattle.cilvm.specs.Statuses.{is_done, is_live, is_refusal, message_of, status_of};
+ghost use Rattle.cilvm.specs.Failures.{IsFailureOfDevice, IsRefusalUnless, IsStatusOf, PrintsError};
+ghost use Rattle.cilvm.specs.Failures.{is_out_of_range, is_refusal, message_of};
+ghost use Rattle.cilvm.specs.Schedules.{number_of};
+ghost use Rattle.cilvm.specs.Statuses.{IsStatus, is_check, is_done, is_live, status_of};
 ghost use Rattle.cilvm.specs.declared.drive.Failure.TheVariants.{Memory};
-ghost use Rattle.interleaving_core.specs.declared.machine.Refused.TheVariants as refused;
+ghost use Rattle.cilvm.specs.declared.schedule.ScheduleError.TheVariants.{OutOfMemory};
 
 use crate::orders::Order;
 use crate::schedule::{ScheduleError, read_schedule};
@@ -17,7 +19,7 @@ use ilasm_reader::ReadError;
 use interleaving_core::{Machine, Refused};
 use std::alloc::{AllocError, Global};
 use std::io;
-use std::io::Write;
+use std::io::{ErrorKind, Write};
 use verifier::{MetaError, Verified, VerifyError};
 
 /// Why an order was not carried out.
@@ -50,10 +52,10 @@ impl From<NoMemory> for Failure {
 }
 
 impl From<io::Error> for Failure {
-    ghost from_gives = { λ _ failure. is_refusal failure ≡ false };
+    ghost from_gives = { IsFailureOfDevice };
 
     fn from(error: io::Error) -> Failure {
-        if error.kind() == io::ErrorKind::OutOfMemory {
+        if error.kind() == ErrorKind::OutOfMemory {
             Failure::Memory
         } else {
             Failure::Device
@@ -95,23 +97,13 @@ impl From<VerifyError> for Failure {
 }
 
 impl From<ScheduleError> for Failure {
-    ghost from_gives = { λ _ failure. is_out_of_range failure ≡ false };
+    ghost from_gives = { λ error failure.
+        IsRefusalUnless (error ≡ OutOfMemory) (number_of error) failure };
 
     fn from(error: ScheduleError) -> Failure {
         match error {
             ScheduleError::OutOfMemory => Failure::Memory,
             _ => Failure::Refused(error.number()),
-        }
-    }
-}
-
-impl From<Refused> for Failure {
-    ghost from_gives = { λ why failure. is_out_of_range failure ≡ true → why ≡ refused.Limits };
-
-    fn from(refused: Refused) -> Failure {
-        match refused {
-            Refused::OutOfMemory => Failure::Memory,
-            Refused::Limits => Failure::OutOfRange(refused.number()),
         }
     }
 }
@@ -198,6 +190,17 @@ fn accept(alloc: Global, source: &[u8]) -> Result<Verified, Failure>
     Ok(verifier::verify(alloc, program, layout)?)
 }
 
+/// The machine at the start of a program.
+fn machine(alloc: Global, verified: Verified, limits: Limits) -> Result<Machine, Failure>
+    ensures { IfErr result (λ failure. is_out_of_range failure ≡ true → are_in_range limits ≡ false) }
+{
+    match Machine::new(alloc, verified, limits) {
+        Ok(machine) => Ok(machine),
+        Err(Refused::OutOfMemory) => Err(Failure::Memory),
+        Err(refused) => Err(Failure::OutOfRange(refused.number())),
+    }
+}
+
 /// The machine of a program after the events of a schedule.
 fn run(
     alloc: Global,
@@ -207,7 +210,7 @@ fn run(
 ) -> Result<Machine, Failure>
     ensures { IfErr result (λ failure. is_out_of_range failure ≡ true → are_in_range limits ≡ false) }
 {
-    let mut machine = Machine::new(alloc, verified, limits)?;
+    let mut machine = machine(alloc, verified, limits)?;
     let events = read_schedule(alloc, schedule)?;
     let mut reports = Vec::new(alloc);
     machine.run(events.as_slice(), &mut reports)?;

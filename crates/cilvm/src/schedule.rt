@@ -1,6 +1,10 @@
 //! Reads the text of a schedule: steps of threads, for now.
-ghost use Rattle.std.specs.Prelude.{◌≡◌, ◌+◌, ◌<◌, ◌≤◌, ◌++◌, All, IfOk, OnOk, replicate, vec_len};
-ghost use Rattle.cilvm.specs.Schedules.{IsNumberedStep};
+ghost use Rattle.std.specs.Prelude.{◌≡◌, ◌+◌, ◌<◌, ◌≤◌, ◌++◌, All, IfErr, IfOk, IfSome, OnOk};
+ghost use Rattle.std.specs.Prelude.{is_some, replicate, vec_len};
+ghost use Rattle.std.specs.Char.{is_ascii_digit};
+ghost use Rattle.std.specs.List.{list_all};
+ghost use Rattle.cilvm.specs.Schedules.{IsFaultOf, IsNumberedStep, has_no_leading_zero, is_number};
+ghost use Rattle.cilvm.specs.Schedules.{is_separator, number_of};
 ghost use Rattle.cil_model.specs.declared.events.Event.TheVariants.{Step};
 ghost use Rattle.cilvm.specs.declared.schedule.ScheduleError.TheVariants.{OutOfMemory};
 
@@ -26,7 +30,9 @@ pub enum ScheduleError {
 
 impl ScheduleError {
     /// The number that a user sees.
-    pub fn number(&self) -> u16 {
+    pub fn number(&self) -> u16
+        ensures { result ≡ number_of self.now }
+    {
         match self {
             ScheduleError::NoItem => 501,
             ScheduleError::NoThread => 502,
@@ -63,8 +69,10 @@ pub fn read_schedule(alloc: Global, text: &[u8]) -> Result<Vec<Event>, ScheduleE
     Ok(events)
 }
 
-fn is_separator(byte: u8) -> bool {
-    matches!(byte, b'\t' | b'\n' | b'\r' | b' ')
+fn is_separator(byte: u8) -> bool
+    ensures { result ≡ is_separator byte }
+{
+    byte == b'\t' || byte == b'\n' || byte == b'\r' || byte == b' '
 }
 
 /// A step of one thread, some times over.
@@ -75,7 +83,9 @@ struct Item {
 }
 
 /// The item that a word writes.
-fn read_item(word: &[u8]) -> Option<Item> {
+fn read_item(word: &[u8]) -> Option<Item>
+    ensures { IfSome result (λ item. 1 ≤ item.count) }
+{
     let (name, count) = match word.iter().position(|byte| *byte == b'*') {
         Some(star) => (&word[..star], read_count(&word[star + 1..])?),
         None => (word, 1),
@@ -85,34 +95,57 @@ fn read_item(word: &[u8]) -> Option<Item> {
 }
 
 /// The number that digits write, or the greatest of a `u32` in place of a greater one.
-fn read_number(digits: &[u8]) -> Option<u32> {
-    let (first, others) = digits.split_first()?;
-    if *first == b'0' && !others.is_empty() {
+fn read_number(digits: &[u8]) -> Option<u32>
+    ensures { is_some result ≡ is_number digits.now }
+{
+    if !is_number(digits) {
         return None;
     }
-    let mut value: u32 = 0;
-    for digit in digits {
-        if !digit.is_ascii_digit() {
-            return None;
-        }
-        value = value
+    let value = digits.iter().fold(0u32, |value, digit| {
+        value
             .saturating_mul(10)
-            .saturating_add(u32::from(*digit - b'0'));
-    }
+            .saturating_add(u32::from(digit.saturating_sub(b'0')))
+    });
     Some(value)
 }
 
+fn is_number(digits: &[u8]) -> bool
+    ensures { result ≡ is_number digits.now }
+{
+    has_no_leading_zero(digits) && are_digits(digits)
+}
+
+fn are_digits(bytes: &[u8]) -> bool
+    ensures { result ≡ list_all is_ascii_digit bytes.now }
+{
+    bytes.iter().all(|byte| byte.is_ascii_digit())
+}
+
+fn has_no_leading_zero(digits: &[u8]) -> bool
+    ensures { result ≡ has_no_leading_zero digits.now }
+{
+    match digits {
+        [] => false,
+        [_] => true,
+        [first, ..] => *first != b'0',
+    }
+}
+
 /// A number of at least 1.
-fn read_count(digits: &[u8]) -> Option<u32> {
+fn read_count(digits: &[u8]) -> Option<u32>
+    ensures { IfSome result (λ count. 1 ≤ count) }
+{
     read_number(digits).filter(|count| *count != 0)
 }
 
 /// Adds an item's events to those before it; an error leaves them as they are.
 fn append(events: &mut Vec<Event>, item: Item) -> Result<(), ScheduleError>
     requires { vec_len events.old ≤ MOST_EVENTS }
-    ensures thread { OnOk result (item.thread < MOST_THREADS) }
-    ensures room { OnOk result (vec_len events.old + item.count ≤ MOST_EVENTS) }
-    ensures items { OnOk result (events.new.items ≡ events.old.items ++ replicate item.count (Step item.thread)) }
+    ensures ok { OnOk result ((item.thread < MOST_THREADS)
+        × (vec_len events.old + item.count ≤ MOST_EVENTS)
+        × (events.new.items ≡ events.old.items ++ replicate item.count (Step item.thread))) }
+    ensures err { IfErr result (λ error. IsFaultOf (vec_len events.old) item error
+        × (events.new.items ≡ events.old.items)) }
 {
     let thread = u8::try_from(item.thread).map_err(|_| ScheduleError::NoThread)?;
     if usize::from(thread) >= MOST_THREADS {
