@@ -1,5 +1,5 @@
 -- Which faults an instruction may raise, in the order of their checks (the exceptions of each entry of III.3 and III.4; the order is this profile's).
-use Rattle.std.specs.Prelude.{List, [], ◌∷◌}
+use Rattle.std.specs.Prelude.{Bool, true, false, IsTrue, List, [], ◌∷◌, Contains}
 use Rattle.cil_model.specs.declared.instructions.BinaryOperation.{BinaryOperation}
 use Rattle.cil_model.specs.declared.instructions.BinaryOperation.TheVariants.{AddOverflow, SubtractOverflow, MultiplyOverflow, Divide, Remainder}
 use Rattle.cil_model.specs.declared.instructions.Instruction.{Instruction}
@@ -43,3 +43,13 @@ faults_of_action Enter = ArgumentNull ∷ []
 faults_of_action Exit = ArgumentNull ∷ SynchronizationLock ∷ []
 faults_of_action Start = NullReference ∷ ThreadState ∷ TooManyThreads ∷ []
 faults_of_action Join = NullReference ∷ ThreadState ∷ []
+
+abbrev pub is_call : Instruction → Bool
+is_call (Call is_instance r) = true
+is_call (CallVirtual owner name signature) = true
+is_call _ = false
+
+-- the fault is one of the instruction's own, or one of a built-in member's that it calls
+pub data MayRaise : Instruction → Fault → Type 0 where
+  itself : (i : Instruction) (x : Fault) → Contains (faults_of i) x → MayRaise i x
+  member : (i : Instruction) (a : Action) (x : Fault) → IsTrue (is_call i) → Contains (faults_of_action a) x → MayRaise i x
