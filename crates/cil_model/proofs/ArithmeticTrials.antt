@@ -1,5 +1,5 @@
 -- Each instruction on integers: a result, and each of its faults in the order of the checks.
-use Rattle.std.proofs.Common.{◌≡◌, ℕ, ℤ, pos, negsuc, List, [], ◌∷◌, refl, codes}
+use Rattle.std.proofs.Common.{◌≡◌, pos, negsuc, [], ◌∷◌, refl, codes}
 use Rattle.cil_model.specs.declared.instructions.BinaryOperation.TheVariants.{Add, Subtract, Multiply, AddOverflow, SubtractOverflow, MultiplyOverflow, Divide, Remainder, And, Or, ExclusiveOr}
 use Rattle.cil_model.specs.declared.instructions.UnaryOperation.TheVariants.{Negate, Complement}
 use Rattle.cil_model.specs.declared.instructions.ShiftOperation.TheVariants.{Left, Right, RightUnsigned}

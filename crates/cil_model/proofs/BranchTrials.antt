@@ -1,8 +1,8 @@
 -- Where each instruction goes on: the frame stands at 1, label A before 0, and labels B and C before 2.
-use Rattle.std.proofs.Common.{◌≡◌, ℕ, ℤ, pos, negsuc, List, [], ◌∷◌, Option, Some, None, refl, codes}
+use Rattle.std.proofs.Common.{◌≡◌, pos, [], ◌∷◌, Some, refl, codes}
 use Rattle.cil_model.specs.declared.instructions.BranchComparison.TheVariants.{Equal, NotEqual, GreaterOrEqual, Greater, LessOrEqual, Less}
 use Rattle.cil_model.specs.declared.instructions.Instruction.TheVariants.{NoOperation, Branch, BranchTrue, BranchFalse, BranchCompare, Switch}
-use Rattle.cil_model.specs.Values.{Value, Int32, Int64, Native, Null}
+use Rattle.cil_model.specs.Values.{Native, Null}
 use Rattle.cil_model.proofs.Farm.{int, minus, long, object, Leaves, NoMeaning, does, place_after}
 
 -- ---- without a condition

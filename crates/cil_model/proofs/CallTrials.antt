@@ -1,7 +1,6 @@
 -- Each kind of call: what it enters or does at once, and each of its faults in the order of the checks.
-use Rattle.std.proofs.Common.{◌≡◌, ℕ, ℤ, pos, negsuc, Bool, true, false, List, [], ◌∷◌, Option, Some, None, refl, codes}
+use Rattle.std.proofs.Common.{◌≡◌, true, false, List, [], ◌∷◌, Some, None, refl, codes}
 use Rattle.std.specs.Fmt.{digits}
-use Rattle.cil_model.specs.declared.types.ClassName.{ClassName}
 use Rattle.cil_model.specs.declared.types.DeclaredType.{DeclaredType}
 use Rattle.cil_model.specs.declared.types.Element.TheVariants.{Int32 as Int32Element, Int64 as Int64Element, Object, String}
 use Rattle.cil_model.specs.declared.types.Signature.{Signature}
@@ -11,10 +10,10 @@ use Rattle.cil_model.specs.declared.instructions.Instruction.TheVariants.{Call, 
 use Rattle.cil_model.specs.declared.reports.Fault.TheVariants.{NullReference, OutOfMemory, StackOverflow, ArgumentNull, SynchronizationLock, ThreadState}
 use Rattle.cil_model.specs.Declarations.{object_name, console_name, thread_name, plain}
 use Rattle.cil_model.specs.Fields.{FieldKey}
-use Rattle.cil_model.specs.Values.{Value, Born, Literal, Int32, Int64, Null}
+use Rattle.cil_model.specs.Values.{Value, Born, Literal, Null}
 use Rattle.cil_model.specs.States.{Free, Held, Instance}
 use Rattle.cil_model.proofs.Programs.{named, no_types, reference_to, call_monitor, on_thread}
-use Rattle.cil_model.proofs.Farm.{animal, dog, cat, runner, method_g, method_h, main_of_farm, int, minus, long, object, text, key, heap_object, Leaves, Calls, Finishes, Waits, Faults, NoMeaning, does, does_refused, does_deep, returns, monitor_after, printed_after, born_after}
+use Rattle.cil_model.proofs.Farm.{animal, dog, cat, runner, method_g, method_h, int, minus, long, object, text, key, heap_object, Leaves, Calls, Finishes, Waits, Faults, NoMeaning, does, does_refused, does_deep, returns, monitor_after, printed_after, born_after}
 
 abbrev takes_int : Signature
 takes_int = record { parameters = plain Int32Element ∷ []; return_type = Some (plain Int32Element) }

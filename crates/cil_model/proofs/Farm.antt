@@ -1,7 +1,7 @@
 -- A small program and a state of it, in which single instructions are tried out.
-use Rattle.std.proofs.Common.{ℕ, ◌-◌, ℤ, pos, negsuc, Bool, true, false, List, [], ◌∷◌, ◌++◌, map, reverse, Option, Some, None, codes, option_map, option_and_then, slice_get}
+use Rattle.std.proofs.Common.{ℕ, ◌-◌, pos, negsuc, Bool, true, false, List, [], ◌∷◌, reverse, Option, Some, None, codes, option_map, option_and_then, slice_get}
 use Rattle.cil_model.specs.declared.types.ClassName.{ClassName}
-use Rattle.cil_model.specs.declared.types.Element.TheVariants.{Int32 as Int32Element, Int64 as Int64Element, Object, String}
+use Rattle.cil_model.specs.declared.types.Element.TheVariants.{Int32 as Int32Element, Int64 as Int64Element, Object}
 use Rattle.cil_model.specs.declared.types.DeclaredType.{DeclaredType}
 use Rattle.cil_model.specs.declared.instructions.FieldReference.{FieldReference}
 use Rattle.cil_model.specs.declared.instructions.MethodName.TheVariants.{Named}
@@ -9,15 +9,13 @@ use Rattle.cil_model.specs.declared.instructions.Instruction.{Instruction}
 use Rattle.cil_model.specs.declared.instructions.Instruction.TheVariants.{NoOperation, LoadInt32, LoadString, Return}
 use Rattle.cil_model.specs.declared.trees.Tree.{Tree}
 use Rattle.cil_model.specs.declared.trees.Class.{Class}
-use Rattle.cil_model.specs.declared.trees.ClassKind.TheVariants.{Class as PlainClass}
 use Rattle.cil_model.specs.declared.trees.Method.{Method}
 use Rattle.cil_model.specs.declared.trees.MethodKind.TheVariants.{Static, Instance}
 use Rattle.cil_model.specs.declared.trees.Member.{Member}
 use Rattle.cil_model.specs.declared.trees.Member.TheVariants.{Field as FieldMember, Method as MethodMember}
-use Rattle.cil_model.specs.declared.limits.Limits.{Limits}
 use Rattle.cil_model.specs.declared.reports.Fault.{Fault}
 use Rattle.cil_model.specs.declared.reports.End.TheVariants.{Done}
-use Rattle.cil_model.specs.Declarations.{object_name, thread_name, plain, void_method}
+use Rattle.cil_model.specs.Declarations.{object_name, plain, void_method}
 use Rattle.cil_model.specs.Fields.{FieldKey}
 use Rattle.cil_model.specs.Values.{ObjectName, Born, Literal, Value, Int32, Int64, Null, Reference}
 use Rattle.cil_model.specs.States.{Monitor, Free, Held, Contents, Instance as Object_, Array, HeapObject, Frame, Thread, State, object_at, field_value, array_at, monitor_of}
@@ -67,9 +65,9 @@ abbrev pub farm_classes : List Class
 farm_classes =
     interface_with (codes "IRun") (abstract_f ∷ []) ∷
     class_with (codes "Animal") object_name [] (
-        field_member false (plain Int32Element) (codes "age") ∷ field_member false (plain Int64Element) (codes "weight") ∷ field_member false (of_class (codes "Animal")) (codes "friend") ∷
-        field_member true (plain Int32Element) (codes "count") ∷ field_member true (plain Object) (codes "lock") ∷
-        constructor_over object_name ∷ method_member method_g ∷ method_member method_h ∷ []) ∷
+    field_member false (plain Int32Element) (codes "age") ∷ field_member false (plain Int64Element) (codes "weight") ∷ field_member false (of_class (codes "Animal")) (codes "friend") ∷
+    field_member true (plain Int32Element) (codes "count") ∷ field_member true (plain Object) (codes "lock") ∷
+    constructor_over object_name ∷ method_member method_g ∷ method_member method_h ∷ []) ∷
     class_with (codes "Dog") animal (runner ∷ []) (constructor_over animal ∷ virtual_f true ∷ []) ∷
     class_with (codes "Cat") animal [] (constructor_over animal ∷ []) ∷
     thread_class (Return ∷ []) ∷
@@ -112,22 +110,22 @@ idle_frame = record { owner = named (codes "P"); method = main_of_farm; place = 
 abbrev pub farm_state : State
 farm_state = record {
   objects =
-    heap_object (Object_ dog animal_fields) Free None ∷
-    heap_object (Array (plain Int32Element) (int 5 ∷ int 6 ∷ [])) Free None ∷
-    heap_object (Array (of_class (codes "Dog")) (Null ∷ object 0 ∷ [])) Free None ∷
-    heap_object (Object_ cat animal_fields) Free None ∷
-    heap_object (Object_ (named (codes "T")) []) Free None ∷
-    heap_object (Object_ (named (codes "T")) []) Free (Some 1) ∷
-    heap_object (Object_ (named (codes "T")) []) Free (Some 2) ∷
-    heap_object (Array (plain Int64Element) (long 7 ∷ [])) Free None ∷
-    heap_object (Object_ object_name []) (Held 0 2) None ∷
-    heap_object (Object_ object_name []) (Held 1 1) None ∷ [];
+      heap_object (Object_ dog animal_fields) Free None ∷
+      heap_object (Array (plain Int32Element) (int 5 ∷ int 6 ∷ [])) Free None ∷
+      heap_object (Array (of_class (codes "Dog")) (Null ∷ object 0 ∷ [])) Free None ∷
+      heap_object (Object_ cat animal_fields) Free None ∷
+      heap_object (Object_ (named (codes "T")) []) Free None ∷
+      heap_object (Object_ (named (codes "T")) []) Free (Some 1) ∷
+      heap_object (Object_ (named (codes "T")) []) Free (Some 2) ∷
+      heap_object (Array (plain Int64Element) (long 7 ∷ [])) Free None ∷
+      heap_object (Object_ object_name []) (Held 0 2) None ∷
+      heap_object (Object_ object_name []) (Held 1 1) None ∷ [];
   literal_monitors = (codes "a", Free) ∷ [];
   statics = (key (codes "count"), int 1) ∷ (key (codes "lock"), Null) ∷ [];
   threads =
-    record { frames = idle_frame ∷ []; steps_left = 9; ended = None } ∷
-    record { frames = idle_frame ∷ []; steps_left = 9; ended = None } ∷
-    record { frames = []; steps_left = 9; ended = Some Done } ∷ [];
+      record { frames = idle_frame ∷ []; steps_left = 9; ended = None } ∷
+      record { frames = idle_frame ∷ []; steps_left = 9; ended = None } ∷
+      record { frames = []; steps_left = 9; ended = Some Done } ∷ [];
   printed = codes "x";
 }
 

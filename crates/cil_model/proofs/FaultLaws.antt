@@ -1,6 +1,6 @@
 -- Which faults operations on integers raise.
-use Rattle.std.proofs.Common.{◌≡◌, ℕ, ℤ, pos, negsuc, ◌&&◌, Bool, true, false, if◌then◌else◌, List, [], ◌∷◌, Option, Some, None, Result, Ok, Err, int_div, int_rem, Contains, refl, sym, subst, lit<, ◌+ℤ◌, ◌-ℤ◌, ◌*ℤ◌}
-use Rattle.std.specs.Int.{Width, w32, w64, int_wrapping_add, int_wrapping_sub, int_wrapping_mul, int_bit_and, int_bit_or, int_bit_xor}
+use Rattle.std.proofs.Common.{◌≡◌, ℤ, pos, negsuc, ◌&&◌, Bool, true, false, if◌then◌else◌, [], ◌∷◌, Some, Result, Ok, Err, int_div, int_rem, Contains, refl, subst, lit<, ◌+ℤ◌, ◌-ℤ◌, ◌*ℤ◌}
+use Rattle.std.specs.Int.{Width, w32, w64}
 use Rattle.std.specs.Ordering.{int_eq}
 use Rattle.cil_model.specs.declared.instructions.BinaryOperation.{BinaryOperation}
 use Rattle.cil_model.specs.declared.instructions.BinaryOperation.TheVariants.{Add, Subtract, Multiply, AddOverflow, SubtractOverflow, MultiplyOverflow, Divide, Remainder, And, Or, ExclusiveOr}
@@ -9,7 +9,7 @@ use Rattle.cil_model.specs.declared.reports.Fault.TheVariants.{DivideByZero, Ari
 use Rattle.cil_model.specs.Values.{Value, Int32, Int64, Native, Null, Reference}
 use Rattle.cil_model.specs.Arithmetic.{is_in_range, exact, least, divided, binary, result_as, binary_value}
 use Rattle.cil_model.specs.Faults.{faults_of_operation}
-use Rattle.cil_model.proofs.BelowLaws.{none_is_some, same_some}
+use Rattle.cil_model.proofs.BelowLaws.{none_is_some}
 
 no_fault : {X A : Type 0} (x : X) (f : Fault) → Ok x ≡ Err f → A
 no_fault {X} {A} x f e = absurd (lost e)

@@ -1,6 +1,5 @@
 -- What each instruction does to a stack of types: a result, and stacks on which it has none. Stacks stand as they were pushed.
-use Rattle.std.proofs.Common.{◌≡◌, ℕ, ℤ, pos, negsuc, Bool, true, false, List, [], ◌∷◌, reverse, Option, Some, None, option_map, refl, codes}
-use Rattle.cil_model.specs.declared.types.DeclaredType.{DeclaredType}
+use Rattle.std.proofs.Common.{◌≡◌, pos, negsuc, true, false, List, [], ◌∷◌, reverse, Option, Some, None, option_map, refl, codes}
 use Rattle.cil_model.specs.declared.types.Element.TheVariants.{Int32 as Int32Element, Int64 as Int64Element, Object, String}
 use Rattle.cil_model.specs.declared.types.Signature.{Signature}
 use Rattle.cil_model.specs.declared.instructions.BinaryOperation.TheVariants.{Add}
@@ -8,13 +7,13 @@ use Rattle.cil_model.specs.declared.instructions.UnaryOperation.TheVariants.{Neg
 use Rattle.cil_model.specs.declared.instructions.ShiftOperation.TheVariants.{Left}
 use Rattle.cil_model.specs.declared.instructions.Comparison.TheVariants.{Equal, Greater}
 use Rattle.cil_model.specs.declared.instructions.BranchComparison.TheVariants.{NotEqual, Less}
-use Rattle.cil_model.specs.declared.instructions.MethodName.TheVariants.{Constructor, Named}
+use Rattle.cil_model.specs.declared.instructions.MethodName.TheVariants.{Named}
 use Rattle.cil_model.specs.declared.instructions.Instruction.{Instruction}
 use Rattle.cil_model.specs.declared.instructions.Instruction.TheVariants.{NoOperation, LoadInt32, LoadInt64, LoadNull, LoadString, LoadArgument, StoreArgument, LoadLocal, StoreLocal, Duplicate, Pop, Binary, Unary, Shift, Compare, ConvertInt32, ConvertInt64, Branch, BranchTrue, BranchFalse, BranchCompare, Switch, LoadField, StoreField, LoadStaticField, StoreStaticField, NewArray, LoadLength, LoadElementInt32, LoadElementInt64, LoadElementReference, StoreElementInt32, StoreElementInt64, StoreElementReference, CastClass, IsInstance, Call, CallVirtual, NewObject, Return}
 use Rattle.cil_model.specs.Declarations.{object_name, plain}
 use Rattle.cil_model.specs.TypeTree.{StackType, Declared, NativeInt, Null, i4, i8}
 use Rattle.cil_model.specs.FlowRules.{flow}
-use Rattle.cil_model.proofs.Programs.{named, no_types, of_class, arrays_of, reference_to}
+use Rattle.cil_model.proofs.Programs.{no_types, of_class, arrays_of, reference_to}
 use Rattle.cil_model.proofs.Farm.{farm, animal, dog, cat, runner, field_of_animal}
 
 -- in a method of a Dog and a number, with a local Animal, that gives an Animal

@@ -1,20 +1,19 @@
 -- Each rule of legality, clause by clause, on a tree that breaks it alone, beside trees that do not.
-use Rattle.std.proofs.Common.{◌≡◌, ℕ, ℤ, pos, negsuc, Bool, true, false, List, [], ◌∷◌, ◌++◌, map, replicate, Option, Some, None, refl, codes}
+use Rattle.std.proofs.Common.{◌≡◌, ℕ, pos, negsuc, Bool, true, false, List, [], ◌∷◌, ◌++◌, replicate, Some, None, refl, codes}
 use Rattle.cil_model.specs.declared.types.ClassName.{ClassName}
 use Rattle.cil_model.specs.declared.types.DeclaredType.{DeclaredType}
-use Rattle.cil_model.specs.declared.types.Element.TheVariants.{Int32, Int64, Object, String, Class as ClassElement}
+use Rattle.cil_model.specs.declared.types.Element.TheVariants.{Int32, Int64, Object, Class as ClassElement}
 use Rattle.cil_model.specs.declared.types.Signature.{Signature}
 use Rattle.cil_model.specs.declared.instructions.FieldReference.{FieldReference}
-use Rattle.cil_model.specs.declared.instructions.MethodName.TheVariants.{Constructor, Named}
+use Rattle.cil_model.specs.declared.instructions.MethodName.TheVariants.{Named}
 use Rattle.cil_model.specs.declared.instructions.Instruction.{Instruction}
-use Rattle.cil_model.specs.declared.instructions.Instruction.TheVariants.{NoOperation, Branch, Switch, LoadField, LoadStaticField, StoreField, Call, CallVirtual, NewObject, NewArray, CastClass, Return}
+use Rattle.cil_model.specs.declared.instructions.Instruction.TheVariants.{NoOperation, Branch, Switch, LoadField, LoadStaticField, StoreField, Call, CallVirtual, NewObject, NewArray, Return}
 use Rattle.cil_model.specs.declared.trees.Class.{Class}
 use Rattle.cil_model.specs.declared.trees.ClassKind.TheVariants.{Class as PlainClass}
 use Rattle.cil_model.specs.declared.trees.Code.{Code}
 use Rattle.cil_model.specs.declared.trees.Line.{Line}
 use Rattle.cil_model.specs.declared.trees.Member.{Member}
 use Rattle.cil_model.specs.declared.trees.Member.TheVariants.{Field as FieldMember, Method as MethodMember}
-use Rattle.cil_model.specs.declared.trees.Method.{Method}
 use Rattle.cil_model.specs.declared.trees.MethodKind.{MethodKind}
 use Rattle.cil_model.specs.declared.trees.MethodKind.TheVariants.{Static, Instance, Virtual, Abstract}
 use Rattle.cil_model.specs.declared.trees.Tree.{Tree}
@@ -367,3 +366,24 @@ array_of_seven = refl
 
 array_of_eight : passes_limit (with_code (code_with [] (NewArray (arrays_of (plain Int32) 8) ∷ [])) []) ≡ true
 array_of_eight = refl
+
+-- ---- open slots: an abstract class may leave a slot to its heirs, and one that isn't abstract may not
+
+abbrev abstract_a : Class
+abstract_a = record { name = codes "A"; kind = PlainClass true object_name []; members = abstract_f ∷ [] }
+
+open_in_abstract_class : least_broken (beside (abstract_a ∷ [])) ≡ None
+open_in_abstract_class = refl
+
+open_slot : least_broken (beside (abstract_a ∷ class_with (codes "B") a [] [] ∷ [])) ≡ Some 205
+open_slot = refl
+
+filled_slot : least_broken (beside (abstract_a ∷ class_with (codes "B") a [] (virtual_f false ∷ []) ∷ [])) ≡ None
+filled_slot = refl
+
+-- newslot takes another slot, so the abstract one stays open
+hidden_slot : least_broken (beside (abstract_a ∷ class_with (codes "B") a [] (virtual_f true ∷ []) ∷ [])) ≡ Some 205
+hidden_slot = refl
+
+over_static : least_broken (beside (class_with (codes "A") object_name [] (void (Static plain_code) (codes "f") [] ∷ []) ∷ class_with (codes "B") a [] (virtual_f false ∷ []) ∷ [])) ≡ Some 205
+over_static = refl

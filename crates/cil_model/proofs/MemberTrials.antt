@@ -1,14 +1,14 @@
 -- Each instruction on fields, arrays and types: a result, and each of its faults in the order of the checks.
-use Rattle.std.proofs.Common.{◌≡◌, ℕ, ℤ, pos, negsuc, List, [], ◌∷◌, Option, Some, None, refl, codes}
+use Rattle.std.proofs.Common.{◌≡◌, pos, [], ◌∷◌, Some, None, refl, codes}
 use Rattle.cil_model.specs.declared.types.DeclaredType.{DeclaredType}
 use Rattle.cil_model.specs.declared.types.Element.TheVariants.{Int32 as Int32Element, Int64 as Int64Element, Object, String}
 use Rattle.cil_model.specs.declared.instructions.Instruction.{Instruction}
 use Rattle.cil_model.specs.declared.instructions.Instruction.TheVariants.{LoadField, StoreField, LoadStaticField, StoreStaticField, NewArray, LoadLength, LoadElementInt32, LoadElementInt64, LoadElementReference, StoreElementInt32, StoreElementInt64, StoreElementReference, CastClass, IsInstance}
 use Rattle.cil_model.specs.declared.reports.Fault.TheVariants.{NullReference, IndexOutOfRange, ArrayTypeMismatch, InvalidCast, Overflow, OutOfMemory}
 use Rattle.cil_model.specs.Declarations.{plain}
-use Rattle.cil_model.specs.Values.{Value, Born, Int32, Int64, Native, Null}
+use Rattle.cil_model.specs.Values.{Born, Native, Null}
 use Rattle.cil_model.specs.States.{Free, Array}
-use Rattle.cil_model.proofs.Programs.{named, of_class, arrays_of}
+use Rattle.cil_model.proofs.Programs.{of_class, arrays_of}
 use Rattle.cil_model.proofs.Farm.{int, minus, long, object, text, key, heap_object, Leaves, Faults, NoMeaning, does, does_refused, field_of_animal, field_after, elements_after, statics_after, born_after}
 
 abbrev age : Instruction

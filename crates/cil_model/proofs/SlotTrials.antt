@@ -1,8 +1,7 @@
 -- Slots, targets and look-ups: hiding, newslot, static methods between, and an interface that is listed again.
-use Rattle.std.proofs.Common.{◌≡◌, ℕ, pos, Bool, true, false, List, [], ◌∷◌, Option, Some, None, option_map, refl, codes}
+use Rattle.std.proofs.Common.{◌≡◌, ℕ, true, false, List, [], ◌∷◌, Option, Some, None, option_map, refl, codes}
 use Rattle.cil_model.specs.declared.types.ClassName.{ClassName}
 use Rattle.cil_model.specs.declared.types.Element.TheVariants.{Int32, Int64, Object, String}
-use Rattle.cil_model.specs.declared.instructions.FieldReference.{FieldReference}
 use Rattle.cil_model.specs.declared.instructions.MethodName.TheVariants.{Constructor, Named}
 use Rattle.cil_model.specs.declared.instructions.Instruction.TheVariants.{NewObject, Return}
 use Rattle.cil_model.specs.declared.trees.Class.{Class}
@@ -13,12 +12,12 @@ use Rattle.cil_model.specs.declared.trees.Member.TheVariants.{Field as FieldMemb
 use Rattle.cil_model.specs.declared.trees.Method.{Method}
 use Rattle.cil_model.specs.declared.trees.MethodKind.TheVariants.{Static, Instance, Abstract}
 use Rattle.cil_model.specs.declared.trees.Tree.{Tree}
-use Rattle.cil_model.specs.Declarations.{object_name, thread_name, run_method, run_name, plain, void_method}
+use Rattle.cil_model.specs.Declarations.{object_name, thread_name, run_method, plain, void_method}
 use Rattle.cil_model.specs.Chains.{chain_of, find_field, find_method}
 use Rattle.cil_model.specs.Slots.{target}
-use Rattle.cil_model.specs.Fields.{FieldKey, instance_fields, static_slot, instance_slot, is_reference_slot, slot_types}
+use Rattle.cil_model.specs.Fields.{FieldKey, static_slot, instance_slot, is_reference_slot, slot_types}
 use Rattle.cil_model.specs.FlowRules.{flow}
-use Rattle.cil_model.proofs.Programs.{named, of_class, class_with, interface_with, without_main, virtual_f, abstract_f, code_with, constructor_over, reference_to, thread_class}
+use Rattle.cil_model.proofs.Programs.{named, class_with, interface_with, without_main, virtual_f, abstract_f, code_with, constructor_over, reference_to, thread_class}
 
 abbrev a : ClassName
 a = named (codes "A")
@@ -57,12 +56,12 @@ over_a classes = without_main (interface_i ∷ class_with (codes "A") object_nam
 abbrev fields : Tree
 fields = without_main (
     class_with (codes "A") object_name [] (
-        FieldMember (record { is_static = false; field_type = plain Int32; name = codes "x" }) ∷
-        FieldMember (record { is_static = true; field_type = plain Int32; name = codes "s" }) ∷
-        FieldMember (record { is_static = false; field_type = plain Object; name = codes "y" }) ∷ []) ∷
+    FieldMember (record { is_static = false; field_type = plain Int32; name = codes "x" }) ∷
+    FieldMember (record { is_static = true; field_type = plain Int32; name = codes "s" }) ∷
+    FieldMember (record { is_static = false; field_type = plain Object; name = codes "y" }) ∷ []) ∷
     class_with (codes "B") a [] (
-        FieldMember (record { is_static = false; field_type = plain Int64; name = codes "x" }) ∷
-        FieldMember (record { is_static = true; field_type = plain Object; name = codes "y" }) ∷ []) ∷
+    FieldMember (record { is_static = false; field_type = plain Int64; name = codes "x" }) ∷
+    FieldMember (record { is_static = true; field_type = plain Object; name = codes "y" }) ∷ []) ∷
     class_with (codes "T") thread_name [] (FieldMember (record { is_static = false; field_type = plain String; name = codes "x" }) ∷ []) ∷ [])
 
 abbrev key : ClassName → List ℕ → FieldKey

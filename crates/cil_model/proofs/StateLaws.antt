@@ -1,15 +1,14 @@
 -- Each change of a state keeps what no step takes back.
-use Rattle.std.proofs.Common.{◌≡◌, ℕ, Bool, true, false, if◌then◌else◌, List, [], ◌∷◌, ◌++◌, map, length, Option, Some, None, option_and_then, option_map, slice_get, slice_set, unwrap_or, refl, sym, ap, ◌∙◌, subst}
+use Rattle.std.proofs.Common.{◌≡◌, ℕ, Bool, true, false, if◌then◌else◌, List, [], ◌∷◌, ◌++◌, map, length, Option, Some, None, option_map, slice_get, slice_set, unwrap_or, refl, sym, ap, ◌∙◌, subst}
 use Rattle.std.proofs.lemmas.List.{append-nil, append_assoc, map-append, length-set}
 use Rattle.std.proofs.lemmas.Option.{get_or_from_slice_get, option_and_then_some}
 use Rattle.std.proofs.Math.Seq.{map-set_same}
-use Rattle.cil_model.specs.declared.types.ClassName.{ClassName}
 use Rattle.cil_model.specs.declared.types.DeclaredType.{DeclaredType}
 use Rattle.cil_model.specs.Same.{same_text}
 use Rattle.cil_model.specs.Fields.{FieldKey, same_key}
 use Rattle.cil_model.specs.Values.{ObjectName, Born, Literal, Value, same_kind}
 use Rattle.cil_model.specs.States.{Monitor, Contents, Instance, Array, HeapObject, State, entry_at, with_entry, same_kind_or_none, replaced_entry, replaced_at, object_at, with_object, fields_of_contents, elements_of_contents, with_fields, with_field, with_element, with_birth, with_monitor}
-use Rattle.cil_model.specs.Growth.{Shape, OfInstance, OfArray, shape_of, shapes, static_keys, literals, Continues, Follows}
+use Rattle.cil_model.specs.Growth.{OfInstance, OfArray, shape_of, shapes, Continues, Follows}
 use Rattle.cil_model.proofs.BelowLaws.{none_is_some, same_some}
 
 -- ---- lists

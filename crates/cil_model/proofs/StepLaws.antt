@@ -1,5 +1,5 @@
 -- What an instruction may do: it takes nothing back, and raises listed faults alone.
-use Rattle.std.proofs.Common.{◌≡◌, ◌==◌, ◌+◌, ◌-◌, ℕ, zero, suc, ℤ, pos, negsuc, Bool, true, false, if◌then◌else◌, nat_le, IsTrue, List, [], ◌∷◌, ◌++◌, length, reverse, take, drop, replicate, Option, Some, None, Result, Ok, Err, is_some, option_and_then, option_map, slice_get, Contains, refl, sym, ap, ◌∙◌, subst, lit<}
+use Rattle.std.proofs.Common.{◌≡◌, ◌==◌, ◌-◌, ℕ, zero, suc, ℤ, pos, negsuc, Bool, true, false, if◌then◌else◌, nat_le, List, [], ◌∷◌, length, reverse, take, drop, replicate, Option, Some, None, Result, Ok, Err, is_some, slice_get, Contains, refl, subst, lit<}
 use Rattle.std.specs.Option.{option_map_or}
 use Rattle.cil_model.specs.declared.types.ClassName.{ClassName}
 use Rattle.cil_model.specs.declared.types.DeclaredType.{DeclaredType}
@@ -28,7 +28,7 @@ use Rattle.cil_model.specs.States.{Monitor, Free, Held, Contents, Array, HeapObj
 use Rattle.cil_model.specs.Stacks.{take_one, take_two, take_three}
 use Rattle.cil_model.specs.Effects.{Setting, Effect, Goes, Blocks, Raises, Sticks, given, unless_fault, pop_many, not_null, are_of_kinds, new_frame, after, onward}
 use Rattle.cil_model.specs.BuiltIn.{Action, Construct, Write, Enter, Exit, Start, Join, action_of, line_of, enter, exit, with_thread, begin, start, join, thread_object, act}
-use Rattle.cil_model.specs.Steps.{Outcome, Answers, Stuck, instruction_at, effect_of, with_thread_at, ended_as, goes_on, settled, step_of, step, key_of, stored, execute, jump, branch_if, birth, new_array, in_range, element, load_element, store_element, may_hold, store_reference, cast, frame_for, is_too_deep, run_method as run_found, operands, method_for, run_virtual, construct, leave_value, return_from, to_label, switch_on}
+use Rattle.cil_model.specs.Steps.{Answers, Stuck, instruction_at, effect_of, with_thread_at, ended_as, goes_on, settled, step_of, step, key_of, stored, execute, jump, branch_if, birth, new_array, in_range, element, load_element, store_element, may_hold, store_reference, cast, frame_for, is_too_deep, run_method as run_found, operands, method_for, run_virtual, construct, leave_value, return_from, to_label, switch_on}
 use Rattle.cil_model.specs.Faults.{faults_of_action, MayRaise, itself, member}
 use Rattle.cil_model.specs.Growth.{shapes, Follows}
 use Rattle.cil_model.proofs.FaultLaws.{operation_faults}
