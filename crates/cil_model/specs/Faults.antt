@@ -8,6 +8,7 @@ use Rattle.cil_model.specs.declared.reports.Fault.{Fault}
 use Rattle.cil_model.specs.declared.reports.Fault.TheVariants.{NullReference, IndexOutOfRange, ArrayTypeMismatch, InvalidCast, DivideByZero, Arithmetic, Overflow, OutOfMemory, TooManyThreads, StackOverflow, ArgumentNull, SynchronizationLock, ThreadState}
 use Rattle.cil_model.specs.BuiltIn.{Action, Construct, Write, Enter, Exit, Start, Join}
 
+-- those of an operation on two integers (III.3.2, III.3.31, III.3.49, III.3.55, III.3.65)
 abbrev pub faults_of_operation : BinaryOperation → List Fault
 faults_of_operation AddOverflow = Overflow ∷ []
 faults_of_operation SubtractOverflow = Overflow ∷ []
@@ -44,6 +45,7 @@ faults_of_action Exit = ArgumentNull ∷ SynchronizationLock ∷ []
 faults_of_action Start = NullReference ∷ ThreadState ∷ TooManyThreads ∷ []
 faults_of_action Join = NullReference ∷ ThreadState ∷ []
 
+-- whether it calls a member
 abbrev pub is_call : Instruction → Bool
 is_call (Call is_instance r) = true
 is_call (CallVirtual owner name signature) = true

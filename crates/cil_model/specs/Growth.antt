@@ -11,16 +11,20 @@ pub data Shape : Type 0 where
   OfInstance : ClassName → List FieldKey → Shape
   OfArray : DeclaredType → ℕ → Shape
 
+-- the shape of contents
 abbrev pub shape_of : Contents → Shape
 shape_of (Instance c fields) = OfInstance c (map (λ (e : FieldKey × Value). e.0) fields)
 shape_of (Array t elements) = OfArray t (length elements)
 
+-- the shapes of all objects, by birth
 abbrev pub shapes : State → List Shape
 shapes s = map (λ (o : HeapObject). shape_of o.contents) s.objects
 
+-- the static fields that have a value
 abbrev pub static_keys : State → List FieldKey
 static_keys s = map (λ (e : FieldKey × Value). e.0) s.statics
 
+-- the literals that have a monitor
 abbrev pub literals : State → List (List ℕ)
 literals s = map (λ (e : List ℕ × Monitor). e.0) s.literal_monitors
 

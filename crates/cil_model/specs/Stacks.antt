@@ -7,11 +7,13 @@ abbrev pub take_one : {X R : Type 0} → R → List X → (X → List X → R) �
 take_one missing [] go = missing
 take_one missing (a ∷ rest) go = go a rest
 
+-- two operands
 abbrev pub take_two : {X R : Type 0} → R → List X → (X → X → List X → R) → R
 take_two missing [] go = missing
 take_two missing (b ∷ []) go = missing
 take_two missing (b ∷ a ∷ rest) go = go a b rest
 
+-- three operands
 abbrev pub take_three : {X R : Type 0} → R → List X → (X → X → X → List X → R) → R
 take_three missing [] go = missing
 take_three missing (c ∷ []) go = missing
