@@ -1,4 +1,4 @@
--- Taking operands off a stack: of values where a program runs, of types where it is verified (III.1.1.4.1).
+-- Taking operands off a stack: of values where a program runs, of types where it is verified (I.12.3.2.1).
 use Rattle.std.specs.Prelude.{List, [], ◌∷◌}
 
 -- Each takes the topmost operands and goes on with them, in the order in which they were pushed, and with what lies
