@@ -17,6 +17,7 @@ abbrev pub cell_words : Tree → Contents → ℕ
 cell_words tree (Instance c fields) = 3 + (if is_thread_class tree c then 1 else 0) + length fields
 cell_words tree (Array t elements) = 3 + length elements
 
+-- the same, of an object that is there
 abbrev pub words_of_object : Tree → Option HeapObject → ℕ
 words_of_object tree None = 0
 words_of_object tree (Some o) = cell_words tree o.contents
