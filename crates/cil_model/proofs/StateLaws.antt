@@ -3,12 +3,14 @@ use Rattle.std.proofs.Common.{◌≡◌, ℕ, Bool, true, false, if◌then◌els
 use Rattle.std.proofs.lemmas.List.{append-nil, append_assoc, map-append, length-set}
 use Rattle.std.proofs.lemmas.Option.{get_or_from_slice_get, option_and_then_some}
 use Rattle.std.proofs.Math.Seq.{map-set_same}
+use Rattle.std.specs.Cmp.{IsEquivalence}
 use Rattle.cil_model.specs.declared.types.DeclaredType.{DeclaredType}
 use Rattle.cil_model.specs.Same.{same_text}
 use Rattle.cil_model.specs.Fields.{FieldKey, same_key}
 use Rattle.cil_model.specs.Values.{ObjectName, Born, Literal, Value, same_kind}
 use Rattle.cil_model.specs.States.{Monitor, Contents, Instance, Array, HeapObject, State, entry_at, with_entry, same_kind_or_none, replaced_entry, replaced_at, object_at, with_object, fields_of_contents, elements_of_contents, with_fields, with_field, with_element, with_birth, with_monitor}
 use Rattle.cil_model.specs.Growth.{OfInstance, OfArray, shape_of, shapes, Continues, Follows}
+use Rattle.cil_model.proofs.SameLaws.{if_true, if_false}
 use Rattle.cil_model.proofs.BelowLaws.{none_is_some, same_some}
 
 -- ---- lists
@@ -127,3 +129,30 @@ follows_monitor s (Literal characters) m = record {
 
 pub follows_statics : (s : State) (k : FieldKey) (v : Value) (statics : List (FieldKey × Value)) → replaced_entry k v s.statics ≡ Some statics → Follows s (record s { statics = statics })
 follows_statics s k v statics h = record { objects = continues_itself (shapes s); statics = replaced_keys k v s.statics statics h; literals_stay = refl; printed = continues_itself s.printed }
+
+-- ---- a value that was stored is loaded again
+
+module _ {K V : Type 0} (same : K → K → Bool) (laws : IsEquivalence same) where
+  -- under its own key, where there was one
+  pub entry_stored : (k : K) (v w : V) (es : List (K × V)) → entry_at same k es ≡ Some w → entry_at same k (with_entry same k v es) ≡ Some v
+  entry_stored k v w [] h = none_is_some w h
+  entry_stored k v w (e ∷ es) h = by_test (same e.0 k) refl h (entry_stored k v w es)
+    where
+      by_test : (b : Bool) → same e.0 k ≡ b → (if b then Some e.1 else entry_at same k es) ≡ Some w → (entry_at same k es ≡ Some w → entry_at same k (with_entry same k v es) ≡ Some v) →
+          entry_at same k (if b then (e.0, v) ∷ es else e ∷ with_entry same k v es) ≡ Some v
+      by_test true e' h' later = if_true (same e.0 k) (Some v) (entry_at same k es) e'
+      by_test false e' h' later = if_false (same e.0 k) (Some e.1) (entry_at same k (with_entry same k v es)) e' ∙ later h'
+
+  -- and nothing else under another key
+  pub entry_kept : (j k : K) (v : V) (es : List (K × V)) → same k j ≡ false → entry_at same j (with_entry same k v es) ≡ entry_at same j es
+  entry_kept j k v [] other = refl
+  entry_kept j k v (e ∷ es) other = by_test (same e.0 k) refl (entry_kept j k v es other)
+    where
+      -- an entry of k's key is none of j's
+      apart : same e.0 k ≡ true → same e.0 j ≡ false
+      apart h = laws.congr e.0 k j h ∙ other
+
+      by_test : (b : Bool) → same e.0 k ≡ b → entry_at same j (with_entry same k v es) ≡ entry_at same j es →
+          entry_at same j (if b then (e.0, v) ∷ es else e ∷ with_entry same k v es) ≡ (if same e.0 j then Some e.1 else entry_at same j es)
+      by_test true h later = if_false (same e.0 j) (Some v) (entry_at same j es) (apart h) ∙ sym (if_false (same e.0 j) (Some e.1) (entry_at same j es) (apart h))
+      by_test false h later = ap (λ rest. if same e.0 j then Some e.1 else rest) later
