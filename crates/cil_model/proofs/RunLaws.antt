@@ -89,7 +89,7 @@ get_of_map f [] n = refl
 get_of_map f (x ∷ xs) zero = refl
 get_of_map f (x ∷ xs) (suc n) = get_of_map f xs n
 
-get_before : {X : Type 0} (xs more : List X) (n : ℕ) (x : X) → slice_get xs n ≡ Some x → slice_get (xs ++ more) n ≡ Some x
+pub get_before : {X : Type 0} (xs more : List X) (n : ℕ) (x : X) → slice_get xs n ≡ Some x → slice_get (xs ++ more) n ≡ Some x
 get_before [] more n x h = none_is_some x h
 get_before (y ∷ ys) more zero x h = h
 get_before (y ∷ ys) more (suc n) x h = get_before ys more n x h
