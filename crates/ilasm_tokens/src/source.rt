@@ -1,6 +1,8 @@
 //! The tokens of a whole source.
 
-ghost use Rattle.std.specs.Prelude.{◌<◌, ◌≤◌, length, IfOk};
+ghost use Rattle.std.specs.Prelude.{◌≤◌, length, IfOk};
+ghost use Rattle.ilasm_tokens.specs.Steps.{Gives};
+ghost use Rattle.ilasm_tokens.specs.Lexing.{spaced_lexeme_at, tokens_at};
 
 use crate::failure::Failure;
 use crate::lexemes::lexeme;
@@ -9,15 +11,19 @@ use cil_model::tokens::Token;
 use std::alloc::Global;
 
 /// A token, and what is left behind the white space and comments that follow it.
+#[tactic(auto, unfolding(crate::specs::Lexing::spaced_lexeme_at, crate::specs::Steps::bind))]
 fn spaced_lexeme(alloc: Global, bytes: &[u8]) -> Result<(Token, &[u8]), Failure>
-    ensures { IfOk result (λ x. length x.1.now < length bytes.now) }
+    ensures { Gives (λ x. (x.0, x.1.now)) result (spaced_lexeme_at bytes.now) }
 {
     let (token, rest) = lexeme(alloc, bytes)?;
     Ok((token, after_spaces(rest)?))
 }
 
 /// The tokens of a source.
-pub fn tokens(alloc: Global, source: &[u8]) -> Result<Vec<Token>, Failure> {
+#[tactic(auto, unfolding(crate::specs::Lexing::tokens_at, crate::specs::Steps::bind))]
+pub fn tokens(alloc: Global, source: &[u8]) -> Result<Vec<Token>, Failure>
+    ensures { Gives (λ v. v.items) result (tokens_at source.now) }
+{
     let mut tokens = Vec::new(alloc);
     let mut rest = after_spaces(source)?;
     while !rest.is_empty() {
@@ -29,6 +35,7 @@ pub fn tokens(alloc: Global, source: &[u8]) -> Result<Vec<Token>, Failure> {
 }
 
 /// Where a token of a source begins, counted in bytes; for messages. The end of the source, if it has no token of that number.
+#[tactic(auto, using(crate::proofs::Reading::gap_shorter, crate::proofs::Reading::spaced_consumes))]
 pub fn token_offset(alloc: Global, source: &[u8], number: usize) -> Result<usize, Failure>
     ensures { IfOk result (λ offset. offset ≤ length source.now) }
 {
