@@ -1,5 +1,5 @@
 -- What is read are the tokens of the source, and no others are.
-use Rattle.std.proofs.Common.{◌≡◌, ◌≢◌, ◌==◌, ◌∙◌, ◌<◌, ◌≤◌, ◌+◌, ◌-◌, ◌^◌, ◌⊎◌, ℕ, zero, suc, List, [], ◌∷◌, ◌++◌, length, take, drop, Option, Some, None, Bool, true, false, not, ◌&&◌, ◌||◌, cond, refl, ap, sym, subst, inl, inr, arith, ℤ, FitsSigned, length-append, take-append-drop}
+use Rattle.std.proofs.Common.{◌≡◌, ◌≢◌, ◌==◌, ◌∙◌, ◌<◌, ◌≤◌, ◌+◌, ◌-◌, ◌^◌, ◌⊎◌, ℕ, zero, suc, List, [], ◌∷◌, ◌++◌, length, take, drop, Option, Some, None, Ok, Err, Bool, true, false, not, ◌&&◌, ◌||◌, cond, refl, ap, sym, subst, inl, inr, arith, ℤ, FitsSigned, length-append, take-append-drop}
 use Rattle.std.specs.Prelude.{is_some, nat_le}
 use Rattle.std.specs.List.{prefix_len, list_all}
 use Rattle.std.specs.Int.{w64}
@@ -18,6 +18,7 @@ use Rattle.ilasm_tokens.specs.declared.bytes.Kind.TheVariants.{Word, Digit, Minu
 use Rattle.ilasm_tokens.specs.declared.failure.Failure.{Failure}
 use Rattle.ilasm_tokens.specs.declared.failure.Failure.TheVariants.{Refused, OutOfMemory}
 use Rattle.ilasm_tokens.specs.Steps.{Fails, bind, with_front, many, Yields, yields_some, yields_none, yields_bind, yields_if, bind_at, Sound, many_sound, Consumes}
+use Rattle.ilasm_tokens.specs.Answers.{IsTokenAnswer}
 use Rattle.ilasm_tokens.specs.Vocabulary.{use_of}
 use Rattle.ilasm_tokens.specs.Lexing.{kind_of, run_at, word_token, limit, is_empty, integer_of, integer_token, quoted_from, quoted_token, colon_token, token_by, lexeme_at, spaced_lexeme_at, not_empty, tokens_at}
 use Rattle.ilasm_tokens.proofs.Many.{Complete, many_complete}
@@ -426,11 +427,17 @@ unfolding not_empty
 none_left [] e = refl
 none_left (b ∷ bs) e = let zero_length : length (b ∷ bs) ≡ 0 = eqb-true _ _ e in absurd (omega arith)
 
-pub tokens_end : (bs start rest : List ℕ) (ts : List Token) → behind between bs ≡ Some start → many not_empty spaced_lexeme_at start ≡ Some (ts, rest) → not_empty rest ≡ false → tokens_at bs ≡ Some ts
+pub tokens_end : (bs start rest : List ℕ) (ts : List Token) → behind between bs ≡ Some start → many not_empty spaced_lexeme_at start ≡ Some (ts, rest) → not_empty rest ≡ false → IsTokenAnswer bs (Ok ts)
 unfolding tokens_at
-tokens_end bs start rest ts g e left = bind_at _ g (bind_at _ e (rw left refl))
+tokens_end bs start rest ts g e left = read_are_tokens bs ts (bind_at _ g (bind_at _ e (rw left refl)))
 
-pub tokens_fail : (failure : Failure) (bs start : List ℕ) → behind between bs ≡ Some start → Fails failure (many not_empty spaced_lexeme_at start) → Fails failure (tokens_at bs)
+pub tokens_fail : (failure : Failure) (bs start : List ℕ) → behind between bs ≡ Some start → Fails failure (many not_empty spaced_lexeme_at start) → IsTokenAnswer bs (Err failure)
 unfolding tokens_at bind
 tokens_fail OutOfMemory bs start g e = tt
-tokens_fail (Refused left) bs start g e = rw (g, e) refl
+tokens_fail (Refused left) bs start g e = none_are_tokens bs (rw (g, e) refl)
+
+-- white space or comments that do not end
+pub no_start : (failure : Failure) (bs : List ℕ) → Fails failure (behind between bs) → IsTokenAnswer bs (Err failure)
+unfolding tokens_at bind
+no_start OutOfMemory bs e = tt
+no_start (Refused left) bs e = none_are_tokens bs (rw e refl)

@@ -2,11 +2,13 @@
 
 ghost use Rattle.std.specs.Prelude.{◌≤◌, length, IfOk};
 ghost use Rattle.ilasm_tokens.specs.Steps.{Gives};
-ghost use Rattle.ilasm_tokens.specs.Lexing.{spaced_lexeme_at, tokens_at};
+ghost use Rattle.ilasm_tokens.specs.Answers.{IsTokenAnswer};
+ghost use Rattle.ilasm_tokens.specs.Lexing.{spaced_lexeme_at};
 
 use crate::failure::Failure;
 use crate::lexemes::lexeme;
 use crate::spaces::after_spaces;
+use cil_model::sequences::Sequence;
 use cil_model::tokens::Token;
 use std::alloc::Global;
 
@@ -19,10 +21,10 @@ fn spaced_lexeme(alloc: Global, bytes: &[u8]) -> Result<(Token, &[u8]), Failure>
     Ok((token, after_spaces(rest)?))
 }
 
-/// The tokens of a source.
-#[tactic(auto, unfolding(crate::specs::Lexing::tokens_at, crate::specs::Steps::bind))]
-pub fn tokens(alloc: Global, source: &[u8]) -> Result<Vec<Token>, Failure>
-    ensures { Gives (λ v. v.items) result (tokens_at source.now) }
+/// The tokens of a source (ECMA-335 II.5.2). They are refused where no list of tokens is the source's;
+/// `left` is then how many bytes are left at the first place where none begins.
+pub fn tokens(alloc: Global, source: &[u8]) -> Result<Sequence<Token>, Failure>
+    ensures { IsTokenAnswer source.now result }
 {
     let mut tokens = Vec::new(alloc);
     let mut rest = after_spaces(source)?;
@@ -31,7 +33,7 @@ pub fn tokens(alloc: Global, source: &[u8]) -> Result<Vec<Token>, Failure>
         tokens.push(token)?;
         rest = after;
     }
-    Ok(tokens)
+    Ok(Sequence::new(tokens))
 }
 
 /// Where a token of a source begins, counted in bytes; for messages. The end of the source, if it has no token of that number.

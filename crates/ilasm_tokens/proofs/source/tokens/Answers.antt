@@ -24,4 +24,5 @@ loop-rest-preserved c =
 pub returns : goal.returns
 returns c =
     let left = none_left c.loop-rest.rest.now (sym c.loop-rest-test.ensures) in
-    tokens_end c.args.source.now c.in_ok-rest.rest.now c.loop-rest.rest.now c.loop-rest.tokens.items c.in_ok-rest.ensures (ends_loop not_empty spaced_lexeme_at _ c.loop-rest.tokens.items c.loop-rest.rest.now c.loop-rest.invariant left) left
+    let whole = ends_loop not_empty spaced_lexeme_at _ c.loop-rest.tokens.items c.loop-rest.rest.now c.loop-rest.invariant left in
+    rw c.new.ensures (tokens_end c.args.source.now c.in_ok-rest.rest.now c.loop-rest.rest.now c.loop-rest.tokens.items c.in_ok-rest.ensures whole left)
