@@ -1,5 +1,5 @@
 -- Reading the parts of a source from its tokens, from left to right.
-use Rattle.std.specs.Prelude.{◌==◌, ℕ, ℤ, List, [], ◌∷◌, length, Option, Some, None, Bool, true, false, is_some, if◌then◌else◌, codes, bytes_eq, unwrap_or, int_le, pos, negsuc, ◌&&◌}
+use Rattle.std.specs.Prelude.{◌==◌, ℕ, ℤ, List, [], ◌∷◌, length, Option, Some, None, Bool, true, false, is_some, if◌then◌else◌, codes, bytes_eq, unwrap_or, nat_le, pos, negsuc}
 use Rattle.cil_model.specs.declared.tokens.Symbol as symbols
 use Rattle.cil_model.specs.declared.tokens.Symbol.TheVariants.{OpenBrace, CloseBrace, OpenParenthesis, CloseParenthesis, OpenBracket, CloseBracket, Comma, Colon, DoubleColon}
 use Rattle.cil_model.specs.declared.tokens.Token.{Token}
@@ -8,6 +8,7 @@ use Rattle.cil_model.specs.declared.types.ClassName.{ClassName}
 use Rattle.cil_model.specs.declared.types.Element.{Element}
 use Rattle.cil_model.specs.declared.types.Element.TheVariants.{Int32, Int64, Object, String, Class as ClassElement}
 use Rattle.cil_model.specs.declared.types.DeclaredType.{DeclaredType}
+use Rattle.cil_model.specs.declared.types.Signature.{Signature}
 use Rattle.cil_model.specs.declared.instructions.MethodName.{MethodName}
 use Rattle.cil_model.specs.declared.instructions.MethodName.TheVariants.{Constructor as ConstructorName, Named}
 use Rattle.cil_model.specs.declared.instructions.FieldReference.{FieldReference}
@@ -234,24 +235,19 @@ with_type tests.Cast t = instructions.CastClass t
 with_type tests.IsInstance t = instructions.IsInstance t
 
 -- the virtual call of a method, unless it is a constructor
-unfoldable pub virtual_call : MethodReference → Option Instruction
-virtual_call r = called r.name
-  where
-    called : MethodName → Option Instruction
-    called ConstructorName = None
-    called (Named name) = Some (instructions.CallVirtual r.owner name r.signature)
+unfoldable pub virtual_call : ClassName → Signature → MethodName → Option Instruction
+virtual_call owner s ConstructorName = None
+virtual_call owner s (Named name) = Some (instructions.CallVirtual owner name s)
 
 -- the making of an object by a constructor, which returns nothing
-unfoldable pub creation : MethodReference → Option Instruction
-creation r = made r.name r.signature.return_type
-  where
-    made : MethodName → Option DeclaredType → Option Instruction
-    made ConstructorName None = Some (instructions.NewObject r.owner r.signature.parameters)
-    made ConstructorName (Some t) = None
-    made (Named name) t = None
+unfoldable pub creation : ClassName → List DeclaredType → MethodName → Option DeclaredType → Option Instruction
+creation class parameters ConstructorName None = Some (instructions.NewObject class parameters)
+creation class parameters ConstructorName (Some t) = None
+creation class parameters (Named name) t = None
 
-abbrev pub has_32_bits : ℤ → Bool
-has_32_bits z = int_le (negsuc 2147483647) z && int_le z (pos 2147483647)
+unfoldable pub has_32_bits : ℤ → Bool
+has_32_bits (pos n) = nat_le n 2147483647
+has_32_bits (negsuc n) = nat_le n 2147483647
 
 unfoldable pub operands_at : Form → Parser Instruction
 operands_at (forms.Bare which) ts = Some (bare which, ts)
@@ -285,12 +281,12 @@ operands_at forms.Call ts = do
 operands_at forms.CallVirtual ts = do
   rest ← word_at (codes "instance") ts
   method ← method_reference_at rest
-  call ← virtual_call method.0
+  call ← virtual_call method.0.owner method.0.signature method.0.name
   Some (call, method.1)
 operands_at forms.NewObject ts = do
   rest ← word_at (codes "instance") ts
   method ← method_reference_at rest
-  created ← creation method.0
+  created ← creation method.0.owner method.0.signature.parameters method.0.name method.0.signature.return_type
   Some (created, method.1)
 
 unfoldable pub form_of : Option WordUse → Option Form
@@ -330,11 +326,15 @@ locals_at ts = choice (word_at (codes ".locals") ts) (λ directive. do
   rest ← sign_at CloseParenthesis items.1
   Some (items.0, rest)) (Some ([], ts))
 
+unfoldable pub max_stack_at : Parser ℤ
+max_stack_at ts = do
+  rest ← word_at (codes ".maxstack") ts
+  integer_at rest
+
 unfoldable pub code_at : Parser Code
 code_at ts = do
   block ← sign_at OpenBrace ts
-  directive ← word_at (codes ".maxstack") (flag_at (codes ".entrypoint") block).1
-  max_stack ← integer_at directive
+  max_stack ← max_stack_at (flag_at (codes ".entrypoint") block).1
   locals ← locals_at max_stack.1
   lines ← many in_block line_at locals.1
   rest ← sign_at CloseBrace lines.1
@@ -348,12 +348,17 @@ virtual_words_at ts = do
   rest ← word_at (codes "instance") behind
   Some (if (flag_at (codes "abstract") (flag_at (codes "newslot") ts).1).0 then Abstract (flag_at (codes "newslot") ts).0 else Virtual (flag_at (codes "newslot") ts).0, rest)
 
+-- behind `specialname`
+unfoldable pub constructor_words_at : List Token → Option (List Token)
+constructor_words_at ts = do
+  rest ← word_at (codes "rtspecialname") ts
+  word_at (codes "instance") rest
+
 unfoldable pub first_words_at : Parser Beginning
 first_words_at ts = choice (word_at (codes "static") ts) (λ rest. Some (Static, rest))
     (choice (word_at (codes "instance") ts) (λ rest. Some (Instance, rest))
     (choice (word_at (codes "specialname") ts) (λ special. do
-      behind ← word_at (codes "rtspecialname") special
-      rest ← word_at (codes "instance") behind
+      rest ← constructor_words_at special
       Some (Constructor, rest)) (virtual_words_at ts)))
 
 unfoldable pub named_head_at : Parser (Option DeclaredType × MethodName)
@@ -421,11 +426,11 @@ member_at ts = choice (word_at (codes ".field") ts) (λ _. do
   field ← field_at ts
   Some (FieldMember field.0, field.1)) (interface_member_at ts)
 
--- members in braces
-unfoldable pub block_at : Parser Member → Parser (List Member)
-block_at parses ts = do
+-- parts in braces
+unfoldable pub block_at : {A : Type 0} → (List Token → Bool) → Parser A → Parser (List A)
+block_at starts parses ts = do
   inside ← sign_at OpenBrace ts
-  members ← many in_block parses inside
+  members ← many starts parses inside
   rest ← sign_at CloseBrace members.1
   Some (members.0, rest)
 
@@ -434,12 +439,13 @@ implements_at ts = choice (word_at (codes "implements") ts) (λ rest. commas_at 
 
 unfoldable pub interface_at : Parser Class
 interface_at ts = do
-  abstract ← word_at (codes "public") ts
+  public ← word_at (codes "interface") ts
+  abstract ← word_at (codes "public") public
   auto ← word_at (codes "abstract") abstract
   ansi ← word_at (codes "auto") auto
   behind ← word_at (codes "ansi") ansi
   name ← name_at behind
-  members ← block_at interface_member_at name.1
+  members ← block_at in_block interface_member_at name.1
   Some (record { name = name.0; kind = Interface; members = members.0 }, members.1)
 
 unfoldable pub plain_class_at : Parser Class
@@ -451,13 +457,13 @@ plain_class_at ts = do
   extends ← word_at (codes "extends") name.1
   base ← class_name_at extends
   interfaces ← implements_at base.1
-  members ← block_at member_at interfaces.1
+  members ← block_at in_block member_at interfaces.1
   Some (record { name = name.0; kind = PlainClass (flag_at (codes "abstract") abstract).0 base.0 interfaces.0; members = members.0 }, members.1)
 
 unfoldable pub class_at : Parser Class
 class_at ts = do
   start ← word_at (codes ".class") ts
-  choice (word_at (codes "interface") start) (λ rest. interface_at rest) (plain_class_at start)
+  choice (word_at (codes "interface") start) (λ _. interface_at start) (plain_class_at start)
 
 -- ---- a whole source
 

@@ -84,10 +84,10 @@ pub fn read(alloc: Global, source: &[u8]) -> Result<Tree, ReadError>
         }
         Err(Failure::OutOfMemory) => return Err(ReadError::OutOfMemory),
     };
-    match tree(alloc, &tokens) {
+    match tree(alloc, tokens.as_slice()) {
         Ok(tree) => Ok(tree),
         Err(Failure::Refused { left }) => {
-            match token_offset(alloc, source, tokens.len().saturating_sub(left)) {
+            match token_offset(alloc, source, tokens.as_slice().len().saturating_sub(left)) {
                 Ok(offset) => Err(ReadError::NoTree { offset }),
                 Err(_) => Err(ReadError::OutOfMemory),
             }

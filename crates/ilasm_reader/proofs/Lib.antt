@@ -1,0 +1,2 @@
+mod Commas
+mod Complete
