@@ -1,7 +1,7 @@
 -- What reading a source answers.
-use Rattle.std.specs.Prelude.{◌≡◌, ℕ, Bool, true, false, List, Result, Ok, Err}
+use Rattle.std.specs.Prelude.{◌≡◌, ℕ, false, List, Result, Ok, Err}
 use Rattle.cil_model.specs.declared.trees.Tree.{Tree}
-use Rattle.cil_model.specs.Sources.{is_too_long, has_foreign_byte}
+use Rattle.cil_model.specs.Sources.{is_too_long, has_foreign_byte, IsAnswer, HasTree, TooLong as IsTooLong, Foreign, NoToken as HasNoToken, NoTree as HasNoTree}
 use Rattle.ilasm_reader.specs.declared.reading.ReadError.{ReadError}
 use Rattle.ilasm_reader.specs.declared.reading.ReadError.TheVariants.{TooLong, NotAscii, NoToken, NoTree, OutOfMemory}
 
@@ -13,7 +13,11 @@ numbered (NoTree offset) = 103
 numbered TooLong = 104
 numbered OutOfMemory = 105
 
-abbrev pub told_at_once : List ℕ → Result Tree ReadError → Type 0
-told_at_once source (Err TooLong) = is_too_long source ≡ true
-told_at_once source (Err (NotAscii offset)) = (is_too_long source ≡ false) × (has_foreign_byte source ≡ true)
-told_at_once source _ = (is_too_long source ≡ false) × (has_foreign_byte source ≡ false)
+-- what each answer says of the source; memory runs out only where neither the length nor a byte was refused
+abbrev pub IsReadAnswer : List ℕ → Result Tree ReadError → Type 0
+IsReadAnswer source (Ok tree) = IsAnswer source (HasTree tree)
+IsReadAnswer source (Err TooLong) = IsAnswer source IsTooLong
+IsReadAnswer source (Err (NotAscii offset)) = IsAnswer source Foreign
+IsReadAnswer source (Err (NoToken offset)) = IsAnswer source HasNoToken
+IsReadAnswer source (Err (NoTree offset)) = IsAnswer source HasNoTree
+IsReadAnswer source (Err OutOfMemory) = (is_too_long source ≡ false) × (has_foreign_byte source ≡ false)

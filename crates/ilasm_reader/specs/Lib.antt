@@ -1,1 +1,4 @@
 pub mod Answers
+pub mod Parsing
+pub mod Forms
+pub mod Sound

@@ -1,6 +1,7 @@
 //! Assemblies, classes and their members.
 
-ghost use Rattle.std.specs.Prelude.{◌<◌, ◌≤◌, length, IfOk};
+ghost use Rattle.ilasm_tokens.specs.Steps.{Gives};
+ghost use Rattle.ilasm_reader.specs.Parsing.{assembly_at, block_at, class_at, extern_at, field_at, implements_at, in_block, interface_at, interface_member_at, member_at, plain_class_at, starts_extern, tree_at};
 
 use crate::lists::{Parse, Starts, commas, in_block, many};
 use crate::methods::method;
@@ -15,8 +16,9 @@ use ilasm_tokens::failure::Failure;
 use std::alloc::Global;
 
 /// A field.
+#[tactic(auto, unfolding(crate::specs::Parsing::field_at, ilasm_tokens::specs::Steps::bind))]
 fn field(alloc: Global, tokens: &[Token]) -> Result<(Field, &[Token]), Failure>
-    ensures { IfOk result (λ x. length x.1.now < length tokens.now) }
+    ensures { Gives (λ x. (x.0, x.1.now)) result (field_at tokens.now) }
 {
     let rest = expect_word(tokens, b".field")?;
     let rest = expect_word(rest, b"public")?;
@@ -37,15 +39,24 @@ fn field(alloc: Global, tokens: &[Token]) -> Result<(Field, &[Token]), Failure>
 pub struct InterfaceMember;
 
 impl Parse for InterfaceMember {
+    ghost use Rattle.ilasm_reader.specs.Sound.{interface_member_sound};
+
     type Tree = Member;
 
+    ghost parsed_at = { interface_member_at };
+
+    #[tactic(auto, unfolding(crate::specs::Parsing::interface_member_at, ilasm_tokens::specs::Steps::bind))]
     fn parse(alloc: Global, tokens: &[Token]) -> Result<(Member, &[Token]), Failure> {
         let (method, rest) = method(alloc, tokens)?;
         Ok((Member::Method(method), rest))
     }
+
+    ghost consumes = { λ ts x rest e. ((interface_member_sound ts).out (x, rest) e).1 };
 }
 
 impl Starts for InterfaceMember {
+    ghost starts_at = { in_block };
+
     fn starts(tokens: &[Token]) -> bool {
         in_block(tokens)
     }
@@ -55,8 +66,13 @@ impl Starts for InterfaceMember {
 pub struct AnyMember;
 
 impl Parse for AnyMember {
+    ghost use Rattle.ilasm_reader.specs.Sound.{member_sound};
+
     type Tree = Member;
 
+    ghost parsed_at = { member_at };
+
+    #[tactic(auto, unfolding(crate::specs::Parsing::member_at, ilasm_tokens::specs::Steps::bind, ilasm_tokens::specs::Steps::choice))]
     fn parse(alloc: Global, tokens: &[Token]) -> Result<(Member, &[Token]), Failure> {
         if after_word(tokens, b".field").is_some() {
             let (field, rest) = field(alloc, tokens)?;
@@ -64,28 +80,34 @@ impl Parse for AnyMember {
         }
         InterfaceMember::parse(alloc, tokens)
     }
+
+    ghost consumes = { λ ts x rest e. ((member_sound ts).out (x, rest) e).1 };
 }
 
 impl Starts for AnyMember {
+    ghost starts_at = { in_block };
+
     fn starts(tokens: &[Token]) -> bool {
         in_block(tokens)
     }
 }
 
 /// Members in braces.
+#[tactic(auto, unfolding(crate::specs::Parsing::block_at, ilasm_tokens::specs::Steps::bind))]
 fn block<P: Starts>(
     alloc: Global,
     tokens: &[Token],
 ) -> Result<(Sequence<P::Tree>, &[Token]), Failure>
-    ensures { IfOk result (λ x. length x.1.now < length tokens.now) }
+    ensures { Gives (λ x. (x.0, x.1.now)) result (block_at P.starts_at P.parsed_at tokens.now) }
 {
     let (members, rest) = many::<P>(alloc, expect_symbol(tokens, Symbol::OpenBrace)?)?;
     Ok((members, expect_symbol(rest, Symbol::CloseBrace)?))
 }
 
 /// The interfaces that a class lists; none where they are left out.
+#[tactic(auto, unfolding(crate::specs::Parsing::implements_at, ilasm_tokens::specs::Steps::choice))]
 fn implements(alloc: Global, tokens: &[Token]) -> Result<(Sequence<ClassName>, &[Token]), Failure>
-    ensures { IfOk result (λ x. length x.1.now ≤ length tokens.now) }
+    ensures { Gives (λ x. (x.0, x.1.now)) result (implements_at tokens.now) }
 {
     match after_word(tokens, b"implements") {
         Some(rest) => commas::<ClassReference>(alloc, rest),
@@ -93,11 +115,13 @@ fn implements(alloc: Global, tokens: &[Token]) -> Result<(Sequence<ClassName>, &
     }
 }
 
-/// An interface, behind the words `.class interface`.
+/// An interface, behind the word `.class`.
+#[tactic(auto, unfolding(crate::specs::Parsing::interface_at, ilasm_tokens::specs::Steps::bind))]
 fn interface(alloc: Global, tokens: &[Token]) -> Result<(Class, &[Token]), Failure>
-    ensures { IfOk result (λ x. length x.1.now < length tokens.now) }
+    ensures { Gives (λ x. (x.0, x.1.now)) result (interface_at tokens.now) }
 {
-    let rest = expect_word(tokens, b"public")?;
+    let rest = expect_word(tokens, b"interface")?;
+    let rest = expect_word(rest, b"public")?;
     let rest = expect_word(rest, b"abstract")?;
     let rest = expect_word(rest, b"auto")?;
     let rest = expect_word(rest, b"ansi")?;
@@ -115,8 +139,9 @@ fn interface(alloc: Global, tokens: &[Token]) -> Result<(Class, &[Token]), Failu
 }
 
 /// A class that is no interface, behind the word `.class`.
+#[tactic(auto, unfolding(crate::specs::Parsing::plain_class_at, ilasm_tokens::specs::Steps::bind))]
 fn plain_class(alloc: Global, tokens: &[Token]) -> Result<(Class, &[Token]), Failure>
-    ensures { IfOk result (λ x. length x.1.now < length tokens.now) }
+    ensures { Gives (λ x. (x.0, x.1.now)) result (plain_class_at tokens.now) }
 {
     let rest = expect_word(tokens, b"public")?;
     let (is_abstract, rest) = flag(rest, b"abstract");
@@ -146,18 +171,28 @@ fn plain_class(alloc: Global, tokens: &[Token]) -> Result<(Class, &[Token]), Fai
 pub struct AnyClass;
 
 impl Parse for AnyClass {
+    ghost use Rattle.ilasm_reader.specs.Sound.{class_sound};
+
     type Tree = Class;
 
+    ghost parsed_at = { class_at };
+
+    #[tactic(auto, unfolding(crate::specs::Parsing::class_at, ilasm_tokens::specs::Steps::bind, ilasm_tokens::specs::Steps::choice))]
     fn parse(alloc: Global, tokens: &[Token]) -> Result<(Class, &[Token]), Failure> {
         let rest = expect_word(tokens, b".class")?;
-        match after_word(rest, b"interface") {
-            Some(rest) => interface(alloc, rest),
-            None => plain_class(alloc, rest),
+        if after_word(rest, b"interface").is_some() {
+            interface(alloc, rest)
+        } else {
+            plain_class(alloc, rest)
         }
     }
+
+    ghost consumes = { λ ts x rest e. ((class_sound ts).out (x, rest) e).1 };
 }
 
 impl Starts for AnyClass {
+    ghost starts_at = { in_block };
+
     fn starts(tokens: &[Token]) -> bool {
         in_block(tokens)
     }
@@ -167,8 +202,13 @@ impl Starts for AnyClass {
 pub struct Extern;
 
 impl Parse for Extern {
+    ghost use Rattle.ilasm_reader.specs.Sound.{extern_sound};
+
     type Tree = Text;
 
+    ghost parsed_at = { extern_at };
+
+    #[tactic(auto, unfolding(crate::specs::Parsing::extern_at, ilasm_tokens::specs::Steps::bind))]
     fn parse(alloc: Global, tokens: &[Token]) -> Result<(Text, &[Token]), Failure> {
         let rest = expect_word(tokens, b".assembly")?;
         let rest = expect_word(rest, b"extern")?;
@@ -177,9 +217,14 @@ impl Parse for Extern {
         let rest = expect_symbol(rest, Symbol::CloseBrace)?;
         Ok((name, rest))
     }
+
+    ghost consumes = { λ ts x rest e. ((extern_sound ts).out (x, rest) e).1 };
 }
 
 impl Starts for Extern {
+    ghost starts_at = { starts_extern };
+
+    #[tactic(auto, unfolding(crate::specs::Parsing::starts_extern, ilasm_tokens::specs::Steps::choice))]
     fn starts(tokens: &[Token]) -> bool {
         match after_word(tokens, b".assembly") {
             Some(rest) => after_word(rest, b"extern").is_some(),
@@ -189,8 +234,9 @@ impl Starts for Extern {
 }
 
 /// The source's own assembly, if it is named.
+#[tactic(auto, unfolding(crate::specs::Parsing::assembly_at, ilasm_tokens::specs::Steps::bind, ilasm_tokens::specs::Steps::choice))]
 fn assembly(alloc: Global, tokens: &[Token]) -> Result<(Option<Text>, &[Token]), Failure>
-    ensures { IfOk result (λ x. length x.1.now ≤ length tokens.now) }
+    ensures { Gives (λ x. (x.0, x.1.now)) result (assembly_at tokens.now) }
 {
     let Some(rest) = after_word(tokens, b".assembly") else {
         return Ok((None, tokens));
@@ -202,7 +248,10 @@ fn assembly(alloc: Global, tokens: &[Token]) -> Result<(Option<Text>, &[Token]),
 }
 
 /// The tree of all of the tokens.
-pub fn tree(alloc: Global, tokens: &[Token]) -> Result<Tree, Failure> {
+#[tactic(auto, unfolding(crate::specs::Parsing::tree_at, ilasm_tokens::specs::Steps::bind))]
+pub fn tree(alloc: Global, tokens: &[Token]) -> Result<Tree, Failure>
+    ensures { Gives (λ tree. tree) result (tree_at tokens.now) }
+{
     let (externs, rest) = many::<Extern>(alloc, tokens)?;
     let (assembly, rest) = assembly(alloc, rest)?;
     let (classes, rest) = many::<AnyClass>(alloc, rest)?;

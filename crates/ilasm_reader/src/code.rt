@@ -1,6 +1,7 @@
 //! The code of methods.
 
-ghost use Rattle.std.specs.Prelude.{◌<◌, ◌≤◌, length, IfOk};
+ghost use Rattle.ilasm_tokens.specs.Steps.{Gives};
+ghost use Rattle.ilasm_reader.specs.Parsing.{code_at, in_block, label_at, line_at, locals_at, max_stack_at, starts_label};
 
 use crate::instructions::instruction;
 use crate::lists::{Parse, Starts, commas, in_block, many};
@@ -18,15 +19,25 @@ use std::alloc::Global;
 pub struct Label;
 
 impl Parse for Label {
+    ghost use Rattle.ilasm_reader.specs.Sound.{label_sound};
+
     type Tree = Text;
 
+    ghost parsed_at = { label_at };
+
+    #[tactic(auto, unfolding(crate::specs::Parsing::label_at, ilasm_tokens::specs::Steps::bind))]
     fn parse(alloc: Global, tokens: &[Token]) -> Result<(Text, &[Token]), Failure> {
         let (name, rest) = name(alloc, tokens)?;
         Ok((name, expect_symbol(rest, Symbol::Colon)?))
     }
+
+    ghost consumes = { λ ts x rest e. ((label_sound ts).out (x, rest) e).1 };
 }
 
 impl Starts for Label {
+    ghost starts_at = { starts_label };
+
+    #[tactic(auto, unfolding(crate::specs::Parsing::starts_label))]
     fn starts(tokens: &[Token]) -> bool {
         matches!(tokens, [Token::Name(_), ..])
     }
@@ -36,8 +47,13 @@ impl Starts for Label {
 pub struct CodeLine;
 
 impl Parse for CodeLine {
+    ghost use Rattle.ilasm_reader.specs.Sound.{line_sound};
+
     type Tree = Line;
 
+    ghost parsed_at = { line_at };
+
+    #[tactic(auto, unfolding(crate::specs::Parsing::line_at, ilasm_tokens::specs::Steps::bind))]
     fn parse(alloc: Global, tokens: &[Token]) -> Result<(Line, &[Token]), Failure> {
         let (labels, rest) = many::<Label>(alloc, tokens)?;
         let (instruction, rest) = instruction(alloc, rest)?;
@@ -49,17 +65,22 @@ impl Parse for CodeLine {
             rest,
         ))
     }
+
+    ghost consumes = { λ ts x rest e. ((line_sound ts).out (x, rest) e).1 };
 }
 
 impl Starts for CodeLine {
+    ghost starts_at = { in_block };
+
     fn starts(tokens: &[Token]) -> bool {
         in_block(tokens)
     }
 }
 
 /// The types of the locals; none where they are left out.
+#[tactic(auto, unfolding(crate::specs::Parsing::locals_at, ilasm_tokens::specs::Steps::bind, ilasm_tokens::specs::Steps::choice))]
 fn locals(alloc: Global, tokens: &[Token]) -> Result<(Sequence<DeclaredType>, &[Token]), Failure>
-    ensures { IfOk result (λ x. length x.1.now ≤ length tokens.now) }
+    ensures { Gives (λ x. (x.0, x.1.now)) result (locals_at tokens.now) }
 {
     let Some(rest) = after_word(tokens, b".locals") else {
         return Ok((Sequence::new(Vec::new(alloc)), tokens));
@@ -70,13 +91,22 @@ fn locals(alloc: Global, tokens: &[Token]) -> Result<(Sequence<DeclaredType>, &[
     Ok((locals, expect_symbol(rest, Symbol::CloseParenthesis)?))
 }
 
+/// How high the stack may be.
+#[tactic(auto, unfolding(crate::specs::Parsing::max_stack_at, ilasm_tokens::specs::Steps::bind))]
+fn max_stack(tokens: &[Token]) -> Result<(i64, &[Token]), Failure>
+    ensures { Gives (λ x. (x.0, x.1.now)) result (max_stack_at tokens.now) }
+{
+    integer(expect_word(tokens, b".maxstack")?)
+}
+
 /// The code of a method, in braces.
+#[tactic(auto, unfolding(crate::specs::Parsing::code_at, ilasm_tokens::specs::Steps::bind))]
 pub fn code(alloc: Global, tokens: &[Token]) -> Result<(Code, &[Token]), Failure>
-    ensures { IfOk result (λ x. length x.1.now < length tokens.now) }
+    ensures { Gives (λ x. (x.0, x.1.now)) result (code_at tokens.now) }
 {
     let block = expect_symbol(tokens, Symbol::OpenBrace)?;
     let (is_entry_point, rest) = flag(block, b".entrypoint");
-    let (max_stack, rest) = integer(expect_word(rest, b".maxstack")?)?;
+    let (max_stack, rest) = max_stack(rest)?;
     let (locals, rest) = locals(alloc, rest)?;
     let (lines, rest) = many::<CodeLine>(alloc, rest)?;
     let rest = expect_symbol(rest, Symbol::CloseBrace)?;

@@ -1,6 +1,9 @@
 //! Instructions.
 
-ghost use Rattle.std.specs.Prelude.{◌<◌, ◌≤◌, length, IfOk};
+ghost use Rattle.std.specs.Prelude.{◌≡◌};
+ghost use Rattle.ilasm_tokens.specs.declared.words.Form.TheVariants.{Int32, Call, CallVirtual, NewObject};
+ghost use Rattle.ilasm_tokens.specs.Steps.{Gives};
+ghost use Rattle.ilasm_reader.specs.Parsing.{bare, with_integer, jump, with_field, with_type, instruction_at, operands_at};
 
 use crate::lists::{Parse, parentheses};
 use crate::operands::{Target, field_reference, method_reference};
@@ -14,7 +17,9 @@ use ilasm_tokens::failure::Failure;
 use ilasm_tokens::words::{Bare, FieldAccess, Form, Jump, TypeTest, WithInteger, WordUse, use_of};
 use std::alloc::Global;
 
-fn bare(which: Bare) -> Instruction {
+fn bare(which: Bare) -> Instruction
+    ensures { result ≡ bare which }
+{
     match which {
         Bare::NoOperation => Instruction::NoOperation,
         Bare::LoadNull => Instruction::LoadNull,
@@ -41,7 +46,9 @@ fn bare(which: Bare) -> Instruction {
     }
 }
 
-fn with_integer(which: WithInteger, value: i64) -> Instruction {
+fn with_integer(which: WithInteger, value: i64) -> Instruction
+    ensures { result ≡ with_integer which value }
+{
     match which {
         WithInteger::LoadInt64 => Instruction::LoadInt64(value),
         WithInteger::LoadArgument => Instruction::LoadArgument(value),
@@ -51,7 +58,9 @@ fn with_integer(which: WithInteger, value: i64) -> Instruction {
     }
 }
 
-fn jump(which: Jump, label: Text) -> Instruction {
+fn jump(which: Jump, label: Text) -> Instruction
+    ensures { result ≡ jump which label }
+{
     match which {
         Jump::Always => Instruction::Branch(label),
         Jump::IfTrue => Instruction::BranchTrue(label),
@@ -60,7 +69,9 @@ fn jump(which: Jump, label: Text) -> Instruction {
     }
 }
 
-fn with_field(which: FieldAccess, field: FieldReference) -> Instruction {
+fn with_field(which: FieldAccess, field: FieldReference) -> Instruction
+    ensures { result ≡ with_field which field }
+{
     match which {
         FieldAccess::Load => Instruction::LoadField(field),
         FieldAccess::Store => Instruction::StoreField(field),
@@ -69,7 +80,9 @@ fn with_field(which: FieldAccess, field: FieldReference) -> Instruction {
     }
 }
 
-fn with_type(which: TypeTest, its_type: DeclaredType) -> Instruction {
+fn with_type(which: TypeTest, its_type: DeclaredType) -> Instruction
+    ensures { result ≡ with_type which its_type }
+{
     match which {
         TypeTest::Cast => Instruction::CastClass(its_type),
         TypeTest::IsInstance => Instruction::IsInstance(its_type),
@@ -77,8 +90,9 @@ fn with_type(which: TypeTest, its_type: DeclaredType) -> Instruction {
 }
 
 /// The instruction `ldc.i4`, behind its name.
+#[tactic(auto, unfolding(crate::specs::Parsing::operands_at, crate::specs::Parsing::has_32_bits, ilasm_tokens::specs::Steps::bind))]
 fn load_int32(tokens: &[Token]) -> Result<(Instruction, &[Token]), Failure>
-    ensures { IfOk result (λ x. length x.1.now ≤ length tokens.now) }
+    ensures { Gives (λ x. (x.0, x.1.now)) result (operands_at Int32 tokens.now) }
 {
     let (value, rest) = integer(tokens)?;
     match i32::try_from(value) {
@@ -88,8 +102,9 @@ fn load_int32(tokens: &[Token]) -> Result<(Instruction, &[Token]), Failure>
 }
 
 /// The instruction `call`, behind its name.
+#[tactic(auto, unfolding(crate::specs::Parsing::operands_at, crate::specs::Parsing::flag_at, ilasm_tokens::specs::Steps::bind, ilasm_tokens::specs::Steps::choice))]
 fn call(alloc: Global, tokens: &[Token]) -> Result<(Instruction, &[Token]), Failure>
-    ensures { IfOk result (λ x. length x.1.now ≤ length tokens.now) }
+    ensures { Gives (λ x. (x.0, x.1.now)) result (operands_at Call tokens.now) }
 {
     if let Some(rest) = after_word(tokens, b"instance") {
         let (method, rest) = method_reference(alloc, rest)?;
@@ -114,8 +129,9 @@ fn call(alloc: Global, tokens: &[Token]) -> Result<(Instruction, &[Token]), Fail
 }
 
 /// The instruction `callvirt`, behind its name.
+#[tactic(auto, unfolding(crate::specs::Parsing::operands_at, crate::specs::Parsing::virtual_call, ilasm_tokens::specs::Steps::bind))]
 fn call_virtual(alloc: Global, tokens: &[Token]) -> Result<(Instruction, &[Token]), Failure>
-    ensures { IfOk result (λ x. length x.1.now ≤ length tokens.now) }
+    ensures { Gives (λ x. (x.0, x.1.now)) result (operands_at CallVirtual tokens.now) }
 {
     let (method, rest) = method_reference(alloc, expect_word(tokens, b"instance")?)?;
     let MethodReference {
@@ -137,8 +153,9 @@ fn call_virtual(alloc: Global, tokens: &[Token]) -> Result<(Instruction, &[Token
 }
 
 /// The instruction `newobj`, behind its name.
+#[tactic(auto, unfolding(crate::specs::Parsing::operands_at, crate::specs::Parsing::creation, ilasm_tokens::specs::Steps::bind))]
 fn new_object(alloc: Global, tokens: &[Token]) -> Result<(Instruction, &[Token]), Failure>
-    ensures { IfOk result (λ x. length x.1.now ≤ length tokens.now) }
+    ensures { Gives (λ x. (x.0, x.1.now)) result (operands_at NewObject tokens.now) }
 {
     let (method, rest) = method_reference(alloc, expect_word(tokens, b"instance")?)?;
     let MethodReference {
@@ -155,12 +172,13 @@ fn new_object(alloc: Global, tokens: &[Token]) -> Result<(Instruction, &[Token])
 }
 
 /// An instruction, behind its name.
+#[tactic(auto, unfolding(crate::specs::Parsing::operands_at, ilasm_tokens::specs::Steps::bind))]
 fn instruction_of(
     alloc: Global,
     form: Form,
     tokens: &[Token],
 ) -> Result<(Instruction, &[Token]), Failure>
-    ensures { IfOk result (λ x. length x.1.now ≤ length tokens.now) }
+    ensures { Gives (λ x. (x.0, x.1.now)) result (operands_at form tokens.now) }
 {
     match form {
         Form::Bare(which) => Ok((bare(which), tokens)),
@@ -204,8 +222,9 @@ fn instruction_of(
 }
 
 /// An instruction.
+#[tactic(auto, unfolding(crate::specs::Parsing::instruction_at, crate::specs::Parsing::any_word_at, crate::specs::Parsing::form_of, ilasm_tokens::specs::Steps::bind))]
 pub fn instruction(alloc: Global, tokens: &[Token]) -> Result<(Instruction, &[Token]), Failure>
-    ensures { IfOk result (λ x. length x.1.now < length tokens.now) }
+    ensures { Gives (λ x. (x.0, x.1.now)) result (instruction_at tokens.now) }
 {
     let [Token::Reserved(word), rest @ ..] = tokens else {
         return Err(Failure::Refused { left: tokens.len() });

@@ -4,6 +4,7 @@
 pub mod classes;
 pub mod code;
 pub mod instructions;
+pub mod laws;
 pub mod lists;
 pub mod methods;
 pub mod operands;

@@ -1,6 +1,8 @@
 //! Lists of parts.
 
-ghost use Rattle.std.specs.Prelude.{◌≡◌, ◌<◌, ◌≤◌, length, IfOk};
+ghost use Rattle.std.specs.Prelude.{◌≡◌, List, Bool};
+ghost use Rattle.ilasm_tokens.specs.Steps.{Gives, Consumes, many};
+ghost use Rattle.ilasm_reader.specs.Parsing.{Parser, starts_comma, after_comma, commas_at, parentheses_at, in_block};
 
 use crate::single::{after_symbol, expect_symbol};
 use cil_model::sequences::Sequence;
@@ -10,18 +12,30 @@ use std::alloc::Global;
 
 /// A part of the grammar that stands in lists.
 pub trait Parse {
+    ghost use Rattle.cil_model.specs.declared.tokens.Token.{Token};
+
     /// What the tree keeps of it.
     type Tree: Drop;
 
+    ghost parsed_at: { Parser Self.Tree };
+
     /// What the tree keeps of the part that the tokens begin with, and the tokens behind it.
     fn parse(alloc: Global, tokens: &[Token]) -> Result<(Self::Tree, &[Token]), Failure>
-        ensures { IfOk result (λ x. length x.1.now < length tokens.now) };
+        ensures { Gives (λ x. (x.0, x.1.now)) result (parsed_at tokens.now) };
+
+    // Something is taken.
+    ghost consumes: { Consumes parsed_at };
 }
 
 /// A part that stands in a list without commas.
 pub trait Starts: Parse {
+    ghost use Rattle.cil_model.specs.declared.tokens.Token.{Token};
+
+    ghost starts_at: { List Token → Bool };
+
     /// Whether one more stands here.
-    fn starts(tokens: &[Token]) -> bool;
+    fn starts(tokens: &[Token]) -> bool
+        ensures { result ≡ starts_at tokens.now };
 }
 
 /// As many as stand here, one after the other.
@@ -29,7 +43,7 @@ pub fn many<P: Starts>(
     alloc: Global,
     tokens: &[Token],
 ) -> Result<(Sequence<P::Tree>, &[Token]), Failure>
-    ensures { IfOk result (λ x. length x.1.now ≤ length tokens.now) }
+    ensures { Gives (λ x. (x.0, x.1.now)) result (many P.starts_at P.parsed_at tokens.now) }
 {
     let mut items = Vec::new(alloc);
     let mut rest = tokens;
@@ -41,23 +55,28 @@ pub fn many<P: Starts>(
     Ok((Sequence::new(items), rest))
 }
 
-fn starts_comma(tokens: &[Token]) -> bool {
+#[tactic(auto, unfolding(crate::specs::Parsing::starts_comma))]
+fn starts_comma(tokens: &[Token]) -> bool
+    ensures { result ≡ starts_comma tokens.now }
+{
     matches!(tokens, [Token::Symbol(Symbol::Comma), ..])
 }
 
 /// The part behind a comma.
+#[tactic(auto, unfolding(crate::specs::Parsing::after_comma, ilasm_tokens::specs::Steps::bind))]
 fn after_comma<P: Parse>(alloc: Global, tokens: &[Token]) -> Result<(P::Tree, &[Token]), Failure>
-    ensures { IfOk result (λ x. length x.1.now < length tokens.now) }
+    ensures { Gives (λ x. (x.0, x.1.now)) result (after_comma P.parsed_at tokens.now) }
 {
     P::parse(alloc, expect_symbol(tokens, Symbol::Comma)?)
 }
 
 /// One or more, with commas between.
+#[tactic(auto, unfolding(crate::specs::Parsing::commas_at, ilasm_tokens::specs::Steps::bind))]
 pub fn commas<P: Parse>(
     alloc: Global,
     tokens: &[Token],
 ) -> Result<(Sequence<P::Tree>, &[Token]), Failure>
-    ensures { IfOk result (λ x. length x.1.now < length tokens.now) }
+    ensures { Gives (λ x. (x.0, x.1.now)) result (commas_at P.parsed_at tokens.now) }
 {
     let (first, mut rest) = P::parse(alloc, tokens)?;
     let mut items = Vec::new(alloc);
@@ -71,11 +90,12 @@ pub fn commas<P: Parse>(
 }
 
 /// Any number in parentheses, with commas between.
+#[tactic(auto, unfolding(crate::specs::Parsing::parentheses_at, ilasm_tokens::specs::Steps::bind, ilasm_tokens::specs::Steps::choice))]
 pub fn parentheses<P: Parse>(
     alloc: Global,
     tokens: &[Token],
 ) -> Result<(Sequence<P::Tree>, &[Token]), Failure>
-    ensures { IfOk result (λ x. length x.1.now < length tokens.now) }
+    ensures { Gives (λ x. (x.0, x.1.now)) result (parentheses_at P.parsed_at tokens.now) }
 {
     let inside = expect_symbol(tokens, Symbol::OpenParenthesis)?;
     if let Some(rest) = after_symbol(inside, Symbol::CloseParenthesis) {
@@ -86,6 +106,9 @@ pub fn parentheses<P: Parse>(
 }
 
 /// Whether a block goes on: its end is neither here nor missing.
-pub fn in_block(tokens: &[Token]) -> bool {
+#[tactic(auto, unfolding(crate::specs::Parsing::in_block))]
+pub fn in_block(tokens: &[Token]) -> bool
+    ensures { result ≡ in_block tokens.now }
+{
     !matches!(tokens, [] | [Token::Symbol(Symbol::CloseBrace), ..])
 }

@@ -1,6 +1,7 @@
 //! Methods.
 
-ghost use Rattle.std.specs.Prelude.{◌<◌, length, IfOk};
+ghost use Rattle.ilasm_tokens.specs.Steps.{Gives};
+ghost use Rattle.ilasm_reader.specs.Parsing.{body_at, constructor_words_at, first_words_at, head_at, method_at, virtual_words_at};
 
 use crate::code::code;
 use crate::lists::parentheses;
@@ -24,8 +25,9 @@ pub enum Beginning {
 }
 
 /// The words of a virtual method or of an abstract one.
+#[tactic(auto, unfolding(crate::specs::Parsing::virtual_words_at, ilasm_tokens::specs::Steps::bind))]
 fn virtual_words(tokens: &[Token]) -> Result<(Beginning, &[Token]), Failure>
-    ensures { IfOk result (λ x. length x.1.now < length tokens.now) }
+    ensures { Gives (λ x. (x.0, x.1.now)) result (virtual_words_at tokens.now) }
 {
     let (is_new_slot, rest) = flag(tokens, b"newslot");
     let (is_abstract, rest) = flag(rest, b"abstract");
@@ -39,9 +41,18 @@ fn virtual_words(tokens: &[Token]) -> Result<(Beginning, &[Token]), Failure>
     Ok((beginning, rest))
 }
 
+/// The words of a constructor, behind the first.
+#[tactic(auto, unfolding(crate::specs::Parsing::constructor_words_at, ilasm_tokens::specs::Steps::bind))]
+fn constructor_words(tokens: &[Token]) -> Result<&[Token], Failure>
+    ensures { Gives (λ r. r.now) result (constructor_words_at tokens.now) }
+{
+    expect_word(expect_word(tokens, b"rtspecialname")?, b"instance")
+}
+
 /// The words before a method's return type.
+#[tactic(auto, unfolding(crate::specs::Parsing::first_words_at, ilasm_tokens::specs::Steps::bind, ilasm_tokens::specs::Steps::choice))]
 fn first_words(tokens: &[Token]) -> Result<(Beginning, &[Token]), Failure>
-    ensures { IfOk result (λ x. length x.1.now < length tokens.now) }
+    ensures { Gives (λ x. (x.0, x.1.now)) result (first_words_at tokens.now) }
 {
     if let Some(rest) = after_word(tokens, b"static") {
         return Ok((Beginning::Static, rest));
@@ -50,20 +61,19 @@ fn first_words(tokens: &[Token]) -> Result<(Beginning, &[Token]), Failure>
         return Ok((Beginning::Instance, rest));
     }
     if let Some(rest) = after_word(tokens, b"specialname") {
-        let rest = expect_word(rest, b"rtspecialname")?;
-        let rest = expect_word(rest, b"instance")?;
-        return Ok((Beginning::Constructor, rest));
+        return Ok((Beginning::Constructor, constructor_words(rest)?));
     }
     virtual_words(tokens)
 }
 
 /// The return type and the name.
+#[tactic(auto, unfolding(crate::specs::Parsing::head_at, crate::specs::Parsing::named_head_at, ilasm_tokens::specs::Steps::bind))]
 fn head(
     alloc: Global,
     beginning: Beginning,
     tokens: &[Token],
 ) -> Result<((Option<DeclaredType>, MethodName), &[Token]), Failure>
-    ensures { IfOk result (λ x. length x.1.now < length tokens.now) }
+    ensures { Gives (λ x. (x.0, x.1.now)) result (head_at beginning tokens.now) }
 {
     if let Beginning::Constructor = beginning {
         let rest = expect_word(tokens, b"void")?;
@@ -76,12 +86,13 @@ fn head(
 }
 
 /// The kind, with the code that stands here; an abstract method has an empty block.
+#[tactic(auto, unfolding(crate::specs::Parsing::body_at, crate::specs::Parsing::code_body_at, ilasm_tokens::specs::Steps::bind))]
 fn body(
     alloc: Global,
     beginning: Beginning,
     tokens: &[Token],
 ) -> Result<(MethodKind, &[Token]), Failure>
-    ensures { IfOk result (λ x. length x.1.now < length tokens.now) }
+    ensures { Gives (λ x. (x.0, x.1.now)) result (body_at beginning tokens.now) }
 {
     if let Beginning::Abstract { is_new_slot } = beginning {
         let rest = expect_symbol(tokens, Symbol::OpenBrace)?;
@@ -98,8 +109,9 @@ fn body(
 }
 
 /// A method.
+#[tactic(auto, unfolding(crate::specs::Parsing::method_at, ilasm_tokens::specs::Steps::bind))]
 pub fn method(alloc: Global, tokens: &[Token]) -> Result<(Method, &[Token]), Failure>
-    ensures { IfOk result (λ x. length x.1.now < length tokens.now) }
+    ensures { Gives (λ x. (x.0, x.1.now)) result (method_at tokens.now) }
 {
     let rest = expect_word(tokens, b".method")?;
     let rest = expect_word(rest, b"public")?;

@@ -1,6 +1,7 @@
 //! Fields, methods and labels that instructions name.
 
-ghost use Rattle.std.specs.Prelude.{◌<◌, length, IfOk};
+ghost use Rattle.ilasm_tokens.specs.Steps.{Gives};
+ghost use Rattle.ilasm_reader.specs.Parsing.{field_reference_at, method_name_at, method_reference_at, name_at};
 
 use crate::lists::{Parse, parentheses};
 use crate::single::{after_word, expect_symbol, expect_word, name};
@@ -16,19 +17,26 @@ use std::alloc::Global;
 pub struct Target;
 
 impl Parse for Target {
+    ghost use Rattle.ilasm_reader.specs.Sound.{name_sound};
+
     type Tree = Text;
+
+    ghost parsed_at = { name_at };
 
     fn parse(alloc: Global, tokens: &[Token]) -> Result<(Text, &[Token]), Failure> {
         name(alloc, tokens)
     }
+
+    ghost consumes = { λ ts x rest e. ((name_sound ts).out (x, rest) e).1 };
 }
 
 /// `type owner::name`.
+#[tactic(auto, unfolding(crate::specs::Parsing::field_reference_at, ilasm_tokens::specs::Steps::bind))]
 pub fn field_reference(
     alloc: Global,
     tokens: &[Token],
 ) -> Result<(FieldReference, &[Token]), Failure>
-    ensures { IfOk result (λ x. length x.1.now < length tokens.now) }
+    ensures { Gives (λ x. (x.0, x.1.now)) result (field_reference_at tokens.now) }
 {
     let (field_type, rest) = AnyType::parse(alloc, tokens)?;
     let (owner, rest) = ClassReference::parse(alloc, rest)?;
@@ -45,8 +53,9 @@ pub fn field_reference(
 }
 
 /// A name, or `.ctor`.
+#[tactic(auto, unfolding(crate::specs::Parsing::method_name_at, ilasm_tokens::specs::Steps::bind, ilasm_tokens::specs::Steps::choice))]
 fn method_name(alloc: Global, tokens: &[Token]) -> Result<(MethodName, &[Token]), Failure>
-    ensures { IfOk result (λ x. length x.1.now < length tokens.now) }
+    ensures { Gives (λ x. (x.0, x.1.now)) result (method_name_at tokens.now) }
 {
     if let Some(rest) = after_word(tokens, b".ctor") {
         return Ok((MethodName::Constructor, rest));
@@ -56,11 +65,12 @@ fn method_name(alloc: Global, tokens: &[Token]) -> Result<(MethodName, &[Token])
 }
 
 /// `type owner::name(types)`, with a name or `.ctor`.
+#[tactic(auto, unfolding(crate::specs::Parsing::method_reference_at, ilasm_tokens::specs::Steps::bind))]
 pub fn method_reference(
     alloc: Global,
     tokens: &[Token],
 ) -> Result<(MethodReference, &[Token]), Failure>
-    ensures { IfOk result (λ x. length x.1.now < length tokens.now) }
+    ensures { Gives (λ x. (x.0, x.1.now)) result (method_reference_at tokens.now) }
 {
     let (return_type, rest) = return_type(alloc, tokens)?;
     let (owner, rest) = ClassReference::parse(alloc, rest)?;

@@ -2,7 +2,7 @@
 
 ghost use Rattle.std.specs.Prelude.{◌≡◌};
 ghost use Rattle.cil_model.specs.Sources.{has_foreign_byte};
-ghost use Rattle.ilasm_reader.specs.Answers.{numbered, told_at_once};
+ghost use Rattle.ilasm_reader.specs.Answers.{numbered, IsReadAnswer};
 
 use crate::classes::tree;
 use cil_model::limits::MOST_SOURCE_BYTES;
@@ -67,7 +67,7 @@ fn has_foreign_byte(source: &[u8]) -> bool
 
 /// The tree of a source (ECMA-335 II.5; the grammar is this profile's).
 pub fn read(alloc: Global, source: &[u8]) -> Result<Tree, ReadError>
-    ensures { told_at_once source.now result }
+    ensures { IsReadAnswer source.now result }
 {
     if source.len() > MOST_SOURCE_BYTES {
         return Err(ReadError::TooLong);
@@ -84,10 +84,10 @@ pub fn read(alloc: Global, source: &[u8]) -> Result<Tree, ReadError>
         }
         Err(Failure::OutOfMemory) => return Err(ReadError::OutOfMemory),
     };
-    match tree(alloc, &tokens) {
+    match tree(alloc, tokens.as_slice()) {
         Ok(tree) => Ok(tree),
         Err(Failure::Refused { left }) => {
-            match token_offset(alloc, source, tokens.len().saturating_sub(left)) {
+            match token_offset(alloc, source, tokens.as_slice().len().saturating_sub(left)) {
                 Ok(offset) => Err(ReadError::NoTree { offset }),
                 Err(_) => Err(ReadError::OutOfMemory),
             }

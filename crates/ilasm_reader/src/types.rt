@@ -1,6 +1,8 @@
 //! Types and names of classes.
 
-ghost use Rattle.std.specs.Prelude.{◌<◌, length, IfOk, IfSome};
+ghost use Rattle.std.specs.Prelude.{◌≡◌, option_map};
+ghost use Rattle.ilasm_tokens.specs.Steps.{Gives};
+ghost use Rattle.ilasm_reader.specs.Parsing.{brackets_at, class_name_at, element_at, parameter_at, return_type_at, type_at};
 
 use crate::lists::Parse;
 use crate::single::{after_name, after_symbol, after_word, expect_symbol, expect_word, name};
@@ -13,8 +15,13 @@ use std::alloc::Global;
 pub struct ClassReference;
 
 impl Parse for ClassReference {
+    ghost use Rattle.ilasm_reader.specs.Sound.{class_name_sound};
+
     type Tree = ClassName;
 
+    ghost parsed_at = { class_name_at };
+
+    #[tactic(auto, unfolding(crate::specs::Parsing::class_name_at, ilasm_tokens::specs::Steps::bind, ilasm_tokens::specs::Steps::choice))]
     fn parse(alloc: Global, tokens: &[Token]) -> Result<(ClassName, &[Token]), Failure> {
         if let Some(inside) = after_symbol(tokens, Symbol::OpenBracket) {
             let (assembly, rest) = name(alloc, inside)?;
@@ -27,11 +34,14 @@ impl Parse for ClassReference {
         let assembly = None;
         Ok((ClassName { assembly, name }, rest))
     }
+
+    ghost consumes = { λ ts x rest e. ((class_name_sound ts).out (x, rest) e).1 };
 }
 
 /// A type without brackets.
+#[tactic(auto, unfolding(crate::specs::Parsing::element_at, ilasm_tokens::specs::Steps::bind, ilasm_tokens::specs::Steps::choice))]
 pub fn element(alloc: Global, tokens: &[Token]) -> Result<(Element, &[Token]), Failure>
-    ensures { IfOk result (λ x. length x.1.now < length tokens.now) }
+    ensures { Gives (λ x. (x.0, x.1.now)) result (element_at tokens.now) }
 {
     if let Some(rest) = after_word(tokens, b"int32") {
         return Ok((Element::Int32, rest));
@@ -50,8 +60,9 @@ pub fn element(alloc: Global, tokens: &[Token]) -> Result<(Element, &[Token]), F
 }
 
 /// The tokens behind a pair of brackets with nothing between, if it stands here.
+#[tactic(auto, unfolding(crate::specs::Parsing::brackets_at, ilasm_tokens::specs::Steps::bind))]
 fn after_brackets(tokens: &[Token]) -> Option<&[Token]>
-    ensures { IfSome result (λ r. length r.now < length tokens.now) }
+    ensures { option_map (λ r. r.now) result ≡ brackets_at tokens.now }
 {
     after_symbol(
         after_symbol(tokens, Symbol::OpenBracket)?,
@@ -63,8 +74,13 @@ fn after_brackets(tokens: &[Token]) -> Option<&[Token]>
 pub struct AnyType;
 
 impl Parse for AnyType {
+    ghost use Rattle.ilasm_reader.specs.Sound.{type_sound};
+
     type Tree = DeclaredType;
 
+    ghost parsed_at = { type_at };
+
+    #[tactic(auto, unfolding(crate::specs::Parsing::type_at, ilasm_tokens::specs::Steps::bind, ilasm_tokens::specs::Steps::choice))]
     fn parse(alloc: Global, tokens: &[Token]) -> Result<(DeclaredType, &[Token]), Failure> {
         let (element, rest) = element(alloc, tokens)?;
         let (brackets, rest) = match after_brackets(rest) {
@@ -73,26 +89,36 @@ impl Parse for AnyType {
         };
         Ok((DeclaredType { element, brackets }, rest))
     }
+
+    ghost consumes = { λ ts x rest e. ((type_sound ts).out (x, rest) e).1 };
 }
 
 /// A type, and perhaps a name, which the tree does not keep.
 pub struct Parameter;
 
 impl Parse for Parameter {
+    ghost use Rattle.ilasm_reader.specs.Sound.{parameter_sound};
+
     type Tree = DeclaredType;
 
+    ghost parsed_at = { parameter_at };
+
+    #[tactic(auto, unfolding(crate::specs::Parsing::parameter_at, crate::specs::Parsing::name_at, ilasm_tokens::specs::Steps::bind, ilasm_tokens::specs::Steps::choice))]
     fn parse(alloc: Global, tokens: &[Token]) -> Result<(DeclaredType, &[Token]), Failure> {
         let (its_type, rest) = AnyType::parse(alloc, tokens)?;
         Ok((its_type, after_name(rest).unwrap_or(rest)))
     }
+
+    ghost consumes = { λ ts x rest e. ((parameter_sound ts).out (x, rest) e).1 };
 }
 
 /// A type, or `void`.
+#[tactic(auto, unfolding(crate::specs::Parsing::return_type_at, ilasm_tokens::specs::Steps::bind, ilasm_tokens::specs::Steps::choice))]
 pub fn return_type(
     alloc: Global,
     tokens: &[Token],
 ) -> Result<(Option<DeclaredType>, &[Token]), Failure>
-    ensures { IfOk result (λ x. length x.1.now < length tokens.now) }
+    ensures { Gives (λ x. (x.0, x.1.now)) result (return_type_at tokens.now) }
 {
     if let Some(rest) = after_word(tokens, b"void") {
         return Ok((None, rest));

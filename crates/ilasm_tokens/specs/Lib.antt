@@ -1,0 +1,4 @@
+pub mod Steps
+pub mod Vocabulary
+pub mod Lexing
+pub mod Answers

@@ -1,5 +1,10 @@
 //! What a byte may begin.
 
+ghost use Rattle.std.specs.Prelude.{◌≡◌};
+ghost use Rattle.cil_model.specs.Words.{begins_segment, is_word_byte};
+ghost use Rattle.cil_model.specs.Lexemes.{is_white, is_plain, escaped};
+ghost use Rattle.ilasm_tokens.specs.Lexing.{kind_of};
+
 use cil_model::tokens::Symbol;
 
 /// What a byte may begin.
@@ -21,7 +26,11 @@ pub enum Kind {
     Nothing,
 }
 
-pub fn kind_of(byte: u8) -> Kind {
+/// What a byte may begin.
+#[tactic(auto, unfolding(crate::specs::Lexing::kind_of))]
+pub fn kind_of(byte: u8) -> Kind
+    ensures { result ≡ kind_of byte }
+{
     match byte {
         b'A'..=b'Z' | b'a'..=b'z' | b'_' | b'.' => Kind::Word,
         b'0'..=b'9' => Kind::Digit,
@@ -39,23 +48,38 @@ pub fn kind_of(byte: u8) -> Kind {
     }
 }
 
+/// A letter or `_`.
+pub fn begins_segment(byte: u8) -> bool
+    ensures { result ≡ begins_segment byte }
+{
+    matches!(byte, b'A'..=b'Z' | b'a'..=b'z' | b'_')
+}
+
 /// A letter, a digit, `_` or `.`.
-pub fn is_word_byte(byte: u8) -> bool {
+pub fn is_word_byte(byte: u8) -> bool
+    ensures { result ≡ is_word_byte byte }
+{
     matches!(byte, b'A'..=b'Z' | b'a'..=b'z' | b'0'..=b'9' | b'_' | b'.')
 }
 
 /// Tab, line feed, carriage return or space.
-pub fn is_white(byte: u8) -> bool {
+pub fn is_white(byte: u8) -> bool
+    ensures { result ≡ is_white byte }
+{
     matches!(byte, b'\t' | b'\n' | b'\r' | b' ')
 }
 
 /// A byte of a string literal that stands for itself.
-pub fn is_plain(byte: u8) -> bool {
+pub fn is_plain(byte: u8) -> bool
+    ensures { result ≡ is_plain byte }
+{
     byte >= b' ' && byte <= b'~' && byte != b'"' && byte != b'\\'
 }
 
 /// The byte for which a backslash and this byte stand.
-pub fn escaped(byte: u8) -> Option<u8> {
+pub fn escaped(byte: u8) -> Option<u8>
+    ensures { result ≡ escaped byte }
+{
     match byte {
         b'n' => Some(b'\n'),
         b't' => Some(b'\t'),

@@ -3,6 +3,7 @@
 
 pub mod bytes;
 pub mod failure;
+pub mod laws;
 pub mod lexemes;
 pub mod source;
 pub mod spaces;

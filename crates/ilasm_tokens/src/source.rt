@@ -1,23 +1,31 @@
 //! The tokens of a whole source.
 
-ghost use Rattle.std.specs.Prelude.{◌<◌, ◌≤◌, length, IfOk};
+ghost use Rattle.std.specs.Prelude.{◌≤◌, length, IfOk};
+ghost use Rattle.ilasm_tokens.specs.Steps.{Gives};
+ghost use Rattle.ilasm_tokens.specs.Answers.{IsTokenAnswer};
+ghost use Rattle.ilasm_tokens.specs.Lexing.{spaced_lexeme_at};
 
 use crate::failure::Failure;
 use crate::lexemes::lexeme;
 use crate::spaces::after_spaces;
+use cil_model::sequences::Sequence;
 use cil_model::tokens::Token;
 use std::alloc::Global;
 
 /// A token, and what is left behind the white space and comments that follow it.
+#[tactic(auto, unfolding(crate::specs::Lexing::spaced_lexeme_at, crate::specs::Steps::bind))]
 fn spaced_lexeme(alloc: Global, bytes: &[u8]) -> Result<(Token, &[u8]), Failure>
-    ensures { IfOk result (λ x. length x.1.now < length bytes.now) }
+    ensures { Gives (λ x. (x.0, x.1.now)) result (spaced_lexeme_at bytes.now) }
 {
     let (token, rest) = lexeme(alloc, bytes)?;
     Ok((token, after_spaces(rest)?))
 }
 
-/// The tokens of a source.
-pub fn tokens(alloc: Global, source: &[u8]) -> Result<Vec<Token>, Failure> {
+/// The tokens of a source (ECMA-335 II.5.2). They are refused where no list of tokens is the source's;
+/// `left` is then how many bytes are left at the first place where none begins.
+pub fn tokens(alloc: Global, source: &[u8]) -> Result<Sequence<Token>, Failure>
+    ensures { IsTokenAnswer source.now result }
+{
     let mut tokens = Vec::new(alloc);
     let mut rest = after_spaces(source)?;
     while !rest.is_empty() {
@@ -25,10 +33,11 @@ pub fn tokens(alloc: Global, source: &[u8]) -> Result<Vec<Token>, Failure> {
         tokens.push(token)?;
         rest = after;
     }
-    Ok(tokens)
+    Ok(Sequence::new(tokens))
 }
 
 /// Where a token of a source begins, counted in bytes; for messages. The end of the source, if it has no token of that number.
+#[tactic(auto, using(crate::proofs::Reading::gap_shorter, crate::proofs::Reading::spaced_consumes))]
 pub fn token_offset(alloc: Global, source: &[u8], number: usize) -> Result<usize, Failure>
     ensures { IfOk result (λ offset. offset ≤ length source.now) }
 {

@@ -1,6 +1,8 @@
 //! White space and comments.
 
-ghost use Rattle.std.specs.Prelude.{◌≤◌, length, IfOk, IfSome};
+ghost use Rattle.std.specs.Prelude.{◌≡◌, ◌≤◌, None, length, IfSome, MatchOption};
+ghost use Rattle.cil_model.specs.Lexemes.{behind, between, in_line, in_block};
+ghost use Rattle.ilasm_tokens.specs.Steps.{Gives};
 
 use crate::bytes::is_white;
 use crate::failure::Failure;
@@ -8,6 +10,7 @@ use crate::failure::Failure;
 /// What is left behind a comment that goes on to the end of the line.
 fn after_line(bytes: &[u8]) -> &[u8]
     ensures within { length result.now ≤ length bytes.now }
+    ensures value { behind in_line bytes.now ≡ behind between result.now }
 {
     let mut rest = bytes;
     while let [byte, after @ ..] = rest {
@@ -22,6 +25,7 @@ fn after_line(bytes: &[u8]) -> &[u8]
 /// What is left behind a comment that goes on to the next `*/`.
 fn after_block(bytes: &[u8]) -> Option<&[u8]>
     ensures within { IfSome result (λ r. length r.now ≤ length bytes.now) }
+    ensures value { MatchOption result (behind in_block bytes.now ≡ None) (λ r. behind in_block bytes.now ≡ behind between r.now) }
 {
     let mut rest = bytes;
     let mut star = false;
@@ -37,7 +41,7 @@ fn after_block(bytes: &[u8]) -> Option<&[u8]>
 
 /// What is left behind white space and comments.
 pub fn after_spaces(bytes: &[u8]) -> Result<&[u8], Failure>
-    ensures within { IfOk result (λ r. length r.now ≤ length bytes.now) }
+    ensures { Gives (λ r. r.now) result (behind between bytes.now) }
 {
     let mut rest = bytes;
     while let [first, after @ ..] = rest {

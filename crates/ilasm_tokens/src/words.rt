@@ -1,6 +1,7 @@
 //! The reserved words, and what they are for.
 
-ghost use Rattle.std.specs.Prelude.{◌<◌};
+ghost use Rattle.std.specs.Prelude.{◌≡◌, ◌<◌, [], length, get_or, map};
+ghost use Rattle.ilasm_tokens.specs.Vocabulary.{Entry, bucket_from, look_up, use_of};
 
 use cil_model::instructions::{
     BinaryOperation, BranchComparison, Comparison, ShiftOperation, UnaryOperation,
@@ -485,7 +486,8 @@ static BUCKETS: [&[(&[u8], WordUse)]; 64] = [
 
 /// The bucket in which a word stands, if it is reserved: the sum of its bytes, modulo the number of buckets.
 fn bucket_of(word: &[u8]) -> usize
-    ensures { result < 64 }
+    ensures bound { result < 64 }
+    ensures value { result ≡ bucket_from 0 word.now }
 {
     let mut sum = 0;
     for byte in word {
@@ -495,7 +497,9 @@ fn bucket_of(word: &[u8]) -> usize
 }
 
 /// What the word is for among these.
-fn look_up(entries: &[(&[u8], WordUse)], word: &[u8]) -> Option<WordUse> {
+fn look_up(entries: &[(&[u8], WordUse)], word: &[u8]) -> Option<WordUse>
+    ensures { result ≡ look_up (map (λ e. (e.0.now, e.1)) entries.now) word.now }
+{
     for (reserved, its_use) in entries {
         if *reserved == word {
             return Some(*its_use);
@@ -504,7 +508,18 @@ fn look_up(entries: &[(&[u8], WordUse)], word: &[u8]) -> Option<WordUse> {
     None
 }
 
+/// The bucket of this number.
+fn bucket<'a>(table: &[&'a [(&'a [u8], WordUse)]], number: usize) -> &'a [(&'a [u8], WordUse)]
+    requires { number < length table.now }
+    ensures { map {B = Entry} (λ e. (e.0.now, e.1)) result.now ≡ get_or (map (λ b. map {B = Entry} (λ e. (e.0.now, e.1)) b.now) table.now) number [] }
+{
+    table[number]
+}
+
 /// What the word is for, if it is reserved.
-pub fn use_of(word: &[u8]) -> Option<WordUse> {
-    look_up(BUCKETS[bucket_of(word)], word)
+#[tactic(auto, unfolding(crate::specs::Vocabulary::use_of))]
+pub fn use_of(word: &[u8]) -> Option<WordUse>
+    ensures { result ≡ use_of word.now }
+{
+    look_up(bucket(&BUCKETS, bucket_of(word)), word)
 }

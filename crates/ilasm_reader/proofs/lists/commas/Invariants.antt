@@ -1,8 +1,10 @@
-use Rattle.std.proofs.Common.{◌<◌, length}
+use Rattle.std.proofs.Common.{length}
+use Rattle.ilasm_reader.specs.Parsing.{starts_comma, after_comma, commas_at}
+use Rattle.ilasm_tokens.proofs.Many.{Reading}
 use Rattle.ilasm_reader.proofs.lists.commas.Given as goal
 
 abbrev pub invariant-loop-alloc : goal.invariant-loop-alloc
-invariant-loop-alloc g l = length l.rest < length l.tokens
+invariant-loop-alloc g l = Reading starts_comma (after_comma g.P.Parse.parsed_at) (commas_at g.P.Parse.parsed_at l.tokens) l.items.items l.rest
 
 abbrev pub decreases-loop-alloc : goal.decreases-loop-alloc
 decreases-loop-alloc g l = length l.rest

@@ -1,0 +1,3 @@
+mod Commas
+mod Complete
+mod Unique

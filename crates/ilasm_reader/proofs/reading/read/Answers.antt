@@ -1,0 +1,11 @@
+use Rattle.std.proofs.Common.{rules}
+use Rattle.ilasm_reader.proofs.Complete.{read_is_tree, none_is_tree}
+use Rattle.ilasm_reader.proofs.reading.read.Goals as goal
+
+pub returns-in-Ok-tree : goal.returns-in-Ok-tree
+returns-in-Ok-tree c =
+    (search rules, search rules, (c.in-Ok.tokens, c.in-Ok.ensures, read_is_tree c.in-Ok.tokens c.in-Ok-tree.tree (rw c.as_slice.ensures at c.in-Ok-tree.ensures)))
+
+pub returns-in-Ok-token_offset : goal.returns-in-Ok-token_offset
+returns-in-Ok-token_offset c =
+    (search rules, search rules, c.in-Ok.tokens, c.in-Ok.ensures, none_is_tree c.in-Ok.tokens (rw (c.in-Err-Refused-tree.field-0-is, c.as_slice.ensures) at c.in-Err-Refused-tree.ensures))

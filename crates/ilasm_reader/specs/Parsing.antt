@@ -1,0 +1,495 @@
+-- Reading the parts of a source from its tokens, from left to right.
+use Rattle.std.specs.Prelude.{◌==◌, ℕ, ℤ, List, [], ◌∷◌, length, Option, Some, None, Bool, true, false, is_some, if◌then◌else◌, codes, bytes_eq, unwrap_or, nat_le, pos, negsuc}
+use Rattle.cil_model.specs.declared.tokens.Symbol as symbols
+use Rattle.cil_model.specs.declared.tokens.Symbol.TheVariants.{OpenBrace, CloseBrace, OpenParenthesis, CloseParenthesis, OpenBracket, CloseBracket, Comma, Colon, DoubleColon}
+use Rattle.cil_model.specs.declared.tokens.Token.{Token}
+use Rattle.cil_model.specs.declared.tokens.Token.TheVariants.{Reserved, Name, Integer, Quoted, Symbol}
+use Rattle.cil_model.specs.declared.types.ClassName.{ClassName}
+use Rattle.cil_model.specs.declared.types.Element.{Element}
+use Rattle.cil_model.specs.declared.types.Element.TheVariants.{Int32, Int64, Object, String, Class as ClassElement}
+use Rattle.cil_model.specs.declared.types.DeclaredType.{DeclaredType}
+use Rattle.cil_model.specs.declared.types.Signature.{Signature}
+use Rattle.cil_model.specs.declared.instructions.MethodName.{MethodName}
+use Rattle.cil_model.specs.declared.instructions.MethodName.TheVariants.{Constructor as ConstructorName, Named}
+use Rattle.cil_model.specs.declared.instructions.FieldReference.{FieldReference}
+use Rattle.cil_model.specs.declared.instructions.MethodReference.{MethodReference}
+use Rattle.cil_model.specs.declared.instructions.Instruction.{Instruction}
+use Rattle.cil_model.specs.declared.instructions.Instruction.TheVariants as instructions
+use Rattle.cil_model.specs.declared.trees.Tree.{Tree}
+use Rattle.cil_model.specs.declared.trees.Class.{Class}
+use Rattle.cil_model.specs.declared.trees.ClassKind.TheVariants.{Interface, Class as PlainClass}
+use Rattle.cil_model.specs.declared.trees.Member.{Member}
+use Rattle.cil_model.specs.declared.trees.Member.TheVariants.{Field as FieldMember, Method as MethodMember}
+use Rattle.cil_model.specs.declared.trees.Field.{Field}
+use Rattle.cil_model.specs.declared.trees.Method.{Method}
+use Rattle.cil_model.specs.declared.trees.MethodKind.{MethodKind}
+use Rattle.cil_model.specs.declared.trees.MethodKind.TheVariants as kinds
+use Rattle.cil_model.specs.declared.trees.Code.{Code}
+use Rattle.cil_model.specs.declared.trees.Line.{Line}
+use Rattle.ilasm_tokens.specs.declared.words.WordUse.{WordUse}
+use Rattle.ilasm_tokens.specs.declared.words.WordUse.TheVariants.{Grammar as OfGrammar, Instruction as OfInstruction}
+use Rattle.ilasm_tokens.specs.declared.words.Form.{Form}
+use Rattle.ilasm_tokens.specs.declared.words.Form.TheVariants as forms
+use Rattle.ilasm_tokens.specs.declared.words.Bare.{Bare}
+use Rattle.ilasm_tokens.specs.declared.words.Bare.TheVariants as bares
+use Rattle.ilasm_tokens.specs.declared.words.WithInteger.{WithInteger}
+use Rattle.ilasm_tokens.specs.declared.words.WithInteger.TheVariants as integers
+use Rattle.ilasm_tokens.specs.declared.words.Jump.{Jump}
+use Rattle.ilasm_tokens.specs.declared.words.Jump.TheVariants as jumps
+use Rattle.ilasm_tokens.specs.declared.words.FieldAccess.{FieldAccess}
+use Rattle.ilasm_tokens.specs.declared.words.FieldAccess.TheVariants as accesses
+use Rattle.ilasm_tokens.specs.declared.words.TypeTest.{TypeTest}
+use Rattle.ilasm_tokens.specs.declared.words.TypeTest.TheVariants as tests
+use Rattle.ilasm_tokens.specs.Steps.{◌>>=◌, choice, ParserOf, with_front, many}
+use Rattle.ilasm_tokens.specs.Vocabulary.{use_of}
+use Rattle.ilasm_reader.specs.declared.methods.Beginning.{Beginning}
+use Rattle.ilasm_reader.specs.declared.methods.Beginning.TheVariants.{Static, Instance, Virtual, Abstract, Constructor}
+
+abbrev pub Parser : Type 0 → Type 0
+Parser A = ParserOf Token A
+
+-- ---- single tokens
+
+unfoldable pub word_at : List ℕ → List Token → Option (List Token)
+word_at w [] = None
+word_at w (Reserved found ∷ rest) = if bytes_eq found w then Some rest else None
+word_at w (_ ∷ rest) = None
+
+abbrev pub number_of : symbols.Symbol → ℕ
+number_of OpenBrace = 0
+number_of CloseBrace = 1
+number_of OpenParenthesis = 2
+number_of CloseParenthesis = 3
+number_of OpenBracket = 4
+number_of CloseBracket = 5
+number_of Comma = 6
+number_of Colon = 7
+number_of DoubleColon = 8
+
+unfoldable pub sign_at : symbols.Symbol → List Token → Option (List Token)
+sign_at s [] = None
+sign_at s (Symbol found ∷ rest) = if number_of found == number_of s then Some rest else None
+sign_at s (_ ∷ rest) = None
+
+unfoldable pub any_word_at : Parser (List ℕ)
+any_word_at (Reserved found ∷ rest) = Some (found, rest)
+any_word_at _ = None
+
+unfoldable pub name_at : Parser (List ℕ)
+name_at (Name found ∷ rest) = Some (found, rest)
+name_at _ = None
+
+unfoldable pub integer_at : Parser ℤ
+integer_at (Integer found ∷ rest) = Some (found, rest)
+integer_at _ = None
+
+unfoldable pub quoted_at : Parser (List ℕ)
+quoted_at (Quoted found ∷ rest) = Some (found, rest)
+quoted_at _ = None
+
+-- whether a word stands here, and what is behind it
+unfoldable pub flag_at : List ℕ → List Token → Bool × List Token
+flag_at w ts = choice (word_at w ts) (λ rest. (true, rest)) (false, ts)
+
+-- ---- lists
+
+unfoldable pub starts_comma : List Token → Bool
+starts_comma (Symbol Comma ∷ rest) = true
+starts_comma _ = false
+
+unfoldable pub after_comma : {A : Type 0} → Parser A → Parser A
+after_comma parses ts = do
+  rest ← sign_at Comma ts
+  parses rest
+
+unfoldable pub commas_at : {A : Type 0} → Parser A → Parser (List A)
+commas_at parses ts = do
+  first ← parses ts
+  with_front (first.0 ∷ []) (many starts_comma (after_comma parses) first.1)
+
+unfoldable pub parentheses_at : {A : Type 0} → Parser A → Parser (List A)
+parentheses_at parses ts = do
+  inside ← sign_at OpenParenthesis ts
+  choice (sign_at CloseParenthesis inside) (λ rest. Some ([], rest)) (do
+    items ← commas_at parses inside
+    rest ← sign_at CloseParenthesis items.1
+    Some (items.0, rest))
+
+-- whether a block goes on
+unfoldable pub in_block : List Token → Bool
+in_block [] = false
+in_block (Symbol CloseBrace ∷ rest) = false
+in_block _ = true
+
+-- ---- names and types
+
+unfoldable pub class_name_at : Parser ClassName
+class_name_at ts = choice (sign_at OpenBracket ts) (λ inside. do
+  assembly ← name_at inside
+  rest ← sign_at CloseBracket assembly.1
+  name ← name_at rest
+  Some (record { assembly = Some assembly.0; name = name.0 }, name.1)) (do
+    name ← name_at ts
+    Some (record { assembly = None; name = name.0 }, name.1))
+
+unfoldable pub element_at : Parser Element
+element_at ts = choice (word_at (codes "int32") ts) (λ rest. Some (Int32, rest))
+    (choice (word_at (codes "int64") ts) (λ rest. Some (Int64, rest))
+    (choice (word_at (codes "object") ts) (λ rest. Some (Object, rest))
+    (choice (word_at (codes "string") ts) (λ rest. Some (String, rest)) (do
+      rest ← word_at (codes "class") ts
+      class ← class_name_at rest
+      Some (ClassElement class.0, class.1)))))
+
+unfoldable pub brackets_at : List Token → Option (List Token)
+brackets_at ts = do
+  rest ← sign_at OpenBracket ts
+  sign_at CloseBracket rest
+
+unfoldable pub type_at : Parser DeclaredType
+type_at ts = do
+  element ← element_at ts
+  choice (brackets_at element.1) (λ rest. Some (record { element = element.0; brackets = 1 }, rest)) (Some (record { element = element.0; brackets = 0 }, element.1))
+
+unfoldable pub parameter_at : Parser DeclaredType
+parameter_at ts = do
+  type ← type_at ts
+  choice (name_at type.1) (λ name. Some (type.0, name.1)) (Some (type.0, type.1))
+
+unfoldable pub return_type_at : Parser (Option DeclaredType)
+return_type_at ts = choice (word_at (codes "void") ts) (λ rest. Some (None, rest)) (do
+  type ← type_at ts
+  Some (Some type.0, type.1))
+
+-- ---- what instructions name
+
+unfoldable pub field_reference_at : Parser FieldReference
+field_reference_at ts = do
+  type ← type_at ts
+  owner ← class_name_at type.1
+  rest ← sign_at DoubleColon owner.1
+  name ← name_at rest
+  Some (record { field_type = type.0; owner = owner.0; name = name.0 }, name.1)
+
+unfoldable pub method_name_at : Parser MethodName
+method_name_at ts = choice (word_at (codes ".ctor") ts) (λ rest. Some (ConstructorName, rest)) (do
+  name ← name_at ts
+  Some (Named name.0, name.1))
+
+unfoldable pub method_reference_at : Parser MethodReference
+method_reference_at ts = do
+  return_type ← return_type_at ts
+  owner ← class_name_at return_type.1
+  rest ← sign_at DoubleColon owner.1
+  name ← method_name_at rest
+  parameters ← parentheses_at type_at name.1
+  Some (record { owner = owner.0; name = name.0; signature = record { parameters = parameters.0; return_type = return_type.0 } }, parameters.1)
+
+-- ---- instructions
+
+abbrev pub bare : Bare → Instruction
+bare bares.NoOperation = instructions.NoOperation
+bare bares.LoadNull = instructions.LoadNull
+bare bares.Duplicate = instructions.Duplicate
+bare bares.Pop = instructions.Pop
+bare bares.ConvertInt32 = instructions.ConvertInt32
+bare bares.ConvertInt64 = instructions.ConvertInt64
+bare bares.LoadLength = instructions.LoadLength
+bare bares.LoadElementInt32 = instructions.LoadElementInt32
+bare bares.LoadElementInt64 = instructions.LoadElementInt64
+bare bares.LoadElementReference = instructions.LoadElementReference
+bare bares.StoreElementInt32 = instructions.StoreElementInt32
+bare bares.StoreElementInt64 = instructions.StoreElementInt64
+bare bares.StoreElementReference = instructions.StoreElementReference
+bare bares.Return = instructions.Return
+bare (bares.Int32 z) = instructions.LoadInt32 z
+bare (bares.Argument n) = instructions.LoadArgument n
+bare (bares.Local n) = instructions.LoadLocal n
+bare (bares.SetLocal n) = instructions.StoreLocal n
+bare (bares.Binary op) = instructions.Binary op
+bare (bares.Unary op) = instructions.Unary op
+bare (bares.Shift op) = instructions.Shift op
+bare (bares.Compare op) = instructions.Compare op
+
+abbrev pub with_integer : WithInteger → ℤ → Instruction
+with_integer integers.LoadInt64 z = instructions.LoadInt64 z
+with_integer integers.LoadArgument z = instructions.LoadArgument z
+with_integer integers.StoreArgument z = instructions.StoreArgument z
+with_integer integers.LoadLocal z = instructions.LoadLocal z
+with_integer integers.StoreLocal z = instructions.StoreLocal z
+
+abbrev pub jump : Jump → List ℕ → Instruction
+jump jumps.Always label = instructions.Branch label
+jump jumps.IfTrue label = instructions.BranchTrue label
+jump jumps.IfFalse label = instructions.BranchFalse label
+jump (jumps.Compare op) label = instructions.BranchCompare op label
+
+abbrev pub with_field : FieldAccess → FieldReference → Instruction
+with_field accesses.Load r = instructions.LoadField r
+with_field accesses.Store r = instructions.StoreField r
+with_field accesses.LoadStatic r = instructions.LoadStaticField r
+with_field accesses.StoreStatic r = instructions.StoreStaticField r
+
+abbrev pub with_type : TypeTest → DeclaredType → Instruction
+with_type tests.Cast t = instructions.CastClass t
+with_type tests.IsInstance t = instructions.IsInstance t
+
+-- the virtual call of a method, unless it is a constructor
+unfoldable pub virtual_call : ClassName → Signature → MethodName → Option Instruction
+virtual_call owner s ConstructorName = None
+virtual_call owner s (Named name) = Some (instructions.CallVirtual owner name s)
+
+-- the making of an object by a constructor, which returns nothing
+unfoldable pub creation : ClassName → List DeclaredType → MethodName → Option DeclaredType → Option Instruction
+creation class parameters ConstructorName None = Some (instructions.NewObject class parameters)
+creation class parameters ConstructorName (Some t) = None
+creation class parameters (Named name) t = None
+
+unfoldable pub has_32_bits : ℤ → Bool
+has_32_bits (pos n) = nat_le n 2147483647
+has_32_bits (negsuc n) = nat_le n 2147483647
+
+unfoldable pub operands_at : Form → Parser Instruction
+operands_at (forms.Bare which) ts = Some (bare which, ts)
+operands_at forms.Int32 ts = do
+  value ← integer_at ts
+  if has_32_bits value.0 then Some (instructions.LoadInt32 value.0, value.1) else None
+operands_at (forms.Integer which) ts = do
+  value ← integer_at ts
+  Some (with_integer which value.0, value.1)
+operands_at forms.Quoted ts = do
+  characters ← quoted_at ts
+  Some (instructions.LoadString characters.0, characters.1)
+operands_at (forms.Jump which) ts = do
+  label ← name_at ts
+  Some (jump which label.0, label.1)
+operands_at forms.Switch ts = do
+  labels ← parentheses_at name_at ts
+  Some (instructions.Switch labels.0, labels.1)
+operands_at (forms.Field which) ts = do
+  field ← field_reference_at ts
+  Some (with_field which field.0, field.1)
+operands_at forms.NewArray ts = do
+  element ← element_at ts
+  Some (instructions.NewArray (record { element = element.0; brackets = 0 }), element.1)
+operands_at (forms.Type which) ts = do
+  type ← type_at ts
+  Some (with_type which type.0, type.1)
+operands_at forms.Call ts = do
+  method ← method_reference_at (flag_at (codes "instance") ts).1
+  Some (instructions.Call (flag_at (codes "instance") ts).0 method.0, method.1)
+operands_at forms.CallVirtual ts = do
+  rest ← word_at (codes "instance") ts
+  method ← method_reference_at rest
+  call ← virtual_call method.0.owner method.0.signature method.0.name
+  Some (call, method.1)
+operands_at forms.NewObject ts = do
+  rest ← word_at (codes "instance") ts
+  method ← method_reference_at rest
+  created ← creation method.0.owner method.0.signature.parameters method.0.name method.0.signature.return_type
+  Some (created, method.1)
+
+unfoldable pub form_of : Option WordUse → Option Form
+form_of None = None
+form_of (Some OfGrammar) = None
+form_of (Some (OfInstruction form)) = Some form
+
+unfoldable pub instruction_at : Parser Instruction
+instruction_at ts = do
+  word ← any_word_at ts
+  form ← form_of (use_of word.0)
+  operands_at form word.1
+
+-- ---- code
+
+unfoldable pub label_at : Parser (List ℕ)
+label_at ts = do
+  name ← name_at ts
+  rest ← sign_at Colon name.1
+  Some (name.0, rest)
+
+unfoldable pub starts_label : List Token → Bool
+starts_label (Name found ∷ rest) = true
+starts_label _ = false
+
+unfoldable pub line_at : Parser Line
+line_at ts = do
+  labels ← many starts_label label_at ts
+  instruction ← instruction_at labels.1
+  Some (record { labels = labels.0; instruction = instruction.0 }, instruction.1)
+
+unfoldable pub locals_at : Parser (List DeclaredType)
+locals_at ts = choice (word_at (codes ".locals") ts) (λ directive. do
+  behind ← word_at (codes "init") directive
+  inside ← sign_at OpenParenthesis behind
+  items ← commas_at parameter_at inside
+  rest ← sign_at CloseParenthesis items.1
+  Some (items.0, rest)) (Some ([], ts))
+
+unfoldable pub max_stack_at : Parser ℤ
+max_stack_at ts = do
+  rest ← word_at (codes ".maxstack") ts
+  integer_at rest
+
+unfoldable pub code_at : Parser Code
+code_at ts = do
+  block ← sign_at OpenBrace ts
+  max_stack ← max_stack_at (flag_at (codes ".entrypoint") block).1
+  locals ← locals_at max_stack.1
+  lines ← many in_block line_at locals.1
+  rest ← sign_at CloseBrace lines.1
+  Some (record { is_entry_point = (flag_at (codes ".entrypoint") block).0; max_stack = max_stack.0; locals = locals.0; lines = lines.0 }, rest)
+
+-- ---- methods
+
+unfoldable pub virtual_words_at : Parser Beginning
+virtual_words_at ts = do
+  behind ← word_at (codes "virtual") (flag_at (codes "abstract") (flag_at (codes "newslot") ts).1).1
+  rest ← word_at (codes "instance") behind
+  Some (if (flag_at (codes "abstract") (flag_at (codes "newslot") ts).1).0 then Abstract (flag_at (codes "newslot") ts).0 else Virtual (flag_at (codes "newslot") ts).0, rest)
+
+-- behind `specialname`
+unfoldable pub constructor_words_at : List Token → Option (List Token)
+constructor_words_at ts = do
+  rest ← word_at (codes "rtspecialname") ts
+  word_at (codes "instance") rest
+
+unfoldable pub first_words_at : Parser Beginning
+first_words_at ts = choice (word_at (codes "static") ts) (λ rest. Some (Static, rest))
+    (choice (word_at (codes "instance") ts) (λ rest. Some (Instance, rest))
+    (choice (word_at (codes "specialname") ts) (λ special. do
+      rest ← constructor_words_at special
+      Some (Constructor, rest)) (virtual_words_at ts)))
+
+unfoldable pub named_head_at : Parser (Option DeclaredType × MethodName)
+named_head_at ts = do
+  type ← return_type_at ts
+  name ← name_at type.1
+  Some ((type.0, Named name.0), name.1)
+
+unfoldable pub head_at : Beginning → Parser (Option DeclaredType × MethodName)
+head_at Constructor ts = do
+  behind ← word_at (codes "void") ts
+  rest ← word_at (codes ".ctor") behind
+  Some ((None, ConstructorName), rest)
+head_at _ ts = named_head_at ts
+
+-- the kind of a method that has code
+abbrev pub kind_with : Beginning → Code → MethodKind
+kind_with Static code = kinds.Static code
+kind_with Instance code = kinds.Instance code
+kind_with (Virtual is_new_slot) code = kinds.Virtual is_new_slot code
+kind_with (Abstract is_new_slot) code = kinds.Instance code
+kind_with Constructor code = kinds.Instance code
+
+unfoldable pub code_body_at : Beginning → Parser MethodKind
+code_body_at beginning ts = do
+  code ← code_at ts
+  Some (kind_with beginning code.0, code.1)
+
+unfoldable pub body_at : Beginning → Parser MethodKind
+body_at (Abstract is_new_slot) ts = do
+  behind ← sign_at OpenBrace ts
+  rest ← sign_at CloseBrace behind
+  Some (kinds.Abstract is_new_slot, rest)
+body_at beginning ts = code_body_at beginning ts
+
+unfoldable pub method_at : Parser Method
+method_at ts = do
+  public ← word_at (codes ".method") ts
+  behind ← word_at (codes "public") public
+  beginning ← first_words_at (unwrap_or (word_at (codes "hidebysig") behind) behind)
+  head ← head_at beginning.0 beginning.1
+  parameters ← parentheses_at parameter_at head.1
+  managed ← word_at (codes "cil") parameters.1
+  block ← word_at (codes "managed") managed
+  kind ← body_at beginning.0 block
+  Some (record { name = head.0.1; signature = record { parameters = parameters.0; return_type = head.0.0 }; kind = kind.0 }, kind.1)
+
+-- ---- members and classes
+
+unfoldable pub field_at : Parser Field
+field_at ts = do
+  public ← word_at (codes ".field") ts
+  behind ← word_at (codes "public") public
+  type ← type_at (flag_at (codes "static") behind).1
+  name ← name_at type.1
+  Some (record { is_static = (flag_at (codes "static") behind).0; field_type = type.0; name = name.0 }, name.1)
+
+unfoldable pub interface_member_at : Parser Member
+interface_member_at ts = do
+  method ← method_at ts
+  Some (MethodMember method.0, method.1)
+
+unfoldable pub member_at : Parser Member
+member_at ts = choice (word_at (codes ".field") ts) (λ _. do
+  field ← field_at ts
+  Some (FieldMember field.0, field.1)) (interface_member_at ts)
+
+-- parts in braces
+unfoldable pub block_at : {A : Type 0} → (List Token → Bool) → Parser A → Parser (List A)
+block_at starts parses ts = do
+  inside ← sign_at OpenBrace ts
+  members ← many starts parses inside
+  rest ← sign_at CloseBrace members.1
+  Some (members.0, rest)
+
+unfoldable pub implements_at : Parser (List ClassName)
+implements_at ts = choice (word_at (codes "implements") ts) (λ rest. commas_at class_name_at rest) (Some ([], ts))
+
+unfoldable pub interface_at : Parser Class
+interface_at ts = do
+  public ← word_at (codes "interface") ts
+  abstract ← word_at (codes "public") public
+  auto ← word_at (codes "abstract") abstract
+  ansi ← word_at (codes "auto") auto
+  behind ← word_at (codes "ansi") ansi
+  name ← name_at behind
+  members ← block_at in_block interface_member_at name.1
+  Some (record { name = name.0; kind = Interface; members = members.0 }, members.1)
+
+unfoldable pub plain_class_at : Parser Class
+plain_class_at ts = do
+  abstract ← word_at (codes "public") ts
+  ansi ← word_at (codes "auto") (flag_at (codes "abstract") abstract).1
+  behind ← word_at (codes "ansi") ansi
+  name ← name_at behind
+  extends ← word_at (codes "extends") name.1
+  base ← class_name_at extends
+  interfaces ← implements_at base.1
+  members ← block_at in_block member_at interfaces.1
+  Some (record { name = name.0; kind = PlainClass (flag_at (codes "abstract") abstract).0 base.0 interfaces.0; members = members.0 }, members.1)
+
+unfoldable pub class_at : Parser Class
+class_at ts = do
+  start ← word_at (codes ".class") ts
+  choice (word_at (codes "interface") start) (λ _. interface_at start) (plain_class_at start)
+
+-- ---- a whole source
+
+unfoldable pub starts_extern : List Token → Bool
+starts_extern ts = choice (word_at (codes ".assembly") ts) (λ rest. is_some (word_at (codes "extern") rest)) false
+
+unfoldable pub extern_at : Parser (List ℕ)
+extern_at ts = do
+  start ← word_at (codes ".assembly") ts
+  behind ← word_at (codes "extern") start
+  name ← name_at behind
+  inside ← sign_at OpenBrace name.1
+  rest ← sign_at CloseBrace inside
+  Some (name.0, rest)
+
+unfoldable pub assembly_at : Parser (Option (List ℕ))
+assembly_at ts = choice (word_at (codes ".assembly") ts) (λ behind. do
+  name ← name_at behind
+  inside ← sign_at OpenBrace name.1
+  rest ← sign_at CloseBrace inside
+  Some (Some name.0, rest)) (Some (None, ts))
+
+-- all of the tokens
+unfoldable pub tree_at : List Token → Option Tree
+tree_at ts = do
+  externs ← many starts_extern extern_at ts
+  assembly ← assembly_at externs.1
+  classes ← many in_block class_at assembly.1
+  if length classes.1 == 0 then Some (record { externs = externs.0; assembly = assembly.0; classes = classes.0 }) else None

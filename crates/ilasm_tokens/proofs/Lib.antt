@@ -1,0 +1,4 @@
+pub mod Many
+mod Text
+pub mod Reserved
+pub mod Reading
