@@ -3,6 +3,12 @@ ghost use Rattle.std.specs.Prelude.{◌≡◌, ◌≢◌, ◌⊎◌, ◌++◌, �
 ghost use Rattle.std.specs.List.{list_all, list_any};
 ghost use Rattle.std.specs.Io.KnownBytes.{Appends};
 ghost use Rattle.cil_model.specs.Ranges.{are_in_range};
+ghost use Rattle.cil_model.specs.Sources.{HasTree, IsAnswer};
+ghost use Rattle.ilasm_reader.specs.Answers.{numbered};
+ghost use Rattle.ilasm_reader.specs.declared.reading.ReadError.TheVariants as reading;
+ghost use Rattle.verifier.specs.Numbers.{typing_number_of, number_of as legality_number_of};
+ghost use Rattle.verifier.specs.declared.legality.MetaError.TheVariants as resolving;
+ghost use Rattle.verifier.specs.declared.typing.VerifyError.TheVariants as verifying;
 ghost use Rattle.cilvm.specs.Failures.{IsFailureOfDevice, IsRefusalUnless, IsStatusOf, PrintsError};
 ghost use Rattle.cilvm.specs.Failures.{is_out_of_range, is_refusal, message_of};
 ghost use Rattle.cilvm.specs.Schedules.{number_of};
@@ -64,7 +70,8 @@ impl From<io::Error> for Failure {
 }
 
 impl From<ReadError> for Failure {
-    ghost from_gives = { λ _ failure. is_out_of_range failure ≡ false };
+    ghost from_gives = { λ error failure.
+        IsRefusalUnless (error ≡ reading.OutOfMemory) (numbered error) failure };
 
     fn from(error: ReadError) -> Failure {
         match error {
@@ -75,7 +82,8 @@ impl From<ReadError> for Failure {
 }
 
 impl From<MetaError> for Failure {
-    ghost from_gives = { λ _ failure. is_out_of_range failure ≡ false };
+    ghost from_gives = { λ error failure.
+        IsRefusalUnless (error ≡ resolving.OutOfMemory) (legality_number_of error) failure };
 
     fn from(error: MetaError) -> Failure {
         match error {
@@ -86,7 +94,8 @@ impl From<MetaError> for Failure {
 }
 
 impl From<VerifyError> for Failure {
-    ghost from_gives = { λ _ failure. is_out_of_range failure ≡ false };
+    ghost from_gives = { λ error failure.
+        IsRefusalUnless (error ≡ verifying.OutOfMemory) (typing_number_of error) failure };
 
     fn from(error: VerifyError) -> Failure {
         match error {
@@ -180,9 +189,10 @@ fn perform<W: Write, E: Write>(
     }
 }
 
-/// The verified program of a source.
+/// The verified program of a source, whose tree is the one that the bytes have.
 fn accept(alloc: Global, source: &[u8]) -> Result<Verified, Failure>
-    ensures { IfErr result (λ failure. is_out_of_range failure ≡ false) }
+    ensures tree { IfOk result (λ verified. IsAnswer source.now (HasTree verified)) }
+    ensures refused { IfErr result (λ failure. is_out_of_range failure ≡ false) }
 {
     let tree = ilasm_reader::read(alloc, source)?;
     let program = verifier::resolve(alloc, tree)?;
