@@ -1,5 +1,5 @@
 -- What a user sees of the collector: room, the work of a cycle, the steps among events, and what is reachable.
-use Rattle.std.proofs.Common.{◌≡◌, true, false, List, [], ◌∷◌, ◌++◌, Some, None, refl, codes, lit<}
+use Rattle.std.proofs.Common.{◌≡◌, true, false, List, [], ◌∷◌, ◌++◌, take, drop, Some, None, refl, codes, lit<}
 use Rattle.cil_model.specs.declared.events.Event.{Event}
 use Rattle.cil_model.specs.declared.events.Event.TheVariants.{Step, Ack, Gc}
 use Rattle.cil_model.specs.declared.phases.Phase.TheVariants.{Idle, Mark, Allocate, Copy, PreFlip, HeapFlip, ThreadFlip, Reclaim}
@@ -11,7 +11,7 @@ use Rattle.cil_model.specs.declared.types.Element.TheVariants.{Int32}
 use Rattle.cil_model.specs.Declarations.{plain}
 use Rattle.cil_model.specs.Values.{Born}
 use Rattle.cil_model.specs.States.{Instance, Array, State}
-use Rattle.cil_model.specs.Cycles.{Spaces, room, is_refused, most_working, working_in_cycle, is_cycle_open}
+use Rattle.cil_model.specs.Cycles.{Spaces, room, is_refused, most_working, working_in_cycle, is_cycle_open, IsNewestCycle}
 use Rattle.cil_model.specs.Runs.{thread_part, step_reports}
 use Rattle.cil_model.specs.Reachable.{IsReachable, from_root, from_member}
 use Rattle.cil_model.specs.OwedWords.{cell_words}
@@ -100,6 +100,10 @@ no_cycle_yet = refl
 
 bound : most_working 64 3 ≡ 1091
 bound = refl
+
+-- the three steps before it are no part of the newest cycle
+newest_cycle : IsNewestCycle whole_cycle (take 3 whole_cycle) (drop 3 whole_cycle)
+newest_cycle = record { whole = refl; none_was_open = refl; begins = refl; goes_on = refl }
 
 -- ---- the steps among events
 

@@ -1,5 +1,5 @@
 -- The words that a collection owes its user: those of what was reachable when its cycle began, or was born since (this profile).
-use Rattle.std.specs.Prelude.{◌≡◌, ◌↔◌, ◌≤◌, ◌⊎◌, ℕ, ◌+◌, List, length, take, sum_by, Option, Some, None, slice_get, Contains, nat_eq, if◌then◌else◌}
+use Rattle.std.specs.Prelude.{◌≡◌, ◌↔◌, ◌≤◌, ◌⊎◌, ℕ, ◌+◌, List, length, sum_by, Option, Some, None, slice_get, Contains, nat_eq, if◌then◌else◌}
 use Rattle.std.specs.List.{IsDistinct}
 use Rattle.cil_model.specs.declared.trees.Tree.{Tree}
 use Rattle.cil_model.specs.declared.limits.Limits.{Limits}
@@ -10,7 +10,7 @@ use Rattle.cil_model.specs.Values.{Born}
 use Rattle.cil_model.specs.States.{Contents, Instance, Array, HeapObject, State}
 use Rattle.cil_model.specs.Runs.{IsStateAfter}
 use Rattle.cil_model.specs.Reachable.{IsReachable}
-use Rattle.cil_model.specs.Cycles.{IsNewestOpening}
+use Rattle.cil_model.specs.Cycles.{IsNewestCycle}
 
 -- the words of an object's cell: three, and one a field or element, the hidden field of a Cilvm.Thread counted (this profile)
 abbrev pub cell_words : Tree → Contents → ℕ
@@ -33,13 +33,13 @@ pub record OwesWords (tree : Tree) (before now : State) (words : ℕ) : Type 0 w
   pub owed : (n : ℕ) → Contains names n ↔ IsOwed before now n
   pub total : sum_by (λ n. words_of_object tree (slice_get now.objects n)) names ≡ words
 
--- So many words are owed after these events: the newest cycle began with the event of that place, `before` is the state
--- before it, and `now` the one after all events.
+-- So many words are owed after these events: `before` is the state before their newest cycle, and `now` the one after all.
 pub record OwesAfter (tree : Tree) (limits : Limits) (events : List (Event × Report)) (words : ℕ) : Type 0 where
-  pub place : ℕ
-  pub opened : IsNewestOpening events place
+  pub earlier : List (Event × Report)
+  pub cycle : List (Event × Report)
+  pub newest : IsNewestCycle events earlier cycle
   pub before : State
   pub now : State
-  pub is_before : IsStateAfter tree limits (take place events) before
+  pub is_before : IsStateAfter tree limits earlier before
   pub is_now : IsStateAfter tree limits events now
   pub owes : OwesWords tree before now words
