@@ -1,4 +1,5 @@
 // Look-ups of classes and members by hash, each of which finds what the definitions find.
 #![tactic(auto)]
 
+pub mod keys;
 pub mod places;

@@ -1,0 +1,3 @@
+pub mod Sameness
+pub mod SamenessLaws
+pub mod Keys
