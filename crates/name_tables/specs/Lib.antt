@@ -1,3 +1,5 @@
 pub mod Sameness
 pub mod SamenessLaws
 pub mod Keys
+pub mod BuiltInTable
+pub mod Entries
