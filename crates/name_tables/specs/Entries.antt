@@ -1,13 +1,9 @@
 -- A class's name with what it declares.
 use Rattle.std.specs.Prelude.{List, map, option_map}
 use Rattle.cil_model.specs.declared.types.ClassName.{ClassName}
-use Rattle.cil_model.specs.declared.trees.Class.{Class}
-use Rattle.cil_model.specs.Declarations.{Declaration, source_name, declared_as, fields_of, methods_of}
+use Rattle.cil_model.specs.Declarations.{Declaration}
 use Rattle.name_tables.specs.declared.classes.DeclaredClass.{DeclaredClass}
 use Rattle.name_tables.specs.Keys.{class_of_key}
-
-abbrev pub source_entry : Class → ClassName × Declaration
-source_entry c = (source_name c, declared_as c.kind (fields_of c) (methods_of c))
 
 abbrev pub declaration_in : DeclaredClass → Declaration
 declaration_in d = record {

@@ -3,3 +3,4 @@ pub mod SamenessLaws
 pub mod Keys
 pub mod BuiltInTable
 pub mod Entries
+pub mod Numbers

@@ -28,10 +28,10 @@ fn fields_of(alloc: Global, class: &Class) -> Result<Vec<&Field>, NoMemory>
 {
     let mut fields = Vec::new(alloc);
     for member in class.members.as_slice() {
-        match member {
-            Member::Field(field) => fields.push(field)?,
-            Member::Method(_) => {}
-        }
+        let Member::Field(field) = member else {
+            continue;
+        };
+        fields.push(field)?;
     }
     Ok(fields)
 }
@@ -42,16 +42,17 @@ fn methods_of(alloc: Global, class: &Class) -> Result<Vec<&Method>, NoMemory>
 {
     let mut methods = Vec::new(alloc);
     for member in class.members.as_slice() {
-        match member {
-            Member::Field(_) => {}
-            Member::Method(method) => methods.push(method)?,
-        }
+        let Member::Method(method) = member else {
+            continue;
+        };
+        methods.push(method)?;
     }
     Ok(methods)
 }
 
 impl<'a> DeclaredClass<'a> {
-    ghost use Rattle.name_tables.specs.Entries.{entry_of, source_entry};
+    ghost use Rattle.name_tables.specs.Entries.{entry_of};
+    ghost use Rattle.name_tables.specs.Numbers.{source_entry};
     ghost use Rattle.name_tables.specs.BuiltInTable.{built_in_entry};
 
     /// A class of the source. Fails for want of memory alone.
