@@ -1,5 +1,5 @@
 -- A look-up by numbers finds what the look-up by names finds.
-use Rattle.std.proofs.Common.{◌≡◌, ◌+◌, ◌⊎◌, inl, inr, ℕ, zero, suc, Bool, true, false, cond, not, ◌&&◌, IsTrue, is_some, List, [], ◌∷◌, ◌++◌, map, Option, Some, None, option_map, option_and_then, slice_get, refl, sym, ap, subst, ◌∙◌, arith}
+use Rattle.std.proofs.Common.{◌≡◌, ◌<◌, ◌-◌, ◌+◌, ◌⊎◌, inl, inr, ℕ, zero, suc, Bool, true, false, cond, not, ◌&&◌, IsTrue, is_some, List, [], ◌∷◌, ◌++◌, map, Option, Some, None, option_map, option_and_then, slice_get, refl, sym, ap, subst, ◌∙◌, arith}
 use Rattle.std.specs.Prelude.{find, filter_map}
 use Rattle.std.specs.List.{position_from, cons_option}
 use Rattle.std.specs.Option.{option_map_or}
@@ -12,7 +12,7 @@ use Rattle.cil_model.specs.declared.instructions.FieldReference.{FieldReference}
 use Rattle.cil_model.specs.declared.instructions.MethodReference.{MethodReference}
 use Rattle.cil_model.specs.declared.trees.Field.{Field}
 use Rattle.cil_model.specs.declared.trees.Method.{Method}
-use Rattle.cil_model.specs.Chains.{nearest, listed_by, chain_of, classes_searched, find_field, find_method}
+use Rattle.cil_model.specs.Chains.{nearest, listed_by, base_of, chain_within, chain_of, classes_searched, find_field, find_method}
 use Rattle.name_tables.specs.Sameness.{MethodIdentity, same_field, same_called, called_of}
 use Rattle.name_tables.specs.Numbers.{declarations, class_number, source_entry, nearest_number, member_at, place_in, field_at, method_at, field_number, method_number}
 use Rattle.name_tables.specs.SamenessLaws.{class_equivalence, field_equivalence, called_equivalence, same_class_equal}
@@ -186,3 +186,29 @@ module _ (tree : Tree) where
       nearest_is_numbered _ (place_in (λ d. d.methods) (λ m. same_called k (called_of m)) tree) (method_at tree)
       (in_absent (λ d. d.methods) (λ m. same_called k (called_of m)) (λ m. same_called (called_of m) k) (λ m. called_equivalence.symm k (called_of m)))
       (in_present (λ d. d.methods) (λ m. same_called k (called_of m)) (λ m. same_called (called_of m) k) (λ m. called_equivalence.symm k (called_of m))) (classes_searched tree r.name r.owner)
+
+  -- ---- the numbers of a chain
+
+  abbrev pub numbers_within : ℕ → Option ClassName → List ℕ
+  numbers_within m o = filter_map (class_number tree) (chain_within tree m o)
+
+  pub numbers_of_none : (m : ℕ) → numbers_within m None ≡ []
+  numbers_of_none zero = refl
+  numbers_of_none (suc m) = refl
+
+  pub numbers_of_unknown : (m : ℕ) (c : ClassName) → class_number tree c ≡ None → numbers_within m (Some c) ≡ []
+  numbers_of_unknown zero c e = refl
+  numbers_of_unknown (suc m) c e =
+      let absent : declaration_of tree c ≡ None = subst (IsNumbered c) e (numbered c) in
+      ap (λ o. cons_option o (numbers_within m (base_of tree c))) e ∙ ap (λ d. numbers_within m (option_and_then (λ (x : Declaration). x.base) d)) absent ∙ numbers_of_none m
+
+  abbrev pub base_at : ℕ → Option ClassName
+  base_at n = option_and_then (λ (e : ClassName × Declaration). e.1.base) (slice_get (declarations tree) n)
+
+  pub numbers_of_known : (m : ℕ) (c : ClassName) (n : ℕ) → 0 < m → class_number tree c ≡ Some n → numbers_within m (Some c) ≡ n ∷ numbers_within (m - 1) (base_at n)
+  numbers_of_known zero c n h e = absurd (omega (arith, h))
+  numbers_of_known (suc m) c n h e =
+      let found : (d : Declaration) × (declaration_of tree c ≡ Some d) × (slice_get (declarations tree) n ≡ Some (c, d)) = subst (IsNumbered c) e (numbered c) in
+      let base : base_of tree c ≡ base_at n = ap (option_and_then (λ (d : Declaration). d.base)) found.1 ∙ sym (ap (option_and_then (λ (y : ClassName × Declaration). y.1.base)) found.2) in
+      let k : suc m - 1 ≡ m = omega arith in
+      ap (λ o. cons_option o (numbers_within m (base_of tree c))) e ∙ ap (λ b. n ∷ numbers_within m b) base ∙ ap (λ x. n ∷ numbers_within x (base_at n)) (sym k)

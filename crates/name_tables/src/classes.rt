@@ -56,7 +56,7 @@ impl<'a> DeclaredClass<'a> {
     ghost use Rattle.name_tables.specs.BuiltInTable.{built_in_entry};
 
     /// A class of the source. Fails for want of memory alone.
-    fn of_source(alloc: Global, class: &'a Class) -> Result<Self, NoMemory>
+    pub fn of_source(alloc: Global, class: &'a Class) -> Result<Self, NoMemory>
         ensures { IfOk result (λ d. entry_of d ≡ source_entry class.now) }
     {
         let name = ClassKey {
@@ -91,7 +91,7 @@ impl<'a> DeclaredClass<'a> {
     }
 
     /// A built-in class. Fails for want of memory alone.
-    fn of_built_in(alloc: Global, class: &'a BuiltInClass) -> Result<Self, NoMemory>
+    pub fn of_built_in(alloc: Global, class: &'a BuiltInClass) -> Result<Self, NoMemory>
         ensures { IfOk result (λ d. entry_of d ≡ built_in_entry class.now) }
     {
         let mut methods = Vec::new(alloc);

@@ -3,7 +3,10 @@
 ghost use Rattle.std.specs.Prelude.{◌≡◌, option_map};
 ghost use Rattle.cil_model.specs.Same.{same_options, same_lists, same_text, same_type};
 
-use cil_model::types::{ClassName, DeclaredType};
+use crate::kinds::is_static;
+use cil_model::instructions::MethodName;
+use cil_model::trees::{Field, Method};
+use cil_model::types::{ClassName, DeclaredType, Signature};
 use cil_model::texts::Text;
 use std::hash::{Hash, Hasher};
 
@@ -291,6 +294,51 @@ impl<'a> ClassKey<'a> {
         ClassKey {
             assembly: name.assembly.as_ref(),
             name: &name.name,
+        }
+    }
+}
+
+impl<'a> FieldKey<'a> {
+    ghost use Rattle.name_tables.specs.Keys.{field_of_key};
+
+    pub fn of(field: &'a Field) -> Self
+        ensures { field_of_key result ≡ field.now }
+    {
+        FieldKey {
+            is_static: field.is_static,
+            field_type: &field.field_type,
+            name: &field.name,
+        }
+    }
+}
+
+impl<'a> MethodKey<'a> {
+    ghost use Rattle.name_tables.specs.Keys.{method_of_key};
+
+    pub fn new(name: &'a MethodName, signature: &'a Signature) -> Self
+        ensures { method_of_key result ≡ record { name = name.now; signature = signature.now } }
+    {
+        MethodKey {
+            name: match name {
+                MethodName::Constructor => None,
+                MethodName::Named(name) => Some(name),
+            },
+            parameters: signature.parameters.as_slice(),
+            return_type: signature.return_type.as_ref(),
+        }
+    }
+}
+
+impl<'a> CallKey<'a> {
+    ghost use Rattle.name_tables.specs.Keys.{called_of_key};
+    ghost use Rattle.name_tables.specs.Sameness.{called_of};
+
+    pub fn of(method: &'a Method) -> Self
+        ensures { called_of_key result ≡ called_of method.now }
+    {
+        CallKey {
+            method: MethodKey::new(&method.name, &method.signature),
+            is_static: is_static(&method.kind),
         }
     }
 }

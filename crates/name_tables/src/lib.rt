@@ -2,6 +2,10 @@
 #![tactic(auto)]
 
 pub mod built_in;
+pub mod class_tables;
 pub mod classes;
 pub mod keys;
+pub mod kinds;
+pub mod lookups;
 pub mod places;
+pub mod tables;
