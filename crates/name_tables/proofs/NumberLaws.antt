@@ -14,10 +14,12 @@ use Rattle.cil_model.specs.declared.trees.Field.{Field}
 use Rattle.cil_model.specs.declared.trees.Method.{Method}
 use Rattle.cil_model.specs.Chains.{nearest, listed_by, base_of, chain_within, chain_of, classes_searched, find_field, find_method}
 use Rattle.name_tables.specs.Sameness.{MethodIdentity, same_field, same_called, called_of}
-use Rattle.name_tables.specs.Numbers.{declarations, class_number, source_entry, nearest_number, member_at, place_in, field_at, method_at, field_number, method_number}
+use Rattle.name_tables.specs.Numbers.{declarations, class_number, chain_numbers, source_entry, nearest_number, member_at, place_in, field_at, method_at, field_number, method_number}
+use Rattle.std.proofs.lemmas.Option.{slice_get-map}
+use Rattle.name_tables.proofs.Lists.{option_map_of_map}
 use Rattle.name_tables.specs.SamenessLaws.{class_equivalence, field_equivalence, called_equivalence, same_class_equal}
 
-none_is_some : {X : Type 0} (x : X) → None ≡ Some x → ⊥
+pub none_is_some : {X : Type 0} (x : X) → None ≡ Some x → ⊥
 none_is_some x e = cc
 
 -- ---- places in lists
@@ -85,10 +87,6 @@ module _ (tree : Tree) where
   or_none None = refl
   or_none (Some x) = refl
 
-  twice : {X Y Z : Type 0} (f : X → Y) (g : Y → Z) (o : Option X) → option_map g (option_map f o) ≡ option_map (λ x. g (f x)) o
-  twice f g None = refl
-  twice f g (Some x) = refl
-
   declared_at : (o : Option (List ℕ)) (n : List ℕ) →
       option_map (λ (e : ClassName × Declaration). e.1) (cond (is_some (find (bears (record { assembly = o; name = n })) built_ins)) (find (bears (record { assembly = o; name = n })) built_ins) (find (bears (record { assembly = o; name = n })) (map source_entry tree.classes))) ≡
       declaration_of tree (record { assembly = o; name = n })
@@ -98,7 +96,7 @@ module _ (tree : Tree) where
       ap (λ o. option_map (λ (e : ClassName × Declaration). e.1) (cond (is_some (find (bears c) built_ins)) (find (bears c) built_ins) o)) none ∙ ap (option_map (λ (e : ClassName × Declaration). e.1)) (or_none (find (bears c) built_ins))
   declared_at None n =
       let c : ClassName = record { assembly = None; name = n } in
-      ap (option_map (λ (e : ClassName × Declaration). e.1)) (find-map source_entry (bears c) tree.classes) ∙ twice source_entry (λ (e : ClassName × Declaration). e.1) (find (λ (k : Class). bears c (source_entry k)) tree.classes)
+      ap (option_map (λ (e : ClassName × Declaration). e.1)) (find-map source_entry (bears c) tree.classes) ∙ option_map_of_map source_entry (λ (e : ClassName × Declaration). e.1) (find (λ (k : Class). bears c (source_entry k)) tree.classes)
 
   find_declared : (c : ClassName) → option_map (λ (e : ClassName × Declaration). e.1) (find (entry_named c) (declarations tree)) ≡ declaration_of tree c
   find_declared c =
@@ -167,8 +165,8 @@ module _ (tree : Tree) where
         let named : X → ClassName × X = λ x. (c, x) in
         let placed : option_map (λ p. member_at part tree (n, p)) (place_in part own tree n) ≡ option_map (λ p. option_map named (slice_get (part d) p)) (position_from own 0 (part d)) =
         ap (λ (z : Option (ClassName × Declaration)). option_map (λ p. option_and_then (λ (y : ClassName × Declaration). option_map (λ x. (y.0, x)) (slice_get (part y.1) p)) z) (option_and_then (λ (y : ClassName × Declaration). position_from own 0 (part y.1)) z)) k in
-        placed ∙ sym (twice (slice_get (part d)) (option_map named) (position_from own 0 (part d))) ∙ ap (option_map (option_map named)) (found_at_place own (part d)) ∙
-        twice Some (option_map named) (find own (part d)) ∙ ap (option_map (λ x. Some (named x))) (find_congr own test same (part d)) ∙
+        placed ∙ sym (option_map_of_map (slice_get (part d)) (option_map named) (position_from own 0 (part d))) ∙ ap (option_map (option_map named)) (found_at_place own (part d)) ∙
+        option_map_of_map Some (option_map named) (find own (part d)) ∙ ap (option_map (λ x. Some (named x))) (find_congr own test same (part d)) ∙
         sym (ap (λ z. option_map (λ x. Some (named x)) (find test (listed_by part z))) e)
 
   -- ---- fields and methods
@@ -212,3 +210,8 @@ module _ (tree : Tree) where
       let base : base_of tree c ≡ base_at n = ap (option_and_then (λ (d : Declaration). d.base)) found.1 ∙ sym (ap (option_and_then (λ (y : ClassName × Declaration). y.1.base)) found.2) in
       let k : suc m - 1 ≡ m = omega arith in
       ap (λ o. cons_option o (numbers_within m (base_of tree c))) e ∙ ap (λ b. n ∷ numbers_within m b) base ∙ ap (λ x. n ∷ numbers_within x (base_at n)) (sym k)
+
+  pub chain_at_number : (c : ClassName) (n : ℕ) → class_number tree c ≡ Some n → slice_get (map (λ (e : ClassName × Declaration). chain_numbers tree e.0) (declarations tree)) n ≡ Some (chain_numbers tree c)
+  chain_at_number c n e =
+      let found : (d : Declaration) × (declaration_of tree c ≡ Some d) × (slice_get (declarations tree) n ≡ Some (c, d)) = subst (IsNumbered c) e (numbered c) in
+      slice_get-map (λ (e : ClassName × Declaration). chain_numbers tree e.0) (declarations tree) n ∙ ap (option_map (λ (e : ClassName × Declaration). chain_numbers tree e.0)) found.2

@@ -1,6 +1,7 @@
 // What the references of a tree find, by numbers.
 
-ghost use Rattle.std.specs.Prelude.{◌≡◌, IfOk, map, option_map, Some};
+ghost use Rattle.std.specs.Prelude.{◌≡◌, [], IfOk, map, option_map, Some};
+ghost use Rattle.std.specs.List.{cons_option};
 ghost use Rattle.cil_model.specs.Chains.{find_field, find_method};
 ghost use Rattle.name_tables.specs.BuiltInTable.{built_in_entry};
 ghost use Rattle.cil_model.specs.Declarations.{built_ins};
@@ -99,6 +100,19 @@ impl<'a> NameTables<'a> {
         None
     }
 
+    /// The method that a class itself declares.
+    fn own_call(&self, owner: ClassKey, key: CallKey) -> Option<MemberNumber>
+        ensures { option_map (λ m. (m.class, m.place)) result ≡ nearest_number (place_in (λ d. d.methods) (λ m. same_called (called_of_key key.entry) (called_of m)) self.now.classes.tree.now) (cons_option (class_number self.now.classes.tree.now (class_of_key owner.entry)) []) }
+    {
+        match self.classes.number(owner) {
+            None => None,
+            Some(class) => match self.classes.call(class, key) {
+                None => None,
+                Some(place) => Some(MemberNumber { class, place }),
+            },
+        }
+    }
+
     /// The field of this name, type and staticness in the nearest class of the owner's chain (ECMA-335 II.16, this profile).
     pub fn find_field(&self, is_static: bool, reference: &FieldReference) -> Option<MemberNumber>
         ensures { option_map (λ m. field_at self.now.classes.tree.now (m.class, m.place)) result ≡ option_map Some (find_field self.now.classes.tree.now is_static reference.now) }
@@ -122,11 +136,7 @@ impl<'a> NameTables<'a> {
         };
         let owner = ClassKey::of(&reference.owner);
         match &reference.name {
-            MethodName::Constructor => {
-                let class = self.classes.number(owner)?;
-                let place = self.classes.call(class, key)?;
-                Some(MemberNumber { class, place })
-            }
+            MethodName::Constructor => self.own_call(owner, key),
             MethodName::Named(_) => self.nearest_call(self.chain(owner), key),
         }
     }
