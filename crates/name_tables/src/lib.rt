@@ -9,3 +9,6 @@ pub mod kinds;
 pub mod lookups;
 pub mod places;
 pub mod tables;
+
+#[cfg(test)]
+mod tests;
