@@ -1,1 +1,7 @@
+// Which trees are legal programs.
 #![tactic(auto)]
+
+pub mod bodies;
+pub mod cycles;
+pub mod doubled;
+pub mod entry;

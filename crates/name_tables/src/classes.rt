@@ -23,7 +23,7 @@ pub struct DeclaredClass<'a> {
 }
 
 /// The fields among the members of a class, in source order.
-fn fields_of(alloc: Global, class: &Class) -> Result<Vec<&Field>, NoMemory>
+pub fn fields_of(alloc: Global, class: &Class) -> Result<Vec<&Field>, NoMemory>
     ensures { IfOk result (λ v. map (λ f. f.now) v.items ≡ fields_of class.now) }
 {
     let mut fields = Vec::new(alloc);
@@ -37,7 +37,7 @@ fn fields_of(alloc: Global, class: &Class) -> Result<Vec<&Field>, NoMemory>
 }
 
 /// The methods among the members of a class, in source order.
-fn methods_of(alloc: Global, class: &Class) -> Result<Vec<&Method>, NoMemory>
+pub fn methods_of(alloc: Global, class: &Class) -> Result<Vec<&Method>, NoMemory>
     ensures { IfOk result (λ v. map (λ f. f.now) v.items ≡ methods_of class.now) }
 {
     let mut methods = Vec::new(alloc);
