@@ -1,0 +1,13 @@
+//! Objects in a block of words: contracts see cells, and nobody above sees a place in the block.
+#![tactic(auto)]
+
+mod addresses;
+mod copies;
+mod heap;
+mod kinds;
+mod monitors;
+
+pub use addresses::Addr;
+pub use heap::Heap;
+pub use kinds::{ArrayElement, ElementType, Kind};
+pub use monitors::Monitor;
