@@ -5,6 +5,7 @@ mod addresses;
 mod copies;
 mod heap;
 mod kinds;
+pub mod laws;
 mod monitors;
 
 pub use addresses::Addr;
