@@ -7,8 +7,10 @@ mod heap;
 mod kinds;
 pub mod laws;
 mod monitors;
+mod values;
 
 pub use addresses::Addr;
 pub use heap::Heap;
 pub use kinds::{ArrayElement, ElementType, Kind};
 pub use monitors::Monitor;
+pub use values::{Value, ValueKind};
