@@ -1,6 +1,7 @@
 -- The objects of a heap as cells, one behind the other (this profile).
-use Rattle.std.specs.Prelude.{ℕ, ◌+◌, ◌-◌, ◌≤◌, nat_le, ◌==◌, if◌then◌else◌, Bool, false, List, [], ◌∷◌, ◌++◌, sum_by, length, replicate, Option, Some, None, option_map, unwrap_or, slice_set}
+use Rattle.std.specs.Prelude.{ℕ, ◌+◌, ◌-◌, nat_le, nat_lt, ◌==◌, if◌then◌else◌, Bool, false, List, [], ◌∷◌, ◌++◌, sum_by, length, replicate, Option, Some, None, option_map, unwrap_or, slice_set}
 use Rattle.object_memory.specs.declared.addresses.Addr.{Addr}
+use Rattle.object_memory.specs.declared.addresses.TheConstants.{FIRST_LITERAL}
 use Rattle.object_memory.specs.declared.kinds.Kind.{Kind}
 use Rattle.object_memory.specs.declared.monitors.Monitor.{Monitor}
 use Rattle.object_memory.specs.declared.monitors.Monitor.TheVariants.{Free}
@@ -32,6 +33,13 @@ free_words h = h.words - used_words h.cells
 
 abbrev pub null : Addr
 null = record { number = 0 }
+
+-- Literals have the addresses from the first literal's on, which no cell has.
+abbrev pub literal : ℕ → Addr
+literal n = record { number = FIRST_LITERAL + n }
+
+abbrev pub literal_number : Addr → Option ℕ
+literal_number a = if nat_lt a.number FIRST_LITERAL then None else Some (a.number - FIRST_LITERAL)
 
 -- the address of the first cell
 abbrev pub first : ℕ

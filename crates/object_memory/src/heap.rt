@@ -1,6 +1,6 @@
 // Objects in a block.
 
-ghost use Rattle.std.specs.Prelude.{◌≡◌, ◌<◌, ◌≤◌, length, replicate, slice_index, Some, IsSome, option_map};
+ghost use Rattle.std.specs.Prelude.{◌≡◌, ◌<◌, ◌≤◌, length, replicate, slice_index, Some, None, IfSome, IsSome, option_map};
 
 use crate::addresses::Addr;
 use crate::copies::Copies;
@@ -34,7 +34,7 @@ impl Model for Heap {
 }
 
 impl Heap {
-    ghost use Rattle.object_memory.specs.Cells.{Cells, no_cells, free_words, cell_at, slots_at, change_at, birth, store_slot, store_monitor, store_copies};
+    ghost use Rattle.object_memory.specs.Cells.{Cells, no_cells, free_words, literal_number, cell_at, slots_at, change_at, birth, store_slot, store_monitor, store_copies};
 
     /// A heap without objects, in a block that holds zeros alone. Takes no memory.
     pub fn new(block: Block) -> Heap
@@ -55,7 +55,8 @@ impl Heap {
     /// Makes an object with so many slots, which all hold 0 or null, at the front of what is free, and answers its
     /// address. None exactly where its header and its slots exceed the free words; nothing is changed then.
     pub fn birth(&mut self, kind: Kind, slots: u32) -> Option<Addr>
-        ensures { (self.new, result) ≡ birth self.old kind slots }
+        ensures birth { (self.new, result) ≡ birth self.old kind slots }
+        ensures no_literal { IfSome result (λ a. literal_number a ≡ None) }
     {
         let size = HEADER_WORDS + slots as usize;
         if self.block.len() - self.used < size {
