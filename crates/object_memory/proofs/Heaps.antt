@@ -7,7 +7,7 @@ use Rattle.std.proofs.Math.ListN.{length-set}
 use Rattle.object_memory.specs.declared.addresses.Addr.{Addr}
 use Rattle.object_memory.specs.declared.kinds.Kind.{Kind}
 use Rattle.object_memory.specs.declared.monitors.Monitor.{Monitor}
-use Rattle.object_memory.specs.Cells.{Cell, Cells, size, used_words, free_words, first, new_cell, birth, cell_from, cell_at, slots_at, change_at, store_slot, store_monitor, store_copies}
+use Rattle.object_memory.specs.Cells.{Cell, Cells, size, used_words, free_words, first, new_cell, birth, cell_at, slots_at, change_at, store_slot, store_monitor, store_copies}
 use Rattle.object_memory.specs.Words.{words_of, cells_of, IsTold, IsLaid, header_word, copies_word, is_marked_in, other_in, kind_in, slots_in, monitor_in, monitor_word}
 use Rattle.object_memory.proofs.Tiles.{born, used_words_held, Lies, lies, Lays, word_read, word_written}
 

@@ -1,15 +1,15 @@
 -- What a block has of the cells in it: for the heap's methods, which read and write words.
 use Rattle.std.proofs.Common.{◌≡◌, ℕ, zero, suc, ◌+◌, ◌-◌, ◌<◌, ◌≤◌, Bool, true, false, List, [], ◌∷◌, ◌++◌, length, take, drop, set, get_or, replicate, refl, sym, ap, subst, ◌∙◌, arith, length-append, length-take, append_assoc, append-nil}
-use Rattle.std.specs.Prelude.{◌==◌, if◌then◌else◌, Option, Some, None}
+use Rattle.std.specs.Prelude.{◌==◌, if◌then◌else◌, Some}
 use Rattle.std.proofs.Math.ListN.{length-set, get_or-append}
 use Rattle.std.proofs.Math.Seq.{take-set-lt, take-append_seam, drop-append_seam, take-append-add, drop-append-add, set-append_seam}
 use Rattle.std.proofs.lemmas.List.{set-append_left, set-append_right, drop-set-lt, get_or-append-add, get_or-take, length-take-le, take-append-drop, length-replicate, take-replicate, drop-replicate}
-use Rattle.std.proofs.lemmas.List.Sums.{sum_by-cons, sum_by_push}
+use Rattle.std.proofs.lemmas.List.Sums.{sum_by-cons}
 use Rattle.std.proofs.lemmas.Bool.Decides.{nat_tests}
 use native.Mathlib.Numerals.{unary_clauses}
 use Rattle.object_memory.specs.declared.kinds.Kind.{Kind}
-use Rattle.object_memory.specs.Cells.{Cell, Cells, size, used_words, cell_from, change_from, first, new_cell}
-use Rattle.object_memory.specs.Words.{words_of, flat, cell_of, cells_within, cells_of, IsTold, AreTold, IsLaid, header_word, kind_in, slots_in, copies_word, is_marked_in, other_in, monitor_word, monitor_in}
+use Rattle.object_memory.specs.Cells.{Cell, size, used_words, cell_from, change_from, first, new_cell}
+use Rattle.object_memory.specs.Words.{words_of, flat, cell_of, cells_within, cells_of, IsTold, AreTold, IsLaid, header_word, copies_word, monitor_word}
 
 -- ---- cells and their words
 

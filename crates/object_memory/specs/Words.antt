@@ -1,5 +1,5 @@
 -- The words of cells: how a heap lays its cells into a block. The contracts of a heap speak of cells alone.
-use Rattle.std.specs.Prelude.{◌≡◌, ℕ, zero, suc, ◌+◌, ◌-◌, ◌*◌, ◌/◌, ◌%◌, ◌<◌, ◌≤◌, ◌==◌, nat_lt, if◌then◌else◌, Bool, true, false, List, [], ◌∷◌, ◌++◌, length, take, drop, replicate, Option, Some, None}
+use Rattle.std.specs.Prelude.{◌≡◌, ℕ, suc, ◌+◌, ◌-◌, ◌*◌, ◌/◌, ◌%◌, ◌≤◌, ◌==◌, nat_lt, if◌then◌else◌, Bool, true, false, List, [], ◌∷◌, ◌++◌, length, take, drop, replicate, Option, Some, None}
 use Rattle.object_memory.specs.declared.kinds.TheConstants.{CLASSES, BRACKET_COUNTS, PLAIN_ELEMENTS, SLOT_COUNTS}
 use Rattle.object_memory.specs.declared.addresses.TheConstants.{ADDRESSES}
 use Rattle.object_memory.specs.declared.monitors.TheConstants.{OWNERS}

@@ -1,5 +1,5 @@
 use Rattle.std.proofs.Math.ListN.{length-set}
-use Rattle.std.proofs.Common.{◌≡◌, ◌+◌, ap}
+use Rattle.std.proofs.Common.{◌+◌, ap}
 use Rattle.object_memory.specs.Cells.{store_slot}
 use Rattle.object_memory.proofs.Addressed.{change_at_other}
 use Rattle.object_memory.proofs.laws.stores_keep_others.Goals as goal

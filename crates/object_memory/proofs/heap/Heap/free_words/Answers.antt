@@ -1,4 +1,3 @@
-use Rattle.std.proofs.Common.{◌≡◌}
 use Rattle.object_memory.proofs.Heaps.{free_is}
 use Rattle.object_memory.proofs.heap.Heap.free_words.Goals as goal
 

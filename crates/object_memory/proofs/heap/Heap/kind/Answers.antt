@@ -1,4 +1,4 @@
-use Rattle.std.proofs.Common.{◌≡◌, arith}
+use Rattle.std.proofs.Common.{arith}
 use Rattle.object_memory.proofs.Heaps.{header_inside, kind_read}
 use Rattle.object_memory.proofs.heap.Heap.kind.Goals as goal
 

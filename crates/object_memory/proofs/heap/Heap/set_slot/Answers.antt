@@ -1,4 +1,4 @@
-use Rattle.std.proofs.Common.{◌≡◌, ◌≤◌, arith, subst, sym}
+use Rattle.std.proofs.Common.{arith}
 use Rattle.object_memory.proofs.Heaps.{slot_inside, slot_stored}
 use Rattle.object_memory.proofs.heap.Heap.set_slot.Goals as goal
 

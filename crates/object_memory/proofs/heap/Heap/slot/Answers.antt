@@ -1,4 +1,4 @@
-use Rattle.std.proofs.Common.{◌≡◌, arith}
+use Rattle.std.proofs.Common.{arith}
 use Rattle.object_memory.proofs.Heaps.{slot_inside, slot_read}
 use Rattle.object_memory.proofs.heap.Heap.slot.Goals as goal
 
