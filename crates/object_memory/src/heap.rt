@@ -13,6 +13,12 @@ use std::marker::Model;
 /// The words before an object's slots: what it is, what the collector notes at it, and its monitor.
 const HEADER_WORDS: usize = 3;
 
+/// Which of them tells the mark and the other copy.
+const COPIES_WORD: usize = 1;
+
+/// Which of them tells the monitor.
+const MONITOR_WORD: usize = 2;
+
 /// The objects of one block, in the order of their births. Contracts see them as cells.
 #[derive(Drop)]
 pub struct Heap {
@@ -109,7 +115,7 @@ impl Heap {
         requires { IsSome (cell_at self.now address) }
         ensures { option_map (λ c. c.marked) (cell_at self.now address) ≡ Some result }
     {
-        Copies::told(self.block.read(address.place() + 1)).marked
+        Copies::told(self.block.read(address.place() + COPIES_WORD)).marked
     }
 
     /// The address of the object's other copy, where it has one.
@@ -117,7 +123,7 @@ impl Heap {
         requires { IsSome (cell_at self.now address) }
         ensures { option_map (λ c. c.other) (cell_at self.now address) ≡ Some result }
     {
-        Copies::told(self.block.read(address.place() + 1)).other
+        Copies::told(self.block.read(address.place() + COPIES_WORD)).other
     }
 
     /// Sets whether the object is marked, and what its other copy is. Nothing else changes.
@@ -126,7 +132,8 @@ impl Heap {
         ensures { self.new ≡ change_at (store_copies marked other) self.old address }
     {
         let copies = Copies { marked, other };
-        self.block.write(address.place() + 1, copies.word());
+        self.block
+            .write(address.place() + COPIES_WORD, copies.word());
     }
 
     /// The object's monitor.
@@ -134,7 +141,7 @@ impl Heap {
         requires { IsSome (cell_at self.now address) }
         ensures { option_map (λ c. c.monitor) (cell_at self.now address) ≡ Some result }
     {
-        Monitor::told(self.block.read(address.place() + 2))
+        Monitor::told(self.block.read(address.place() + MONITOR_WORD))
     }
 
     /// Sets the object's monitor. Nothing else changes.
@@ -142,7 +149,8 @@ impl Heap {
         requires { IsSome (cell_at self.old address) }
         ensures { self.new ≡ change_at (store_monitor monitor) self.old address }
     {
-        self.block.write(address.place() + 2, monitor.word());
+        self.block
+            .write(address.place() + MONITOR_WORD, monitor.word());
     }
 }
 
