@@ -1,0 +1,170 @@
+-- What the heap's methods read and write, in the terms of their contracts.
+use Rattle.std.proofs.Common.{◌≡◌, ℕ, suc, ◌+◌, ◌-◌, ◌<◌, ◌≤◌, Bool, true, false, List, [], ◌∷◌, ◌++◌, length, take, set, get_or, refl, sym, ap, subst, ◌∙◌, arith}
+use Rattle.std.specs.Prelude.{nat_le, Option, Some, None, IsSome, option_map}
+use Rattle.std.proofs.lemmas.List.{length-replicate}
+use Rattle.std.proofs.lemmas.Bool.Decides.{nat_tests}
+use Rattle.std.proofs.Math.ListN.{length-set}
+use Rattle.object_memory.specs.declared.addresses.Addr.{Addr}
+use Rattle.object_memory.specs.declared.kinds.Kind.{Kind}
+use Rattle.object_memory.specs.declared.monitors.Monitor.{Monitor}
+use Rattle.object_memory.specs.Cells.{Cell, Cells, size, used_words, free_words, first, new_cell, birth, cell_at, slots_at, change_at, store_slot, store_monitor, store_copies}
+use Rattle.object_memory.specs.Words.{words_of, cells_of, IsTold, IsLaid, header_word, copies_word, is_marked_in, other_in, kind_in, slots_in, monitor_in, monitor_word}
+use Rattle.object_memory.proofs.Tiles.{born, used_words_held, Lies, lies, Lays, word_read, word_written}
+
+-- the cells that contracts see
+abbrev pub shown : List ℕ → ℕ → Cells
+shown block used = record { cells = cells_of (take used block); words = length block }
+
+some_cell : (o : Option Cell) → IsSome o → (c : Cell) × (o ≡ Some c)
+some_cell None h = absurd cc
+some_cell (Some c) h = (c, refl)
+
+some_slots : (h : Cells) (a : Addr) (o : Option Cell) (i : ℕ) → cell_at h a ≡ o → i < length (slots_at h a) → IsSome (cell_at h a)
+some_slots h a None i e less = let none = rw e at less in absurd (omega (arith, none))
+some_slots h a (Some c) i e less = rw e refl
+
+word_of_slot : (h w m : ℕ) (xs : List ℕ) (i : ℕ) → get_or (h ∷ w ∷ m ∷ xs) (3 + i) 0 ≡ get_or xs i 0
+word_of_slot h w m xs i = let three : 3 + i ≡ suc (suc (suc i)) = omega arith in ap (λ k. get_or (h ∷ w ∷ m ∷ xs) k 0) three
+
+slot_set : (h w m : ℕ) (xs : List ℕ) (i x : ℕ) → set (h ∷ w ∷ m ∷ xs) (3 + i) x ≡ h ∷ w ∷ m ∷ set xs i x
+slot_set h w m xs i x = let three : 3 + i ≡ suc (suc (suc i)) = omega arith in ap (λ k. set (h ∷ w ∷ m ∷ xs) k x) three
+
+told_slot : (c : Cell) (i w : ℕ) → IsTold c → IsTold (store_slot i w c)
+told_slot c i w t = record { kind = rw length-set t.kind; slots = rw length-set t.slots; marked = t.marked; other = t.other; monitor = t.monitor }
+
+-- ---- births
+
+module _ (block : List ℕ) (used : ℕ) (laid : IsLaid block used) where
+  pub free_is : length block - used ≡ free_words (shown block used)
+  free_is = ap (λ n. length block - n) (sym (used_words_held block used laid))
+
+  pub birth_refused : (k : Kind) (n : ℕ) → length block - used < 3 + n → ◌≡◌ {A = Cells × Option Addr} (shown block used, None) (birth (shown block used) k n)
+  birth_refused k n small =
+      let free = free_is in
+      let test : nat_le (3 + n) (free_words (shown block used)) ≡ false = grind (arith, nat_tests) in
+      rw test refl
+
+  module _ (k : Kind) (n w : ℕ) (word : w ≡ header_word k n) (kind : kind_in w ≡ k) (slots : slots_in w ≡ n) (room : used + (3 + n) ≤ length block) where
+    told_new : IsTold (new_cell k n)
+    told_new = record { kind = rw (length-replicate, ← word) kind; slots = rw (length-replicate, ← word) slots; marked = refl; other = refl; monitor = refl }
+
+    pub birth_lays : Lays (set block used w) (used + (3 + n)) (cells_of (take used block) ++ new_cell k n ∷ [])
+    birth_lays = rw word (born block used laid k n room told_new)
+
+    pub birth_done : (shown (set block used w) (used + (3 + n)), Some (record { number = used + 1 })) ≡ birth (shown block used) k n
+    birth_done =
+        let free = free_is in
+        let test : nat_le (3 + n) (free_words (shown block used)) ≡ true = grind (arith, nat_tests) in
+        let next : used + 1 ≡ first + used_words (cells_of (take used block)) = omega (arith, used_words_held block used laid) in
+        rw (test, birth_lays.cells, length-set, next) refl
+
+module _ (block : List ℕ) (used : ℕ) (laid : IsLaid block used) (a : Addr) where
+  abbrev h : Cells
+  h = shown block used
+
+  abbrev place : ℕ
+  place = a.number - 1
+
+  -- the cell at the address, and where it lies
+  record Held : Type 0 where
+    cell : Cell
+    at : cell_at h a ≡ Some cell
+    lies : Lies block used laid a.number cell
+
+  held : IsSome (cell_at h a) → Held
+  held some = let c = some_cell (cell_at h a) some in record { cell = c.0; at = c.1; lies = lies block used laid a.number c.0 c.1 }
+
+  -- ---- the header words
+
+  pub header_inside : IsSome (cell_at h a) → (0 < a.number) × (place + 2 < length block)
+  header_inside some =
+      let c = held some in
+      (omega (arith, c.lies.place), omega (arith, c.lies.place, c.lies.below, laid.inside))
+
+  header_read : (c : Held) → get_or block place 0 ≡ header_word c.cell.kind (length c.cell.slots)
+  header_read c =
+      let here : place ≡ place + 0 = omega arith in
+      ap (λ k. get_or block k 0) here ∙ word_read block used laid a.number 0 c.cell c.lies (omega arith)
+
+  pub kind_read : IsSome (cell_at h a) → option_map (λ (c : Cell). c.kind) (cell_at h a) ≡ Some (kind_in (get_or block place 0))
+  kind_read some = let c = held some in rw (c.at, header_read c, c.lies.told.kind) refl
+
+  pub slots_read : IsSome (cell_at h a) → slots_in (get_or block place 0) ≡ length (slots_at h a)
+  slots_read some = let c = held some in rw (c.at, header_read c) c.lies.told.slots
+
+  pub monitor_read : IsSome (cell_at h a) → option_map (λ (c : Cell). c.monitor) (cell_at h a) ≡ Some (monitor_in (get_or block (place + 2) 0))
+  monitor_read some =
+      let c = held some in
+      let word = word_read block used laid a.number 2 c.cell c.lies (omega arith) in
+      rw (c.at, word, c.lies.told.monitor) refl
+
+  copies_read : (c : Held) → get_or block (place + 1) 0 ≡ copies_word c.cell.marked c.cell.other
+  copies_read c = word_read block used laid a.number 1 c.cell c.lies (omega arith)
+
+  pub marked_read : IsSome (cell_at h a) → option_map (λ (c : Cell). c.marked) (cell_at h a) ≡ Some (is_marked_in (get_or block (place + 1) 0))
+  marked_read some = let c = held some in rw (c.at, copies_read c, c.lies.told.marked) refl
+
+  pub other_read : IsSome (cell_at h a) → option_map (λ (c : Cell). c.other) (cell_at h a) ≡ Some (other_in (get_or block (place + 1) 0))
+  other_read some = let c = held some in rw (c.at, copies_read c, c.lies.told.other) refl
+
+  -- ---- the slots
+
+  slot_held : (i : ℕ) → i < length (slots_at h a) → Held
+  slot_held i less = held (some_slots h a (cell_at h a) i refl less)
+
+  pub slot_inside : (i : ℕ) → i < length (slots_at h a) → (0 < a.number) × (place + 3 + i < length block)
+  slot_inside i less =
+      let c = slot_held i less in
+      let own = rw c.at at less in
+      (omega (arith, c.lies.place), omega (arith, c.lies.place, c.lies.below, laid.inside, own))
+
+  pub slot_read : (i : ℕ) → i < length (slots_at h a) → get_or block (place + 3 + i) 0 ≡ get_or (slots_at h a) i 0
+  slot_read i less =
+      let c = slot_held i less in
+      let own = rw c.at at less in
+      let there : place + 3 + i ≡ place + (3 + i) = omega arith in
+      ap (λ k. get_or block k 0) there
+      ∙ word_read block used laid a.number (3 + i) c.cell c.lies (omega (arith, own))
+      ∙ word_of_slot _ _ _ c.cell.slots i
+      ∙ rw c.at refl
+
+  -- ---- stores
+
+  -- the block after a store
+  pub record Stored (new : List ℕ) (f : Cell → Cell) : Type 0 where
+    pub view : shown new used ≡ change_at f h a
+    pub still_laid : IsLaid new used
+    pub long : length new ≡ length block
+
+  stored : (j w : ℕ) (f : Cell → Cell) (c : Held) → j < size c.cell → set (words_of c.cell) j w ≡ words_of (f c.cell) → IsTold (f c.cell)
+      → Stored (set block (place + j) w) f
+  stored j w f c less e told =
+      let new = word_written block used laid a.number j w c.cell f c.lies less e told in
+      record {
+        view = rw (new.cells, length-set) refl;
+        still_laid = new.laid;
+        long = length-set block (place + j) w;
+      }
+
+  pub slot_stored : (i w : ℕ) → i < length (slots_at h a) → Stored (set block (place + 3 + i) w) (store_slot i w)
+  slot_stored i w less =
+      let c = slot_held i less in
+      let own = rw c.at at less in
+      let there : place + (3 + i) ≡ place + 3 + i = omega arith in
+      subst (λ k. Stored (set block k w) (store_slot i w)) there
+      (stored (3 + i) w (store_slot i w) c (omega (arith, own)) (rw length-set (slot_set _ _ _ c.cell.slots i w)) (told_slot c.cell i w c.lies.told))
+
+  pub monitor_stored : (m : Monitor) (w : ℕ) → w ≡ monitor_word m → monitor_in w ≡ m → IsSome (cell_at h a) → Stored (set block (place + 2) w) (store_monitor m)
+  monitor_stored m w e back some =
+      let c = held some in
+      let told = c.lies.told in
+      stored 2 w (store_monitor m) c (omega arith) (rw e refl)
+      (record { kind = told.kind; slots = told.slots; marked = told.marked; other = told.other; monitor = rw (← e) back })
+
+  pub copies_stored : (b : Bool) (o : Option Addr) (w : ℕ) → w ≡ copies_word b o → is_marked_in w ≡ b → other_in w ≡ o → IsSome (cell_at h a)
+      → Stored (set block (place + 1) w) (store_copies b o)
+  copies_stored b o w e marked other some =
+      let c = held some in
+      let told = c.lies.told in
+      stored 1 w (store_copies b o) c (omega arith) (rw e refl)
+      (record { kind = told.kind; slots = told.slots; marked = rw (← e) marked; other = rw (← e) other; monitor = told.monitor })

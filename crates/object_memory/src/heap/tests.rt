@@ -1,0 +1,59 @@
+use super::Heap;
+use crate::kinds::{ArrayElement, ElementType, Kind};
+use crate::monitors::Monitor;
+use space_block::Block;
+use std::test::Fail;
+
+#[test]
+fn births_go_to_the_front_until_the_room_is_used(rt: HostRuntime) -> Result<(), Fail> {
+    let mut heap = Heap::new(Block::new(rt.alloc(), 9)?);
+    assert_eq!(rt; heap.free_words(), 9);
+    let first = heap.birth(Kind::Instance(0), 2).expect(&rt, "room");
+    assert_eq!(rt; heap.free_words(), 4);
+    assert!(rt; heap.birth(Kind::Instance(1), 2).is_none());
+    assert_eq!(rt; heap.free_words(), 4);
+    let second = heap.birth(Kind::Instance(1), 1).expect(&rt, "room");
+    assert_eq!(rt; heap.free_words(), 0);
+    assert!(rt; first != second);
+    assert!(rt; !first.is_null() && !second.is_null());
+    assert!(rt; heap.birth(Kind::Instance(1), 0).is_none());
+    Ok(())
+}
+
+#[test]
+#[tactic(auto, using(crate::proofs::Addressed::birth_at, crate::proofs::Addressed::change_at_own))]
+fn a_slot_is_read_as_it_was_stored(rt: HostRuntime) -> Result<(), Fail> {
+    let mut heap = Heap::new(Block::new(rt.alloc(), 9)?);
+    let address = heap.birth(Kind::Instance(7), 2).expect(&rt, "room");
+    assert_eq!(rt; heap.slot(address, 0), 0);
+    heap.set_slot(address, 1, u64::MAX);
+    assert_eq!(rt; heap.slot(address, 0), 0);
+    assert_eq!(rt; heap.slot(address, 1), u64::MAX);
+    Ok(())
+}
+
+#[test]
+#[tactic(auto, using(crate::proofs::Addressed::birth_at, crate::proofs::Addressed::change_at_own))]
+fn headers_tell_what_was_set(rt: HostRuntime) -> Result<(), Fail> {
+    let mut heap = Heap::new(Block::new(rt.alloc(), 9)?);
+    let kind = Kind::Array(ArrayElement {
+        element: ElementType::Class(u16::MAX),
+        brackets: 7,
+    });
+    let address = heap.birth(kind, 3).expect(&rt, "room");
+    assert_eq!(rt; heap.kind(address), kind);
+    assert_eq!(rt; heap.slots(address), 3);
+    assert_eq!(rt; heap.monitor(address), Monitor::Free);
+    let held = Monitor::Held {
+        owner: 15,
+        count: 1_000_000,
+    };
+    heap.set_monitor(address, held);
+    assert_eq!(rt; heap.monitor(address), held);
+    heap.set_copies(address, true, Some(address));
+    assert!(rt; heap.is_marked(address));
+    assert_eq!(rt; heap.other(address), Some(address));
+    assert_eq!(rt; heap.kind(address), kind);
+    assert_eq!(rt; heap.monitor(address), held);
+    Ok(())
+}

@@ -1,0 +1,16 @@
+//! Objects in a block of words: contracts see cells, and nobody above sees a place in the block.
+#![tactic(auto)]
+
+mod addresses;
+mod copies;
+mod heap;
+mod kinds;
+pub mod laws;
+mod monitors;
+mod values;
+
+pub use addresses::Addr;
+pub use heap::Heap;
+pub use kinds::{ArrayElement, ElementType, Kind};
+pub use monitors::Monitor;
+pub use values::{Value, ValueKind};

@@ -1,0 +1,112 @@
+//! A block of memory: words of 64 bits in a row.
+#![tactic(auto)]
+
+ghost use Rattle.std.specs.Prelude.{◌≡◌, ◌<◌, ◌≤◌, ◌-◌, ◌++◌, replicate, take, drop, length, slice_index, slice_set, IfOk};
+
+use cil_model::memory::NoMemory;
+use std::alloc::Global;
+use std::marker::Model;
+
+/// Words that are held until the block is dropped. Contracts see the list of them, and their number never changes.
+#[derive(Drop)]
+pub struct Block {
+    words: Vec<u64>,
+}
+
+impl Model for Block {
+    ghost use Rattle.std.specs.Prelude.{ℕ, List};
+
+    ghost Value = { List ℕ };
+
+    ghost view = { λ b. b.words.items };
+}
+
+impl Block {
+    /// Takes a block of that many words, all zero. `NoMemory` where there is no room for it; nothing is taken then.
+    pub fn new(alloc: Global, words: usize) -> Result<Block, NoMemory>
+        ensures { IfOk result (λ b. b ≡ replicate words 0) }
+    {
+        let words = vec![in alloc; 0u64; words]?;
+        Ok(Block { words })
+    }
+
+    /// How many words it has.
+    pub fn len(&self) -> usize
+        ensures { result ≡ length self.now }
+    {
+        self.words.len()
+    }
+
+    /// The word at a place. Places count from 0.
+    pub fn read(&self, place: usize) -> u64
+        requires { place < length self.now }
+        ensures { result ≡ slice_index self.now place }
+    {
+        self.words[place]
+    }
+
+    /// Stores a word at a place. All other words stay.
+    pub fn write(&mut self, place: usize, word: u64)
+        requires { place < length self.old }
+        ensures { self.new ≡ slice_set self.old place word }
+    {
+        self.words[place] = word;
+    }
+
+    /// Stores 0 in each place from `from` on and below `to`. All other words stay.
+    pub fn zero(&mut self, from: usize, to: usize)
+        requires order { from ≤ to }
+        requires inside { to ≤ length self.old }
+        ensures { self.new ≡ take from self.old ++ replicate (to - from) 0 ++ drop to self.old }
+    {
+        self.words[from..to].fill(0);
+    }
+}
+
+#[cfg(test)]
+mod tests {
+    use super::Block;
+    use std::test::Fail;
+
+    #[test]
+    fn words_are_zero_at_first(rt: HostRuntime) -> Result<(), Fail> {
+        let block = Block::new(rt.alloc(), 3)?;
+        assert_eq!(rt; block.len(), 3);
+        for place in 0..block.len() {
+            assert_eq!(rt; block.read(place), 0);
+        }
+        Ok(())
+    }
+
+    #[test]
+    fn a_word_is_read_as_it_was_written(rt: HostRuntime) -> Result<(), Fail> {
+        let mut block = Block::new(rt.alloc(), 3)?;
+        block.write(1, u64::MAX);
+        assert_eq!(rt; block.read(0), 0);
+        assert_eq!(rt; block.read(1), u64::MAX);
+        assert_eq!(rt; block.read(2), 0);
+        Ok(())
+    }
+
+    #[test]
+    fn a_range_is_zeroed_and_its_neighbours_stay(rt: HostRuntime) -> Result<(), Fail> {
+        let mut block = Block::new(rt.alloc(), 5)?;
+        block.write(0, 7);
+        block.write(1, 7);
+        block.write(3, 7);
+        block.write(4, 7);
+        block.zero(1, 4);
+        assert_eq!(rt; block.read(0), 7);
+        assert_eq!(rt; block.read(1), 0);
+        assert_eq!(rt; block.read(3), 0);
+        assert_eq!(rt; block.read(4), 7);
+        block.zero(5, 5);
+        assert_eq!(rt; block.read(4), 7);
+        Ok(())
+    }
+
+    #[test]
+    fn a_block_that_no_memory_has_is_refused(rt: HostRuntime) {
+        assert!(rt; Block::new(rt.alloc(), usize::MAX).is_err());
+    }
+}
