@@ -162,7 +162,7 @@ raised_others workers ws places n raised there grows j (OfSeat seat) ne k = reco
 }
 raised_others workers ws places n raised there grows j (OfHerald herald) ne k = absurd (ne k.place_is)
 
-stores_posted_at : (workers slots id : ℕ) (herald : HeraldView) → FoundAll herald.posted herald.found
+stores_posted_at : (workers slots id : ℕ) (herald : HeraldView) → FoundAll workers herald.posted herald.found
     → Allows (KeepsEpochs workers) slots id (OfHerald herald, []) workers (λ _. herald.posted + 1) (λ _. StoresPosted (step slots workers (herald.posted + 1) 0 none) (OfHerald herald, []) (herald.posted + 1))
 stores_posted_at workers slots id herald all s rule _ at _ = let k : IsHeraldView s.words workers (length s.views) id herald = rule.known id (OfHerald herald) at in let n : ℕ = herald.posted + 1 in let after : List ℕ = set s.words workers n in
     let raised : get_or after workers 0 ≡ n = get_or-set_same s.words workers n 0 (omega (arith, rule.words_are)) in
@@ -172,7 +172,7 @@ stores_posted_at workers slots id herald all s rule _ at _ = let k : IsHeraldVie
       tt,
       stepped_keeps workers s rule after s.homes id (herald_view n herald.dealt herald.found) (length-set s.words workers n)
           (λ j l. let old : IsPostedOrOneLess (get_or s.words j 0) (get_or s.words workers 0) = rule.paced j l in let since = k.found_since j l in
-          let now : get_or herald.found j 0 ≡ herald.posted = all j (omega (arith, k.found_each)) in (omega (arith, there j l, raised, old.0, k.posted_is), omega (arith, there j l, raised, since, now)))
+          let now : get_or herald.found j 0 ≡ herald.posted = all j l in (omega (arith, there j l, raised, old.0, k.posted_is), omega (arith, there j l, raised, since, now)))
           record {
             place_is = k.place_is;
             places_are = k.places_are;
@@ -185,7 +185,7 @@ stores_posted_at workers slots id herald all s rule _ at _ = let k : IsHeraldVie
       refl,
     )
 
-pub stores_posted : (key workers slots id : ℕ) (me : Holder) (posted dealt : ℕ) (found : List ℕ) → key ≡ workers → me ≡ (herald_view posted dealt found, []) → FoundAll posted found
+pub stores_posted : (key workers slots id : ℕ) (me : Holder) (posted dealt : ℕ) (found : List ℕ) → key ≡ workers → me ≡ (herald_view posted dealt found, []) → FoundAll workers posted found
     → Allows (KeepsEpochs key) slots id me workers (λ _. posted + 1) (λ _. StoresPosted (step slots workers (posted + 1) 0 none) me (posted + 1))
 stores_posted key workers slots id me posted dealt found key_is me_is all =
     subst (λ (z : ℕ × Holder). Allows (KeepsEpochs z.0) slots id z.1 workers (λ _. posted + 1) (λ _. StoresPosted (step slots workers (posted + 1) 0 none) z.1 (posted + 1))) (λ i. (sym key_is i, sym me_is i))

@@ -31,13 +31,13 @@ opening_seat table index = record { table = table; index = index; seen = 0; poll
 abbrev pub opening_seats : TableId → ℕ → List SeatValue
 opening_seats table workers = map (opening_seat table) (range_with_len 0 workers)
 
--- Each seat was found to have seen the posted number.
-abbrev pub FoundAll : ℕ → List ℕ → Type 0
-FoundAll posted found = (j : ℕ) → j < length found → slice_index found j ≡ posted
+-- Each of so many seats was found to have seen the posted number.
+abbrev pub FoundAll : ℕ → ℕ → List ℕ → Type 0
+FoundAll workers posted found = (j : ℕ) → j < workers → slice_index found j ≡ posted
 
--- A seat was found that had not seen the posted number.
-abbrev pub FoundLate : ℕ → List ℕ → Type 0
-FoundLate posted found = (j : ℕ) × (j < length found) × (slice_index found j < posted)
+-- One of so many seats was found that had not seen the posted number.
+abbrev pub FoundLate : ℕ → ℕ → List ℕ → Type 0
+FoundLate workers posted found = (j : ℕ) × (j < workers) × (slice_index found j < posted)
 
 -- No seat was found to have seen less than was found before.
 abbrev pub FindsNoLess : List ℕ → List ℕ → Type 0

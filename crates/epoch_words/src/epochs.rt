@@ -35,7 +35,9 @@ impl Model for Epochs {
 
     ghost view = { λ e. record { table = e.words.shared.table_id; workers = e.workers } };
 
-    ghost invariant = { λ e. (e.words.shared.table_id.words ≡ e.workers + 1) × (e.words.shared.key ≡ e.workers) };
+    ghost invariant = { λ e.
+        (e.words.shared.table_id.words ≡ e.workers + 1)
+        × (e.words.shared.key ≡ e.workers) };
 }
 
 /// The right to poll and to acknowledge, as one of the seats.
@@ -54,9 +56,16 @@ impl Model for Seat {
 
     ghost Value = { SeatValue };
 
-    ghost view = { λ s. record { table = s.token.table_id; index = s.index; seen = (seat_part s.token.me.0).seen; polled = s.polled } };
+    ghost view = { λ s. record {
+      table = s.token.table_id;
+      index = s.index;
+      seen = (seat_part s.token.me.0).seen;
+      polled = s.polled;
+    } };
 
-    ghost invariant = { λ s. (s.token.me ≡ (seat_view s.index (seat_part s.token.me.0).seen s.polled, [])) × (s.index + 1 < s.token.table_id.words) };
+    ghost invariant = { λ s.
+        (s.token.me ≡ (seat_view s.index (seat_part s.token.me.0).seen s.polled, []))
+        × (s.index + 1 < s.token.table_id.words) };
 }
 
 /// The right to post, and to look at what the seats have seen.
@@ -74,22 +83,28 @@ impl Model for Herald {
 
     ghost Value = { HeraldValue };
 
-    ghost view = { λ h. record { table = h.token.table_id; posted = h.posted; found = (herald_part h.token.me.0).found } };
+    ghost view = { λ h. record {
+      table = h.token.table_id;
+      posted = h.posted;
+      found = (herald_part h.token.me.0).found;
+    } };
 
-    ghost invariant = { λ h. (h.token.me ≡ (herald_view h.posted (herald_part h.token.me.0).dealt (herald_part h.token.me.0).found, [])) × (length (herald_part h.token.me.0).found + 1 ≡ h.token.table_id.words) };
+    ghost invariant = { λ h. let known = herald_part h.token.me.0 in
+        (h.token.me ≡ (herald_view h.posted known.dealt known.found, []))
+        × (length known.found + 1 ≡ h.token.table_id.words) };
 }
 
-// The words of so many seats, all 0, and the herald's token.
+/// The words of so many seats, all 0, and the herald's token.
 fn lay_words(alloc: Global, workers: usize) -> Result<(WordTable, Token), AllocError>
-    ensures words { IfOk result (λ t. (t.0.shared.table_id.words ≡ workers + 1) × (t.0.shared.key ≡ workers)) }
-    ensures token { IfOk result (λ t. (t.1.table_id ≡ t.0.shared.table_id) × (t.1.me ≡ (opening_view workers, []))) }
+    ensures words { IfOk result (λ laid. (laid.0.shared.table_id.words ≡ workers + 1) × (laid.0.shared.key ≡ workers)) }
+    ensures token { IfOk result (λ laid. (laid.1.table_id ≡ laid.0.shared.table_id) × (laid.1.me ≡ (opening_view workers, []))) }
 {
     let count = workers.checked_add(1).ok_or(AllocError)?;
     let zeros = Vec::from_elem(alloc, 0, count)?;
     Table::of_words(alloc, zeros.as_slice(), &workers)
 }
 
-// The seat of this index, which is the next one to be given out.
+/// The seat of this index, which is the next one to be given out.
 fn deal_seat(words: &WordTable, token: &mut Token, index: usize, workers: usize) -> Seat
     requires words { (token.old.table_id ≡ words.now.shared.table_id) × (words.now.shared.table_id.words ≡ workers + 1) × (words.now.shared.key ≡ workers) }
     requires next { (token.old.me ≡ (herald_view 0 index (replicate workers 0), [])) × (index < workers) }
@@ -103,6 +118,7 @@ fn deal_seat(words: &WordTable, token: &mut Token, index: usize, workers: usize)
     }
 }
 
+/// The herald, once each seat was given out.
 fn herald_of(token: Token, workers: usize) -> Herald
     requires { (token.me ≡ (herald_view 0 workers (replicate workers 0), [])) × (token.table_id.words ≡ workers + 1) }
     ensures { result ≡ record { table = token.table_id; posted = 0; found = replicate workers 0 } }
@@ -162,7 +178,7 @@ impl Epochs {
     /// It is the posted number or one less, and no less than that seat was found to have seen before. The index has to
     /// be below the number of seats, and the herald of these epochs. This is one step: a load of that seat's number.
     pub fn seen_by(&self, mut herald: Herald, index: usize) -> (u64, Herald)
-        requires { (herald.table ≡ self.now.table) × (index < length herald.found) }
+        requires { (herald.table ≡ self.now.table) × (index < self.now.workers) }
         ensures herald { result.1 ≡ record herald { found = slice_set herald.found index result.0 } }
         ensures paced { IsPostedOrOneLess result.0 herald.posted }
         ensures rises { slice_index herald.found index ≤ result.0 }
@@ -171,9 +187,11 @@ impl Epochs {
         (seen, herald)
     }
 
-    // Stores the next number as posted, where each seat was found to have seen the posted one.
+    /// Stores the next number as posted, where each seat was found to have seen the posted one.
     fn post_next(&self, mut herald: Herald) -> Herald
-        requires { (herald.table ≡ self.now.table) × FoundAll herald.posted herald.found × (herald.posted + 1 < 2 ^ 64) }
+        requires table { herald.table ≡ self.now.table }
+        requires found { FoundAll self.now.workers herald.posted herald.found }
+        requires next { herald.posted + 1 < 2 ^ 64 }
         ensures { result ≡ record herald { posted = herald.posted + 1 } }
     {
         herald.posted += 1;
@@ -192,8 +210,8 @@ impl Epochs {
         requires { herald.table ≡ self.now.table }
         ensures spent { (result.0 ≡ Post.Spent) ↔ (herald.posted ≡ 2 ^ 64 - 1) }
         ensures unchanged { result.0 ≡ Post.Spent → result.1 ≡ herald }
-        ensures late { result.0 ≡ Post.Late → FoundLate herald.posted result.1.found × (result.1.posted ≡ herald.posted) }
-        ensures posted { result.0 ≡ Post.Posted → FoundAll herald.posted result.1.found × (result.1.posted ≡ herald.posted + 1) }
+        ensures late { result.0 ≡ Post.Late → FoundLate self.now.workers herald.posted result.1.found × (result.1.posted ≡ herald.posted) }
+        ensures posted { result.0 ≡ Post.Posted → FoundAll self.now.workers herald.posted result.1.found × (result.1.posted ≡ herald.posted + 1) }
         ensures herald { (result.1.table ≡ herald.table) × FindsNoLess herald.found result.1.found }
     {
         let posted = herald.posted;
