@@ -1,0 +1,232 @@
+-- Each kind of step, and the giving out of a seat, keeps the rule of the shared words.
+use Rattle.std.proofs.Common.{◌≡◌, ◌≢◌, ℕ, zero, suc, ◌+◌, ◌<◌, ◌≤◌, ◌⊎◌, List, [], ◌∷◌, ◌++◌, length, get_or, set, sym, refl, ap, ◌∙◌, subst, ⊎_elim, inl, inr, arith, length-set, length-append, get_or-set_other, get_or-set_same}
+use mathlib.Core.Logic.{dite}
+use mathlib.Core.Option.{Option, none, some, some-injective, some-ne-none}
+use native.Mathlib.Decide.{ℕ_discrete}
+use lib.ListN.{get_elem?}
+use lib.Seq.{set-get_or}
+use Rattle.atomic_table.specs.Table.{State, step, keeps, Allows, Splits}
+use Rattle.atomic_table.proofs.Lists.{at_set}
+use Rattle.epoch_words.specs.Rule.{seat_view, herald_view, IsPaced, IsSeatView, IsHeraldView, Knows, KeepsEpochs}
+use Rattle.epoch_words.specs.Steps.{Holder, dealing_herald, dealt_seat, LoadsPosted, StoresSeen, LoadsSeen, StoresPosted}
+use Rattle.epoch_words.specs.Tokens.{FoundAll, IsPostedOrOneLess}
+use Rattle.epoch_words.specs.declared.word_table.HeraldView.{HeraldView}
+use Rattle.epoch_words.specs.declared.word_table.SeatView.{SeatView}
+use Rattle.epoch_words.specs.declared.word_table.View.{View}
+use Rattle.epoch_words.specs.declared.word_table.View.TheVariants.{OfSeat, OfHerald}
+
+abbrev Table : Type 0
+Table = State (Unit {0}) View
+
+-- what every other view knows goes on to hold, while the words become `after`
+abbrev KeepsOthers : ℕ → ℕ → List ℕ → List ℕ → ℕ → Type 0
+KeepsOthers workers places before after mover = (j : ℕ) (v : View) → j ≢ mover → Knows before workers places j v → Knows after workers places j v
+
+-- a step of the view at `mover`, which becomes w, while the words become `after`
+stepped_keeps : (workers : ℕ) (s : Table) → KeepsEpochs workers s → (after : List ℕ) (homes : List (Option (Unit {0}))) (mover : ℕ) (w : View) → length after ≡ length s.words → IsPaced workers after
+    → Knows after workers (length s.views) mover w → KeepsOthers workers (length s.views) s.words after mover → KeepsEpochs workers record { words = after; homes = homes; views = set s.views mover w }
+stepped_keeps workers s rule after homes mover w same_length paced mine others = record {
+  words_are = same_length ∙ rule.words_are;
+  paced = paced;
+  known = λ j v e. subst (λ k. Knows after workers k j v) (sym (length-set s.views mover w)) (⊎_elim
+      (λ (t : (j ≡ mover) × (w ≡ v)). subst (λ (z : ℕ × View). Knows after workers (length s.views) z.0 z.1) (λ i. (sym t.0 i, t.1 i)) mine)
+      (λ (t : (j ≢ mover) × (get_elem? s.views j ≡ some v)). others j v t.0 (rule.known j v t.1)) (at_set s.views mover j w v e));
+}
+
+-- a load of word i
+loaded_keeps : (workers : ℕ) (s : Table) → KeepsEpochs workers s → (i : ℕ) (homes : List (Option (Unit {0}))) (mover : ℕ) (w : View) → Knows s.words workers (length s.views) mover w
+    → KeepsEpochs workers record { words = set s.words i (get_or s.words i 0); homes = homes; views = set s.views mover w }
+loaded_keeps workers s rule i homes mover w mine = subst (λ (ws : List ℕ). KeepsEpochs workers record { words = ws; homes = homes; views = set s.views mover w }) (sym (set-get_or s.words i 0))
+    (stepped_keeps workers s rule s.words homes mover w refl rule.paced mine (λ j v _ k. k))
+
+loads_posted_at : (workers slots id : ℕ) (seat : SeatView) → Allows (KeepsEpochs workers) slots id (OfSeat seat, []) workers (λ n. n) (LoadsPosted (step slots workers 0 0 none) (OfSeat seat, []))
+loads_posted_at workers slots id seat s rule _ at _ = let k : IsSeatView s.words workers id seat = rule.known id (OfSeat seat) at in let n : ℕ = get_or s.words workers 0 in let near = rule.paced seat.index k.in_range in (
+  seat_view seat.index seat.seen n,
+  keeps,
+  tt,
+  loaded_keeps workers s rule workers s.homes id (seat_view seat.index seat.seen n) record {
+    place_is = k.place_is;
+    in_range = k.in_range;
+    seen_is = k.seen_is;
+    seen_polled = omega (arith, near.0, k.seen_is);
+    polled_posted = omega arith;
+  },
+  (refl, subst (λ (m : ℕ). IsPostedOrOneLess m n) k.seen_is near, k.polled_posted),
+)
+
+pub loads_posted : (key workers slots id : ℕ) (me : Holder) (index seen polled : ℕ) → key ≡ workers → me ≡ (seat_view index seen polled, [])
+    → Allows (KeepsEpochs key) slots id me workers (λ n. n) (LoadsPosted (step slots workers 0 0 none) me)
+loads_posted key workers slots id me index seen polled key_is me_is = subst (λ (z : ℕ × Holder). Allows (KeepsEpochs z.0) slots id z.1 workers (λ n. n) (LoadsPosted (step slots workers 0 0 none) z.1)) (λ i. (sym key_is i, sym me_is i))
+    (loads_posted_at workers slots id (record { index = index; seen = seen; polled = polled }))
+
+at_inside : {A : Type 0} (l : List A) (i : ℕ) (a : A) → get_elem? l i ≡ some a → i < length l
+at_inside [] i a e = absurd (some-ne-none a (sym e))
+at_inside (x ∷ xs) zero a e = omega arith
+at_inside (x ∷ xs) (suc i) a e = let h = at_inside xs i a e in omega arith
+
+-- a store of x to the word of seat i
+module _ (workers : ℕ) (ws : List ℕ) (i x : ℕ) (in_range : i < workers) where
+  posted_stays : get_or (set ws i x) workers 0 ≡ get_or ws workers 0
+  posted_stays = get_or-set_other ws i workers x 0 (λ e. omega arith)
+
+  here : length ws ≡ workers + 1 → get_or (set ws i x) i 0 ≡ x
+  here words_are = get_or-set_same ws i x 0 (omega arith)
+
+  there : (j : ℕ) → j ≢ i → get_or (set ws i x) j 0 ≡ get_or ws j 0
+  there j ne = get_or-set_other ws i j x 0 ne
+
+  seen_paced : length ws ≡ workers + 1 → IsPaced workers ws → IsPostedOrOneLess x (get_or ws workers 0) → IsPaced workers (set ws i x)
+  seen_paced words_are paced mine j l = subst (λ (n : ℕ). IsPostedOrOneLess (get_or (set ws i x) j 0) n) (sym posted_stays) (dite (ℕ_discrete j i)
+      (λ e. subst (λ (n : ℕ). IsPostedOrOneLess n (get_or ws workers 0)) (sym (ap (λ (k : ℕ). get_or (set ws i x) k 0) e ∙ here words_are)) mine)
+      (λ ne. subst (λ (n : ℕ). IsPostedOrOneLess n (get_or ws workers 0)) (sym (there j ne)) (paced j l)))
+
+  seen_others : (places : ℕ) → length ws ≡ workers + 1 → i + 1 < places → get_or ws i 0 ≤ x → KeepsOthers workers places ws (set ws i x) (i + 1)
+  seen_others places words_are last grows j (OfSeat seat) ne k = record {
+    place_is = k.place_is;
+    in_range = k.in_range;
+    seen_is = there seat.index (λ e. ne (omega (arith, k.place_is))) ∙ k.seen_is;
+    seen_polled = k.seen_polled;
+    polled_posted = subst (λ (n : ℕ). seat.polled ≤ n) (sym posted_stays) k.polled_posted;
+  }
+  seen_others places words_are last grows j (OfHerald herald) ne k = record {
+    place_is = k.place_is;
+    places_are = k.places_are;
+    found_each = k.found_each;
+    posted_is = posted_stays ∙ k.posted_is;
+    found_since = λ m l. dite (ℕ_discrete m i)
+        (λ e. let h = k.found_since m l in let g : get_or (set ws i x) m 0 ≡ x = ap (λ (n : ℕ). get_or (set ws i x) n 0) e ∙ here words_are in
+        let o : get_or ws m 0 ≡ get_or ws i 0 = ap (λ (n : ℕ). get_or ws n 0) e in omega arith)
+        (λ other. subst (λ (n : ℕ). get_or herald.found m 0 ≤ n) (sym (there m other)) (k.found_since m l));
+    undealt_is = λ m l h. there m (λ e. omega (arith, k.places_are)) ∙ k.undealt_is m l h;
+  }
+
+stores_seen_at : (workers slots id : ℕ) (seat : SeatView)
+    → Allows (KeepsEpochs workers) slots id (OfSeat seat, []) seat.index (λ _. seat.polled) (λ _. StoresSeen (step slots seat.index seat.polled 0 none) (OfSeat seat, []) seat.polled)
+stores_seen_at workers slots id seat s rule _ at _ = let k : IsSeatView s.words workers id seat = rule.known id (OfSeat seat) at in let near = rule.paced seat.index k.in_range in let last = at_inside s.views id (OfSeat seat) at in
+    let after : List ℕ = set s.words seat.index seat.polled in let posted_same = posted_stays workers s.words seat.index seat.polled k.in_range in (
+      seat_view seat.index seat.polled seat.polled,
+      keeps,
+      tt,
+      stepped_keeps workers s rule after s.homes id (seat_view seat.index seat.polled seat.polled) (length-set s.words seat.index seat.polled)
+          (seen_paced workers s.words seat.index seat.polled k.in_range rule.words_are rule.paced (k.polled_posted, omega (arith, near.1, k.seen_is, k.seen_polled)))
+          record {
+            place_is = k.place_is;
+            in_range = k.in_range;
+            seen_is = here workers s.words seat.index seat.polled k.in_range rule.words_are;
+            seen_polled = omega arith;
+            polled_posted = subst (λ (n : ℕ). seat.polled ≤ n) (sym posted_same) k.polled_posted;
+          }
+          (λ j v ne o. seen_others workers s.words seat.index seat.polled k.in_range (length s.views) rule.words_are (omega (arith, last, k.place_is)) (omega (arith, k.seen_is, k.seen_polled)) j v (λ e. ne (e ∙ sym k.place_is)) o),
+      refl,
+    )
+
+pub stores_seen : (key slots id : ℕ) (me : Holder) (index seen polled : ℕ) → me ≡ (seat_view index seen polled, [])
+    → Allows (KeepsEpochs key) slots id me index (λ _. polled) (λ _. StoresSeen (step slots index polled 0 none) me polled)
+stores_seen key slots id me index seen polled me_is = subst (λ (z : Holder). Allows (KeepsEpochs key) slots id z index (λ _. polled) (λ _. StoresSeen (step slots index polled 0 none) z polled)) (sym me_is)
+    (stores_seen_at key slots id (record { index = index; seen = seen; polled = polled }))
+
+loads_seen_at : (workers slots id i : ℕ) (herald : HeraldView) → i < length herald.found
+    → Allows (KeepsEpochs workers) slots id (OfHerald herald, []) i (λ n. n) (LoadsSeen (step slots i 0 0 none) (OfHerald herald, []))
+loads_seen_at workers slots id i herald l s rule _ at _ = let k : IsHeraldView s.words workers (length s.views) id herald = rule.known id (OfHerald herald) at in let n : ℕ = get_or s.words i 0 in
+    let near : IsPostedOrOneLess n (get_or s.words workers 0) = rule.paced i (omega (arith, k.found_each)) in (
+      herald_view herald.posted herald.dealt (set herald.found i n),
+      keeps,
+      tt,
+      loaded_keeps workers s rule i s.homes id (herald_view herald.posted herald.dealt (set herald.found i n)) record {
+        place_is = k.place_is;
+        places_are = k.places_are;
+        found_each = length-set herald.found i n ∙ k.found_each;
+        posted_is = k.posted_is;
+        found_since = λ j h. dite (ℕ_discrete j i)
+            (λ e. subst (λ (m : ℕ). get_or (set herald.found i n) m 0 ≤ get_or s.words m 0) (sym e) (let same = get_or-set_same herald.found i n 0 l in omega (arith, same)))
+            (λ ne. subst (λ (m : ℕ). m ≤ get_or s.words j 0) (sym (get_or-set_other herald.found i j n 0 ne)) (k.found_since j h));
+        undealt_is = k.undealt_is;
+      },
+      (refl, subst (λ (m : ℕ). IsPostedOrOneLess n m) k.posted_is near, k.found_since i (omega (arith, k.found_each))),
+    )
+
+pub loads_seen : (key slots id i : ℕ) (me : Holder) (posted dealt : ℕ) (found : List ℕ) → me ≡ (herald_view posted dealt found, []) → i < length found
+    → Allows (KeepsEpochs key) slots id me i (λ n. n) (LoadsSeen (step slots i 0 0 none) me)
+loads_seen key slots id i me posted dealt found me_is l = subst (λ (z : Holder). Allows (KeepsEpochs key) slots id z i (λ n. n) (LoadsSeen (step slots i 0 0 none) z)) (sym me_is)
+    (loads_seen_at key slots id i (record { posted = posted; dealt = dealt; found = found }) l)
+
+-- a store of a greater number as posted
+raised_others : (workers : ℕ) (ws : List ℕ) (places n : ℕ) → get_or (set ws workers n) workers 0 ≡ n → ((j : ℕ) → j < workers → get_or (set ws workers n) j 0 ≡ get_or ws j 0) → get_or ws workers 0 ≤ n
+    → KeepsOthers workers places ws (set ws workers n) 0
+raised_others workers ws places n raised there grows j (OfSeat seat) ne k = record {
+  place_is = k.place_is;
+  in_range = k.in_range;
+  seen_is = there seat.index k.in_range ∙ k.seen_is;
+  seen_polled = k.seen_polled;
+  polled_posted = subst (λ (m : ℕ). seat.polled ≤ m) (sym raised) (omega (arith, k.polled_posted));
+}
+raised_others workers ws places n raised there grows j (OfHerald herald) ne k = absurd (ne k.place_is)
+
+stores_posted_at : (workers slots id : ℕ) (herald : HeraldView) → FoundAll workers herald.posted herald.found
+    → Allows (KeepsEpochs workers) slots id (OfHerald herald, []) workers (λ _. herald.posted + 1) (λ _. StoresPosted (step slots workers (herald.posted + 1) 0 none) (OfHerald herald, []) (herald.posted + 1))
+stores_posted_at workers slots id herald all s rule _ at _ = let k : IsHeraldView s.words workers (length s.views) id herald = rule.known id (OfHerald herald) at in let n : ℕ = herald.posted + 1 in let after : List ℕ = set s.words workers n in
+    let raised : get_or after workers 0 ≡ n = get_or-set_same s.words workers n 0 (omega (arith, rule.words_are)) in
+    let there : (j : ℕ) → j < workers → get_or after j 0 ≡ get_or s.words j 0 = λ j l. get_or-set_other s.words workers j n 0 (λ e. omega arith) in (
+      herald_view n herald.dealt herald.found,
+      keeps,
+      tt,
+      stepped_keeps workers s rule after s.homes id (herald_view n herald.dealt herald.found) (length-set s.words workers n)
+          (λ j l. let old : IsPostedOrOneLess (get_or s.words j 0) (get_or s.words workers 0) = rule.paced j l in let since = k.found_since j l in
+          let now : get_or herald.found j 0 ≡ herald.posted = all j l in (omega (arith, there j l, raised, old.0, k.posted_is), omega (arith, there j l, raised, since, now)))
+          record {
+            place_is = k.place_is;
+            places_are = k.places_are;
+            found_each = k.found_each;
+            posted_is = raised;
+            found_since = λ j l. subst (λ (m : ℕ). get_or herald.found j 0 ≤ m) (sym (there j l)) (k.found_since j l);
+            undealt_is = λ j l h. there j h ∙ k.undealt_is j l h;
+          }
+          (λ j v ne o. raised_others workers s.words (length s.views) n raised there (omega (arith, k.posted_is)) j v (λ e. ne (e ∙ sym k.place_is)) o),
+      refl,
+    )
+
+pub stores_posted : (key workers slots id : ℕ) (me : Holder) (posted dealt : ℕ) (found : List ℕ) → key ≡ workers → me ≡ (herald_view posted dealt found, []) → FoundAll workers posted found
+    → Allows (KeepsEpochs key) slots id me workers (λ _. posted + 1) (λ _. StoresPosted (step slots workers (posted + 1) 0 none) me (posted + 1))
+stores_posted key workers slots id me posted dealt found key_is me_is all =
+    subst (λ (z : ℕ × Holder). Allows (KeepsEpochs z.0) slots id z.1 workers (λ _. posted + 1) (λ _. StoresPosted (step slots workers (posted + 1) 0 none) z.1 (posted + 1))) (λ i. (sym key_is i, sym me_is i))
+    (stores_posted_at workers slots id (record { posted = posted; dealt = dealt; found = found }) all)
+
+at_end : {A : Type 0} (l : List A) (a b : A) (j : ℕ) → get_elem? (l ++ a ∷ []) j ≡ some b → (get_elem? l j ≡ some b) ⊎ ((j ≡ length l) × (a ≡ b))
+at_end [] a b zero e = inr (refl, some-injective a b e)
+at_end [] a b (suc j) e = absurd (some-ne-none b (sym e))
+at_end (x ∷ xs) a b zero e = inl e
+at_end (x ∷ xs) a b (suc j) e = ⊎_elim (λ t. inl t) (λ t. inr (ap suc t.0, t.1)) (at_end xs a b j e)
+
+-- what others know, once there is one place more
+joined_others : (workers : ℕ) (ws : List ℕ) (places more j : ℕ) (v : View) → j ≢ 0 → Knows ws workers places j v → Knows ws workers more j v
+joined_others workers ws places more j (OfSeat seat) ne k = k
+joined_others workers ws places more j (OfHerald herald) ne k = absurd (ne k.place_is)
+
+deals_at : (workers id : ℕ) (herald : HeraldView) → herald.dealt < length herald.found → Splits (KeepsEpochs workers) id (OfHerald herald) (dealing_herald (OfHerald herald)) (dealt_seat (OfHerald herald))
+deals_at workers id herald room s rule at = let k : IsHeraldView s.words workers (length s.views) id herald = rule.known id (OfHerald herald) at in let left : View = dealing_herald (OfHerald herald) in
+    let right : View = dealt_seat (OfHerald herald) in let places : ℕ = length s.views + 1 in let len : length (set s.views id left) ≡ length s.views = length-set s.views id left in
+    let more : length (set s.views id left ++ right ∷ []) ≡ places = length-append (set s.views id left) (right ∷ []) ∙ ap (λ (x : ℕ). x + 1) len in record {
+      words_are = rule.words_are;
+      paced = rule.paced;
+      known = λ j v e. subst (λ (x : ℕ). Knows s.words workers x j v) (sym more) (⊎_elim
+          (λ (old : get_elem? (set s.views id left) j ≡ some v). ⊎_elim
+          (λ (t : (j ≡ id) × (left ≡ v)). subst (λ (z : ℕ × View). Knows s.words workers places z.0 z.1) (λ i. (sym t.0 i, t.1 i)) record {
+            place_is = k.place_is;
+            places_are = ap (λ (x : ℕ). x + 1) k.places_are;
+            found_each = k.found_each;
+            posted_is = k.posted_is;
+            found_since = k.found_since;
+            undealt_is = λ i l h. k.undealt_is i (omega arith) h;
+          })
+          (λ (t : (j ≢ id) × (get_elem? s.views j ≡ some v)). joined_others workers s.words (length s.views) places j v (λ e. t.0 (e ∙ sym k.place_is)) (rule.known j v t.1)) (at_set s.views id j left v old))
+          (λ (t : (j ≡ length (set s.views id left)) × (right ≡ v)). subst (λ (z : ℕ × View). Knows s.words workers places z.0 z.1) (λ i. (sym t.0 i, t.1 i)) record {
+            place_is = len ∙ k.places_are;
+            in_range = omega (arith, k.found_each);
+            seen_is = k.undealt_is herald.dealt (omega arith) (omega (arith, k.found_each));
+            seen_polled = omega arith;
+            polled_posted = omega arith;
+          }) (at_end (set s.views id left) right v j e));
+    }
+
+pub deals : (key id : ℕ) (me : Holder) (posted dealt : ℕ) (found : List ℕ) → me ≡ (herald_view posted dealt found, []) → dealt < length found → Splits (KeepsEpochs key) id me.0 (dealing_herald me.0) (dealt_seat me.0)
+deals key id me posted dealt found me_is room = subst (λ (z : Holder). Splits (KeepsEpochs key) id z.0 (dealing_herald z.0) (dealt_seat z.0)) (sym me_is) (deals_at key id (record { posted = posted; dealt = dealt; found = found }) room)

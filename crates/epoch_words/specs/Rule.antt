@@ -1,0 +1,51 @@
+-- The rule of the shared words. With n seats, word j is what seat j has seen, for j below n, and word n is the posted number (this profile).
+use Rattle.std.specs.Prelude.{◌≡◌, ℕ, ◌+◌, ◌<◌, ◌≤◌, List, length, replicate, slice_index}
+use mathlib.Core.Option.{some}
+use lib.ListN.{get_elem?}
+use Rattle.atomic_table.specs.Table.{State}
+use Rattle.epoch_words.specs.Tokens.{IsPostedOrOneLess}
+use Rattle.epoch_words.specs.declared.word_table.HeraldView.{HeraldView}
+use Rattle.epoch_words.specs.declared.word_table.SeatView.{SeatView}
+use Rattle.epoch_words.specs.declared.word_table.View.{View}
+use Rattle.epoch_words.specs.declared.word_table.View.TheVariants.{OfSeat, OfHerald}
+
+abbrev pub seat_view : ℕ → ℕ → ℕ → View
+seat_view index seen polled = OfSeat (record { index = index; seen = seen; polled = polled })
+
+abbrev pub herald_view : ℕ → ℕ → List ℕ → View
+herald_view posted dealt found = OfHerald (record { posted = posted; dealt = dealt; found = found })
+
+-- the herald before any seat is given out
+abbrev pub opening_view : ℕ → View
+opening_view workers = herald_view 0 0 (replicate workers 0)
+
+-- Each seat's number keeps to the posted one.
+abbrev pub IsPaced : ℕ → List ℕ → Type 0
+IsPaced workers words = (j : ℕ) → j < workers → IsPostedOrOneLess (slice_index words j) (slice_index words workers)
+
+-- What seat j knows, whose view has the place j + 1: its own number, and that the posted one has not fallen below what it polled.
+pub record IsSeatView (words : List ℕ) (workers place : ℕ) (seat : SeatView) : Type 0 where
+  pub place_is : place ≡ seat.index + 1
+  pub in_range : seat.index < workers
+  pub seen_is : slice_index words seat.index ≡ seat.seen
+  pub seen_polled : seat.seen ≤ seat.polled
+  pub polled_posted : seat.polled ≤ slice_index words workers
+
+-- What the herald knows, whose view has the place 0 of so many: the posted number, and that no seat's number has fallen below what was found.
+pub record IsHeraldView (words : List ℕ) (workers places place : ℕ) (herald : HeraldView) : Type 0 where
+  pub place_is : place ≡ 0
+  pub places_are : places ≡ herald.dealt + 1
+  pub found_each : length herald.found ≡ workers
+  pub posted_is : slice_index words workers ≡ herald.posted
+  pub found_since : (j : ℕ) → j < workers → slice_index herald.found j ≤ slice_index words j
+  pub undealt_is : (j : ℕ) → herald.dealt ≤ j → j < workers → slice_index words j ≡ 0
+
+abbrev pub Knows : List ℕ → ℕ → ℕ → ℕ → View → Type 0
+Knows words workers places place (OfSeat seat) = IsSeatView words workers place seat
+Knows words workers places place (OfHerald herald) = IsHeraldView words workers places place herald
+
+-- Every step keeps this: the words are paced, and what each holder of a token knows is so.
+pub record KeepsEpochs (workers : ℕ) (table : State (Unit {0}) View) : Type 0 where
+  pub words_are : length table.words ≡ workers + 1
+  pub paced : IsPaced workers table.words
+  pub known : (place : ℕ) (view : View) → get_elem? table.views place ≡ some view → Knows table.words workers (length table.views) place view

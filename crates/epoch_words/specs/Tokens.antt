@@ -1,0 +1,44 @@
+-- What callers see of the epochs, the seats and the herald (this profile).
+use Rattle.std.specs.Prelude.{◌≡◌, ℕ, ◌+◌, ◌<◌, ◌≤◌, List, map, length, slice_index}
+use Rattle.std.specs.List.{range_with_len}
+use Rattle.atomic_table.specs.Seated.{TableId}
+
+-- `table` says of which epochs something is: no two have the same.
+pub record EpochsValue : Type 0 where
+  pub table : TableId
+  pub workers : ℕ
+
+pub record SeatValue : Type 0 where
+  pub table : TableId
+  pub index : ℕ
+  pub seen : ℕ
+  pub polled : ℕ
+
+-- `found` has for each seat the number that the herald last found it to have seen.
+pub record HeraldValue : Type 0 where
+  pub table : TableId
+  pub posted : ℕ
+  pub found : List ℕ
+
+-- THE RULE: every seen number is the posted one or one less.
+abbrev pub IsPostedOrOneLess : ℕ → ℕ → Type 0
+IsPostedOrOneLess seen posted = (seen ≤ posted) × (posted ≤ seen + 1)
+
+abbrev pub opening_seat : TableId → ℕ → SeatValue
+opening_seat table index = record { table = table; index = index; seen = 0; polled = 0 }
+
+-- the seats 0, 1, .. before any step
+abbrev pub opening_seats : TableId → ℕ → List SeatValue
+opening_seats table workers = map (opening_seat table) (range_with_len 0 workers)
+
+-- Each of so many seats was found to have seen the posted number.
+abbrev pub FoundAll : ℕ → ℕ → List ℕ → Type 0
+FoundAll workers posted found = (j : ℕ) → j < workers → slice_index found j ≡ posted
+
+-- One of so many seats was found that had not seen the posted number.
+abbrev pub FoundLate : ℕ → ℕ → List ℕ → Type 0
+FoundLate workers posted found = (j : ℕ) × (j < workers) × (slice_index found j < posted)
+
+-- No seat was found to have seen less than was found before.
+abbrev pub FindsNoLess : List ℕ → List ℕ → Type 0
+FindsNoLess before after = (length after ≡ length before) × ((j : ℕ) → slice_index before j ≤ slice_index after j)
