@@ -68,6 +68,10 @@ item_text item =
     if item.count == 1 then name_of item.event
     else name_of item.event ++ codes "*" ++ decimal item.count
 
+-- `*`
+abbrev pub is_star : ℕ → Bool
+is_star byte = byte == 42
+
 -- ---- what stands for an item whose numbers are too great for the types of the program
 
 -- 255 for a greater number of a thread

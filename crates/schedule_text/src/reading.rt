@@ -1,9 +1,9 @@
 //! Reads the text of a schedule.
-ghost use Rattle.std.specs.Prelude.{◌≡◌, ◌+◌, ◌-◌, ◌^◌, ◌≤◌, ◌++◌, ◌&&◌, nat_lt, Some, None, IfErr, MatchOption, MatchResult, OnOk, IsTrue, if◌then◌else◌, min, replicate, vec_len};
+ghost use Rattle.std.specs.Prelude.{◌≡◌, ◌+◌, ◌-◌, ◌^◌, ◌≤◌, ◌++◌, ◌&&◌, nat_lt, Some, None, IfErr, position, MatchOption, MatchResult, OnOk, IsTrue, if◌then◌else◌, min, replicate, vec_len};
 ghost use Rattle.std.specs.List.{list_all};
 ghost use Rattle.std.specs.Char.{is_ascii_digit};
 ghost use Rattle.std.specs.Str.Parse.{digits_value};
-ghost use Rattle.schedule_text.specs.Items.{IsItem, Names, capped_event, capped_item, is_number, is_numbered, is_separator, words};
+ghost use Rattle.schedule_text.specs.Items.{IsItem, Names, capped_event, capped_item, is_number, is_numbered, is_separator, is_star, words};
 ghost use Rattle.schedule_text.specs.Readings.{AreRead, IsFaultOf, IsFirstFault};
 ghost use Rattle.schedule_text.specs.declared.items.Item.{Item};
 
@@ -51,7 +51,7 @@ fn read_item(word: &[u8]) -> Option<Item>
     ensures { MatchOption result ((item : Item) → IsItem word.now item → ⊥)
         (λ item. (written : Item) × IsItem word.now written × (item ≡ capped_item written)) }
 {
-    match word.iter().position(|byte| *byte == b'*') {
+    match star_in(word) {
         None => {
             let event = read_event(word)?;
             Some(Item { event, count: 1 })
@@ -62,6 +62,13 @@ fn read_item(word: &[u8]) -> Option<Item>
             Some(Item { event, count })
         }
     }
+}
+
+/// Where the first `*` of a word stands.
+fn star_in(word: &[u8]) -> Option<usize>
+    ensures { result ≡ position is_star word.now }
+{
+    word.iter().position(|byte| *byte == b'*')
 }
 
 /// The event that a word names, its thread's number as `read_thread` gives it.
