@@ -1,2 +1,3 @@
 pub mod ItemLemmas
 pub mod NumberLemmas
+pub mod ReadingLemmas

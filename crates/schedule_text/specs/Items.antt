@@ -14,7 +14,7 @@ is_separator byte = (byte == 9) || ((byte == 10) || ((byte == 13) || (byte == 32
 
 -- the words of a text: what stands between separators, where anything does
 abbrev pub words : List ℕ → List (List ℕ)
-words text = filter (λ word. nat_lt 0 (length word)) (slice_split is_separator text)
+words text = filter (λ word. not (length word == 0)) (slice_split is_separator text)
 
 -- `0`, or decimal digits with no leading zero
 abbrev pub is_number : List ℕ → Bool

@@ -1,5 +1,5 @@
 -- What the text of a schedule is read as (this profile).
-use Rattle.std.specs.Prelude.{◌≡◌, ◌<◌, ◌≤◌, ◌+◌, ◌++◌, ℕ, IsTrue, false, List, ◌∷◌, length}
+use Rattle.std.specs.Prelude.{◌≡◌, ◌<◌, ◌≤◌, ◌+◌, ◌++◌, ℕ, IsTrue, false, List, ◌∷◌, length, replicate}
 use Rattle.std.specs.List.{list_all}
 use Rattle.cil_model.specs.declared.events.Event.{Event}
 use Rattle.schedule_text.specs.Items.{IsItem, AreItems, events_of, is_numbered}
@@ -13,6 +13,11 @@ use Rattle.schedule_text.specs.declared.items.Item.{Item}
 abbrev pub AreRead : List (List ℕ) → List Event → Type 0
 AreRead words events = (items : List Item) × AreItems words items × (events ≡ events_of items)
     × IsTrue (list_all is_numbered events) × (length events ≤ MOST_EVENTS)
+
+-- a good item's events stand behind those before it
+abbrev pub IsAdded : List Event → Item → List Event → Type 0
+IsAdded before item after = IsTrue (is_numbered item.event) × (length before + item.count ≤ MOST_EVENTS)
+    × (after ≡ before ++ replicate item.count item.event)
 
 -- what may be found of an item of the right form, behind so many events
 abbrev pub IsFaultOf : ℕ → Item → ScheduleError → Type 0

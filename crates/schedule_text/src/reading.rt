@@ -4,7 +4,7 @@ ghost use Rattle.std.specs.List.{list_all};
 ghost use Rattle.std.specs.Char.{is_ascii_digit};
 ghost use Rattle.std.specs.Str.Parse.{digits_value};
 ghost use Rattle.schedule_text.specs.Items.{IsItem, Names, capped_event, capped_item, is_number, is_numbered, is_separator, is_star, words};
-ghost use Rattle.schedule_text.specs.Readings.{AreRead, IsFaultOf, IsFirstFault};
+ghost use Rattle.schedule_text.specs.Readings.{AreRead, IsAdded, IsFaultOf, IsFaulty, IsFirstFault};
 ghost use Rattle.schedule_text.specs.declared.items.Item.{Item};
 
 use crate::errors::{MOST_EVENTS, ScheduleError};
@@ -34,10 +34,22 @@ pub fn read_schedule(alloc: Global, text: &[u8]) -> Result<Vec<Event>, ScheduleE
         .split(|byte| is_separator(*byte))
         .filter(|word| !word.is_empty())
     {
-        let item = read_item(word).ok_or(ScheduleError::NoItem)?;
-        append(&mut events, item)?;
+        append_word(&mut events, word)?;
     }
     Ok(events)
+}
+
+/// Adds the events that a word writes to those before it.
+fn append_word(events: &mut Vec<Event>, word: &[u8]) -> Result<(), ScheduleError>
+    requires { vec_len events.old ≤ MOST_EVENTS }
+    ensures ok { OnOk result ((item : Item) × IsItem word.now item
+        × IsAdded events.old.items item events.new.items) }
+    ensures err { IfErr result (IsFaulty (vec_len events.old) word.now) }
+{
+    let Some(item) = read_item(word) else {
+        return Err(ScheduleError::NoItem);
+    };
+    append(events, item)
 }
 
 fn is_separator(byte: u8) -> bool
@@ -150,12 +162,10 @@ fn value_of(digits: &[u8]) -> u32
     value
 }
 
-/// Adds an item's events to those before it; an error leaves them as they are.
+/// Adds an item's events to those before it.
 fn append(events: &mut Vec<Event>, item: Item) -> Result<(), ScheduleError>
     requires { vec_len events.old ≤ MOST_EVENTS }
-    ensures ok { OnOk result (IsTrue (is_numbered item.event)
-        × (vec_len events.old + item.count ≤ MOST_EVENTS)
-        × (events.new.items ≡ events.old.items ++ replicate item.count item.event)) }
+    ensures ok { OnOk result (IsAdded events.old.items item events.new.items) }
     ensures err { IfErr result (λ error. IsFaultOf (vec_len events.old) item error) }
 {
     if !is_numbered(item.event) {
