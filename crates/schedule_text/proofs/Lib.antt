@@ -1,3 +1,5 @@
+pub mod AnswerLemmas
 pub mod ItemLemmas
 pub mod NumberLemmas
 pub mod ReadingLemmas
+pub mod WritingLemmas

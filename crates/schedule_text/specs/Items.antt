@@ -72,6 +72,18 @@ item_text item =
 abbrev pub is_star : ℕ → Bool
 is_star byte = byte == 42
 
+-- whether two events are the same
+abbrev pub same_event : Event → Event → Bool
+same_event (Step thread) (Step other) = thread == other
+same_event (Ack thread) (Ack other) = thread == other
+same_event Gc Gc = true
+same_event event other = false
+
+-- a text, and a space behind it where there is one
+abbrev pub separated : List ℕ → List ℕ
+separated [] = []
+separated (byte ∷ bytes) = (byte ∷ bytes) ++ codes " "
+
 -- ---- what stands for an item whose numbers are too great for the types of the program
 
 -- 255 for a greater number of a thread

@@ -1,6 +1,6 @@
 //! Writes the text of a schedule.
 ghost use Rattle.std.specs.Prelude.{◌≡◌, ◌≤◌, ◌++◌, IfOk, MatchResult, OnOk, length, string_bytes};
-ghost use Rattle.schedule_text.specs.Items.{item_text, name_of};
+ghost use Rattle.schedule_text.specs.Items.{item_text, name_of, same_event, separated};
 ghost use Rattle.schedule_text.specs.Writings.{IsNotWritten, IsTextOf, IsWritten};
 
 use crate::errors::{MOST_EVENTS, ScheduleError};
@@ -35,15 +35,30 @@ fn write_runs(alloc: Global, events: &[Event]) -> Result<String, AllocError>
     ensures { IfOk result (λ text. IsTextOf events.now (string_bytes text)) }
 {
     let mut text = String::new(alloc);
-    for run in events.chunk_by(|event, next| event == next) {
+    for run in events.chunk_by(|event, next| is_same(event, next)) {
         if let Some(event) = run.first() {
-            if !text.is_empty() {
-                text.push(' ')?;
-            }
-            write_item(&mut text, Item { event: *event, count: run.len() })?;
+            let item = Item { event: *event, count: run.len() };
+            append_item(&mut text, item)?;
         }
     }
     Ok(text)
+}
+
+fn is_same(event: &Event, other: &Event) -> bool
+    ensures { result ≡ same_event event.now other.now }
+{
+    event == other
+}
+
+/// Adds the text of an item to the text before it, with a space between the two.
+fn append_item(text: &mut String, item: Item) -> Result<(), AllocError>
+    ensures { OnOk result
+        (string_bytes text.new ≡ separated (string_bytes text.old) ++ item_text item) }
+{
+    if !text.is_empty() {
+        text.push(' ')?;
+    }
+    write_item(text, item)
 }
 
 /// Adds the text of an item to the text before it.
