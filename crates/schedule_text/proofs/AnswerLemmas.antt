@@ -38,12 +38,12 @@ items_at (w ∷ before) word after (i ∷ items) h =
     let more = items_at before word after items h.1 in
     (i ∷ more.0, more.1, more.2, ap (λ is. i ∷ is) more.3, (h.0, more.4), more.5)
 
-both : (a b : Bool) → (a && b) ≡ true → (a ≡ true) × (b ≡ true)
+pub both : (a b : Bool) → (a && b) ≡ true → (a ≡ true) × (b ≡ true)
 both true true e = (refl, refl)
 both true false e = cc
 both false b e = cc
 
-first_passes : (test : Event → Bool) (n : ℕ) (event : Event) → 0 < n → list_all test (replicate n event) ≡ true → test event ≡ true
+pub first_passes : (test : Event → Bool) (n : ℕ) (event : Event) → 0 < n → list_all test (replicate n event) ≡ true → test event ≡ true
 first_passes test zero event some e = absurd (omega arith)
 first_passes test (suc n) event some e = (both (test event) (list_all test (replicate n event)) e).0
 
@@ -101,7 +101,7 @@ places (a ∷ xs) [] x y xs' ys' e = inr (inr (xs, heads e))
   where
     heads : a ∷ (xs ++ x ∷ xs') ≡ y ∷ ys' → a ∷ xs ≡ y ∷ xs
     heads h = cc
-places (a ∷ xs) (b ∷ ys) x y xs' ys' e = under (heads e) (places xs ys x y xs' ys' (tails e))
+places {A = A} (a ∷ xs) (b ∷ ys) x y xs' ys' e = under (heads e) (places xs ys x y xs' ys' (tails e))
   where
     heads : a ∷ (xs ++ x ∷ xs') ≡ b ∷ (ys ++ y ∷ ys') → a ≡ b
     heads h = cc

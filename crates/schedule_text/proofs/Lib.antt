@@ -3,3 +3,4 @@ pub mod ItemLemmas
 pub mod NumberLemmas
 pub mod ReadingLemmas
 pub mod WritingLemmas
+pub mod TextLemmas

@@ -27,7 +27,7 @@ name_is_some (Step thread) = (115, decimal thread, refl)
 name_is_some (Ack thread) = (97, decimal thread, refl)
 name_is_some Gc = (103, [], refl)
 
-item_text_is_some : (item : Item) → (byte : ℕ) × (bytes : List ℕ) × (item_text item ≡ byte ∷ bytes)
+pub item_text_is_some : (item : Item) → (byte : ℕ) × (bytes : List ℕ) × (item_text item ≡ byte ∷ bytes)
 item_text_is_some item = either (item.count == 1) (name_is_some item.event)
   where
     either : (one : Bool) → ((byte : ℕ) × (bytes : List ℕ) × (name_of item.event ≡ byte ∷ bytes)) →

@@ -19,8 +19,3 @@ pub fn one_answer()
     ensures one_fault { (text : List ℕ) (error other : ScheduleError) → IsFirstFault (words text) error → IsFirstFault (words text) other → error ≢ OutOfMemory → other ≢ OutOfMemory → error ≡ other }
     ensures not_both { (text : List ℕ) (events : List Event) (error : ScheduleError) → AreRead (words text) events → IsFirstFault (words text) error → error ≡ OutOfMemory }
 {}
-
-/// A list is written as one text.
-pub fn one_text()
-    ensures { (events : List Event) (text other : List ℕ) → IsWritten events text → IsWritten events other → text ≡ other }
-{}

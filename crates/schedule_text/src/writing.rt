@@ -1,6 +1,7 @@
 //! Writes the text of a schedule.
 ghost use Rattle.std.specs.Prelude.{◌≡◌, ◌≤◌, ◌++◌, IfOk, MatchResult, OnOk, length, string_bytes};
-ghost use Rattle.schedule_text.specs.Items.{item_text, name_of, same_event, separated};
+ghost use Rattle.std.specs.List.{list_all};
+ghost use Rattle.schedule_text.specs.Items.{is_numbered, item_text, name_of, same_event, separated};
 ghost use Rattle.schedule_text.specs.Writings.{IsNotWritten, IsTextOf, IsWritten};
 
 use crate::errors::{MOST_EVENTS, ScheduleError};
@@ -23,10 +24,17 @@ pub fn write_schedule(alloc: Global, events: &[Event]) -> Result<String, Schedul
     if events.len() > MOST_EVENTS {
         return Err(ScheduleError::TooLong);
     }
-    if !events.iter().all(|event| is_numbered(*event)) {
+    if !are_numbered(events) {
         return Err(ScheduleError::NoThread);
     }
     Ok(write_runs(alloc, events)?)
+}
+
+/// Whether each event's thread is one that a machine can have.
+fn are_numbered(events: &[Event]) -> bool
+    ensures { result ≡ list_all is_numbered events.now }
+{
+    events.iter().all(|event| is_numbered(*event))
 }
 
 /// The text of each longest run of equal events, with one space between two.
