@@ -60,14 +60,17 @@ good_at before word after all events (items, are, is, numbered, few) (front', ar
     let item = parts.1 in
     let back = parts.2 in
     let whole : all ≡ events_of front ++ (replicate item.count item.event ++ events_of back) =
-        is ∙ ap events_of parts.3 ∙ flat_map-append (λ i. replicate i.count i.event) front (item ∷ back) in
+    is ∙ ap events_of parts.3 ∙ flat_map-append (λ i. replicate i.count i.event) front (item ∷ back) in
     let earlier : events ≡ events_of front = is' ∙ ap events_of (same_items before front' front are' parts.4) in
     let behind : list_all is_numbered (replicate item.count item.event ++ events_of back) ≡ true =
-        (both (list_all is_numbered (events_of front)) _ (sym (list_all-append is_numbered (events_of front) (replicate item.count item.event ++ events_of back)) ∙ ap (list_all is_numbered) (sym whole) ∙ numbered)).1 in
+    (both (list_all is_numbered (events_of front)) _ (sym (list_all-append is_numbered (events_of front) (replicate item.count item.event ++ events_of back)) ∙ ap (list_all is_numbered) (sym whole) ∙ numbered)).1 in
     let own : list_all is_numbered (replicate item.count item.event) ≡ true =
-        (both (list_all is_numbered (replicate item.count item.event)) _ (sym (list_all-append is_numbered (replicate item.count item.event) (events_of back)) ∙ behind)).0 in
-    (item, parts.5, first_passes is_numbered item.count item.event (count_of_item word item parts.5) own,
-        omega (arith, ap length whole, ap length earlier, length-append (events_of front) (replicate item.count item.event ++ events_of back), length-append (replicate item.count item.event) (events_of back), length-replicate item.count item.event))
+    (both (list_all is_numbered (replicate item.count item.event)) _ (sym (list_all-append is_numbered (replicate item.count item.event) (events_of back)) ∙ behind)).0 in (
+      item,
+      parts.5,
+      first_passes is_numbered item.count item.event (count_of_item word item parts.5) own,
+      omega (arith, ap length whole, ap length earlier, length-append (events_of front) (replicate item.count item.event ++ events_of back), length-append (replicate item.count item.event) (events_of back), length-replicate item.count item.event),
+    )
 
 good_is_no_fault : (before : ℕ) (word : List ℕ) (item : Item) (error : ScheduleError) → IsItem word item → IsTrue (is_numbered item.event) → before + item.count ≤ MOST_EVENTS → IsFaulty before word error → error ≡ OutOfMemory
 good_is_no_fault before word item NoItem is numbered room fault = absurd (fault item is)
@@ -105,8 +108,10 @@ places {A = A} (a ∷ xs) (b ∷ ys) x y xs' ys' e = under (heads e) (places xs 
   where
     heads : a ∷ (xs ++ x ∷ xs') ≡ b ∷ (ys ++ y ∷ ys') → a ≡ b
     heads h = cc
+
     tails : a ∷ (xs ++ x ∷ xs') ≡ b ∷ (ys ++ y ∷ ys') → xs ++ x ∷ xs' ≡ ys ++ y ∷ ys'
     tails h = cc
+
     under : a ≡ b → ((xs ≡ ys) × (x ≡ y)) ⊎ (((more : List A) × (ys ≡ xs ++ x ∷ more)) ⊎ ((more : List A) × (xs ≡ ys ++ y ∷ more))) →
         ((a ∷ xs ≡ b ∷ ys) × (x ≡ y)) ⊎ (((more : List A) × (b ∷ ys ≡ (a ∷ xs) ++ x ∷ more)) ⊎ ((more : List A) × (a ∷ xs ≡ (b ∷ ys) ++ y ∷ more)))
     under same (inl (front, here)) = inl (ap₂ (λ c cs. c ∷ cs) same front, here)

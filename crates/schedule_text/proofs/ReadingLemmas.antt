@@ -96,11 +96,13 @@ list_all-replicate : {X : Type 0} (test : X → Bool) (n : ℕ) (x : X) → test
 list_all-replicate test n x e = list_all-from_AllPass test (replicate n x) (All-replicate (λ y. test y ≡ true) n x e)
 
 pub read_more : (words : List (List ℕ)) (events after : List Event) (word : List ℕ) (item : Item) → AreRead words events → IsItem word item → IsAdded events item after → AreRead (words ++ word ∷ []) after
-read_more words events after word item (items, are, is, all, few) here (numbered, room, added) =
-    (items ++ item ∷ [], AreItems-push words items word item are here,
-        added ∙ ap (λ es. es ++ replicate item.count item.event) is ∙ sym (events_of-push items item),
-        rw added (rw (list_all-append is_numbered events (replicate item.count item.event)) (rw all (list_all-replicate is_numbered item.count item.event numbered))),
-        rw added (omega (arith, length-append events (replicate item.count item.event), length-replicate item.count item.event)))
+read_more words events after word item (items, are, is, all, few) here (numbered, room, added) = (
+  items ++ item ∷ [],
+  AreItems-push words items word item are here,
+  added ∙ ap (λ es. es ++ replicate item.count item.event) is ∙ sym (events_of-push items item),
+  rw added (rw (list_all-append is_numbered events (replicate item.count item.event)) (rw all (list_all-replicate is_numbered item.count item.event numbered))),
+  rw added (omega (arith, length-append events (replicate item.count item.event), length-replicate item.count item.event)),
+)
 
 -- ---- the words of a text, up to one of them
 

@@ -85,8 +85,10 @@ item_is_whole item (numbered, some, few) = by_count (item.count == 1)
   where
     name : IsWhole (name_of item.event)
     name = name_is_whole item.event numbered
+
     star : IsWhole (codes "*")
     star = All-cons (λ byte. is_separator byte ≡ false) 42 [] refl (All-nil (λ byte. is_separator byte ≡ false))
+
     by_count : (one : Bool) → IsWhole (if one then name_of item.event else name_of item.event ++ codes "*" ++ decimal item.count)
     by_count true = name
     by_count false = All-append (λ byte. is_separator byte ≡ false) (name_of item.event ++ codes "*") (decimal item.count)
@@ -123,7 +125,7 @@ goods (item ∷ items) filled numbered few =
     let long = length-append (replicate item.count item.event) (events_of items) in
     let own = length-replicate item.count item.event in
     All-cons IsGood item items (first_passes is_numbered item.count item.event some parts.0, some, omega arith)
-        (goods items (All-tail (λ i. 0 < i.count) item items filled) parts.1 (omega arith))
+    (goods items (All-tail (λ i. 0 < i.count) item items filled) parts.1 (omega arith))
 
 pub text_is_read : (events : List Event) (text : List ℕ) → IsWritten events text → AreRead (words text) events
 text_is_read events text ((few, numbered), (items, runs, is)) =

@@ -145,7 +145,7 @@ run_written events rest run rest' event text text' is first some longest written
     let ends = run_ends rest run rest' event is over some longest in
     let together : rest ≡ replicate (length run) event ++ rest' = is ∙ ap (λ es. es ++ rest') over in
     subst (IsTextOf events) (sym (ap (λ t. joined t items) written ∙ joined_next text item items))
-        (so_far (item ∷ items) (runs_next rest rest' item items together some ends runs))
+    (so_far (item ∷ items) (runs_next rest rest' item items together some ends runs))
 
 pub empty_of : (events : List Event) → length events ≡ 0 → [] ≡ events
 empty_of [] e = refl

@@ -37,7 +37,7 @@ Names word Gc = word ≡ 103 ∷ []
 abbrev pub IsItem : List ℕ → Item → Type 0
 IsItem word item = (Names word item.event × (item.count ≡ 1))
     ⊎ ((name : List ℕ) × (digits : List ℕ) × (word ≡ name ++ 42 ∷ digits) × Names name item.event
-        × IsNumber digits item.count × (0 < item.count))
+    × IsNumber digits item.count × (0 < item.count))
 
 -- each word is the item at its place, and there are no others
 abbrev pub AreItems : List (List ℕ) → List Item → Type 0

@@ -37,5 +37,5 @@ IsFaulty before word error = (item : Item) × IsItem word item × IsFaultOf befo
 abbrev pub IsFirstFault : List (List ℕ) → ScheduleError → Type 0
 IsFirstFault words error =
     (before : List (List ℕ)) × (word : List ℕ) × (after : List (List ℕ)) × (events : List Event)
-        × (words ≡ before ++ word ∷ after) × AreRead before events
-        × IsFaulty (length events) word error
+    × (words ≡ before ++ word ∷ after) × AreRead before events
+    × IsFaulty (length events) word error

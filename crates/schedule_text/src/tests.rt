@@ -5,23 +5,35 @@ use std::test::Fail;
 
 fn assert_read(rt: &(impl Abort + AllocGlobal), text: &str, wanted: &[Event]) {
     let events = read_schedule(rt.alloc(), text.as_bytes()).ok();
-    assert!(rt; events.as_ref().map(|events| events.as_slice()) == Some(wanted), "{text}");
+    assert!(rt;
+        events.as_ref().map(|events| events.as_slice()) == Some(wanted),
+        "{text}"
+    );
 }
 
 fn assert_refused(rt: &(impl Abort + AllocGlobal), text: &str, number: u16) {
     let refused = read_schedule(rt.alloc(), text.as_bytes()).err();
-    assert!(rt; refused.map(|error| error.number()) == Some(number), "{text}");
+    assert!(rt;
+        refused.map(|error| error.number()) == Some(number),
+        "{text}"
+    );
 }
 
 fn assert_written(rt: &(impl Abort + AllocGlobal), events: &[Event], wanted: &str) {
     let text = write_schedule(rt.alloc(), events).ok();
-    assert!(rt; text.as_ref().map(|text| text.as_str()) == Some(wanted), "{wanted}");
+    assert!(rt;
+        text.as_ref().map(|text| text.as_str()) == Some(wanted),
+        "{wanted}"
+    );
     assert_read(rt, wanted, events);
 }
 
 fn assert_not_written(rt: &(impl Abort + AllocGlobal), events: &[Event], number: u16) {
     let refused = write_schedule(rt.alloc(), events).err();
-    assert!(rt; refused.map(|error| error.number()) == Some(number), "{number}");
+    assert!(rt;
+        refused.map(|error| error.number()) == Some(number),
+        "{number}"
+    );
 }
 
 #[test]
@@ -74,10 +86,20 @@ fn refuses_what_is_no_item(rt: HostRuntime) {
     for text in ["s", "a", "x0", "S0", "g0", "G", "gs0", "s00", "s01", "s-1"] {
         assert_refused(&rt, text, 501);
     }
-    for text in ["s+1", "s0x", "s0*", "s0*0", "s0*01", "s0**2", "s0*2*3", "g*"] {
+    for text in [
+        "s+1", "s0x", "s0*", "s0*0", "s0*01", "s0**2", "s0*2*3", "g*",
+    ] {
         assert_refused(&rt, text, 501);
     }
-    for text in ["s0 *2", "*2", "s16*0", "s0,s1", "s0\u{b}s1", "s0\u{0}", "g*x"] {
+    for text in [
+        "s0 *2",
+        "*2",
+        "s16*0",
+        "s0,s1",
+        "s0\u{b}s1",
+        "s0\u{0}",
+        "g*x",
+    ] {
         assert_refused(&rt, text, 501);
     }
 }

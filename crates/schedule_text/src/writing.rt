@@ -45,7 +45,10 @@ fn write_runs(alloc: Global, events: &[Event]) -> Result<String, AllocError>
     let mut text = String::new(alloc);
     for run in events.chunk_by(|event, next| is_same(event, next)) {
         if let Some(event) = run.first() {
-            let item = Item { event: *event, count: run.len() };
+            let item = Item {
+                event: *event,
+                count: run.len(),
+            };
             append_item(&mut text, item)?;
         }
     }

@@ -13,17 +13,17 @@ returns-in_err-event-in-None c =
 pub returns-in_err-event-in-Some : goal.returns-in_err-event-in-Some
 returns-in_err-event-in-Some c =
     rw c.from_residual-in_err-event-in-Some.ensures (λ item h.
-        c.in_err-event-in-Some.ensures item.event (item_at_star c.args.word.now c.in-Some.star (sym c.in-Some.ensures) item h).0)
+    c.in_err-event-in-Some.ensures item.event (item_at_star c.args.word.now c.in-Some.star (sym c.in-Some.ensures) item h).0)
 
 pub returns-in_err-count-in-Some : goal.returns-in_err-count-in-Some
 returns-in_err-count-in-Some c =
     rw c.from_residual-in_err-count-in-Some.ensures (λ item h.
-        let digits = drop (c.in-Some.star + 1) c.args.word.now in
-        let none = rw (take_rest c.args.word.now (c.in-Some.star + 1)) at c.in_err-count-in-Some.ensures in
-        let parts = item_at_star c.args.word.now c.in-Some.star (sym c.in-Some.ensures) item h in
-        let refused = kept_back (is_number digits && nat_lt 0 (digits_value 10 digits)) (min (digits_value 10 digits) (2 ^ 32 - 1)) none in
-        let taken = counts digits item.count parts.1 parts.2 in
-        absurd (true≢false (sym taken ∙ refused)))
+    let digits = drop (c.in-Some.star + 1) c.args.word.now in
+    let none = rw (take_rest c.args.word.now (c.in-Some.star + 1)) at c.in_err-count-in-Some.ensures in
+    let parts = item_at_star c.args.word.now c.in-Some.star (sym c.in-Some.ensures) item h in
+    let refused = kept_back (is_number digits && nat_lt 0 (digits_value 10 digits)) (min (digits_value 10 digits) (2 ^ 32 - 1)) none in
+    let taken = counts digits item.count parts.1 parts.2 in
+    absurd (true≢false (sym taken ∙ refused)))
 
 pub returns-in_ok-event-in-None : goal.returns-in_ok-event-in-None
 returns-in_ok-event-in-None c =

@@ -11,15 +11,15 @@ pub loop-word-preserved : goal.loop-word-preserved
 loop-word-preserved c =
     let added = c.in_ok-append_word.ensures.ok in
     subst (λ words. AreRead words c.append_word.new.events.items) (sym (map-append (λ word. word.now) c.loop-word.yielded (c.in-Some.word ∷ [])))
-        (read_more (map (λ word. word.now) c.loop-word.yielded) c.loop-word.events.items c.append_word.new.events.items c.in-Some.word.now added.0 c.loop-word.invariant added.1 added.2)
+    (read_more (map (λ word. word.now) c.loop-word.yielded) c.loop-word.events.items c.append_word.new.events.items c.in-Some.word.now added.0 c.loop-word.invariant added.1 added.2)
 
 pub returns-in_err-append_word : goal.returns-in_err-append_word
 returns-in_err-append_word c =
     let at = taken_at (λ word. word.now) c.loop-word.yielded c.in-Some.word _ _ c.loop-word.yielded_by c.next.ensures.steps c.in-Some.is (YieldsList-at c.into_iter-word-iterator.ensures.into_iter_gives (YieldsList-from_filter _ (λ word. not (length word == 0)) (YieldsList-at c.filter-word-items.ensures.source (YieldsList-from_slice_split _ is_separator c.args.text.now c.split.ensures.rest c.split.ensures.done c.split.ensures.closure (λ x b q k. search (rules, tests)))) c.filter-word-items.ensures.closure (λ x b q k. search (rules, tests)))) in
     let fault : IsFaulty (length c.loop-word.events.items) c.in-Some.word.now c.in_err-append_word.field-0.0 =
-        subst (λ n. IsFaulty n c.in-Some.word.now c.in_err-append_word.field-0.0) c.loop-word.events.ok.0 c.in_err-append_word.ensures.err in
+    subst (λ n. IsFaulty n c.in-Some.word.now c.in_err-append_word.field-0.0) c.loop-word.events.ok.0 c.in_err-append_word.ensures.err in
     refused _ c.from_residual.result c.from_residual.ensures.1 (λ error same.
-        subst (IsFirstFault (words c.args.text.now)) (sym same) (stops_at (words c.args.text.now) (map (λ word. word.now) c.loop-word.yielded) (length c.loop-word.yielded) c.in-Some.word.now c.loop-word.events.items _ at.0 at.1 at.2 c.loop-word.invariant fault))
+    subst (IsFirstFault (words c.args.text.now)) (sym same) (stops_at (words c.args.text.now) (map (λ word. word.now) c.loop-word.yielded) (length c.loop-word.yielded) c.in-Some.word.now c.loop-word.events.items _ at.0 at.1 at.2 c.loop-word.invariant fault))
 
 pub returns : goal.returns
 returns c =

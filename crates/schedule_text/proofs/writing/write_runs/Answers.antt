@@ -10,7 +10,7 @@ loop-run-preserved-in-Continue-1 c =
     let steps = c.in-Some.ensures.steps in
     let first = c.in-Some-first.ensures in
     run_written c.args.events.now c.loop-run.run-iterator.rest.now c.in-Some.run'.now c.next.new.self.rest.now c.in-Some-first.event.now (string_bytes c.loop-run.text) (string_bytes c.append_item.new.text)
-        steps.0 (sym first.item.1) steps.1 (steps.2 same_event (answers_always _ _ _ (λ f a r f' k. search rules))).1 c.in_ok-append_item.ensures c.loop-run.invariant
+    steps.0 (sym first.item.1) steps.1 (steps.2 same_event (answers_always _ _ _ (λ f a r f' k. search rules))).1 c.in_ok-append_item.ensures c.loop-run.invariant
 
 pub returns : goal.returns
 returns c =
