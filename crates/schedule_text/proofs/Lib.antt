@@ -1,0 +1,6 @@
+pub mod AnswerLemmas
+pub mod ItemLemmas
+pub mod NumberLemmas
+pub mod ReadingLemmas
+pub mod WritingLemmas
+pub mod TextLemmas

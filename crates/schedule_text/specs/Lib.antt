@@ -1,0 +1,4 @@
+pub mod Errors
+pub mod Items
+pub mod Readings
+pub mod Writings

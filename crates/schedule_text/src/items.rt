@@ -1,0 +1,23 @@
+//! The items of a schedule's text.
+ghost use Rattle.std.specs.Prelude.{◌≡◌};
+ghost use Rattle.schedule_text.specs.Items.{is_numbered};
+
+use cil_model::events::Event;
+use cil_model::limits::MOST_THREADS;
+
+/// An event, and how many times over it stands.
+#[derive(Clone, Copy, Debug, PartialEq, Eq)]
+pub(crate) struct Item {
+    pub(crate) event: Event,
+    pub(crate) count: usize,
+}
+
+/// Whether the event's thread is one that a machine can have; an event of the collector has none.
+pub(crate) fn is_numbered(event: Event) -> bool
+    ensures { result ≡ is_numbered event }
+{
+    match event {
+        Event::Step(thread) | Event::Ack(thread) => usize::from(thread) < MOST_THREADS,
+        Event::Gc => true,
+    }
+}

@@ -1,0 +1,179 @@
+//! Reads the text of a schedule.
+ghost use Rattle.std.specs.Prelude.{◌≡◌, ◌+◌, ◌-◌, ◌^◌, ◌≤◌, ◌++◌, ◌&&◌, nat_lt, Some, None, IfErr, position, MatchOption, MatchResult, OnOk, IsTrue, if◌then◌else◌, min, replicate, vec_len};
+ghost use Rattle.std.specs.List.{list_all};
+ghost use Rattle.std.specs.Char.{is_ascii_digit};
+ghost use Rattle.std.specs.Str.Parse.{digits_value};
+ghost use Rattle.schedule_text.specs.Items.{IsItem, Names, capped_event, capped_item, is_number, is_numbered, is_separator, is_star, words};
+ghost use Rattle.schedule_text.specs.Readings.{AreRead, IsAdded, IsFaultOf, IsFaulty, IsFirstFault};
+ghost use Rattle.schedule_text.specs.declared.items.Item.{Item};
+
+use crate::errors::{MOST_EVENTS, ScheduleError};
+use crate::items::{Item, is_numbered};
+use cil_model::events::Event;
+use std::alloc::Global;
+
+/// Reads the events that a text writes, in their order.
+///
+/// Items are separated by one or more of the bytes 9, 10, 13 and 32, which may also stand at both
+/// ends. An item is `g` (an event of the collector), `s` and a thread's number (its step) or `a` and
+/// a thread's number (its acknowledgement), then possibly `*` and a count of at least 1: that many
+/// such events. A number is written in decimal digits with no leading zero but in `0` itself, and
+/// may be of any length.
+///
+/// # Errors
+/// The first bad item decides: `NoItem` where it is not of this form, else `NoThread` where its
+/// thread's number is above 15, else `TooLong` where there are more than 1,000,000 events up to it
+/// and with it. `OutOfMemory` comes only where memory for the events of a good item is refused: no
+/// memory is taken for the events of a bad one.
+pub fn read_schedule(alloc: Global, text: &[u8]) -> Result<Vec<Event>, ScheduleError>
+    ensures { MatchResult result (λ events. AreRead (words text.now) events.items)
+        (IsFirstFault (words text.now)) }
+{
+    let mut events = Vec::new(alloc);
+    for word in text
+        .split(|byte| is_separator(*byte))
+        .filter(|word| !word.is_empty())
+    {
+        append_word(&mut events, word)?;
+    }
+    Ok(events)
+}
+
+/// Adds the events that a word writes to those before it.
+fn append_word(events: &mut Vec<Event>, word: &[u8]) -> Result<(), ScheduleError>
+    requires { vec_len events.old ≤ MOST_EVENTS }
+    ensures ok { OnOk result ((item : Item) × IsItem word.now item
+        × IsAdded events.old.items item events.new.items) }
+    ensures err { IfErr result (IsFaulty (vec_len events.old) word.now) }
+{
+    let Some(item) = read_item(word) else {
+        return Err(ScheduleError::NoItem);
+    };
+    append(events, item)
+}
+
+fn is_separator(byte: u8) -> bool
+    ensures { result ≡ is_separator byte }
+{
+    byte == b'\t' || byte == b'\n' || byte == b'\r' || byte == b' '
+}
+
+/// The item that a word writes, its numbers as `read_number` and `read_thread` give them.
+fn read_item(word: &[u8]) -> Option<Item>
+    ensures { MatchOption result ((item : Item) → IsItem word.now item → ⊥)
+        (λ item. (written : Item) × IsItem word.now written × (item ≡ capped_item written)) }
+{
+    match star_in(word) {
+        None => {
+            let event = read_event(word)?;
+            Some(Item { event, count: 1 })
+        }
+        Some(star) => {
+            let event = read_event(&word[..star])?;
+            let count = read_count(&word[star + 1..])?;
+            Some(Item { event, count })
+        }
+    }
+}
+
+/// Where the first `*` of a word stands.
+fn star_in(word: &[u8]) -> Option<usize>
+    ensures { result ≡ position is_star word.now }
+{
+    word.iter().position(|byte| *byte == b'*')
+}
+
+/// The event that a word names, its thread's number as `read_thread` gives it.
+fn read_event(name: &[u8]) -> Option<Event>
+    ensures { MatchOption result ((event : Event) → Names name.now event → ⊥)
+        (λ event. (written : Event) × Names name.now written × (event ≡ capped_event written)) }
+{
+    let (letter, digits) = name.split_first()?;
+    match *letter {
+        b's' => Some(Event::Step(read_thread(digits)?)),
+        b'a' => Some(Event::Ack(read_thread(digits)?)),
+        b'g' if digits.is_empty() => Some(Event::Gc),
+        _ => None,
+    }
+}
+
+/// The number that digits write, or 255 in place of a greater one.
+fn read_thread(digits: &[u8]) -> Option<u8>
+    ensures { result ≡ (if is_number digits.now then Some (min (digits_value 10 digits.now) 255) else None) }
+{
+    let number = read_number(digits)?;
+    Some(u8::try_from(number).unwrap_or(u8::MAX))
+}
+
+/// The count of at least 1 that digits write, or the greatest of a `u32` in place of a greater one.
+fn read_count(digits: &[u8]) -> Option<usize>
+    ensures { result ≡ (if is_number digits.now && nat_lt 0 (digits_value 10 digits.now) then Some (min (digits_value 10 digits.now) (2 ^ 32 - 1)) else None) }
+{
+    let number = read_number(digits)?;
+    if number == 0 {
+        None
+    } else {
+        Some(number as usize)
+    }
+}
+
+/// The number that digits write, or the greatest of a `u32` in place of a greater one.
+fn read_number(digits: &[u8]) -> Option<u32>
+    ensures { result ≡ (if is_number digits.now then Some (min (digits_value 10 digits.now) (2 ^ 32 - 1)) else None) }
+{
+    if is_number(digits) {
+        Some(value_of(digits))
+    } else {
+        None
+    }
+}
+
+/// Whether these are `0`, or decimal digits with no leading zero.
+fn is_number(digits: &[u8]) -> bool
+    ensures { result ≡ is_number digits.now }
+{
+    let Some((first, others)) = digits.split_first() else {
+        return false;
+    };
+    if *first == b'0' {
+        others.is_empty()
+    } else {
+        are_digits(digits)
+    }
+}
+
+fn are_digits(bytes: &[u8]) -> bool
+    ensures { result ≡ list_all is_ascii_digit bytes.now }
+{
+    bytes.iter().all(|byte| byte.is_ascii_digit())
+}
+
+/// The value of decimal digits, or the greatest of a `u32` in place of a greater one.
+fn value_of(digits: &[u8]) -> u32
+    requires { IsTrue (list_all is_ascii_digit digits.now) }
+    ensures { result ≡ min (digits_value 10 digits.now) (2 ^ 32 - 1) }
+{
+    let mut value: u32 = 0;
+    for digit in digits {
+        value = value
+            .saturating_mul(10)
+            .saturating_add(u32::from(*digit - b'0'));
+    }
+    value
+}
+
+/// Adds an item's events to those before it.
+fn append(events: &mut Vec<Event>, item: Item) -> Result<(), ScheduleError>
+    requires { vec_len events.old ≤ MOST_EVENTS }
+    ensures ok { OnOk result (IsAdded events.old.items item events.new.items) }
+    ensures err { IfErr result (λ error. IsFaultOf (vec_len events.old) item error) }
+{
+    if !is_numbered(item.event) {
+        return Err(ScheduleError::NoThread);
+    }
+    if item.count > MOST_EVENTS - events.len() {
+        return Err(ScheduleError::TooLong);
+    }
+    events.resize(events.len() + item.count, item.event)?;
+    Ok(())
+}
