@@ -19,24 +19,42 @@ impl<T> Model for Sequence<T> {
 }
 
 impl<T> Sequence<T> {
-    /// Takes no memory.
+    /// The sequence of these items, in their order. Takes no memory.
     pub fn new(items: Vec<T>) -> Self
         ensures { result ≡ items.items }
     {
         Sequence { items }
     }
 
+    /// The items, in their order.
     pub fn as_slice(&self) -> &[T]
         ensures { result.now ≡ self.now }
     {
         self.items.as_slice()
     }
 
-    /// Takes no memory.
+    /// The items, in their order, in the vector that was given. Takes no memory.
     pub fn into_vec(self) -> Vec<T>
         ensures { result.items ≡ self }
     {
         let Sequence { items } = self;
         items
+    }
+}
+
+#[cfg(test)]
+mod tests {
+    use super::*;
+    use std::test::Fail;
+
+    #[test]
+    fn keeps_the_items_in_their_order(rt: HostRuntime) -> Result<(), Fail> {
+        let mut numbers = Vec::new(rt.alloc());
+        numbers.push(3)?;
+        numbers.push(1)?;
+        let sequence = Sequence::new(numbers);
+        assert_eq!(rt; sequence.as_slice(), [3, 1].as_slice());
+        assert_eq!(rt; sequence.into_vec().as_slice(), [3, 1].as_slice());
+        Ok(())
     }
 }

@@ -20,13 +20,14 @@ impl Model for Text {
 }
 
 impl Text {
-    /// Takes no memory.
+    /// The text of these characters. Takes no memory.
     pub fn new(characters: String) -> Self
         ensures { result ≡ string_bytes characters }
     {
         Text { characters }
     }
 
+    /// The characters.
     pub fn as_str(&self) -> &str
         ensures { result.now ≡ self.now }
     {
@@ -35,6 +36,7 @@ impl Text {
 
     ghost use Rattle.cil_model.specs.Same.{same_text};
 
+    /// Whether both are the same characters: names are compared byte by byte, and capitals count (ECMA-335 II.5.3).
     pub fn is_same(&self, other: &Text) -> bool
         ensures { result ≡ same_text self.now other.now }
     {
@@ -42,6 +44,7 @@ impl Text {
     }
 }
 
+/// As `is_same` says.
 impl PartialEq for Text {
     ghost use Rattle.std.specs.Str.{bytes_eq};
     ghost use Rattle.std.specs.Cmp as Cmp;
@@ -62,6 +65,7 @@ impl Eq for Text {
     ghost laws = { nat_list_eq_equiv };
 }
 
+/// The hash of its characters, so that equal texts have one.
 impl Hash for Text {
     ghost use Rattle.std.specs.Hash as fed;
     ghost use Rattle.std.specs.Cmp.Rules.{hashing};
@@ -73,5 +77,23 @@ impl Hash for Text {
 
     fn hash<H: Hasher>(&self, state: &mut H) {
         self.as_str().hash(state);
+    }
+}
+
+#[cfg(test)]
+mod tests {
+    use super::*;
+    use std::test::Fail;
+
+    #[test]
+    fn compares_byte_by_byte(rt: HostRuntime) -> Result<(), Fail> {
+        let name = Text::new(String::from_str(rt.alloc(), "Main")?);
+        let same = Text::new(String::from_str(rt.alloc(), "Main")?);
+        let longer = Text::new(String::from_str(rt.alloc(), "Main2")?);
+        assert_eq!(rt; name.as_str(), "Main");
+        assert_eq!(rt; name.is_same(&same), true);
+        assert_eq!(rt; name.is_same(&longer), false);
+        assert_eq!(rt; name == same, true);
+        Ok(())
     }
 }

@@ -15,6 +15,7 @@ pub struct ClassName {
 impl ClassName {
     ghost use Rattle.cil_model.specs.Same.{same_class};
 
+    /// Whether both have one name in one assembly, or both in none (ECMA-335 II.7.3).
     pub fn is_same(&self, other: &ClassName) -> bool
         ensures { result ≡ same_class self.now other.now }
     {
@@ -40,6 +41,7 @@ pub enum Element {
 impl Element {
     ghost use Rattle.cil_model.specs.Same.{same_element};
 
+    /// Whether both are the same type; `object` isn't a class by that name.
     pub fn is_same(&self, other: &Element) -> bool
         ensures { result ≡ same_element self.now other.now }
     {
@@ -64,6 +66,7 @@ pub struct DeclaredType {
 impl DeclaredType {
     ghost use Rattle.cil_model.specs.Same.{same_type};
 
+    /// Whether both have the same element and as many pairs of brackets (ECMA-335 I.8.6.1).
     pub fn is_same(&self, other: &DeclaredType) -> bool
         ensures { result ≡ same_type self.now other.now }
     {
@@ -76,4 +79,67 @@ impl DeclaredType {
 pub struct Signature {
     pub parameters: Sequence<DeclaredType>,
     pub return_type: Option<DeclaredType>,
+}
+
+#[cfg(test)]
+mod tests {
+    use super::*;
+    use std::alloc::{AllocError, Global};
+    use std::collections::HashMap;
+    use std::test::Fail;
+
+    fn text(alloc: Global, characters: &str) -> Result<Text, AllocError> {
+        Ok(Text::new(String::from_str(alloc, characters)?))
+    }
+
+    fn plain(alloc: Global, name: &str) -> Result<ClassName, AllocError> {
+        Ok(ClassName {
+            assembly: None,
+            name: text(alloc, name)?,
+        })
+    }
+
+    fn built_in(alloc: Global, assembly: &str, name: &str) -> Result<ClassName, AllocError> {
+        Ok(ClassName {
+            assembly: Some(text(alloc, assembly)?),
+            name: text(alloc, name)?,
+        })
+    }
+
+    #[test]
+    fn an_assembly_is_a_part_of_a_name(rt: HostRuntime) -> Result<(), Fail> {
+        let own = plain(rt.alloc(), "System.Object")?;
+        let other = built_in(rt.alloc(), "mscorlib", "System.Object")?;
+        let again = built_in(rt.alloc(), "mscorlib", "System.Object")?;
+        assert_eq!(rt; own.is_same(&other), false);
+        assert_eq!(rt; again.is_same(&other), true);
+        assert_eq!(rt; own == plain(rt.alloc(), "System.Object")?, true);
+        assert_eq!(rt; own == plain(rt.alloc(), "system.object")?, false);
+        Ok(())
+    }
+
+    #[test]
+    fn brackets_are_a_part_of_a_type(rt: HostRuntime) -> Result<(), Fail> {
+        let dogs = DeclaredType {
+            element: Element::Class(plain(rt.alloc(), "Dog")?),
+            brackets: 1,
+        };
+        let nested = DeclaredType {
+            element: Element::Class(plain(rt.alloc(), "Dog")?),
+            brackets: 2,
+        };
+        assert_eq!(rt; dogs.element.is_same(&nested.element), true);
+        assert_eq!(rt; dogs.is_same(&nested), false);
+        assert_eq!(rt; Element::Object.is_same(&Element::String), false);
+        Ok(())
+    }
+
+    #[test]
+    fn a_name_is_a_key_of_a_map(rt: HostRuntime) -> Result<(), Fail> {
+        let mut numbers = HashMap::new(rt.alloc());
+        numbers.insert(plain(rt.alloc(), "Dog")?, 7)?;
+        assert_eq!(rt; numbers.get(&plain(rt.alloc(), "Dog")?), Some(&7));
+        assert_eq!(rt; numbers.get(&built_in(rt.alloc(), "x", "Dog")?), None);
+        Ok(())
+    }
 }

@@ -1,0 +1,157 @@
+-- What a user sees of the collector: room, the work of a cycle, the steps among events, and what is reachable.
+use Rattle.std.proofs.Common.{◌≡◌, true, false, List, [], ◌∷◌, ◌++◌, Some, None, refl, codes, lit<}
+use Rattle.cil_model.specs.declared.events.Event.{Event}
+use Rattle.cil_model.specs.declared.events.Event.TheVariants.{Step, Ack, Gc}
+use Rattle.cil_model.specs.declared.phases.Phase.TheVariants.{Idle, Mark, Allocate, Copy, PreFlip, HeapFlip, ThreadFlip, Reclaim}
+use Rattle.cil_model.specs.declared.reports.Report.{Report}
+use Rattle.cil_model.specs.declared.reports.Report.TheVariants.{Ran, Ended, Absent, Acked, NothingPosted, Worked, Waiting, CycleDone}
+use Rattle.cil_model.specs.declared.reports.End.TheVariants.{Fault}
+use Rattle.cil_model.specs.declared.reports.Fault.TheVariants.{OutOfMemory, TooManyThreads}
+use Rattle.cil_model.specs.declared.types.Element.TheVariants.{Int32}
+use Rattle.cil_model.specs.Declarations.{plain}
+use Rattle.cil_model.specs.Values.{Born}
+use Rattle.cil_model.specs.States.{Instance, Array, State}
+use Rattle.cil_model.specs.Cycles.{Spaces, room, is_refused, most_working, working_in_cycle, is_cycle_open}
+use Rattle.cil_model.specs.Runs.{thread_part, step_reports}
+use Rattle.cil_model.specs.Reachable.{IsReachable, from_root, from_member}
+use Rattle.cil_model.specs.OwedWords.{cell_words}
+use Rattle.cil_model.specs.Ranges.{are_in_range}
+use Rattle.cil_model.specs.Sources.{is_too_long}
+use Rattle.cil_model.specs.Examples.{usual_limits, sum_source}
+use Rattle.cil_model.proofs.Programs.{named}
+use Rattle.cil_model.proofs.Farm.{farm, farm_state, idle_frame, animal_fields, dog, int, object}
+
+-- ---- room: two spaces of 64 words, 40 of the old one and 20 of the new one in use
+
+abbrev spaces : Spaces
+spaces = record { old = record { words = 64; used = 40 }; newer = Some (record { words = 64; used = 20 }) }
+
+-- after a cycle, a thread that is still in its last phase births in the only space
+abbrev after_cycle : Spaces
+after_cycle = record { old = record { words = 64; used = 4 }; newer = None }
+
+room_in_old : room spaces Mark ≡ 24
+room_in_old = refl
+
+room_in_both : room spaces Allocate ≡ 24
+room_in_both = refl
+
+room_while_copying : room spaces Copy ≡ 24
+room_while_copying = refl
+
+room_before_flip : room spaces PreFlip ≡ 24
+room_before_flip = refl
+
+room_in_heap_flip : room spaces HeapFlip ≡ 24
+room_in_heap_flip = refl
+
+room_in_thread_flip : room spaces ThreadFlip ≡ 44
+room_in_thread_flip = refl
+
+room_in_reclaim : room spaces Reclaim ≡ 44
+room_in_reclaim = refl
+
+room_between_cycles : room after_cycle Idle ≡ 60
+room_between_cycles = refl
+
+room_after_cycle : room after_cycle Reclaim ≡ 60
+room_after_cycle = refl
+
+just_fits : is_refused after_cycle Reclaim 60 ≡ false
+just_fits = refl
+
+exceeds : is_refused after_cycle Reclaim 61 ≡ true
+exceeds = refl
+
+-- ---- the work of a cycle
+
+abbrev gc : Report → Event × Report
+gc r = (Gc, r)
+
+abbrev ack : Report → Event × Report
+ack r = (Ack 0, r)
+
+abbrev ran : Event × Report
+ran = (Step 0, Ran)
+
+-- three steps, and a whole cycle of one thread without an object
+abbrev whole_cycle : List (Event × Report)
+whole_cycle =
+    ran ∷ ran ∷ ran ∷ gc Worked ∷ ack Acked ∷ gc Worked ∷ gc Worked ∷ ack Acked ∷ gc Worked ∷ ack Acked ∷ gc Worked ∷ ack Acked ∷ gc Worked ∷ ack Acked ∷
+    gc Worked ∷ ack Acked ∷ gc Worked ∷ ack Acked ∷ gc Worked ∷ ack Acked ∷ gc CycleDone ∷ []
+
+work_of_cycle : working_in_cycle whole_cycle ≡ 10
+work_of_cycle = refl
+
+waiting_is_no_work : working_in_cycle (gc Worked ∷ gc Waiting ∷ gc Waiting ∷ ack Acked ∷ gc Worked ∷ []) ≡ 2
+waiting_is_no_work = refl
+
+next_cycle_begins_anew : working_in_cycle (whole_cycle ++ gc Waiting ∷ ack Acked ∷ gc Worked ∷ []) ≡ 1
+next_cycle_begins_anew = refl
+
+open_cycle : is_cycle_open (ran ∷ gc Worked ∷ ran ∷ []) ≡ true
+open_cycle = refl
+
+closed_cycle : is_cycle_open whole_cycle ≡ false
+closed_cycle = refl
+
+no_cycle_yet : is_cycle_open (ran ∷ gc Waiting ∷ []) ≡ false
+no_cycle_yet = refl
+
+bound : most_working 64 3 ≡ 1091
+bound = refl
+
+-- ---- the steps among events
+
+steps_alone : thread_part (ran ∷ gc Worked ∷ ack Acked ∷ (Step 3, Absent) ∷ []) ≡ (0, false) ∷ (3, false) ∷ []
+steps_alone = refl
+
+refused_birth : thread_part ((Step 1, Ended (Fault OutOfMemory)) ∷ []) ≡ (1, true) ∷ []
+refused_birth = refl
+
+no_birth_was_due : thread_part ((Step 1, Ended (Fault TooManyThreads)) ∷ []) ≡ (1, false) ∷ []
+no_birth_was_due = refl
+
+reports_of_steps : step_reports (ran ∷ gc Worked ∷ ack NothingPosted ∷ (Step 3, Absent) ∷ []) ≡ Ran ∷ Absent ∷ []
+reports_of_steps = refl
+
+-- ---- what is reachable, and the words of cells
+
+cell_of_dog : cell_words farm (Instance dog animal_fields) ≡ 6
+cell_of_dog = refl
+
+cell_of_thread : cell_words farm (Instance (named (codes "T")) []) ≡ 4
+cell_of_thread = refl
+
+cell_of_array : cell_words farm (Array (plain Int32) (int 1 ∷ int 2 ∷ [])) ≡ 5
+cell_of_array = refl
+
+-- thread 0 holds the `Dog[]`, whose second element is the Dog
+abbrev held : State
+held = record farm_state { threads = record { frames = record idle_frame { stack = object 2 ∷ [] } ∷ []; steps_left = 9; ended = None } ∷ [] }
+
+array_is_reachable : IsReachable held (Born 2)
+array_is_reachable = from_root (Born 2) (3, lit< tt, refl)
+
+dog_is_reachable : IsReachable held (Born 0)
+dog_is_reachable = from_member (Born 2) (Born 0) array_is_reachable (1, lit< tt, refl)
+
+-- ---- limits
+
+usual_in_range : are_in_range usual_limits ≡ true
+usual_in_range = refl
+
+no_budget : are_in_range (record usual_limits { budget = 0 }) ≡ false
+no_budget = refl
+
+largest : are_in_range (record { words = 1048576; budget = 1000000; depth = 256 }) ≡ true
+largest = refl
+
+too_few_words : are_in_range (record usual_limits { words = 63 }) ≡ false
+too_few_words = refl
+
+too_deep : are_in_range (record usual_limits { depth = 257 }) ≡ false
+too_deep = refl
+
+short_enough : is_too_long sum_source ≡ false
+short_enough = refl
