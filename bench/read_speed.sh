@@ -2,7 +2,7 @@
 # How fast sources are read: prints bytes in a microsecond, which is MB/s, for a source of 1 MiB and for one of 64 KiB.
 #
 # It makes a program in a temporary folder that stands on this repository's own crates, makes each source in memory,
-# reads it again and again, and divides the bytes read by the time that went by. `rt run` proves the program and builds it
+# reads it again and again, and divides the bytes read by the processor time that it took, the system's share with it. `rt run` proves the program and builds it
 # by LLVM, as it builds any program of the repository. So the figure is of what is shipped, and no crate of the repository
 # is there for it alone.
 set -eu
@@ -32,7 +32,7 @@ use ilasm_reader::read;
 use std::alloc::Global;
 use std::io;
 use std::string::String;
-use std::time::Instant;
+use std::time::CpuClock;
 
 const HEAD: &str = ".assembly extern mscorlib {}\n.class public auto ansi P extends [mscorlib]System.Object {\n .method public static void Main() cil managed {\n  .entrypoint .maxstack 2\n";
 const BODY: &str = "  ldc.i4 2\n  ldc.i4.3\n  add // the sum\n  call void [mscorlib]System.Console::WriteLine(int32)\n";
@@ -52,13 +52,13 @@ fn tell(rt: &HostRuntime, bodies: usize, rounds: u32) -> io::Result<()> {
     let alloc = rt.alloc();
     let source = source_of(alloc, bodies)?;
     let mut refused = false;
-    let start = Instant::now(rt)?;
+    let start = rt.process_cpu_time()?;
     for _ in 0..rounds {
         if read(alloc, source.as_bytes()).is_err() {
             refused = true;
         }
     }
-    let micros = start.elapsed(rt)?.as_micros();
+    let micros = rt.process_cpu_time()?.saturating_sub(start).as_micros();
     let bytes = source.len() as u128 * u128::from(rounds);
     let speed = match bytes.checked_div(micros) {
         Some(speed) => speed,
