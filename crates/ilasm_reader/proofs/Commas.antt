@@ -1,5 +1,5 @@
 -- Reading one item after the other, with commas between.
-use Rattle.std.proofs.Common.{◌≡◌, ◌<◌, suc, List, [], ◌∷◌, length, Some, refl, arith}
+use Rattle.std.proofs.Common.{◌≡◌, suc, List, [], ◌∷◌, length, Some, refl, arith}
 use Rattle.cil_model.specs.declared.tokens.Symbol.TheVariants.{Comma}
 use Rattle.cil_model.specs.declared.tokens.Token.{Token}
 use Rattle.ilasm_tokens.specs.Steps.{bind, many, Consumes}

@@ -1,3 +1,4 @@
 mod Commas
 mod Complete
+mod Whole
 mod Unique

@@ -6,7 +6,7 @@ use Rattle.cil_model.specs.Lexemes.{AreTokens}
 use Rattle.cil_model.specs.Grammar.{IsUnit, IsTreeOf}
 use Rattle.cil_model.specs.Sources.{SourceAnswer, TooLong, Foreign, NoToken, NoTree, HasTree, IsAnswer}
 use Rattle.ilasm_tokens.proofs.Reading.{same_tokens}
-use Rattle.ilasm_reader.proofs.Complete.{same_tree}
+use Rattle.ilasm_reader.proofs.Whole.{same_tree}
 
 apart : (b : Bool) {A : Type 0} → b ≡ true → b ≡ false → A
 apart true e f = absurd cc

@@ -1,13 +1,13 @@
 -- What stands behind an instruction's name, and the names themselves.
-use Rattle.std.proofs.Common.{◌≡◌, ◌==◌, ◌∙◌, ◌&&◌, ◌||◌, ◌<◌, ℕ, zero, suc, ℤ, pos, negsuc, List, [], ◌∷◌, Option, Some, None, Bool, true, false, refl, ap, sym, subst, inl, inr, arith, FitsSigned, Contains}
+use Rattle.std.proofs.Common.{◌≡◌, ◌&&◌, ◌||◌, ℕ, suc, ℤ, List, [], ◌∷◌, Option, Some, None, Bool, true, false, refl, subst, inl, inr, arith, FitsSigned, Contains}
 use Rattle.std.specs.Prelude.{codes, bytes_eq}
-use Rattle.std.specs.List.{list_all, list_any}
+use Rattle.std.specs.List.{list_any}
 use Rattle.std.specs.Ordering.{int_eq}
 use Rattle.std.specs.Int.{w32}
 use Rattle.std.proofs.lemmas.Slice.Eq.{bytes_eq-Decides}
 use Rattle.std.proofs.lemmas.Bool.Decides.{Decides-int_eq}
 use Rattle.cil_model.specs.declared.tokens.Token.{Token}
-use Rattle.cil_model.specs.declared.tokens.Token.TheVariants.{Reserved, Name, Integer, Quoted as QuotedToken}
+use Rattle.cil_model.specs.declared.tokens.Token.TheVariants.{Integer, Quoted as QuotedToken}
 use Rattle.cil_model.specs.declared.types.ClassName.{ClassName}
 use Rattle.cil_model.specs.declared.types.Element.{Element}
 use Rattle.cil_model.specs.declared.types.DeclaredType.{DeclaredType}
@@ -30,7 +30,7 @@ use Rattle.ilasm_tokens.specs.declared.words.WithInteger.TheVariants as integers
 use Rattle.ilasm_tokens.specs.declared.words.Jump.TheVariants as jumps
 use Rattle.ilasm_tokens.specs.declared.words.FieldAccess.TheVariants as accesses
 use Rattle.ilasm_tokens.specs.declared.words.TypeTest.TheVariants as tests
-use Rattle.ilasm_tokens.specs.Vocabulary.{Entry, use_of}
+use Rattle.ilasm_tokens.specs.Vocabulary.{use_of}
 use Rattle.ilasm_tokens.proofs.Reserved.{both, of_entries}
 use Rattle.ilasm_reader.specs.Parsing.{bare, with_integer, jump, with_field, with_type, form_of}
 

@@ -1,6 +1,6 @@
 -- What is read is in the grammar, and something is taken.
-use Rattle.std.proofs.Common.{◌≡◌, ◌==◌, ◌∙◌, ◌<◌, ◌≤◌, ℕ, zero, suc, ℤ, pos, negsuc, List, [], ◌∷◌, length, Option, Some, None, Bool, true, false, cond, refl, ap, sym, subst, inl, inr, arith, FitsSigned, Contains}
-use Rattle.std.specs.Prelude.{codes, bytes_eq, unwrap_or, nat_le}
+use Rattle.std.proofs.Common.{◌≡◌, ◌==◌, ◌∙◌, ◌<◌, ◌≤◌, ℕ, ℤ, pos, negsuc, List, [], ◌∷◌, length, Option, Some, None, Bool, true, false, cond, refl, ap, subst, inl, inr, arith, FitsSigned}
+use Rattle.std.specs.Prelude.{codes, bytes_eq, unwrap_or}
 use Rattle.std.specs.Int.{w32}
 use Rattle.std.proofs.lemmas.Slice.Eq.{bytes_eq-Decides}
 use Rattle.std.proofs.lemmas.Bool.{eqb-true, leb-true}
@@ -11,30 +11,24 @@ use Rattle.cil_model.specs.declared.tokens.Token.{Token}
 use Rattle.cil_model.specs.declared.tokens.Token.TheVariants.{Reserved, Name, Integer, Quoted, Symbol}
 use Rattle.cil_model.specs.declared.types.ClassName.{ClassName}
 use Rattle.cil_model.specs.declared.types.DeclaredType.{DeclaredType}
-use Rattle.cil_model.specs.declared.types.Element.{Element}
 use Rattle.cil_model.specs.declared.types.Signature.{Signature}
 use Rattle.cil_model.specs.declared.instructions.MethodName.{MethodName}
 use Rattle.cil_model.specs.declared.instructions.MethodName.TheVariants.{Constructor as ConstructorName, Named}
-use Rattle.cil_model.specs.declared.instructions.FieldReference.{FieldReference}
 use Rattle.cil_model.specs.declared.instructions.MethodReference.{MethodReference}
-use Rattle.cil_model.specs.declared.instructions.Instruction.{Instruction}
 use Rattle.cil_model.specs.declared.instructions.Instruction.TheVariants as instructions
-use Rattle.cil_model.specs.declared.trees.Tree.{Tree}
-use Rattle.cil_model.specs.declared.trees.Member.{Member}
 use Rattle.cil_model.specs.declared.trees.Code.{Code}
-use Rattle.cil_model.specs.declared.trees.Line.{Line}
 use Rattle.cil_model.specs.declared.trees.MethodKind.{MethodKind}
 use Rattle.cil_model.specs.declared.trees.MethodKind.TheVariants as kinds
 use Rattle.cil_model.specs.Bodies.{constructor_reference, virtual_reference}
-use Rattle.cil_model.specs.Spans.{◌▸◌, nothing, never, item, maybe, present, each}
-use Rattle.cil_model.specs.Grammar.{Span, word, sign, name, commas, any_commas, parentheses, in_assembly, ref, elem, brackets, type_of, ret, parameter, method_name, field_reference, method_reference, instr, line, locals, code, words_before, body, method, field, member, interface_member, implements, class_of_kind, class_of, extern, assembly, IsUnit}
+use Rattle.cil_model.specs.Spans.{◌▸◌, item, maybe, present, each}
+use Rattle.cil_model.specs.Grammar.{Span, word, sign, name, commas, any_commas, parentheses, ref, elem, brackets, type_of, ret, parameter, method_name, field_reference, method_reference, instr, line, locals, code, words_before, body, method, field, member, interface_member, implements, class_of_kind, class_of, extern, assembly, IsUnit}
 use Rattle.ilasm_tokens.specs.declared.words.Form.{Form}
 use Rattle.ilasm_tokens.specs.declared.words.Form.TheVariants as forms
 use Rattle.ilasm_tokens.specs.Steps.{choice, with_front, Yields, yields_some, yields_none, yields_bind, yields_choice, yields_if, Sound, SoundOrNone, stays, many_sound}
 use Rattle.ilasm_tokens.specs.Vocabulary.{use_of}
 use Rattle.ilasm_reader.specs.declared.methods.Beginning.{Beginning}
 use Rattle.ilasm_reader.specs.declared.methods.Beginning.TheVariants.{Static, Instance, Virtual, Abstract, Constructor}
-use Rattle.ilasm_reader.specs.Parsing.{Parser, word_at, number_of, sign_at, any_word_at, name_at, integer_at, quoted_at, flag_at, starts_comma, after_comma, commas_at, parentheses_at, in_block, class_name_at, element_at, brackets_at, type_at, parameter_at, return_type_at, field_reference_at, method_name_at, method_reference_at, bare, with_integer, jump, with_field, with_type, virtual_call, creation, has_32_bits, operands_at, form_of, instruction_at, label_at, starts_label, line_at, locals_at, max_stack_at, code_at, virtual_words_at, constructor_words_at, first_words_at, named_head_at, head_at, kind_with, code_body_at, body_at, method_at, field_at, interface_member_at, member_at, block_at, implements_at, interface_at, plain_class_at, class_at, starts_extern, extern_at, assembly_at, tree_at}
+use Rattle.ilasm_reader.specs.Parsing.{Parser, word_at, number_of, sign_at, any_word_at, name_at, integer_at, quoted_at, flag_at, starts_comma, after_comma, commas_at, parentheses_at, in_block, class_name_at, element_at, brackets_at, type_at, parameter_at, return_type_at, field_reference_at, method_name_at, method_reference_at, bare, virtual_call, creation, has_32_bits, operands_at, form_of, instruction_at, label_at, starts_label, line_at, locals_at, max_stack_at, code_at, virtual_words_at, constructor_words_at, first_words_at, named_head_at, head_at, kind_with, code_body_at, body_at, method_at, field_at, interface_member_at, member_at, block_at, implements_at, interface_at, plain_class_at, class_at, starts_extern, extern_at, assembly_at, tree_at}
 use Rattle.ilasm_reader.specs.Forms.{operands, instr_from, has_form}
 
 -- ---- single tokens
@@ -262,9 +256,6 @@ instruction_sound ts =
     }))
 
 -- ---- code
-
-abbrev label : List ℕ → Span
-label l = name l ▸ sign Colon
 
 pub label_sound : Sound label_at (λ l. name l ▸ sign Colon)
 unfolding label_at

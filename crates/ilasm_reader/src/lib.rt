@@ -1,17 +1,18 @@
 //! Reads ilasm text: the tree of a source, or why it has none (ECMA-335 II.5).
+//! `read` answers exactly what the grammar says; `laws` says that a source has one answer.
 #![tactic(auto)]
 
-pub mod classes;
-pub mod code;
-pub mod instructions;
+mod classes;
+mod code;
+mod instructions;
 pub mod laws;
-pub mod lists;
-pub mod methods;
-pub mod operands;
-pub mod reading;
-pub mod single;
+mod lists;
+mod methods;
+mod operands;
+mod reading;
+mod single;
 #[cfg(test)]
 mod tests;
-pub mod types;
+mod types;
 
 pub use reading::{ReadError, read};

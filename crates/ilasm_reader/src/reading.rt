@@ -20,15 +20,17 @@ pub enum ReadError {
     TooLong,
     /// A byte is above 127; the first is at this offset.
     NotAscii { offset: usize },
-    /// No token begins here.
+    /// No token begins at this offset, so the source has no list of tokens (ECMA-335 II.5.2).
     NoToken { offset: usize },
-    /// The tokens are no sentence of the grammar; they go wrong here.
+    /// The source has tokens, but they are no sentence of the grammar; what begins at this offset does not fit.
     NoTree { offset: usize },
+    /// Memory ran out for the tokens or the tree.
     OutOfMemory,
 }
 
 impl ReadError {
-    /// The number by which a user knows the refusal.
+    /// The number by which a user knows the refusal (this profile): 101 for a byte above 127, 102 where no token begins,
+    /// 103 for no sentence, 104 for too many bytes, 105 for want of memory.
     pub fn number(&self) -> u16
         ensures { result ≡ numbered self.now }
     {
@@ -42,6 +44,7 @@ impl ReadError {
     }
 }
 
+/// What is wrong, and at which byte. The number is not in it.
 impl fmt::Display for ReadError {
     fn fmt<W: fmt::Write>(&self, f: &mut fmt::Formatter<W>) -> fmt::Result {
         match self {
@@ -66,6 +69,11 @@ fn has_foreign_byte(source: &[u8]) -> bool
 }
 
 /// The tree of a source (ECMA-335 II.5; the grammar is this profile's).
+///
+/// The first refusal that holds is answered: its length is looked at first, then its bytes, then its tokens, and then its
+/// tree. Want of memory may stand in place of a tree, of `NoToken` and of `NoTree`, and never of `TooLong` and `NotAscii`,
+/// which are decided before any memory is taken. The time is linear in the length of the source, and no call is as deep as
+/// a list is long.
 pub fn read(alloc: Global, source: &[u8]) -> Result<Tree, ReadError>
     ensures { IsReadAnswer source.now result }
 {

@@ -1,5 +1,5 @@
 -- What is read are the tokens of the source, and no others are.
-use Rattle.std.proofs.Common.{◌≡◌, ◌≢◌, ◌==◌, ◌∙◌, ◌<◌, ◌≤◌, ◌+◌, ◌-◌, ◌^◌, ◌⊎◌, ℕ, zero, suc, List, [], ◌∷◌, ◌++◌, length, take, drop, Option, Some, None, Ok, Err, Bool, true, false, not, ◌&&◌, ◌||◌, cond, refl, ap, sym, subst, inl, inr, arith, ℤ, FitsSigned, length-append, take-append-drop}
+use Rattle.std.proofs.Common.{◌≡◌, ◌≢◌, ◌==◌, ◌∙◌, ◌<◌, ◌≤◌, ◌+◌, ℕ, zero, suc, List, [], ◌∷◌, ◌++◌, length, take, drop, Option, Some, None, Ok, Err, Bool, true, false, not, ◌&&◌, ◌||◌, cond, refl, ap, sym, subst, inl, inr, arith, ℤ, FitsSigned, length-append, take-append-drop}
 use Rattle.std.specs.Prelude.{is_some, nat_le}
 use Rattle.std.specs.List.{prefix_len, list_all}
 use Rattle.std.specs.Int.{w64}
@@ -12,7 +12,7 @@ use Rattle.cil_model.specs.declared.tokens.Token.{Token}
 use Rattle.cil_model.specs.declared.tokens.Token.TheVariants.{Reserved, Name, Integer, Quoted, Symbol}
 use Rattle.cil_model.specs.Words.{begins_segment, is_digit, is_word_byte, is_reserved, are_segments, is_name}
 use Rattle.cil_model.specs.Spans.{◌▸◌, item, each}
-use Rattle.cil_model.specs.Lexemes.{is_white, Place, between, slash, in_line, in_block, star, behind, gap, stops, run, value_from, signed, is_plain, escaped, character, bytes_of, lexeme, AreTokens}
+use Rattle.cil_model.specs.Lexemes.{is_white, Place, between, slash, in_line, in_block, star, behind, gap, stops, run, value_from, signed, is_plain, escaped, character, lexeme, AreTokens}
 use Rattle.ilasm_tokens.specs.declared.bytes.Kind.{Kind}
 use Rattle.ilasm_tokens.specs.declared.bytes.Kind.TheVariants.{Word, Digit, Minus, Quote, Colon, Single, Nothing}
 use Rattle.ilasm_tokens.specs.declared.failure.Failure.{Failure}

@@ -3,7 +3,7 @@ use Rattle.std.specs.Prelude.{◌≡◌, ◌<◌, ◌≤◌, ℕ, zero, suc, Lis
 use Rattle.std.proofs.Common.{subst, cond, arith}
 use Rattle.ilasm_tokens.specs.declared.failure.Failure.{Failure}
 use Rattle.ilasm_tokens.specs.declared.failure.Failure.TheVariants.{Refused, OutOfMemory}
-use Rattle.cil_model.specs.Spans.{SpanOf, ◌▸◌, each}
+use Rattle.cil_model.specs.Spans.{SpanOf, each}
 
 unfoldable pub bind : {A B : Type 0} → Option A → (A → Option B) → Option B
 bind (Some x) f = f x

@@ -139,21 +139,21 @@ fn integer_of(is_negative: bool, digits: &[u8]) -> Option<i64>
     }
 }
 
-/// An integer, behind its sign.
+/// An integer, behind its sign. It began where `left` bytes were left.
 #[tactic(auto, unfolding(crate::specs::Lexing::integer_token, crate::specs::Lexing::run_at, crate::specs::Steps::bind))]
-fn integer(is_negative: bool, bytes: &[u8]) -> Result<(Token, &[u8]), Failure>
+fn integer(is_negative: bool, bytes: &[u8], left: usize) -> Result<(Token, &[u8]), Failure>
     ensures { Gives (λ x. (x.0, x.1.now)) result (integer_token is_negative bytes.now) }
 {
     let (digits, rest) = run(bytes);
     let Some(value) = integer_of(is_negative, digits) else {
-        return Err(Failure::Refused { left: bytes.len() });
+        return Err(Failure::Refused { left });
     };
     Ok((Token::Integer(value), rest))
 }
 
-/// The characters of a literal up to its quote, and what is left behind that.
+/// The characters of a literal up to its quote, and what is left behind that. It began where `left` bytes were left.
 #[tactic(auto, using(crate::proofs::Text::join_front), unfolding(crate::specs::Lexing::quoted_from, crate::specs::Steps::with_front, crate::specs::Steps::bind))]
-fn characters(alloc: Global, bytes: &[u8]) -> Result<(Vec<u8>, &[u8]), Failure>
+fn characters(alloc: Global, bytes: &[u8], left: usize) -> Result<(Vec<u8>, &[u8]), Failure>
     ensures ascii { IfOk result (λ x. All (λ b. b < 128) x.0.items) }
     ensures value { Gives (λ x. (x.0.items, x.1.now)) result (quoted_from false bytes.now) }
 {
@@ -166,28 +166,28 @@ fn characters(alloc: Global, bytes: &[u8]) -> Result<(Vec<u8>, &[u8]), Failure>
         }
         if *first == b'\\' {
             let [escape, behind @ ..] = rest else {
-                return Err(Failure::Refused { left: bytes.len() });
+                return Err(Failure::Refused { left });
             };
             let Some(byte) = escaped(*escape) else {
-                return Err(Failure::Refused { left: bytes.len() });
+                return Err(Failure::Refused { left });
             };
             text.push(byte)?;
             rest = behind;
         } else if is_plain(*first) {
             text.push(*first)?;
         } else {
-            return Err(Failure::Refused { left: bytes.len() });
+            return Err(Failure::Refused { left });
         }
     }
-    Err(Failure::Refused { left: bytes.len() })
+    Err(Failure::Refused { left })
 }
 
-/// A string literal, behind its first quote.
+/// A string literal, behind its first quote, where `left` bytes were left.
 #[tactic(auto, using(crate::proofs::Text::ascii_is_utf8), unfolding(crate::specs::Lexing::quoted_token, crate::specs::Steps::bind))]
-fn quoted(alloc: Global, bytes: &[u8]) -> Result<(Token, &[u8]), Failure>
+fn quoted(alloc: Global, bytes: &[u8], left: usize) -> Result<(Token, &[u8]), Failure>
     ensures { Gives (λ x. (x.0, x.1.now)) result (quoted_token bytes.now) }
 {
-    let (characters, rest) = characters(alloc, bytes)?;
+    let (characters, rest) = characters(alloc, bytes, left)?;
     let text = String::from_utf8(characters).unwrap();
     Ok((Token::Quoted(Text::new(text)), rest))
 }
@@ -213,9 +213,9 @@ pub fn lexeme(alloc: Global, bytes: &[u8]) -> Result<(Token, &[u8]), Failure>
     };
     match kind_of(*first) {
         Kind::Word => word(alloc, bytes),
-        Kind::Digit => integer(false, bytes),
-        Kind::Minus => integer(true, rest),
-        Kind::Quote => quoted(alloc, rest),
+        Kind::Digit => integer(false, bytes, bytes.len()),
+        Kind::Minus => integer(true, rest, bytes.len()),
+        Kind::Quote => quoted(alloc, rest, bytes.len()),
         Kind::Colon => Ok(colon(rest)),
         Kind::Single(symbol) => Ok((Token::Symbol(symbol), rest)),
         Kind::Nothing => Err(Failure::Refused { left: bytes.len() }),

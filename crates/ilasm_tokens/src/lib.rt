@@ -1,10 +1,12 @@
 //! The tokens of an ilasm source (ECMA-335 II.5.2).
 #![tactic(auto)]
 
-pub mod bytes;
+mod bytes;
 pub mod failure;
 pub mod laws;
-pub mod lexemes;
+mod lexemes;
 pub mod source;
-pub mod spaces;
+mod spaces;
+#[cfg(test)]
+mod tests;
 pub mod words;

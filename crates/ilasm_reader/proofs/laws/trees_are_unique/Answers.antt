@@ -1,4 +1,4 @@
-use Rattle.ilasm_reader.proofs.Complete.{same_tree}
+use Rattle.ilasm_reader.proofs.Whole.{same_tree}
 use Rattle.ilasm_reader.proofs.laws.trees_are_unique.Goals as goal
 
 pub returns : goal.returns

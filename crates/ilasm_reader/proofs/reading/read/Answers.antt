@@ -1,5 +1,5 @@
 use Rattle.std.proofs.Common.{rules}
-use Rattle.ilasm_reader.proofs.Complete.{read_is_tree, none_is_tree}
+use Rattle.ilasm_reader.proofs.Whole.{read_is_tree, none_is_tree}
 use Rattle.ilasm_reader.proofs.reading.read.Goals as goal
 
 pub returns-in-Ok-tree : goal.returns-in-Ok-tree
