@@ -5,3 +5,6 @@ pub mod bodies;
 pub mod cycles;
 pub mod doubled;
 pub mod entry;
+
+#[cfg(test)]
+mod tests;
