@@ -5,6 +5,5 @@ pub mod bodies;
 pub mod cycles;
 pub mod doubled;
 pub mod entry;
-
 #[cfg(test)]
 mod tests;

@@ -134,7 +134,6 @@ module _ (tree : Tree) where
   module _ {X : Type 0} (at : ClassName → Option X) (place : ℕ → Option ℕ) (member : ℕ × ℕ → Option (ClassName × X))
       (absent : (c : ClassName) → declaration_of tree c ≡ None → at c ≡ None)
       (present : (c : ClassName) (d : Declaration) (n : ℕ) → declaration_of tree c ≡ Some d → slice_get (declarations tree) n ≡ Some (c, d) → option_map (λ p. member (n, p)) (place n) ≡ option_map (λ x. Some (c, x)) (at c)) where
-
     pub nearest_is_numbered : (cs : List ClassName) → option_map member (nearest_number place (filter_map (class_number tree) cs)) ≡ option_map Some (nearest at cs)
     nearest_is_numbered [] = refl
     nearest_is_numbered (c ∷ cs) = by_number (nearest_is_numbered cs) (class_number tree c) (numbered c)

@@ -18,8 +18,8 @@ returns-in-None c =
     let past : slice_get c.deref.result.now c.in-Some.number ≡ None = slice_get_past c.deref.result.now c.in-Some.number c.in-None.ensures.lookup.3 in
     let none : slice_get c.args.self.now.chains.items c.in-Some.number ≡ None = ap (λ xs. slice_get xs c.in-Some.number) (sym c.deref.ensures.value) ∙ past in
     absurd (none_is_some (chain_numbers t (class_of_key c.args.name)) (
-        sym (ap (option_map (λ v. v.items)) none) ∙ sym (slice_get-map (λ v. v.items) c.args.self.now.chains.items c.in-Some.number) ∙ ap (λ xs. slice_get xs c.in-Some.number) c.args.self.now.chains_are ∙
-        chain_at_number t (class_of_key c.args.name) c.in-Some.number (sym c.number.ensures ∙ c.in-Some.is)))
+    sym (ap (option_map (λ v. v.items)) none) ∙ sym (slice_get-map (λ v. v.items) c.args.self.now.chains.items c.in-Some.number) ∙ ap (λ xs. slice_get xs c.in-Some.number) c.args.self.now.chains_are ∙
+    chain_at_number t (class_of_key c.args.name) c.in-Some.number (sym c.number.ensures ∙ c.in-Some.is)))
 
 pub returns-in-Some-get : goal.returns-in-Some-get
 returns-in-Some-get c =
