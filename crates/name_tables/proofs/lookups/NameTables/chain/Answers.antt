@@ -1,10 +1,8 @@
-use Rattle.std.proofs.Common.{◌≡◌, ℕ, List, Some, None, option_map, refl, sym, ap, ◌∙◌, slice_get, length, map, Vec}
+use Rattle.std.proofs.Common.{◌≡◌, Some, None, option_map, refl, sym, ap, ◌∙◌, slice_get, length}
 use Rattle.std.proofs.lemmas.Option.{slice_get-map, slice_get_read, slice_get_past}
-use Rattle.cil_model.specs.declared.types.ClassName.{ClassName}
-use Rattle.cil_model.specs.Declarations.{Declaration}
 use Rattle.cil_model.specs.Chains.{longest_chain}
 use Rattle.name_tables.specs.Keys.{class_of_key}
-use Rattle.name_tables.specs.Numbers.{class_number, chain_numbers, declarations}
+use Rattle.name_tables.specs.Numbers.{chain_numbers}
 use Rattle.name_tables.proofs.NumberLaws.{none_is_some, numbers_of_unknown, chain_at_number}
 use Rattle.name_tables.proofs.lookups.NameTables.chain.Goals as goal
 
