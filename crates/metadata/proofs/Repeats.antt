@@ -1,5 +1,5 @@
 -- Repeats in a list, told by keys.
-use Rattle.std.proofs.Common.{◌≡◌, Bool, true, false, ◌||◌, List, [], ◌∷◌, map, refl, IfOk, Result, Ok, Err, sym, ap, ◌∙◌}
+use Rattle.std.proofs.Common.{◌≡◌, Bool, true, false, ◌||◌, List, [], ◌∷◌, map, refl, IfOk, Result, Ok, Err, ap, ◌∙◌}
 use Rattle.std.specs.List.{list_any}
 use Rattle.cil_model.specs.Legality.{has_repeat}
 

@@ -1,4 +1,4 @@
-use Rattle.std.proofs.Common.{◌≡◌, ◌==◌, ℕ, Some, None, sym, ap, ◌∙◌, option_map}
+use Rattle.std.proofs.Common.{◌≡◌, ◌==◌, Some, None, sym, ap, ◌∙◌, option_map}
 use Rattle.std.specs.List.{list_any}
 use Rattle.cil_model.specs.Declarations.{source_name}
 use Rattle.name_tables.specs.Keys.{class_of_key}

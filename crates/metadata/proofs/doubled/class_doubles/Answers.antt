@@ -1,9 +1,8 @@
-use Rattle.std.proofs.Common.{◌≡◌, ◌||◌, Bool, true, false, sym, ap, ◌∙◌}
-use Rattle.std.specs.List.{list_any}
+use Rattle.std.proofs.Common.{◌≡◌, ◌||◌, false, sym, ap, ◌∙◌}
 use Rattle.cil_model.specs.declared.trees.Field.{Field}
 use Rattle.cil_model.specs.Same.{same_text, same_class}
 use Rattle.cil_model.specs.Declarations.{fields_of, methods_of, interfaces_named}
-use Rattle.cil_model.specs.Legality.{has_repeat, same_method, labels_before}
+use Rattle.cil_model.specs.Legality.{has_repeat, same_method}
 use Rattle.metadata.proofs.Repeats.{has_repeat-map, first_decides, none_before, if_ok_then}
 use Rattle.metadata.proofs.doubled.class_doubles.Goals as goal
 
