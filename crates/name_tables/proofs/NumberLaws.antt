@@ -1,5 +1,5 @@
 -- A look-up by numbers finds what the look-up by names finds.
-use Rattle.std.proofs.Common.{◌≡◌, ◌<◌, ◌-◌, ◌+◌, ◌⊎◌, inl, inr, ℕ, zero, suc, Bool, true, false, cond, not, ◌&&◌, IsTrue, is_some, List, [], ◌∷◌, ◌++◌, map, Option, Some, None, option_map, option_and_then, slice_get, refl, sym, ap, subst, ◌∙◌, arith}
+use Rattle.std.proofs.Common.{◌≡◌, ◌<◌, ◌-◌, ◌+◌, ℕ, zero, suc, Bool, true, false, cond, not, IsTrue, is_some, List, [], ◌∷◌, ◌++◌, map, Option, Some, None, option_map, option_and_then, slice_get, refl, sym, ap, subst, ◌∙◌, arith}
 use Rattle.std.specs.Prelude.{find, filter_map}
 use Rattle.std.specs.List.{position_from, cons_option}
 use Rattle.std.specs.Option.{option_map_or}
@@ -7,11 +7,10 @@ use Rattle.cil_model.specs.declared.types.ClassName.{ClassName}
 use Rattle.cil_model.specs.declared.trees.Tree.{Tree}
 use Rattle.cil_model.specs.declared.trees.Class.{Class}
 use Rattle.cil_model.specs.Same.{same_class}
-use Rattle.cil_model.specs.Declarations.{Declaration, declaration_of, built_ins, source_name}
+use Rattle.cil_model.specs.Declarations.{Declaration, declaration_of, built_ins}
 use Rattle.cil_model.specs.declared.instructions.FieldReference.{FieldReference}
 use Rattle.cil_model.specs.declared.instructions.MethodReference.{MethodReference}
 use Rattle.cil_model.specs.declared.trees.Field.{Field}
-use Rattle.cil_model.specs.declared.trees.Method.{Method}
 use Rattle.cil_model.specs.Chains.{nearest, listed_by, base_of, chain_within, chain_of, classes_searched, find_field, find_method}
 use Rattle.name_tables.specs.Sameness.{MethodIdentity, same_field, same_called, called_of}
 use Rattle.name_tables.specs.Numbers.{declarations, class_number, chain_numbers, source_entry, nearest_number, member_at, place_in, field_at, method_at, field_number, method_number}
@@ -135,7 +134,6 @@ module _ (tree : Tree) where
   module _ {X : Type 0} (at : ClassName → Option X) (place : ℕ → Option ℕ) (member : ℕ × ℕ → Option (ClassName × X))
       (absent : (c : ClassName) → declaration_of tree c ≡ None → at c ≡ None)
       (present : (c : ClassName) (d : Declaration) (n : ℕ) → declaration_of tree c ≡ Some d → slice_get (declarations tree) n ≡ Some (c, d) → option_map (λ p. member (n, p)) (place n) ≡ option_map (λ x. Some (c, x)) (at c)) where
-
     pub nearest_is_numbered : (cs : List ClassName) → option_map member (nearest_number place (filter_map (class_number tree) cs)) ≡ option_map Some (nearest at cs)
     nearest_is_numbered [] = refl
     nearest_is_numbered (c ∷ cs) = by_number (nearest_is_numbered cs) (class_number tree c) (numbered c)

@@ -1,5 +1,4 @@
 -- What a built-in class declares.
-use Rattle.std.specs.Prelude.{Option}
 use Rattle.cil_model.specs.declared.types.ClassName.{ClassName}
 use Rattle.cil_model.specs.Declarations.{Declaration, built_in}
 use Rattle.name_tables.specs.declared.built_in.BuiltInClass.{BuiltInClass}

@@ -1,5 +1,5 @@
 -- A class's name with what it declares.
-use Rattle.std.specs.Prelude.{List, map, option_map}
+use Rattle.std.specs.Prelude.{map, option_map}
 use Rattle.cil_model.specs.declared.types.ClassName.{ClassName}
 use Rattle.cil_model.specs.Declarations.{Declaration}
 use Rattle.name_tables.specs.declared.classes.DeclaredClass.{DeclaredClass}

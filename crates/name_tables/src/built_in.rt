@@ -77,7 +77,12 @@ fn method(
 {
     let parameters = match parameter {
         None => Vec::new(alloc),
-        Some(element) => vec![in alloc; DeclaredType { element, brackets: 0 }]?,
+        Some(element) => vec![in alloc;
+            DeclaredType {
+                element,
+                brackets: 0
+            },
+        ]?,
     };
     Ok(Method {
         name,
@@ -93,7 +98,12 @@ fn static_method(alloc: Global, name: &str, parameter: Element) -> Result<Method
     ensures { IfOk result (λ m. m ≡ void_method (MethodName.Named name.now) (plain parameter ∷ []) (MethodKind.Static no_code)) }
 {
     let name = MethodName::Named(text(alloc, name)?);
-    method(alloc, name, Some(parameter), MethodKind::Static(no_code(alloc)))
+    method(
+        alloc,
+        name,
+        Some(parameter),
+        MethodKind::Static(no_code(alloc)),
+    )
 }
 
 fn instance_method(alloc: Global, name: &str) -> Result<Method, NoMemory>
@@ -196,8 +206,6 @@ impl BuiltInClass {
         let console = BuiltInClass::console(alloc)?;
         let monitor = BuiltInClass::monitor(alloc)?;
         let thread = BuiltInClass::thread(alloc)?;
-        Ok(Sequence::new(
-            vec![in alloc; object, string, console, monitor, thread]?,
-        ))
+        Ok(Sequence::new(vec![in alloc; object, string, console, monitor, thread]?))
     }
 }

@@ -35,7 +35,10 @@ fn field_keys<'a>(alloc: Global, fields: &[&'a Field]) -> Result<Vec<FieldKey<'a
     Ok(keys)
 }
 
-pub fn method_keys<'a>(alloc: Global, methods: &[&'a Method]) -> Result<Vec<MethodKey<'a>>, NoMemory>
+pub fn method_keys<'a>(
+    alloc: Global,
+    methods: &[&'a Method],
+) -> Result<Vec<MethodKey<'a>>, NoMemory>
     ensures { IfOk result (λ v. map method_of_key v.items ≡ map identity_of (map (λ m. m.now) methods.now)) }
 {
     let mut keys = Vec::new(alloc);

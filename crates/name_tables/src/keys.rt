@@ -5,9 +5,9 @@ ghost use Rattle.cil_model.specs.Same.{same_options, same_lists, same_text, same
 
 use crate::kinds::is_static;
 use cil_model::instructions::MethodName;
+use cil_model::texts::Text;
 use cil_model::trees::{Field, Method};
 use cil_model::types::{ClassName, DeclaredType, Signature};
-use cil_model::texts::Text;
 use std::hash::{Hash, Hasher};
 
 /// A name.

@@ -15,7 +15,10 @@ pub fn is_static(kind: &MethodKind) -> bool
 pub fn is_virtual(kind: &MethodKind) -> bool
     ensures { result ≡ is_virtual kind.now }
 {
-    matches!(kind, MethodKind::Virtual { .. } | MethodKind::Abstract { .. })
+    matches!(
+        kind,
+        MethodKind::Virtual { .. } | MethodKind::Abstract { .. }
+    )
 }
 
 pub fn is_abstract_method(kind: &MethodKind) -> bool

@@ -9,6 +9,5 @@ pub mod kinds;
 pub mod lookups;
 pub mod places;
 pub mod tables;
-
 #[cfg(test)]
 mod tests;

@@ -44,11 +44,7 @@ fn chains(alloc: Global, classes: &ClassTables) -> Result<Vec<Vec<usize>>, NoMem
 
 impl<'a> NameTables<'a> {
     /// Makes the tables of a tree from it and the built-in classes. Fails for want of memory alone.
-    pub fn new(
-        alloc: Global,
-        tree: &'a Tree,
-        table: &'a [BuiltInClass],
-    ) -> Result<Self, NoMemory>
+    pub fn new(alloc: Global, tree: &'a Tree, table: &'a [BuiltInClass]) -> Result<Self, NoMemory>
         requires { map built_in_entry table.now ≡ built_ins }
         ensures { IfOk result (λ t. t.classes.tree.now ≡ tree.now) }
     {
@@ -127,7 +123,11 @@ impl<'a> NameTables<'a> {
 
     /// The method of this name, signature and staticness in the nearest class of the owner's chain, a constructor in the owner
     /// alone (ECMA-335 II.15.1.3, II.10.5.1).
-    pub fn find_method(&self, is_instance: bool, reference: &MethodReference) -> Option<MemberNumber>
+    pub fn find_method(
+        &self,
+        is_instance: bool,
+        reference: &MethodReference,
+    ) -> Option<MemberNumber>
         ensures { option_map (λ m. method_at self.now.classes.tree.now (m.class, m.place)) result ≡ option_map Some (find_method self.now.classes.tree.now is_instance reference.now) }
     {
         let key = CallKey {

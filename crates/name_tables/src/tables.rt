@@ -48,10 +48,7 @@ fn class_tables<'a>(
     Ok(classes)
 }
 
-fn class_keys<'a>(
-    alloc: Global,
-    classes: &[ClassTable<'a>],
-) -> Result<Vec<ClassKey<'a>>, NoMemory>
+fn class_keys<'a>(alloc: Global, classes: &[ClassTable<'a>]) -> Result<Vec<ClassKey<'a>>, NoMemory>
     ensures { IfOk result (λ v. map class_of_key v.items ≡ map (λ e. e.0) (map (λ t. entry_of t.class) classes.now)) }
 {
     let mut keys = Vec::new(alloc);
@@ -63,11 +60,7 @@ fn class_keys<'a>(
 
 impl<'a> ClassTables<'a> {
     /// Makes the tables of a tree from it and the built-in classes. Fails for want of memory alone.
-    pub fn new(
-        alloc: Global,
-        tree: &'a Tree,
-        table: &'a [BuiltInClass],
-    ) -> Result<Self, NoMemory>
+    pub fn new(alloc: Global, tree: &'a Tree, table: &'a [BuiltInClass]) -> Result<Self, NoMemory>
         requires { map built_in_entry table.now ≡ built_ins }
         ensures { IfOk result (λ t. t.tree.now ≡ tree.now) }
     {

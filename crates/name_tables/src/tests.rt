@@ -9,6 +9,7 @@ use cil_model::texts::Text;
 use cil_model::trees::{Class, ClassKind, Code, Field, Member, Method, MethodKind, Tree};
 use cil_model::types::{ClassName, DeclaredType, Element, Signature};
 use std::alloc::Global;
+use std::process::Abort;
 use std::test::Fail;
 
 fn text(alloc: Global, characters: &str) -> Result<Text, NoMemory> {
@@ -53,12 +54,7 @@ fn class(
     })
 }
 
-fn field(
-    alloc: Global,
-    is_static: bool,
-    element: Element,
-    name: &str,
-) -> Result<Member, NoMemory> {
+fn field(alloc: Global, is_static: bool, element: Element, name: &str) -> Result<Member, NoMemory> {
     Ok(Member::Field(Field {
         is_static,
         field_type: plain(element),
@@ -217,19 +213,33 @@ fn a_name_of_the_source_is_not_built_in(rt: HostRuntime) -> Result<(), Fail> {
     Ok(())
 }
 
+fn key(text: &Text) -> TextKey<'_> {
+    TextKey { text }
+}
+
+fn assert_first_places<'a>(
+    rt: &impl Abort,
+    alloc: Global,
+    a: &'a Text,
+    b: &'a Text,
+    c: &'a Text,
+) -> Result<(), NoMemory> {
+    let once = Places::new(alloc, vec![in alloc; key(a), key(b)]?)?;
+    let twice = Places::new(alloc, vec![in alloc; key(a), key(b), key(a)]?)?;
+    assert!(rt; !once.has_repeat());
+    assert!(rt; twice.has_repeat());
+    assert!(rt; twice.first(key(a)) == Some(0));
+    assert!(rt; twice.first(key(b)) == Some(1));
+    assert!(rt; twice.first(key(c)).is_none());
+    Ok(())
+}
+
 #[test]
 fn a_repeated_key_is_found_where_it_stands_first(rt: HostRuntime) -> Result<(), Fail> {
     let alloc = rt.alloc();
     let a = text(alloc, "a")?;
     let b = text(alloc, "b")?;
     let c = text(alloc, "c")?;
-    let key = |text| TextKey { text };
-    let once = Places::new(alloc, vec![in alloc; key(&a), key(&b)]?)?;
-    let twice = Places::new(alloc, vec![in alloc; key(&a), key(&b), key(&a)]?)?;
-    assert!(rt; !once.has_repeat());
-    assert!(rt; twice.has_repeat());
-    assert!(rt; twice.first(key(&a)) == Some(0));
-    assert!(rt; twice.first(key(&b)) == Some(1));
-    assert!(rt; twice.first(key(&c)).is_none());
+    assert_first_places(&rt, alloc, &a, &b, &c)?;
     Ok(())
 }

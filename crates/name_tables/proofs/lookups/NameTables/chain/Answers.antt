@@ -1,10 +1,8 @@
-use Rattle.std.proofs.Common.{◌≡◌, ℕ, List, Some, None, option_map, refl, sym, ap, ◌∙◌, slice_get, length, map, Vec}
+use Rattle.std.proofs.Common.{◌≡◌, Some, None, option_map, refl, sym, ap, ◌∙◌, slice_get, length}
 use Rattle.std.proofs.lemmas.Option.{slice_get-map, slice_get_read, slice_get_past}
-use Rattle.cil_model.specs.declared.types.ClassName.{ClassName}
-use Rattle.cil_model.specs.Declarations.{Declaration}
 use Rattle.cil_model.specs.Chains.{longest_chain}
 use Rattle.name_tables.specs.Keys.{class_of_key}
-use Rattle.name_tables.specs.Numbers.{class_number, chain_numbers, declarations}
+use Rattle.name_tables.specs.Numbers.{chain_numbers}
 use Rattle.name_tables.proofs.NumberLaws.{none_is_some, numbers_of_unknown, chain_at_number}
 use Rattle.name_tables.proofs.lookups.NameTables.chain.Goals as goal
 
@@ -18,8 +16,8 @@ returns-in-None c =
     let past : slice_get c.deref.result.now c.in-Some.number ≡ None = slice_get_past c.deref.result.now c.in-Some.number c.in-None.ensures.lookup.3 in
     let none : slice_get c.args.self.now.chains.items c.in-Some.number ≡ None = ap (λ xs. slice_get xs c.in-Some.number) (sym c.deref.ensures.value) ∙ past in
     absurd (none_is_some (chain_numbers t (class_of_key c.args.name)) (
-        sym (ap (option_map (λ v. v.items)) none) ∙ sym (slice_get-map (λ v. v.items) c.args.self.now.chains.items c.in-Some.number) ∙ ap (λ xs. slice_get xs c.in-Some.number) c.args.self.now.chains_are ∙
-        chain_at_number t (class_of_key c.args.name) c.in-Some.number (sym c.number.ensures ∙ c.in-Some.is)))
+    sym (ap (option_map (λ v. v.items)) none) ∙ sym (slice_get-map (λ v. v.items) c.args.self.now.chains.items c.in-Some.number) ∙ ap (λ xs. slice_get xs c.in-Some.number) c.args.self.now.chains_are ∙
+    chain_at_number t (class_of_key c.args.name) c.in-Some.number (sym c.number.ensures ∙ c.in-Some.is)))
 
 pub returns-in-Some-get : goal.returns-in-Some-get
 returns-in-Some-get c =

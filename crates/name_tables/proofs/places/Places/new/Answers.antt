@@ -1,4 +1,4 @@
-use Rattle.std.proofs.Common.{◌≡◌, ◌-◌, ℕ, Bool, true, false, ◌||◌, is_some, sym, ◌∙◌, ap, arith, ◌∷◌, drop}
+use Rattle.std.proofs.Common.{◌≡◌, ◌-◌, true, false, ◌||◌, is_some, sym, ◌∙◌, ap, arith, ◌∷◌, drop}
 use Rattle.cil_model.specs.Legality.{has_repeat}
 use Rattle.name_tables.proofs.FirstPlaces.{drop_before, first_at_front, repeat_at_front}
 use Rattle.name_tables.proofs.places.Places.new.Goals as goal

@@ -1,4 +1,4 @@
-use Rattle.std.proofs.Common.{◌≡◌, ℕ, drop}
+use Rattle.std.proofs.Common.{◌≡◌, drop}
 use Rattle.std.specs.List.{position_from}
 use Rattle.indexmap.specs.IndexMap.{get}
 use Rattle.cil_model.specs.Legality.{has_repeat}

@@ -5,9 +5,9 @@ use Rattle.cil_model.specs.declared.types.ClassName.{ClassName}
 use Rattle.cil_model.specs.Declarations.{Declaration}
 use Rattle.name_tables.specs.declared.class_tables.ClassTable.{ClassTable}
 use Rattle.name_tables.specs.Entries.{entry_of}
-use Rattle.name_tables.specs.Keys.{field_of_key, method_of_key, called_of_key}
+use Rattle.name_tables.specs.Keys.{called_of_key}
 use Rattle.name_tables.specs.Numbers.{declarations}
-use Rattle.name_tables.specs.Sameness.{same_field, same_identity, same_called, identity_of, called_of}
+use Rattle.name_tables.specs.Sameness.{same_called, called_of}
 use Rattle.name_tables.proofs.tables.ClassTables.call.Goals as goal
 
 pub returns-in-Some : goal.returns-in-Some

@@ -1,13 +1,8 @@
-use Rattle.std.proofs.Common.{◌≡◌, length, refl, sym, ap, ◌∙◌, Some, option_map, option_and_then, slice_get}
-use Rattle.std.specs.List.{position_from}
+use Rattle.std.proofs.Common.{◌≡◌, length, refl, sym, ap, ◌∙◌, Some, option_map, slice_get}
 use Rattle.std.proofs.lemmas.Option.{slice_get-map, slice_get_read}
-use Rattle.cil_model.specs.declared.types.ClassName.{ClassName}
-use Rattle.cil_model.specs.Declarations.{Declaration}
 use Rattle.name_tables.specs.declared.class_tables.ClassTable.{ClassTable}
 use Rattle.name_tables.specs.Entries.{entry_of}
-use Rattle.name_tables.specs.Keys.{field_of_key, method_of_key, called_of_key}
 use Rattle.name_tables.specs.Numbers.{declarations}
-use Rattle.name_tables.specs.Sameness.{same_field, same_identity, same_called, identity_of, called_of}
 use Rattle.name_tables.proofs.tables.ClassTables.class.Goals as goal
 
 pub returns-in-Some : goal.returns-in-Some

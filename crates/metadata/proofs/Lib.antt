@@ -1,0 +1,3 @@
+pub mod Repeats
+pub mod CycleLaws
+pub mod EntryLaws
