@@ -2,6 +2,7 @@
 
 ghost use Rattle.std.specs.Prelude.{◌≡◌, [], ◌∷◌, MatchOption, OnOk, IfOk, length, reverse};
 
+use crate::copies::{Copies, copy_items};
 use cil_model::memory::NoMemory;
 use std::alloc::Global;
 use std::marker::Model;
@@ -50,5 +51,13 @@ impl<T> Stack<T> {
         let Stack { mut items } = self;
         items.push(item)?;
         Ok(Stack { items })
+    }
+}
+
+impl<T: Copies + Drop> Copies for Stack<T> {
+    fn copied(&self, alloc: Global) -> Result<Self, NoMemory> {
+        Ok(Stack {
+            items: copy_items(alloc, self.items.as_slice())?,
+        })
     }
 }
