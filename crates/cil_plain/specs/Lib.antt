@@ -4,3 +4,6 @@ pub mod Members
 pub mod Elements
 pub mod Contents
 pub mod Monitors
+pub mod Stores
+pub mod Effects
+pub mod Located

@@ -97,11 +97,7 @@ fn static_method(alloc: Global, name: &str, element: Element) -> Result<Method, 
     };
     let parameters = Sequence::new(vec![in alloc; parameter]?);
     let name = MethodName::Named(text(alloc, name)?);
-    Ok(void_method(
-        name,
-        parameters,
-        MethodKind::Static(no_code(alloc)),
-    ))
+    Ok(void_method(name, parameters, MethodKind::Static(no_code(alloc))))
 }
 
 /// An instance method without parameters.
@@ -262,10 +258,13 @@ fn string_class(alloc: Global) -> Result<BuiltInClass, NoMemory>
 }
 
 fn console_class(alloc: Global) -> Result<BuiltInClass, NoMemory>
-    ensures { IfOk result (λ b. b ≡ (console_name, built_in None (
-        void_method (MethodName.Named (codes "WriteLine")) (plain Element.Int32 ∷ []) (MethodKind.Static no_code) ∷
-        void_method (MethodName.Named (codes "WriteLine")) (plain Element.Int64 ∷ []) (MethodKind.Static no_code) ∷
-        void_method (MethodName.Named (codes "WriteLine")) (plain Element.String ∷ []) (MethodKind.Static no_code) ∷ []))) }
+    ensures { IfOk result (λ b. b ≡ (
+      console_name,
+      built_in None (
+          void_method (MethodName.Named (codes "WriteLine")) (plain Element.Int32 ∷ []) (MethodKind.Static no_code) ∷
+          void_method (MethodName.Named (codes "WriteLine")) (plain Element.Int64 ∷ []) (MethodKind.Static no_code) ∷
+          void_method (MethodName.Named (codes "WriteLine")) (plain Element.String ∷ []) (MethodKind.Static no_code) ∷ []),
+    )) }
 {
     let name = class_name(alloc, "mscorlib", "System.Console")?;
     let first = static_method(alloc, "WriteLine", Element::Int32)?;
@@ -279,9 +278,12 @@ fn console_class(alloc: Global) -> Result<BuiltInClass, NoMemory>
 }
 
 fn monitor_class(alloc: Global) -> Result<BuiltInClass, NoMemory>
-    ensures { IfOk result (λ b. b ≡ (monitor_name, built_in None (
-        void_method (MethodName.Named (codes "Enter")) (plain Element.Object ∷ []) (MethodKind.Static no_code) ∷
-        void_method (MethodName.Named (codes "Exit")) (plain Element.Object ∷ []) (MethodKind.Static no_code) ∷ []))) }
+    ensures { IfOk result (λ b. b ≡ (
+      monitor_name,
+      built_in None (
+          void_method (MethodName.Named (codes "Enter")) (plain Element.Object ∷ []) (MethodKind.Static no_code) ∷
+          void_method (MethodName.Named (codes "Exit")) (plain Element.Object ∷ []) (MethodKind.Static no_code) ∷ []),
+    )) }
 {
     let name = class_name(alloc, "mscorlib", "System.Threading.Monitor")?;
     let first = static_method(alloc, "Enter", Element::Object)?;
@@ -294,10 +296,13 @@ fn monitor_class(alloc: Global) -> Result<BuiltInClass, NoMemory>
 }
 
 fn thread_class(alloc: Global) -> Result<BuiltInClass, NoMemory>
-    ensures { IfOk result (λ b. b ≡ (thread_name, built_in (Some object_name) (
-        object_constructor ∷ run_method ∷
-        void_method (MethodName.Named (codes "Start")) [] (MethodKind.Instance no_code) ∷
-        void_method (MethodName.Named (codes "Join")) [] (MethodKind.Instance no_code) ∷ []))) }
+    ensures { IfOk result (λ b. b ≡ (
+      thread_name,
+      built_in (Some object_name) (
+          object_constructor ∷ run_method ∷
+          void_method (MethodName.Named (codes "Start")) [] (MethodKind.Instance no_code) ∷
+          void_method (MethodName.Named (codes "Join")) [] (MethodKind.Instance no_code) ∷ []),
+    )) }
 {
     let name = class_name(alloc, "cilvm", "Cilvm.Thread")?;
     let base = class_name(alloc, "mscorlib", "System.Object")?;

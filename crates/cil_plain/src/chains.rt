@@ -126,7 +126,11 @@ impl<'a> Program<'a> {
     }
 
     #[tactic(auto, using(crate::proofs::Lists::list_steps, crate::proofs::Walks::chain_step))]
-    fn chain_within(&self, most: usize, c: Option<PlainClassName<'a>>) -> Result<Vec<PlainClassName<'a>>, NoMemory>
+    fn chain_within(
+        &self,
+        most: usize,
+        c: Option<PlainClassName<'a>>,
+    ) -> Result<Vec<PlainClassName<'a>>, NoMemory>
         ensures { IfOk result (λ cs. cs.items ≡ chain_within self.now most c.entry) }
     {
         if most == 0 {

@@ -1,6 +1,6 @@
 // Copies of what a state holds.
 
-ghost use Rattle.std.specs.Prelude.{◌≡◌, IfOk};
+ghost use Rattle.std.specs.Prelude.{◌≡◌, IfOk, slice_set};
 
 use cil_model::memory::NoMemory;
 use std::alloc::Global;
@@ -19,4 +19,14 @@ pub fn copy_items<T: Copies + Drop>(alloc: Global, items: &[T]) -> Result<Vec<T>
         copies.push(item.copied(alloc)?)?;
     }
     Ok(copies)
+}
+
+/// Puts an item in the place of another; nothing where there is no such place.
+pub fn put<T: Drop>(items: &mut Vec<T>, place: usize, item: T)
+    ensures { items.new.items ≡ slice_set items.old.items place item }
+{
+    if place >= items.len() {
+        return;
+    }
+    items[place] = item;
 }

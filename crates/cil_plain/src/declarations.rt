@@ -15,6 +15,7 @@ use std::alloc::Global;
 use std::marker::Model;
 
 /// A tree with the built-in classes, and the memory to work in. Contracts see it as the tree.
+#[derive(Drop)]
 pub struct Program<'a> {
     pub alloc: Global,
     pub tree: &'a Tree,
@@ -157,7 +158,10 @@ fn declared_in_source<'a>(alloc: Global, class: &'a Class) -> Result<PlainDeclar
     }
 }
 
-fn built_in_declaration<'a>(alloc: Global, class: &'a BuiltInClass) -> Result<PlainDeclaration<'a>, NoMemory>
+fn built_in_declaration<'a>(
+    alloc: Global,
+    class: &'a BuiltInClass,
+) -> Result<PlainDeclaration<'a>, NoMemory>
     ensures { IfOk result (λ d. d ≡ class.now.1) }
 {
     Ok(PlainDeclaration {
@@ -171,7 +175,10 @@ fn built_in_declaration<'a>(alloc: Global, class: &'a BuiltInClass) -> Result<Pl
 }
 
 impl<'a> Program<'a> {
-    fn source_declaration(&self, name: &PlainClassName) -> Result<Option<PlainDeclaration<'a>>, NoMemory>
+    fn source_declaration(
+        &self,
+        name: &PlainClassName,
+    ) -> Result<Option<PlainDeclaration<'a>>, NoMemory>
         ensures { IfOk result (λ d. d ≡ source_declaration self.now name.now) }
     {
         match source_class(self.tree, name) {
@@ -180,7 +187,10 @@ impl<'a> Program<'a> {
         }
     }
 
-    fn built_in_class(&self, name: &PlainClassName) -> Result<Option<PlainDeclaration<'a>>, NoMemory>
+    fn built_in_class(
+        &self,
+        name: &PlainClassName,
+    ) -> Result<Option<PlainDeclaration<'a>>, NoMemory>
         ensures { IfOk result (λ d. d ≡ built_in_class name.now) }
     {
         match self.built_ins.class_named(name) {
@@ -190,7 +200,10 @@ impl<'a> Program<'a> {
     }
 
     /// What the class with this name declares.
-    pub fn declaration_of(&self, name: &PlainClassName) -> Result<Option<PlainDeclaration<'a>>, NoMemory>
+    pub fn declaration_of(
+        &self,
+        name: &PlainClassName,
+    ) -> Result<Option<PlainDeclaration<'a>>, NoMemory>
         ensures { IfOk result (λ d. d ≡ declaration_of self.now name.now) }
     {
         if name.assembly.is_some() {

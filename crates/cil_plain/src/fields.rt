@@ -116,7 +116,12 @@ pub fn entry_at<'a>(entries: &[FieldEntry<'a>], key: &PlainKey) -> Option<PlainV
 }
 
 /// The entries with another value under a key that they have.
-fn with_entry<'a>(alloc: Global, entries: &[FieldEntry<'a>], key: &PlainKey, value: PlainValue<'a>) -> Result<Vec<FieldEntry<'a>>, NoMemory>
+fn with_entry<'a>(
+    alloc: Global,
+    entries: &[FieldEntry<'a>],
+    key: &PlainKey,
+    value: PlainValue<'a>,
+) -> Result<Vec<FieldEntry<'a>>, NoMemory>
     ensures { IfOk result (λ es. es.items ≡ with_entry same_key key.now value.entry entries.now) }
 {
     let Some((first, others)) = entries.split_first() else {
@@ -134,7 +139,12 @@ fn with_entry<'a>(alloc: Global, entries: &[FieldEntry<'a>], key: &PlainKey, val
 }
 
 /// The entries after a store of a value of the kind that is there; none where no value of the kind is there.
-pub fn replaced_entry<'a>(alloc: Global, entries: &[FieldEntry<'a>], key: &PlainKey, value: PlainValue<'a>) -> Result<Option<Vec<FieldEntry<'a>>>, NoMemory>
+pub fn replaced_entry<'a>(
+    alloc: Global,
+    entries: &[FieldEntry<'a>],
+    key: &PlainKey,
+    value: PlainValue<'a>,
+) -> Result<Option<Vec<FieldEntry<'a>>>, NoMemory>
     ensures { IfOk result (λ es. option_map (λ v. v.items) es ≡ replaced_entry key.now value.entry entries.now) }
 {
     match entry_at(entries, key) {
@@ -150,7 +160,12 @@ pub fn replaced_entry<'a>(alloc: Global, entries: &[FieldEntry<'a>], key: &Plain
 }
 
 /// The values after a store of one of the kind that is there; none where no value of the kind is there.
-pub fn replaced_at<'a>(alloc: Global, values: &[PlainValue<'a>], place: usize, value: PlainValue<'a>) -> Result<Option<Vec<PlainValue<'a>>>, NoMemory>
+pub fn replaced_at<'a>(
+    alloc: Global,
+    values: &[PlainValue<'a>],
+    place: usize,
+    value: PlainValue<'a>,
+) -> Result<Option<Vec<PlainValue<'a>>>, NoMemory>
     ensures { IfOk result (λ vs. option_map (λ v. v.items) vs ≡ replaced_at place value.entry values.now) }
 {
     match values.get(place) {

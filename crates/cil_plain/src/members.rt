@@ -47,7 +47,11 @@ fn field_among<'a>(fields: &[&'a Field], is_static: bool, r: &FieldReference) ->
     }
 }
 
-fn method_among<'a>(methods: &[&'a Method], is_instance: bool, r: &MethodReference) -> Option<&'a Method>
+fn method_among<'a>(
+    methods: &[&'a Method],
+    is_instance: bool,
+    r: &MethodReference,
+) -> Option<&'a Method>
     ensures { option_map (λ x. x.now) result ≡ find (λ (m : DeclaredMethod). same_method_name m.name r.now.name && same_signature m.signature r.now.signature && same_flag (is_static m.kind) (not is_instance)) (map (λ x. x.now) methods.now) }
 {
     let (method, others) = methods.split_first()?;
@@ -58,7 +62,11 @@ fn method_among<'a>(methods: &[&'a Method], is_instance: bool, r: &MethodReferen
     }
 }
 
-fn named_among<'a>(methods: &[&'a Method], name: &MethodName, signature: &Signature) -> Option<&'a Method>
+fn named_among<'a>(
+    methods: &[&'a Method],
+    name: &MethodName,
+    signature: &Signature,
+) -> Option<&'a Method>
     ensures { option_map (λ x. x.now) result ≡ find (λ (m : DeclaredMethod). same_method_name m.name name.now && same_signature m.signature signature.now) (map (λ x. x.now) methods.now) }
 {
     let (method, others) = methods.split_first()?;
@@ -70,14 +78,24 @@ fn named_among<'a>(methods: &[&'a Method], name: &MethodName, signature: &Signat
 }
 
 impl<'a> Program<'a> {
-    fn own_field(&self, is_static: bool, r: &FieldReference, c: &PlainClassName) -> Result<Option<&'a Field>, NoMemory>
+    fn own_field(
+        &self,
+        is_static: bool,
+        r: &FieldReference,
+        c: &PlainClassName,
+    ) -> Result<Option<&'a Field>, NoMemory>
         ensures { IfOk result (λ f. option_map (λ x. x.now) f ≡ own_field self.now is_static r.now c.now) }
     {
         let fields = self.fields_in(c)?;
         Ok(field_among(fields.as_slice(), is_static, r))
     }
 
-    fn field_along(&self, is_static: bool, r: &FieldReference, chain: &[PlainClassName<'a>]) -> Result<Option<FoundField<'a>>, NoMemory>
+    fn field_along(
+        &self,
+        is_static: bool,
+        r: &FieldReference,
+        chain: &[PlainClassName<'a>],
+    ) -> Result<Option<FoundField<'a>>, NoMemory>
         ensures { IfOk result (λ found. found ≡ nearest (own_field self.now is_static r.now) chain.now) }
     {
         let Some((c, bases)) = chain.split_first() else {
@@ -93,7 +111,11 @@ impl<'a> Program<'a> {
     }
 
     /// The field of this name, type and staticness in the nearest class of the owner's chain.
-    pub fn find_field(&self, is_static: bool, r: &'a FieldReference) -> Result<Option<FoundField<'a>>, NoMemory>
+    pub fn find_field(
+        &self,
+        is_static: bool,
+        r: &'a FieldReference,
+    ) -> Result<Option<FoundField<'a>>, NoMemory>
         ensures { IfOk result (λ found. found ≡ find_field self.now is_static r.now) }
     {
         let chain = self.chain_of(&PlainClassName::of(&r.owner))?;
@@ -101,21 +123,36 @@ impl<'a> Program<'a> {
     }
 
     /// The method of a class with this name and signature.
-    pub fn method_in(&self, name: &MethodName, signature: &Signature, c: &PlainClassName) -> Result<Option<&'a Method>, NoMemory>
+    pub fn method_in(
+        &self,
+        name: &MethodName,
+        signature: &Signature,
+        c: &PlainClassName,
+    ) -> Result<Option<&'a Method>, NoMemory>
         ensures { IfOk result (λ m. option_map (λ x. x.now) m ≡ method_in self.now name.now signature.now c.now) }
     {
         let methods = self.methods_in(c)?;
         Ok(named_among(methods.as_slice(), name, signature))
     }
 
-    fn own_method(&self, is_instance: bool, r: &MethodReference, c: &PlainClassName) -> Result<Option<&'a Method>, NoMemory>
+    fn own_method(
+        &self,
+        is_instance: bool,
+        r: &MethodReference,
+        c: &PlainClassName,
+    ) -> Result<Option<&'a Method>, NoMemory>
         ensures { IfOk result (λ m. option_map (λ x. x.now) m ≡ own_method self.now is_instance r.now c.now) }
     {
         let methods = self.methods_in(c)?;
         Ok(method_among(methods.as_slice(), is_instance, r))
     }
 
-    fn method_along(&self, is_instance: bool, r: &MethodReference, chain: &[PlainClassName<'a>]) -> Result<Option<FoundMethod<'a>>, NoMemory>
+    fn method_along(
+        &self,
+        is_instance: bool,
+        r: &MethodReference,
+        chain: &[PlainClassName<'a>],
+    ) -> Result<Option<FoundMethod<'a>>, NoMemory>
         ensures { IfOk result (λ found. found ≡ nearest (own_method self.now is_instance r.now) chain.now) }
     {
         let Some((c, bases)) = chain.split_first() else {
@@ -131,7 +168,12 @@ impl<'a> Program<'a> {
     }
 
     /// The method of this name, signature and staticness in the nearest class; a constructor is looked for in its owner alone.
-    pub fn find_method(&self, is_instance: bool, r: &MethodReference, owner: &PlainClassName<'a>) -> Result<Option<FoundMethod<'a>>, NoMemory>
+    pub fn find_method(
+        &self,
+        is_instance: bool,
+        r: &MethodReference,
+        owner: &PlainClassName<'a>,
+    ) -> Result<Option<FoundMethod<'a>>, NoMemory>
         requires { owner.now ≡ r.now.owner }
         ensures { IfOk result (λ found. found ≡ find_method self.now is_instance r.now) }
     {

@@ -17,7 +17,11 @@ use cil_model::trees::Method;
 use cil_model::types::{ClassName, Signature};
 
 /// The class that introduced the slot that the method fills.
-fn slot_filled<'a>(c: &PlainClassName<'a>, inherited: Option<PlainClassName<'a>>, m: &Method) -> Option<PlainClassName<'a>>
+fn slot_filled<'a>(
+    c: &PlainClassName<'a>,
+    inherited: Option<PlainClassName<'a>>,
+    m: &Method,
+) -> Option<PlainClassName<'a>>
     ensures { result ≡ slot_filled c.now inherited.entry m.now }
 {
     if !is_virtual(&m.kind) {
@@ -44,11 +48,18 @@ fn is_slot(own: &Option<PlainClassName>, slot: &PlainClassName) -> bool
 fn contains_class(names: &[ClassName], wanted: &PlainClassName) -> bool
     ensures { result ≡ list_any (same_class wanted.now) names.now }
 {
-    names.iter().any(|name| wanted.is_same(&PlainClassName::of(name)))
+    names
+        .iter()
+        .any(|name| wanted.is_same(&PlainClassName::of(name)))
 }
 
 impl<'a> Program<'a> {
-    fn slot_along(&self, name: &MethodName, signature: &Signature, chain: &[PlainClassName<'a>]) -> Result<Option<PlainClassName<'a>>, NoMemory>
+    fn slot_along(
+        &self,
+        name: &MethodName,
+        signature: &Signature,
+        chain: &[PlainClassName<'a>],
+    ) -> Result<Option<PlainClassName<'a>>, NoMemory>
         ensures { IfOk result (λ slot. slot ≡ slot_along self.now name.now signature.now chain.now) }
     {
         let Some((c, bases)) = chain.split_first() else {
@@ -61,7 +72,13 @@ impl<'a> Program<'a> {
         }
     }
 
-    fn filler_along(&self, name: &MethodName, signature: &Signature, slot: &PlainClassName<'a>, chain: &[PlainClassName<'a>]) -> Result<Option<FoundMethod<'a>>, NoMemory>
+    fn filler_along(
+        &self,
+        name: &MethodName,
+        signature: &Signature,
+        slot: &PlainClassName<'a>,
+        chain: &[PlainClassName<'a>],
+    ) -> Result<Option<FoundMethod<'a>>, NoMemory>
         ensures { IfOk result (λ found. found ≡ filler_along self.now name.now signature.now slot.now chain.now) }
     {
         let Some((c, bases)) = chain.split_first() else {
@@ -81,7 +98,13 @@ impl<'a> Program<'a> {
         }
     }
 
-    fn class_target(&self, name: &MethodName, signature: &Signature, d: &PlainClassName<'a>, c: &PlainClassName<'a>) -> Result<Option<FoundMethod<'a>>, NoMemory>
+    fn class_target(
+        &self,
+        name: &MethodName,
+        signature: &Signature,
+        d: &PlainClassName<'a>,
+        c: &PlainClassName<'a>,
+    ) -> Result<Option<FoundMethod<'a>>, NoMemory>
         ensures { IfOk result (λ found. found ≡ class_target self.now name.now signature.now d.now c.now) }
     {
         let own = self.chain_of(c)?;
@@ -92,7 +115,12 @@ impl<'a> Program<'a> {
         self.filler_along(name, signature, &slot, chain.as_slice())
     }
 
-    fn virtual_in(&self, name: &MethodName, signature: &Signature, c: &PlainClassName<'a>) -> Result<Option<&'a Method>, NoMemory>
+    fn virtual_in(
+        &self,
+        name: &MethodName,
+        signature: &Signature,
+        c: &PlainClassName<'a>,
+    ) -> Result<Option<&'a Method>, NoMemory>
         ensures { IfOk result (λ m. option_map (λ x. x.now) m ≡ virtual_in self.now name.now signature.now c.now) }
     {
         match self.method_in(name, signature, c)? {
@@ -107,7 +135,12 @@ impl<'a> Program<'a> {
         }
     }
 
-    fn virtual_along(&self, name: &MethodName, signature: &Signature, chain: &[PlainClassName<'a>]) -> Result<Option<FoundMethod<'a>>, NoMemory>
+    fn virtual_along(
+        &self,
+        name: &MethodName,
+        signature: &Signature,
+        chain: &[PlainClassName<'a>],
+    ) -> Result<Option<FoundMethod<'a>>, NoMemory>
         ensures { IfOk result (λ found. found ≡ nearest (virtual_in self.now name.now signature.now) chain.now) }
     {
         let Some((c, bases)) = chain.split_first() else {
@@ -130,7 +163,11 @@ impl<'a> Program<'a> {
         Ok(contains_class(interfaces, i))
     }
 
-    fn lister_along(&self, i: &PlainClassName<'a>, chain: &[PlainClassName<'a>]) -> Result<Option<PlainClassName<'a>>, NoMemory>
+    fn lister_along(
+        &self,
+        i: &PlainClassName<'a>,
+        chain: &[PlainClassName<'a>],
+    ) -> Result<Option<PlainClassName<'a>>, NoMemory>
         ensures { IfOk result (λ found. found ≡ find (λ c. list_any (same_class i.now) (interfaces_in self.now c)) chain.now) }
     {
         let Some((c, bases)) = chain.split_first() else {
@@ -144,7 +181,13 @@ impl<'a> Program<'a> {
     }
 
     /// The target of the nearest virtual method of this name and signature, seen from class `k`.
-    fn target_seen_from(&self, name: &MethodName, signature: &Signature, d: &PlainClassName<'a>, k: &PlainClassName<'a>) -> Result<Option<FoundMethod<'a>>, NoMemory>
+    fn target_seen_from(
+        &self,
+        name: &MethodName,
+        signature: &Signature,
+        d: &PlainClassName<'a>,
+        k: &PlainClassName<'a>,
+    ) -> Result<Option<FoundMethod<'a>>, NoMemory>
         ensures { IfOk result (λ found. found ≡ option_and_then (λ (seen : NameOfClass × DeclaredMethod). class_target self.now name.now signature.now d.now seen.0) (nearest (virtual_in self.now name.now signature.now) (chain_of self.now k.now))) }
     {
         let chain = self.chain_of(k)?;
@@ -155,7 +198,13 @@ impl<'a> Program<'a> {
         self.class_target(name, signature, d, &owner)
     }
 
-    fn interface_target(&self, name: &MethodName, signature: &Signature, d: &PlainClassName<'a>, i: &PlainClassName<'a>) -> Result<Option<FoundMethod<'a>>, NoMemory>
+    fn interface_target(
+        &self,
+        name: &MethodName,
+        signature: &Signature,
+        d: &PlainClassName<'a>,
+        i: &PlainClassName<'a>,
+    ) -> Result<Option<FoundMethod<'a>>, NoMemory>
         ensures { IfOk result (λ found. found ≡ interface_target self.now name.now signature.now d.now i.now) }
     {
         let chain = self.chain_of(d)?;
@@ -166,7 +215,12 @@ impl<'a> Program<'a> {
     }
 
     /// The method that runs where `m`, of class or interface `c`, is called on an object of class `d`.
-    pub fn target(&self, d: &PlainClassName<'a>, c: &PlainClassName<'a>, m: &'a Method) -> Result<Option<FoundMethod<'a>>, NoMemory>
+    pub fn target(
+        &self,
+        d: &PlainClassName<'a>,
+        c: &PlainClassName<'a>,
+        m: &'a Method,
+    ) -> Result<Option<FoundMethod<'a>>, NoMemory>
         ensures { IfOk result (λ found. found ≡ target self.now d.now c.now m.now) }
     {
         if !is_virtual(&m.kind) {

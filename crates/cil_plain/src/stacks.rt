@@ -5,6 +5,7 @@ ghost use Rattle.std.specs.Prelude.{◌≡◌, [], ◌∷◌, MatchOption, OnOk,
 use crate::copies::{Copies, copy_items};
 use cil_model::memory::NoMemory;
 use std::alloc::Global;
+use std::fmt;
 use std::marker::Model;
 
 /// A stack that contracts see as the list of its items, the topmost first.
@@ -26,7 +27,9 @@ impl<T> Stack<T> {
     pub fn new(alloc: Global) -> Self
         ensures { result ≡ [] }
     {
-        Stack { items: Vec::new(alloc) }
+        Stack {
+            items: Vec::new(alloc),
+        }
     }
 
     pub fn depth(&self) -> usize
@@ -59,5 +62,19 @@ impl<T: Copies + Drop> Copies for Stack<T> {
         Ok(Stack {
             items: copy_items(alloc, self.items.as_slice())?,
         })
+    }
+}
+
+/// `[5, 4]`: the items from the top.
+impl<T: fmt::Display> fmt::Display for Stack<T> {
+    fn fmt<W: fmt::Write>(&self, f: &mut fmt::Formatter<W>) -> fmt::Result {
+        write!(f, "[")?;
+        for (place, item) in self.items.iter().rev().enumerate() {
+            if place > 0 {
+                write!(f, ", ")?;
+            }
+            write!(f, "{item}")?;
+        }
+        write!(f, "]")
     }
 }

@@ -119,6 +119,17 @@ fn is_reference_element(element: &Element, brackets: u32) -> bool
     }
 }
 
+impl<'a> PlainType<'a> {
+    pub fn of(t: &'a DeclaredType) -> Self
+        ensures { result ≡ t.now }
+    {
+        PlainType {
+            element: PlainElement::of(&t.element),
+            brackets: u64::from(t.brackets),
+        }
+    }
+}
+
 /// `t[]`
 pub fn array_of<'a>(t: &'a DeclaredType) -> PlainType<'a>
     ensures { result ≡ array_of t.now }
@@ -159,7 +170,11 @@ impl<'a> Program<'a> {
         }
     }
 
-    fn is_met_along(&self, d: &PlainClassName, chain: &[PlainClassName<'a>]) -> Result<bool, NoMemory>
+    fn is_met_along(
+        &self,
+        d: &PlainClassName,
+        chain: &[PlainClassName<'a>],
+    ) -> Result<bool, NoMemory>
         ensures { IfOk result (λ b. b ≡ list_any (λ k. same_class k d.now || list_any (same_class d.now) (interfaces_in self.now k)) chain.now) }
     {
         let Some((k, bases)) = chain.split_first() else {
@@ -172,7 +187,11 @@ impl<'a> Program<'a> {
         }
     }
 
-    fn is_class_assignable(&self, c: &PlainClassName<'a>, d: &PlainClassName) -> Result<bool, NoMemory>
+    fn is_class_assignable(
+        &self,
+        c: &PlainClassName<'a>,
+        d: &PlainClassName,
+    ) -> Result<bool, NoMemory>
         ensures { IfOk result (λ b. b ≡ is_class_assignable self.now c.now d.now) }
     {
         let chain = self.chain_of(c)?;
@@ -195,7 +214,13 @@ impl<'a> Program<'a> {
     }
 
     #[tactic(auto, using(crate::proofs::Walks::both_arrays, crate::proofs::Walks::array_to_plain, crate::proofs::Walks::plain_to_array))]
-    fn is_assignable_at(&self, e: &PlainElement<'a>, m: u64, f: &Element, n: u32) -> Result<bool, NoMemory>
+    fn is_assignable_at(
+        &self,
+        e: &PlainElement<'a>,
+        m: u64,
+        f: &Element,
+        n: u32,
+    ) -> Result<bool, NoMemory>
         ensures { IfOk result (λ b. b ≡ is_assignable_at self.now e.now m f.now n) }
     {
         if n == 0 {
@@ -217,7 +242,11 @@ impl<'a> Program<'a> {
     }
 
     /// Whether a value of the first type may stand where the second is wanted.
-    pub fn is_assignable(&self, own: &PlainType<'a>, wanted: &DeclaredType) -> Result<bool, NoMemory>
+    pub fn is_assignable(
+        &self,
+        own: &PlainType<'a>,
+        wanted: &DeclaredType,
+    ) -> Result<bool, NoMemory>
         ensures { IfOk result (λ b. b ≡ is_assignable self.now own.now wanted.now) }
     {
         self.is_assignable_at(&own.element, own.brackets, &wanted.element, wanted.brackets)
