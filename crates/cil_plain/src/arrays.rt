@@ -55,7 +55,7 @@ fn passes(test: ElementTest, t: &DeclaredType) -> bool
 
 impl<'a> Turn<'a> {
     /// A place of an array that is there, whose elements pass the test. Null is checked first, then the range.
-    fn locate(
+    pub fn locate(
         &self,
         test: ElementTest,
         array: &PlainValue<'a>,

@@ -3,9 +3,11 @@
 
 pub mod arithmetic;
 pub mod arrays;
+pub mod births;
 pub mod bodies;
 pub mod built_ins;
 pub mod calls;
+pub mod casts;
 pub mod chains;
 pub mod copies;
 pub mod declarations;
