@@ -1,5 +1,5 @@
 -- The rule of the shared words. With m slots and n seats, word k is the first copy of slot k, word m + k the second, word 2 m + j the stage that seat j has taken up, and word 2 m + n the stage (this profile).
-use Rattle.std.specs.Prelude.{◌≡◌, ◌≢◌, ◌⊎◌, ℕ, ◌+◌, ◌<◌, ◌≤◌, List, length, replicate, slice_index}
+use Rattle.std.specs.Prelude.{◌≡◌, ◌≢◌, ◌⊎◌, ℕ, ◌+◌, ◌*◌, ◌<◌, ◌≤◌, List, length, replicate, slice_index}
 use Rattle.std.specs.List.{Contains}
 use mathlib.Core.Option.{some}
 use lib.ListN.{get_elem?}
@@ -14,9 +14,9 @@ use Rattle.flip_table.specs.declared.slot_table.WriterView.{WriterView}
 abbrev pub retired_mark : ℕ
 retired_mark = 65536
 
--- how the second copy says a value
+-- how the second copy says a value: null is 0 in both
 abbrev pub forward : ℕ → ℕ
-forward value = value + 131072
+forward value = 131072 * value
 
 -- Every stage that is taken up is the stage or one less.
 abbrev pub IsStageOrOneLess : ℕ → ℕ → Type 0

@@ -1,4 +1,8 @@
-//! Two copies of every slot, which seats read and write and one copier copies, without a lock.
+//! Two copies of every slot, which seats read and write and one copier copies, without a lock: each call is one atomic step.
 #![tactic(auto)]
 
-pub mod slot_table;
+mod flip_table;
+mod slot_table;
+
+pub use flip_table::{Copier, FlipTable, Writer};
+pub use slot_table::{CopierView, Plan, PlanView, WriterView};
