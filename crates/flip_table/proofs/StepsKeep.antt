@@ -22,7 +22,7 @@ Table = State (Unit {0}) View
 abbrev Homes : Type 0
 Homes = List (Option (Unit {0}))
 
-at_inside : {A : Type 0} (l : List A) (i : ℕ) (a : A) → get_elem? l i ≡ some a → i < length l
+pub at_inside : {A : Type 0} (l : List A) (i : ℕ) (a : A) → get_elem? l i ≡ some a → i < length l
 at_inside [] i a e = absurd (some-ne-none a (sym e))
 at_inside (x ∷ xs) zero a e = omega arith
 at_inside (x ∷ xs) (suc i) a e = let h = at_inside xs i a e in omega arith
@@ -40,19 +40,19 @@ among_last : (wrote : List (ℕ × ℕ)) (k i x : ℕ) → k ≡ i → IsAmong (
 among_last wrote k i x e = inr (Contains-append_right wrote ((i, x) ∷ []) (k, x) (0, omega arith, ap (λ (z : ℕ). (z, x)) (sym e)))
 
 module _ (plan : PlanView) where
-  abbrev m : ℕ
+  abbrev pub m : ℕ
   m = length plan.owners
 
   abbrev n : ℕ
   n = plan.seats
 
-  abbrev owner : ℕ → ℕ
+  abbrev pub owner : ℕ → ℕ
   owner k = get_or plan.owners k 0
 
-  abbrev first : List ℕ → ℕ → ℕ
+  abbrev pub first : List ℕ → ℕ → ℕ
   first ws k = get_or ws k 0
 
-  abbrev second : List ℕ → ℕ → ℕ
+  abbrev pub second : List ℕ → ℕ → ℕ
   second ws k = get_or ws (m + k) 0
 
   abbrev taken : List ℕ → ℕ → ℕ
@@ -61,10 +61,10 @@ module _ (plan : PlanView) where
   abbrev stage : List ℕ → ℕ
   stage ws = get_or ws (m + m + n) 0
 
-  abbrev Twin : List ℕ → ℕ → WriterView → CopierView → Type 0
+  abbrev pub Twin : List ℕ → ℕ → WriterView → CopierView → Type 0
   Twin ws k q p = IsTwin (first ws k) (second ws k) k q p
 
-  abbrev Slot : List ℕ → ℕ → CopierView → Type 0
+  abbrev pub Slot : List ℕ → ℕ → CopierView → Type 0
   Slot ws k p = IsSlot plan.limit (first ws k) (second ws k) k (owner k) p
 
   abbrev Paced : List ℕ → Type 0
@@ -93,7 +93,7 @@ module _ (plan : PlanView) where
         (at_set s.views me (owner k + 1) (OfWriter q') (OfWriter o) eo);
   }
 
-  copier_of : (s : Table) (r : KeepsFlip plan s) (me : ℕ) (p : CopierView) → get_elem? s.views me ≡ some (OfCopier p) → r.copier ≡ p
+  pub copier_of : (s : Table) (r : KeepsFlip plan s) (me : ℕ) (p : CopierView) → get_elem? s.views me ≡ some (OfCopier p) → r.copier ≡ p
   copier_of s r me p at = ap copier_part (some-injective (OfCopier r.copier) (OfCopier p) (sym r.copier_is ∙ (ap (λ (x : ℕ). get_elem? s.views x) (sym (r.known me (OfCopier p) at).place_is) ∙ at)))
 
   copier_steps : (s : Table) (r : KeepsFlip plan s) (ws : List ℕ) (hs : Homes) (me : ℕ) (p p' : CopierView) → get_elem? s.views me ≡ some (OfCopier p) → length ws ≡ length s.words → Paced ws

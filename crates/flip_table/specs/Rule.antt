@@ -1,5 +1,5 @@
 -- The rule of the shared words. With m slots and n seats, word k is the first copy of slot k, word m + k the second, word 2 m + j the stage that seat j has taken up, and word 2 m + n the stage (this profile).
-use Rattle.std.specs.Prelude.{◌≡◌, ◌≢◌, ◌⊎◌, ℕ, ◌+◌, ◌*◌, ◌<◌, ◌≤◌, List, length, replicate, slice_index}
+use Rattle.std.specs.Prelude.{◌≡◌, ◌≢◌, ◌⊎◌, ℕ, ◌+◌, ◌*◌, ◌<◌, ◌≤◌, List, [], length, replicate, slice_index}
 use Rattle.std.specs.List.{Contains}
 use mathlib.Core.Option.{some}
 use lib.ListN.{get_elem?}
@@ -98,16 +98,24 @@ pub record KeepsFlip (plan : PlanView) (table : State (Unit {0}) View) : Type 0 
   pub twins : (k : ℕ) (q : WriterView) → k < length plan.owners → get_elem? table.views (slice_index plan.owners k + 1) ≡ some (OfWriter q)
       → IsTwin (slice_index table.words k) (slice_index table.words (length plan.owners + k)) k q copier
 
--- the copier before any writer is given out
-abbrev pub opening_view : PlanView → View
-opening_view plan = OfCopier (record {
+-- the copier once so many writers are given out, before any step
+abbrev pub dealt_copier : PlanView → ℕ → CopierView
+dealt_copier plan dealt = record {
   plan = plan;
   stage = 0;
-  dealt = 0;
+  dealt = dealt;
   found = replicate plan.seats 0;
   copying = 0;
   value = 0;
   stored = 0;
   copied = replicate (length plan.owners) 0;
   retired = replicate (length plan.owners) 0;
-})
+}
+
+-- the writer of a seat before any step
+abbrev pub opening_writer : PlanView → ℕ → WriterView
+opening_writer plan index = record { plan = plan; index = index; taken_up = 0; polled = 0; written = replicate (length plan.owners) 0; wrote = []; pending = 0 }
+
+-- the copier before any writer is given out
+abbrev pub opening_view : PlanView → View
+opening_view plan = OfCopier (dealt_copier plan 0)

@@ -1,7 +1,7 @@
 -- The kinds of step: what each tells its holder, and what the holder knows after it (this profile).
-use Rattle.std.specs.Prelude.{◌≡◌, ◌≢◌, ℕ, ◌+◌, ◌<◌, ◌≤◌, List, [], ◌∷◌, ◌++◌, length, slice_index, slice_set}
+use Rattle.std.specs.Prelude.{◌≡◌, ◌≢◌, ℕ, ◌+◌, ◌<◌, ◌≤◌, [], ◌∷◌, ◌++◌, length, slice_index, slice_set}
 use Rattle.atomic_table.specs.Table.{Me, Step}
-use Rattle.flip_table.specs.Rule.{forward, IsStageOrOneLess}
+use Rattle.flip_table.specs.Rule.{forward, opening_writer, IsStageOrOneLess}
 use Rattle.flip_table.specs.declared.slot_table.CopierView.{CopierView}
 use Rattle.flip_table.specs.declared.slot_table.PlanView.{PlanView}
 use Rattle.flip_table.specs.declared.slot_table.View.{View}
@@ -26,6 +26,15 @@ writer_part (OfCopier p) = record { plan = no_plan; index = 0; taken_up = 0; pol
 abbrev pub copier_part : View → CopierView
 copier_part (OfWriter q) = record { plan = no_plan; stage = 0; dealt = 0; found = []; copying = 0; value = 0; stored = 0; copied = []; retired = [] }
 copier_part (OfCopier p) = p
+
+-- the copier's view once it gave out the next writer, and that writer's view
+abbrev pub dealing_copier : View → View
+dealing_copier (OfWriter q) = OfWriter q
+dealing_copier (OfCopier p) = OfCopier (record p { dealt = p.dealt + 1 })
+
+abbrev pub dealt_writer : View → View
+dealt_writer (OfWriter q) = OfWriter q
+dealt_writer (OfCopier p) = OfWriter (opening_writer p.plan p.dealt)
 
 -- A load of a first copy, at stage 0. The seat has found a value below the limit, and in a slot of its own what it last wrote.
 abbrev pub LoadsFirst : WordStep → Holder → ℕ → Holder → Type 0

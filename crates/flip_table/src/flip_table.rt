@@ -1,13 +1,18 @@
 //! The calls, each of which is one step.
 
 ghost use Rattle.std.specs.Prelude.{◌≡◌, ◌≢◌, ◌+◌, ◌^◌, ◌<◌, ◌≤◌, [], ◌∷◌, ◌++◌, ℕ, length, slice_index, slice_set};
-ghost use Rattle.flip_table.specs.Rule.{forward, retired_mark, CopiedAll, FoundAll, IsStageOrOneLess};
-ghost use Rattle.flip_table.specs.Tokens.{IsCopierOf, IsWriterOf};
+ghost use Rattle.std.specs.Prelude.{All, IfOk, vec_len};
+ghost use Rattle.flip_table.specs.Plans.{plan_of};
+ghost use Rattle.flip_table.specs.Rule.{dealt_copier, forward, opening_view, CopiedAll, FoundAll, IsStageOrOneLess};
+ghost use Rattle.flip_table.specs.Tokens.{opening_seat, opening_writers, IsCopierOf, IsWriterOf};
+ghost use Rattle.flip_table.specs.declared.slot_table.View.TheVariants.{OfCopier};
 
 use crate::slot_table::{
-    FindStage, LoadFirst, LoadSecond, LoadToCheck, LoadToCopy, PollStage, PostStage, Retire,
-    StoreAlone, StoreCopy, StoreFirst, StoreSecond, TakeUp, Token, WordTable,
+    DealWriter, FindStage, LoadFirst, LoadSecond, LoadToCheck, LoadToCopy, Plan, PollStage,
+    PostStage, Retire, StoreAlone, StoreCopy, StoreFirst, StoreSecond, TakeUp, Token, WordTable,
 };
+use atomic_table::Table;
+use std::alloc::{AllocError, Global};
 use std::marker::Model;
 
 /// What stands in a first copy that was retired.
@@ -90,6 +95,42 @@ impl Model for Copier {
         × (c.stage ≡ knows.stage) };
 }
 
+/// The words of this plan, all 0, and the copier's token.
+fn lay_words(alloc: Global, plan: &Plan) -> Result<(WordTable, Token), AllocError>
+    requires sizes { (vec_len plan.now.writer_of ≤ 4096) × (plan.now.seats ≤ 16) }
+    requires owned { All (λ j. j < plan.now.seats) plan.now.writer_of.items }
+    requires limit { 0 < plan.now.limit }
+    ensures words { IfOk result (λ laid. (laid.0.shared.table_id.words ≡ vec_len plan.now.writer_of + vec_len plan.now.writer_of + plan.now.seats + 1) × (laid.0.shared.key ≡ plan.now)) }
+    ensures token { IfOk result (λ laid. (laid.1.table_id ≡ laid.0.shared.table_id) × (laid.1.me ≡ (opening_view (plan_of plan.now), []))) }
+{
+    let slots = plan.writer_of.len();
+    let zeros = Vec::from_elem(alloc, 0, slots + slots + plan.seats + 1)?;
+    Table::of_words(alloc, zeros.as_slice(), plan)
+}
+
+/// The writer of this index, which is the next one to be given out.
+fn deal_writer(words: &WordTable, token: &mut Token, index: usize) -> Writer
+    requires words { (token.old.table_id ≡ words.now.shared.table_id) × (0 < words.now.shared.table_id.words) }
+    requires next { (token.old.me ≡ (OfCopier (dealt_copier (plan_of words.now.shared.key) index), [])) × (index < words.now.shared.key.seats) }
+    ensures token { (token.new.table_id ≡ token.old.table_id) × (token.new.me ≡ (OfCopier (dealt_copier (plan_of words.now.shared.key) (index + 1)), [])) }
+    ensures writer { result ≡ opening_seat token.old.table_id (plan_of words.now.shared.key) index }
+{
+    Writer {
+        token: words.shared.split_seat::<DealWriter>(token),
+        index,
+        taken_up: 0,
+        polled: 0,
+    }
+}
+
+/// The copier, once each writer was given out.
+fn copier_of(token: Token, plan: &Plan) -> Copier
+    requires { token.me ≡ (OfCopier (dealt_copier (plan_of plan.now) plan.now.seats), []) }
+    ensures { result ≡ record { table = token.table_id; knows = dealt_copier (plan_of plan.now) plan.now.seats } }
+{
+    Copier { token, stage: 0 }
+}
+
 fn forward(value: u64) -> u64
     requires { value < 65536 }
     ensures { result ≡ forward value }
@@ -98,6 +139,31 @@ fn forward(value: u64) -> u64
 }
 
 impl FlipTable {
+    /// A table of this plan, with the copier and a writer for each seat, in order. Every slot is null, and every stage 0.
+    ///
+    /// Only want of memory is an error. No other call takes memory.
+    pub fn new(alloc: Global, plan: Plan) -> Result<(FlipTable, Copier, Vec<Writer>), AllocError>
+        requires sizes { (vec_len plan.writer_of ≤ 4096) × (plan.seats ≤ 16) }
+        requires owned { All (λ j. j < plan.seats) plan.writer_of.items }
+        requires limit { (0 < plan.limit) × (plan.limit ≤ 65536) }
+        ensures table { IfOk result (λ made. made.0.plan ≡ plan_of plan) }
+        ensures copier { IfOk result (λ made. made.1 ≡ record { table = made.0.table; knows = dealt_copier (plan_of plan) plan.seats }) }
+        ensures writers { IfOk result (λ made. made.2.items ≡ opening_writers made.0.table (plan_of plan)) }
+    {
+        let (slots, seats) = (plan.writer_of.len(), plan.seats);
+        let mut writers = Vec::with_capacity(alloc, seats)?;
+        let (words, mut token) = lay_words(alloc, &plan)?;
+        for index in 0..seats {
+            writers.push_reserved(deal_writer(&words, &mut token, index));
+        }
+        let table = FlipTable {
+            words,
+            slots,
+            seats,
+        };
+        Ok((table, copier_of(token, &plan), writers))
+    }
+
     /// Loads the first copy of a slot, at stage 0: a value below the limit, and in a slot of the writer's own what it
     /// last wrote.
     pub fn load_first(&self, mut writer: Writer, slot: usize) -> (u64, Writer)

@@ -3,7 +3,7 @@
 //! With m slots and n seats, word k is the first copy of slot k, word m + k the second, word 2 m + j the stage that
 //! seat j has taken up, and word 2 m + n the stage.
 
-use atomic_table::{Play, Table, TableRule};
+use atomic_table::{Play, Split, Table, TableRule};
 use std::alloc::Global;
 
 /// What is fixed when the words are made.
@@ -201,4 +201,15 @@ impl Play<(), View> for Retire {
     ghost use Rattle.flip_table.specs.Steps.{Retires};
 
     ghost then = { Retires };
+}
+
+/// The copier gives out the next writer.
+pub(crate) struct DealWriter;
+
+impl Split<View> for DealWriter {
+    ghost use Rattle.flip_table.specs.Steps.{dealing_copier, dealt_writer};
+
+    ghost left = { dealing_copier };
+
+    ghost right = { dealt_writer };
 }

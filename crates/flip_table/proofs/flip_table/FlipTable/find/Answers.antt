@@ -1,4 +1,4 @@
-use Rattle.std.proofs.Common.{rules, arith, ap, sym, ◌∙◌, subst}
+use Rattle.std.proofs.Common.{rules, arith, ap, sym, ◌∙◌}
 use Rattle.flip_table.proofs.Plays.{finds_stage}
 use Rattle.flip_table.proofs.Tokens.{is_copier, knows_copier}
 use Rattle.flip_table.proofs.flip_table.FlipTable.find.Goals as goal

@@ -1,4 +1,4 @@
-use Rattle.std.proofs.Common.{rules, arith, ap, sym, ◌∙◌, ◌<◌, subst}
+use Rattle.std.proofs.Common.{rules, ap, sym, ◌∙◌, ◌<◌, subst}
 use Rattle.flip_table.proofs.Plays.{stores_alone}
 use Rattle.flip_table.proofs.Tokens.{is_writer, knows_writer}
 use Rattle.flip_table.proofs.flip_table.FlipTable.store_alone.Goals as goal

@@ -1,4 +1,4 @@
-use Rattle.std.proofs.Common.{rules, arith, ap, sym, ◌∙◌, subst}
+use Rattle.std.proofs.Common.{rules, ap, sym, ◌∙◌}
 use Rattle.flip_table.proofs.Plays.{stores_copy}
 use Rattle.flip_table.proofs.Tokens.{is_copier, knows_copier}
 use Rattle.flip_table.proofs.flip_table.FlipTable.store_copy.Goals as goal
