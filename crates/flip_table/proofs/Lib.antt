@@ -1,0 +1,4 @@
+pub mod Making
+pub mod Plays
+pub mod StepsKeep
+pub mod Tokens

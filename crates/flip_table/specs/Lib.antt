@@ -1,0 +1,4 @@
+pub mod Plans
+pub mod Rule
+pub mod Steps
+pub mod Tokens

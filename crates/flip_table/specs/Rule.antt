@@ -1,0 +1,121 @@
+-- The rule of the shared words. With m slots and n seats, word k is the first copy of slot k, word m + k the second, word 2 m + j the stage that seat j has taken up, and word 2 m + n the stage (this profile).
+use Rattle.std.specs.Prelude.{◌≡◌, ◌≢◌, ◌⊎◌, ℕ, ◌+◌, ◌*◌, ◌<◌, ◌≤◌, List, [], length, replicate, slice_index}
+use Rattle.std.specs.List.{Contains}
+use mathlib.Core.Option.{some}
+use lib.ListN.{get_elem?}
+use Rattle.atomic_table.specs.Table.{State}
+use Rattle.flip_table.specs.declared.slot_table.CopierView.{CopierView}
+use Rattle.flip_table.specs.declared.slot_table.PlanView.{PlanView}
+use Rattle.flip_table.specs.declared.slot_table.View.{View}
+use Rattle.flip_table.specs.declared.slot_table.View.TheVariants.{OfWriter, OfCopier}
+use Rattle.flip_table.specs.declared.slot_table.WriterView.{WriterView}
+
+-- what stands in a first copy that was retired
+abbrev pub retired_mark : ℕ
+retired_mark = 65536
+
+-- how the second copy says a value: null is 0 in both
+abbrev pub forward : ℕ → ℕ
+forward value = 131072 * value
+
+-- Every stage that is taken up is the stage or one less.
+abbrev pub IsStageOrOneLess : ℕ → ℕ → Type 0
+IsStageOrOneLess taken_up stage = (taken_up ≤ stage) × (stage ≤ taken_up + 1)
+
+-- The value is null, or was once written to slot k.
+abbrev pub IsAmong : List (ℕ × ℕ) → ℕ → ℕ → Type 0
+IsAmong wrote k value = (value ≡ 0) ⊎ Contains wrote (k, value)
+
+-- Each seat was found to have taken up this stage.
+abbrev pub FoundAll : ℕ → CopierView → Type 0
+FoundAll stage p = (j : ℕ) → j < length p.found → slice_index p.found j ≡ stage
+
+abbrev pub CopiedAll : CopierView → Type 0
+CopiedAll p = (k : ℕ) → k < length p.copied → slice_index p.copied k ≡ 1
+
+-- The second copy says what the writer of slot k last wrote, or its writer has yet to store it.
+abbrev pub SaysWritten : ℕ → ℕ → WriterView → Type 0
+SaysWritten second k q = (q.pending ≡ k + 1) ⊎ (second ≡ forward (slice_index q.written k))
+
+-- What holds of slot k with these two copies, whoever its writer is.
+pub record IsSlot (limit first second k owner : ℕ) (p : CopierView) : Type 0 where
+  pub live : slice_index p.retired k ≢ 1 → first < limit
+  pub dead : slice_index p.retired k ≡ 1 → first ≡ retired_mark
+  pub small : (x : ℕ) × (x < limit) × (second ≡ forward x)
+  pub unwritten : p.dealt ≤ owner → (first ≡ 0) × (second ≡ forward 0) × (p.copying ≡ k + 1 → p.value ≡ 0)
+
+-- The same, where its writer knows q. The last three: each live word of the slot is null or among what its writer wrote.
+pub record IsTwin (first second k : ℕ) (q : WriterView) (p : CopierView) : Type 0 where
+  pub first_is : q.taken_up ≤ 1 → first ≡ slice_index q.written k
+  pub same : slice_index p.copied k ≡ 1 → SaysWritten second k q
+  pub checked : p.copying ≡ k + 1 → p.stored ≡ 1 → (second ≡ forward p.value) ⊎ SaysWritten second k q
+  pub wrote_first : slice_index p.retired k ≢ 1 → IsAmong q.wrote k first
+  pub wrote_second : (x : ℕ) → second ≡ forward x → IsAmong q.wrote k x
+  pub wrote_value : p.copying ≡ k + 1 → IsAmong q.wrote k p.value
+
+-- What the writer of seat j knows, whose view has the place j + 1.
+pub record IsWriterView (words : List ℕ) (plan : PlanView) (place : ℕ) (q : WriterView) : Type 0 where
+  pub plan_is : q.plan ≡ plan
+  pub place_is : place ≡ q.index + 1
+  pub in_range : q.index < plan.seats
+  pub taken_up_is : slice_index words (length plan.owners + length plan.owners + q.index) ≡ q.taken_up
+  pub taken_up_polled : q.taken_up ≤ q.polled
+  pub polled_stage : q.polled ≤ slice_index words (length plan.owners + length plan.owners + plan.seats)
+  pub written_each : length q.written ≡ length plan.owners
+  pub wrote_written : (k : ℕ) → k < length plan.owners → IsAmong q.wrote k (slice_index q.written k)
+  pub settled : 1 < q.taken_up → q.pending ≡ 0
+
+-- What the copier knows, whose view has the place 0 of so many.
+pub record IsCopierView (words : List ℕ) (plan : PlanView) (places place : ℕ) (p : CopierView) : Type 0 where
+  pub plan_is : p.plan ≡ plan
+  pub place_is : place ≡ 0
+  pub places_are : places ≡ p.dealt + 1
+  pub stage_is : slice_index words (length plan.owners + length plan.owners + plan.seats) ≡ p.stage
+  pub last : p.stage ≤ 2
+  pub found_each : length p.found ≡ plan.seats
+  pub found_since : (j : ℕ) → j < plan.seats → slice_index p.found j ≤ slice_index words (length plan.owners + length plan.owners + j)
+  pub undealt_is : (j : ℕ) → p.dealt ≤ j → j < plan.seats → slice_index words (length plan.owners + length plan.owners + j) ≡ 0
+  pub copied_each : length p.copied ≡ length plan.owners
+  pub retired_each : length p.retired ≡ length plan.owners
+  pub all_copied : 0 < p.stage → CopiedAll p
+  pub all_found : (k : ℕ) → slice_index p.retired k ≡ 1 → FoundAll 2 p
+
+abbrev pub Knows : List ℕ → PlanView → ℕ → ℕ → View → Type 0
+Knows words plan places place (OfWriter q) = IsWriterView words plan place q
+Knows words plan places place (OfCopier p) = IsCopierView words plan places place p
+
+-- Every step keeps this.
+pub record KeepsFlip (plan : PlanView) (table : State (Unit {0}) View) : Type 0 where
+  pub words_are : length table.words ≡ length plan.owners + length plan.owners + plan.seats + 1
+  pub owned : (k : ℕ) → k < length plan.owners → slice_index plan.owners k < plan.seats
+  pub paced : (j : ℕ) → j < plan.seats
+      → IsStageOrOneLess (slice_index table.words (length plan.owners + length plan.owners + j)) (slice_index table.words (length plan.owners + length plan.owners + plan.seats))
+  pub known : (place : ℕ) (view : View) → get_elem? table.views place ≡ some view → Knows table.words plan (length table.views) place view
+  pub copier : CopierView
+  pub copier_is : get_elem? table.views 0 ≡ some (OfCopier copier)
+  pub slots : (k : ℕ) → k < length plan.owners
+      → IsSlot plan.limit (slice_index table.words k) (slice_index table.words (length plan.owners + k)) k (slice_index plan.owners k) copier
+  pub twins : (k : ℕ) (q : WriterView) → k < length plan.owners → get_elem? table.views (slice_index plan.owners k + 1) ≡ some (OfWriter q)
+      → IsTwin (slice_index table.words k) (slice_index table.words (length plan.owners + k)) k q copier
+
+-- the copier once so many writers are given out, before any step
+abbrev pub dealt_copier : PlanView → ℕ → CopierView
+dealt_copier plan dealt = record {
+  plan = plan;
+  stage = 0;
+  dealt = dealt;
+  found = replicate plan.seats 0;
+  copying = 0;
+  value = 0;
+  stored = 0;
+  copied = replicate (length plan.owners) 0;
+  retired = replicate (length plan.owners) 0;
+}
+
+-- the writer of a seat before any step
+abbrev pub opening_writer : PlanView → ℕ → WriterView
+opening_writer plan index = record { plan = plan; index = index; taken_up = 0; polled = 0; written = replicate (length plan.owners) 0; wrote = []; pending = 0 }
+
+-- the copier before any writer is given out
+abbrev pub opening_view : PlanView → View
+opening_view plan = OfCopier (dealt_copier plan 0)

@@ -1,0 +1,100 @@
+-- The kinds of step: what each tells its holder, and what the holder knows after it (this profile).
+use Rattle.std.specs.Prelude.{◌≡◌, ◌≢◌, ℕ, ◌+◌, ◌<◌, ◌≤◌, [], ◌∷◌, ◌++◌, length, slice_index, slice_set}
+use Rattle.atomic_table.specs.Table.{Me, Step}
+use Rattle.flip_table.specs.Rule.{forward, opening_writer, IsStageOrOneLess}
+use Rattle.flip_table.specs.declared.slot_table.CopierView.{CopierView}
+use Rattle.flip_table.specs.declared.slot_table.PlanView.{PlanView}
+use Rattle.flip_table.specs.declared.slot_table.View.{View}
+use Rattle.flip_table.specs.declared.slot_table.View.TheVariants.{OfWriter, OfCopier}
+use Rattle.flip_table.specs.declared.slot_table.WriterView.{WriterView}
+
+abbrev pub Holder : Type 0
+Holder = Me (Unit {0}) View
+
+abbrev pub WordStep : Type 0
+WordStep = Step (Unit {0})
+
+abbrev no_plan : PlanView
+no_plan = record { owners = []; seats = 0; limit = 0 }
+
+-- what a writer knows (of the copier's view nothing is asked)
+abbrev pub writer_part : View → WriterView
+writer_part (OfWriter q) = q
+writer_part (OfCopier p) = record { plan = no_plan; index = 0; taken_up = 0; polled = 0; written = []; wrote = []; pending = 0 }
+
+-- what the copier knows (of a writer's view nothing is asked)
+abbrev pub copier_part : View → CopierView
+copier_part (OfWriter q) = record { plan = no_plan; stage = 0; dealt = 0; found = []; copying = 0; value = 0; stored = 0; copied = []; retired = [] }
+copier_part (OfCopier p) = p
+
+-- the copier's view once it gave out the next writer, and that writer's view
+abbrev pub dealing_copier : View → View
+dealing_copier (OfWriter q) = OfWriter q
+dealing_copier (OfCopier p) = OfCopier (record p { dealt = p.dealt + 1 })
+
+abbrev pub dealt_writer : View → View
+dealt_writer (OfWriter q) = OfWriter q
+dealt_writer (OfCopier p) = OfWriter (opening_writer p.plan p.dealt)
+
+-- A load of a first copy, at stage 0. The seat has found a value below the limit, and in a slot of its own what it last wrote.
+abbrev pub LoadsFirst : WordStep → Holder → ℕ → Holder → Type 0
+LoadsFirst step before x after = let q = writer_part before.0 in
+    (after ≡ (OfWriter q, [])) × (x < q.plan.limit) × (slice_index q.plan.owners step.word ≡ q.index → x ≡ slice_index q.written step.word)
+
+-- A load of a second copy, from stage 1 on. The seat has found the forward of such a value.
+abbrev pub LoadsSecond : WordStep → Holder → ℕ → Holder → Type 0
+LoadsSecond step before y after = let q = writer_part before.0 in
+    (after ≡ (OfWriter q, [])) × ((x : ℕ) × (x < q.plan.limit) × (y ≡ forward x))
+    × ((k : ℕ) → step.word ≡ length q.plan.owners + k → slice_index q.plan.owners k ≡ q.index → y ≡ forward (slice_index q.written k))
+
+-- A store to a first copy. The seat has written x, and has yet to store it in the second copy.
+abbrev pub StoresFirst : WordStep → Holder → ℕ → Holder → Type 0
+StoresFirst step before x after = let q = writer_part before.0 in
+    after ≡ (OfWriter (record q { written = slice_set q.written step.word x; wrote = q.wrote ++ (step.word, x) ∷ []; pending = step.word + 1 }), [])
+
+-- A store to the second copy of the slot whose first copy was stored just before.
+abbrev pub StoresSecond : WordStep → Holder → ℕ → Holder → Type 0
+StoresSecond step before y after = let q = writer_part before.0 in after ≡ (OfWriter (record q { pending = 0 }), [])
+
+-- A store to a second copy alone, at stage 2.
+abbrev pub StoresAlone : WordStep → Holder → ℕ → Holder → Type 0
+StoresAlone step before y after = let q = writer_part before.0 in (k x : ℕ) → step.word ≡ length q.plan.owners + k → y ≡ forward x
+    → after ≡ (OfWriter (record q { written = slice_set q.written k x; wrote = q.wrote ++ (k, x) ∷ []; pending = 0 }), [])
+
+-- A load of the stage by a seat.
+abbrev pub PollsStage : WordStep → Holder → ℕ → Holder → Type 0
+PollsStage step before x after = let q = writer_part before.0 in
+    (after ≡ (OfWriter (record q { polled = x }), [])) × IsStageOrOneLess q.taken_up x × (q.polled ≤ x)
+
+-- A store of the stage that a seat takes up.
+abbrev pub TakesUp : WordStep → Holder → ℕ → Holder → Type 0
+TakesUp step before x after = let q = writer_part before.0 in after ≡ (OfWriter (record q { taken_up = q.polled }), [])
+
+-- The copier's load of a first copy, at stage 0.
+abbrev pub LoadsToCopy : WordStep → Holder → ℕ → Holder → Type 0
+LoadsToCopy step before x after = let p = copier_part before.0 in
+    (after ≡ (OfCopier (record p { copying = step.word + 1; value = x; stored = 0 }), [])) × (x < p.plan.limit)
+
+-- The copier's store to a second copy. The slot stops counting as copied.
+abbrev pub StoresCopy : WordStep → Holder → ℕ → Holder → Type 0
+StoresCopy step before y after = let p = copier_part before.0 in (k : ℕ) → p.copying ≡ k + 1
+    → after ≡ (OfCopier (record p { stored = 1; copied = slice_set p.copied k 0 }), [])
+
+-- The copier's second load of a first copy. The slot counts as copied where the value is the same.
+abbrev pub LoadsToCheck : WordStep → Holder → ℕ → Holder → Type 0
+LoadsToCheck step before x after = let p = copier_part before.0 in
+    (x ≡ p.value → after ≡ (OfCopier (record p { copying = 0; copied = slice_set p.copied step.word 1 }), []))
+    × (x ≢ p.value → after ≡ (OfCopier (record p { copying = 0 }), []))
+
+-- The copier's load of the stage that a seat has taken up.
+abbrev pub FindsStage : WordStep → Holder → ℕ → Holder → Type 0
+FindsStage step before x after = let p = copier_part before.0 in (j : ℕ) → step.word ≡ length p.plan.owners + length p.plan.owners + j
+    → (after ≡ (OfCopier (record p { found = slice_set p.found j x }), [])) × IsStageOrOneLess x p.stage × (slice_index p.found j ≤ x)
+
+-- The copier's store of the next stage.
+abbrev pub PostsStage : WordStep → Holder → ℕ → Holder → Type 0
+PostsStage step before x after = let p = copier_part before.0 in after ≡ (OfCopier (record p { stage = p.stage + 1 }), [])
+
+-- The copier's store of the mark over a first copy.
+abbrev pub Retires : WordStep → Holder → ℕ → Holder → Type 0
+Retires step before x after = let p = copier_part before.0 in after ≡ (OfCopier (record p { retired = slice_set p.retired step.word 1 }), [])
