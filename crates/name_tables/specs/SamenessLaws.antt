@@ -44,4 +44,3 @@ identity_equivalence = equivalence same_identity same_identity_itself same_ident
 
 pub called_equivalence : IsEquivalence same_called
 called_equivalence = equivalence same_called same_called_itself same_called_equal
-
