@@ -1,9 +1,0 @@
-pub mod Names
-pub mod Values
-pub mod Members
-pub mod Elements
-pub mod Contents
-pub mod Monitors
-pub mod Stores
-pub mod Effects
-pub mod Located
