@@ -1,3 +1,0 @@
-pub mod Repeats
-pub mod CycleLaws
-pub mod EntryLaws

@@ -1,9 +1,0 @@
-// Which trees are legal programs.
-#![tactic(auto)]
-
-pub mod bodies;
-pub mod cycles;
-pub mod doubled;
-pub mod entry;
-#[cfg(test)]
-mod tests;

@@ -1,3 +1,0 @@
-pub mod FirstPlaces
-pub mod Lists
-pub mod NumberLaws

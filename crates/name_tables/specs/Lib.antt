@@ -1,6 +1,0 @@
-pub mod Sameness
-pub mod SamenessLaws
-pub mod Keys
-pub mod BuiltInTable
-pub mod Entries
-pub mod Numbers
