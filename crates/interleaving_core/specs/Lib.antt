@@ -1,3 +1,4 @@
 pub mod Contents
+pub mod Sound
 pub mod Refusals
 pub mod Threads

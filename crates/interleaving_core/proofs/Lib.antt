@@ -1,0 +1,4 @@
+mod Lists
+mod Moves
+mod Follows
+mod WholeRuns
