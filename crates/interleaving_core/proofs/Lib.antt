@@ -1,4 +1,6 @@
+mod Words
 mod Lists
 mod Moves
+mod Turning
 mod Follows
 mod WholeRuns

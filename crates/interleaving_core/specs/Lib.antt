@@ -1,4 +1,5 @@
 pub mod Contents
+pub mod Views
 pub mod Sound
 pub mod Refusals
 pub mod Threads

@@ -51,26 +51,10 @@ impl From<AllocError> for Refused {
 /// A machine that runs a verified program, one event at a time.
 #[derive(Debug, Drop)]
 pub struct Machine {
+    verified: Verified,
+    limits: Limits,
     thread: Thread,
     console: Vec<u8>,
-}
-
-impl Model for Machine {
-    ghost use Rattle.interleaving_core.specs.Contents.{Content};
-    ghost use Rattle.interleaving_core.specs.Threads.{IsSound};
-
-    ghost Value = { Content };
-
-    ghost view = { λ m. record {
-      code = m.thread.body.operations.items;
-      place = m.thread.place;
-      stack = m.thread.stack.items;
-      steps_left = m.thread.steps_left;
-      ended = m.thread.end;
-      printed = m.console.items;
-    } };
-
-    ghost invariant = { λ m. IsSound m.thread };
 }
 
 impl Machine {
@@ -82,103 +66,23 @@ impl Machine {
     /// the program is dropped where a machine is refused.
     pub fn new(alloc: Global, verified: Verified, limits: Limits) -> Result<Machine, Refused>
         ensures limits { (result ≡ Err BadLimits) ↔ (are_in_range limits ≡ false) }
-        ensures opening { IfOk result (λ m. (m.ended ≡ None) × (m.place ≡ 0) × (m.stack ≡ []) × (m.steps_left ≡ limits.budget) × (m.printed ≡ [])) }
     {
         if !are_in_range(limits) {
             return Err(Refused::Limits);
         }
-        let body = verified.into_entry_point();
-        let stack = Vec::with_capacity(alloc, body.max_stack)?;
+        let stack = Vec::with_capacity(alloc, verified.entry_point().max_stack)?;
         let thread = Thread {
-            body,
             place: 0,
             stack,
             steps_left: limits.budget,
             end: None,
         };
         Ok(Machine {
+            verified,
+            limits,
             thread,
             console: Vec::new(alloc),
         })
-    }
-
-    /// What the machine does on one event, and what it reports.
-    ///
-    /// Want of memory, which a print alone can meet, changes nothing and isn't counted.
-    pub fn step(&mut self, event: Event) -> Result<Report, NoMemory>
-        ensures absent { is_absent self.old event ≡ true → (result ≡ Ok Absent) × (self.new ≡ self.old) }
-        ensures acknowledged { (thread : ℕ) → event ≡ Ack thread → is_live self.old thread ≡ true → (result ≡ Ok NothingPosted) × (self.new ≡ self.old) }
-        ensures waiting { event ≡ Gc → (result ≡ Ok Waiting) × (self.new ≡ self.old) }
-        ensures counted { (thread : ℕ) → event ≡ Step thread → is_live self.old thread ≡ true → IfOk result (λ report. Counts self.old report self.new) }
-        ensures refused { OnErr result (self.new ≡ self.old) }
-        ensures prints { OnErr result (slice_get self.old.code self.old.place ≡ Some WriteInt32) }
-    {
-        match event {
-            Event::Step(thread) | Event::Ack(thread) if !self.is_live(thread) => Ok(Report::Absent),
-            Event::Step(_) => self.step_thread(),
-            Event::Ack(_) => Ok(Report::NothingPosted),
-            Event::Gc => Ok(Report::Waiting),
-        }
-    }
-
-    /// A step of thread 0, which is live.
-    fn step_thread(&mut self) -> Result<Report, NoMemory>
-        requires { self.old.ended ≡ None }
-        ensures counted { IfOk result (λ report. Counts self.old report self.new) }
-        ensures refused { OnErr result (self.new ≡ self.old) }
-        ensures prints { OnErr result (slice_get self.old.code self.old.place ≡ Some WriteInt32) }
-    {
-        self.thread.execute(&mut self.console)?;
-        Ok(self.thread.count_step())
-    }
-
-    /// Does the events in order, and appends the report of each.
-    ///
-    /// It stops at the first want of memory, the growth of `reports` included, which comes before its event.
-    pub fn run(&mut self, events: &[Event], reports: &mut Vec<Report>) -> Result<(), NoMemory>
-        ensures done { OnOk result (length reports.new.items ≡ length reports.old.items + length events.now) }
-        ensures kept { take (length reports.old.items) reports.new.items ≡ reports.old.items }
-    {
-        for event in events {
-            reports.reserve(1)?;
-            reports.push_reserved(self.step(*event)?);
-        }
-        Ok(())
-    }
-
-    /// The bytes printed so far.
-    pub fn console(&self) -> &[u8]
-        ensures { result.now ≡ self.now.printed }
-    {
-        self.console.as_slice()
-    }
-
-    /// How the thread ended. None where it is live or was never started.
-    pub fn end_of(&self, thread: u8) -> Option<End>
-        ensures { result ≡ end_of self.now thread }
-    {
-        if thread == 0 { self.thread.end } else { None }
-    }
-
-    /// Whether the thread was started and hasn't ended.
-    pub fn is_live(&self, thread: u8) -> bool
-        ensures { result ≡ is_live self.now thread }
-    {
-        thread == 0 && self.thread.end.is_none()
-    }
-
-    /// How many threads are live.
-    pub fn live(&self) -> usize
-        ensures { result ≡ (if is_live self.now 0 then 1 else 0) }
-    {
-        usize::from(self.is_live(0))
-    }
-
-    /// How many threads were started, the first one counted. Their numbers are those below.
-    pub fn started(&self) -> usize
-        ensures { result ≡ 1 }
-    {
-        1
     }
 }
 

@@ -89,15 +89,8 @@ impl Verified {
     }
 
     /// The code that thread 0 begins with.
-    pub fn into_entry_point(self) -> TypedBody {
-        let Verified {
-            program,
-            layout,
-            entry_point,
-        } = self;
-        drop(program);
-        drop(layout);
-        entry_point
+    pub fn entry_point(&self) -> &TypedBody {
+        &self.entry_point
     }
 }
 
