@@ -2,5 +2,8 @@ mod Words
 mod Lists
 mod Moves
 mod Turning
+mod Openings
+mod Events
 mod Follows
+mod Readiness
 mod WholeRuns

@@ -1,5 +1,5 @@
 -- One step of the thread is the turn of its content.
-use Rattle.std.proofs.Common.{◌≡◌, ◌⊎◌, inl, inr, ◌+◌, ◌-◌, ◌==◌, ℕ, zero, suc, Bool, true, false, is_none, if◌then◌else◌, List, [], ◌∷◌, map, Option, Some, None, option_map, slice_get, refl, sym, ap, ◌∙◌, subst, arith}
+use Rattle.std.proofs.Common.{◌≡◌, ◌⊎◌, inl, inr, ◌+◌, ◌-◌, ◌==◌, ℕ, zero, suc, Bool, true, false, ◌&&◌, is_none, drop, length, if◌then◌else◌, List, [], ◌∷◌, map, Option, Some, None, option_map, slice_get, refl, sym, ap, ◌∙◌, subst, arith}
 use Rattle.std.proofs.lemmas.Bool.Decides.{nat_tests}
 use Rattle.std.specs.Option.{option_map_or}
 use Rattle.cil_model.specs.declared.types.ClassName.{ClassName}
@@ -14,16 +14,20 @@ use Rattle.cil_model.specs.declared.reports.End.TheVariants.{Done, Budget}
 use Rattle.cil_model.specs.declared.reports.Report.{Report}
 use Rattle.cil_model.specs.declared.reports.Report.TheVariants.{Absent}
 use Rattle.cil_model.specs.Bodies.{entry_points, lines_of}
+use Rattle.cil_model.specs.Chains.{is_static}
+use Rattle.cil_model.specs.Legality.{is_entry_method}
 use Rattle.cil_model.specs.MachineContents.{Frame, Thread as ThreadContent, Content}
 use Rattle.cil_model.specs.Turns.{Goes, given, execute, instruction_at, move_of, settled, turn}
 use Rattle.verifier.specs.declared.program.Operation.{Operation}
 use Rattle.verifier.specs.declared.typing.TypedBody.{TypedBody}
+use Rattle.verifier.specs.declared.program.Returned.{Returned}
+use Rattle.verifier.specs.StraightLine.{is_typed}
 use Rattle.verifier.specs.Resolved.{IsEntry, instruction_of}
 use Rattle.interleaving_core.specs.declared.thread.Thread.{Thread}
 use Rattle.interleaving_core.specs.Contents.{report_of}
 use Rattle.interleaving_core.specs.Threads.{end_after}
 use Rattle.interleaving_core.specs.Views.{shown, first_frame, frames_of, thread_of, left_by, content}
-use Rattle.interleaving_core.proofs.Lists.{get_of_map}
+use Rattle.interleaving_core.proofs.Lists.{get_of_map, first_left}
 
 not_none : (n : ℕ) → (suc n == 0) ≡ false
 not_none n = grind (arith, nat_tests)
@@ -37,7 +41,7 @@ module _ (tree : Tree) (limits : Limits) (body : TypedBody) (entry : IsEntry tre
   abbrev first : Frame
   first = first_frame (entry.owner, entry.method)
 
-  entry_is : slice_get (entry_points tree) 0 ≡ Some (entry.owner, entry.method)
+  pub entry_is : slice_get (entry_points tree) 0 ≡ Some (entry.owner, entry.method)
   entry_is = ap (λ es. slice_get es 0) entry.alone
 
   -- the instruction that the frame is at is that of the operation
@@ -107,3 +111,40 @@ module _ (tree : Tree) (limits : Limits) (body : TypedBody) (entry : IsEntry tre
     pub step_turns : ◌≡◌ {A = Content × Report} (content tree limits v printed', report) (turn (content tree limits t printed) (Step 0))
     unfolding Settles
     step_turns = settles ends ∙ sym turned
+
+-- ---- in the words of the engine
+
+none_there : {X : Type 0} (o : Option X) → is_none o ≡ true → o ≡ None
+none_there None e = refl
+none_there (Some x) e = absurd (cc e)
+
+left_true : (a b : Bool) → (a && b) ≡ true → a ≡ true
+left_true true b e = refl
+left_true false b e = absurd (cc e)
+
+right_true : (a b : Bool) → (a && b) ≡ true → b ≡ true
+right_true true b e = e
+right_true false b e = absurd (cc e)
+
+-- the entry point returns nothing
+pub returns_nothing : (m : Method) → is_entry_method m ≡ true → m.signature.return_type ≡ None
+returns_nothing m e =
+    let both : (is_static m.kind && is_none m.signature.return_type) ≡ true = left_true (is_static m.kind && is_none m.signature.return_type) (length m.signature.parameters == 0) e in
+    none_there m.signature.return_type (right_true (is_static m.kind) (is_none m.signature.return_type) both)
+
+-- code that has a typing has an operation left
+pub operation_left : (most : ℕ) (returned : Returned) (ops : List Operation) (place height : ℕ) → is_typed most returned (drop place ops) height ≡ true → (op : Operation) × (slice_get ops place ≡ Some op)
+operation_left most returned ops place height typed = by_left (drop place ops) refl typed
+  where
+    by_left : (left : List Operation) → drop place ops ≡ left → is_typed most returned left height ≡ true → (op : Operation) × (slice_get ops place ≡ Some op)
+    by_left [] e h = absurd (cc h)
+    by_left (op ∷ rest) e h = (op, first_left ops place op rest e)
+
+pub engine_turns : (tree : Tree) (limits : Limits) (body : TypedBody) (entry : IsEntry tree body) (t u v : Thread) (printed printed' : List ℕ) (report : Report) (height : ℕ) → is_typed body.max_stack body.returned (drop t.place body.operations.items) height ≡ true → t.end ≡ None
+    → ((op : Operation) (c : Content) (f : Frame) → slice_get body.operations.items t.place ≡ Some op → c.printed ≡ printed → f.method.signature.return_type ≡ None → execute c (shown f t) [] (instruction_of op) ≡ Goes (left_by u.end f u) printed')
+    → (u.end ≡ None) ⊎ (u.end ≡ Some Done) → u.steps_left ≡ t.steps_left → v.steps_left + 1 ≡ u.steps_left → v.end ≡ end_after u.end v.steps_left → report ≡ report_of v.end → v ≡ record u { steps_left = v.steps_left; end = v.end }
+    → ◌≡◌ {A = Content × Report} (content tree limits v printed', report) (turn (content tree limits t printed) (Step 0))
+engine_turns tree limits body entry t u v printed printed' report height typed live moves ends budget counted spent reported others =
+    let next : (op : Operation) × (slice_get body.operations.items t.place ≡ Some op) = operation_left body.max_stack body.returned body.operations.items t.place height typed in
+    step_turns tree limits body entry t u v printed printed' next.0 report next.1 live
+    (moves next.0 (content tree limits t printed) (first_frame (entry.owner, entry.method)) next.1 refl (returns_nothing entry.method entry.fits)) ends budget counted spent reported others

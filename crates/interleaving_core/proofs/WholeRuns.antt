@@ -1,6 +1,9 @@
 -- Whole runs.
-use Rattle.std.proofs.Common.{◌≡◌, ◌+◌, ◌<◌, ℕ, List, [], ◌∷◌, ◌++◌, length, take, refl, sym, ap, ◌∙◌, subst}
+use Rattle.std.proofs.Common.{◌≡◌, ◌+◌, ◌<◌, ℕ, List, [], ◌∷◌, ◌++◌, length, take, drop, get_or, refl, sym, ap, ◌∙◌, subst, Result, Ok, Err}
+use Rattle.std.proofs.Math.Seq.{drop-append_seam}
+use Rattle.std.proofs.lemmas.List.{take_more, append_assoc}
 use Rattle.std.specs.List.{zip}
+use Rattle.std.specs.Prelude.{OnErr}
 use Rattle.cil_model.specs.declared.events.Event.{Event}
 use Rattle.cil_model.specs.declared.events.Event.TheVariants.{Step, Ack, Gc}
 use Rattle.cil_model.specs.declared.limits.Limits.{Limits}
@@ -11,7 +14,7 @@ use Rattle.cil_model.specs.Steps.{Outcome, Answers, step}
 use Rattle.cil_model.specs.Runs.{RunsTo, run, is_refusal, followed_by, thread_part, step_reports, preceded_by}
 use Rattle.cil_model.specs.MachineContents.{Content}
 use Rattle.cil_model.specs.Turns.{turn, run_of}
-use Rattle.cil_model.specs.StandsFor.{StandsFor, RunsAlike}
+use Rattle.cil_model.specs.StandsFor.{StandsFor, RunsAlike, FollowsReference}
 use Rattle.interleaving_core.specs.Sound.{IsSound}
 use Rattle.interleaving_core.proofs.Follows.{StepsAlike, step_alike}
 
@@ -43,3 +46,31 @@ run_alike (Step t ∷ es) c s sound stands =
     let one = step_alike stands.name c s sound stands.by t (is_refusal (turn c (Step t)).1) in
     behind c s one.state t (turn c (Step t)).1 (turn c (Step t)).0 (run_of (turn c (Step t)).0 es).0 (zip es (run_of (turn c (Step t)).0 es).1) one.answers one.same_tree one.same_limits
     (run_alike es (turn c (Step t)).0 one.state one.sound_after (record { name = stands.name; by = one.stands_after }))
+
+-- ---- one event more
+
+run_more : (c : Content) (es : List Event) (e : Event) → run_of c (es ++ e ∷ []) ≡ ((turn (run_of c es).0 e).0, (run_of c es).1 ++ (turn (run_of c es).0 e).1 ∷ [])
+run_more c [] e = refl
+run_more c (x ∷ es) e = ap (λ (y : Content × List Report). (y.0, (turn c x).1 ∷ y.1)) (run_more (turn c x).0 es e)
+
+-- the reports before a run, and those of the run
+abbrev pub RunSoFar : Content → List Report → List Event → Content → List Report → Type 0
+RunSoFar c before es d reports = (d ≡ (run_of c es).0) × (reports ≡ before ++ (run_of c es).1)
+
+pub run_step : (c d n : Content) (before reports : List Report) (es : List Event) (i : ℕ) (x : Event) (r : Report) → i < length es → RunSoFar c before (take i es) d reports → (n, r) ≡ turn d (get_or es i x) → RunSoFar c before (take (i + 1) es) n (reports ++ r ∷ [])
+run_step c d n before reports es i x r below so_far one =
+    let more : run_of c (take (i + 1) es) ≡ ((turn (run_of c (take i es)).0 (get_or es i x)).0, (run_of c (take i es)).1 ++ (turn (run_of c (take i es)).0 (get_or es i x)).1 ∷ []) =
+    ap (run_of c) (take_more es i x below) ∙ run_more c (take i es) (get_or es i x) in
+    let here : ◌≡◌ {A = Content × Report} (n, r) (turn (run_of c (take i es)).0 (get_or es i x)) = one ∙ ap (λ y. turn y (get_or es i x)) so_far.0 in (
+      ap (λ (y : Content × Report). y.0) here ∙ sym (ap (λ (y : Content × List Report). y.0) more),
+      ap (λ rs. rs ++ r ∷ []) so_far.1 ∙ append_assoc before (run_of c (take i es)).1 (r ∷ []) ∙ ap (λ (y : Content × Report). before ++ ((run_of c (take i es)).1 ++ y.1 ∷ [])) here ∙ sym (ap (λ (y : Content × List Report). before ++ y.1) more),
+    )
+
+pub run_follows : (c d : Content) (before reports : List Report) (es : List Event) → IsSound c → RunSoFar c before es d reports → FollowsReference c d (zip es (drop (length before) reports))
+run_follows c d before reports es sound so_far s stands =
+    let rest : drop (length before) reports ≡ (run_of c es).1 = ap (drop (length before)) so_far.1 ∙ drop-append_seam before (run_of c es).1 in
+    subst (λ x. RunsAlike c x (zip es (drop (length before) reports)) s) (sym so_far.0) (subst (λ rs. RunsAlike c (run_of c es).0 (zip es rs) s) (sym rest) (run_alike es c s sound stands))
+
+pub on_err : {T E : Type 0} (r : Result T E) (P : Type 0) → P → OnErr r P
+on_err (Ok x) P h = tt
+on_err (Err e) P h = h

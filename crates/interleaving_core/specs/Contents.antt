@@ -1,39 +1,22 @@
--- What callers see of the machine, and what each event does to that (this profile).
-use Rattle.std.specs.Prelude.{◌≡◌, ◌≢◌, ◌+◌, ◌==◌, ◌&&◌, ℕ, ℤ, Bool, false, not, is_none, List, Option, Some, None, if◌then◌else◌}
-use Rattle.cil_model.specs.declared.events.Event.{Event}
-use Rattle.cil_model.specs.declared.events.Event.TheVariants.{Step, Ack, Gc}
+-- What a step reports, and what it meets (this profile).
+use Rattle.std.specs.Prelude.{ℕ, List, [], ◌∷◌, Option, Some, None, option_and_then, slice_get}
+use Rattle.cil_model.specs.declared.instructions.Instruction.{Instruction}
 use Rattle.cil_model.specs.declared.reports.End.{End}
 use Rattle.cil_model.specs.declared.reports.Report.{Report}
 use Rattle.cil_model.specs.declared.reports.Report.TheVariants.{Ran, Ended}
-use Rattle.verifier.specs.declared.program.Operation.{Operation}
+use Rattle.cil_model.specs.MachineContents.{Frame, Thread, Content}
+use Rattle.cil_model.specs.Turns.{instruction_at}
 
--- thread 0 with its code, its place there, its stack, the steps that it may still make and how it ended; and what was printed
-pub record Content : Type 0 where
-  pub code : List Operation
-  pub place : ℕ
-  pub stack : List ℤ
-  pub steps_left : ℕ
-  pub ended : Option End
-  pub printed : List ℕ
-
--- thread 0 is the only one so far
-abbrev pub is_live : Content → ℕ → Bool
-is_live c thread = (thread == 0) && is_none c.ended
-
-abbrev pub end_of : Content → ℕ → Option End
-end_of c thread = if thread == 0 then c.ended else None
-
--- a step or an acknowledgement of a thread that was never started or has ended
-abbrev pub is_absent : Content → Event → Bool
-is_absent c (Step thread) = not (is_live c thread)
-is_absent c (Ack thread) = not (is_live c thread)
-is_absent c Gc = false
-
+-- how a live thread stands after a step
 abbrev pub report_of : Option End → Report
 report_of None = Ran
 report_of (Some e) = Ended e
 
--- A step takes one from the budget, and says how the thread ended, which it has once nothing is left of the budget.
-abbrev pub Counts : Content → Report → Content → Type 0
-Counts old report new =
-    (new.steps_left + 1 ≡ old.steps_left) × (report ≡ report_of new.ended) × (new.steps_left ≡ 0 → new.ended ≢ None)
+-- the instruction that the running frame is at
+abbrev pub running : List Frame → Option Instruction
+running [] = None
+running (f ∷ fs) = instruction_at f
+
+-- the next instruction of a thread
+abbrev pub next_instruction : Content → ℕ → Option Instruction
+next_instruction c t = option_and_then (λ (thread : Thread). running thread.frames) (slice_get c.threads t)

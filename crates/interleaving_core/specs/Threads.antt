@@ -4,6 +4,8 @@ use Rattle.cil_model.specs.declared.reports.End.{End}
 use Rattle.cil_model.specs.declared.reports.End.TheVariants.{Budget}
 use Rattle.verifier.specs.StraightLine.{is_typed}
 use Rattle.verifier.specs.declared.typing.TypedBody.{TypedBody}
+use Rattle.verifier.specs.Resolved.{IsEntry}
+use Rattle.interleaving_core.specs.declared.engine.Engine.{Engine}
 use Rattle.interleaving_core.specs.declared.thread.Thread.{Thread}
 
 -- The code that is left has a typing on this stack, which has its whole memory.
@@ -20,3 +22,7 @@ IsSound body t = t.end ≡ None → CanGoOn body t × (0 < t.steps_left)
 abbrev pub end_after : Option End → ℕ → Option End
 end_after (Some e) left = Some e
 end_after None left = if left == 0 then Some Budget else None
+
+-- The engine runs the entry point's code of its program, and its thread is sound.
+abbrev pub IsReady : Engine → Type 0
+IsReady e = IsEntry e.program e.body × IsSound e.body e.thread

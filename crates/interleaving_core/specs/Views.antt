@@ -10,6 +10,7 @@ use Rattle.cil_model.specs.declared.trees.Method.{Method}
 use Rattle.cil_model.specs.declared.reports.End.{End}
 use Rattle.cil_model.specs.Bodies.{code_of, entry_points}
 use Rattle.cil_model.specs.MachineContents.{Word, Int32, Frame, Content, Thread as ThreadContent, zero_word}
+use Rattle.interleaving_core.specs.declared.engine.Engine.{Engine}
 use Rattle.interleaving_core.specs.declared.thread.Thread.{Thread}
 
 -- the words of a stack whose topmost number is the last
@@ -55,3 +56,7 @@ left_by (Some e) f t = []
 -- all that a caller sees: the program with its limits, the one thread, and what was printed
 abbrev pub content : Tree → Limits → Thread → List ℕ → Content
 content tree limits t printed = record { tree = tree; limits = limits; threads = thread_of (slice_get (entry_points tree) 0) t ∷ []; printed = printed }
+
+-- the same, of an engine
+abbrev pub content_of : Engine → Content
+content_of e = content e.program e.limits e.thread e.console.items

@@ -1,6 +1,7 @@
 //! The machine: what it does on each event.
 #![tactic(auto)]
 
+mod engine;
 mod machine;
 mod thread;
 

@@ -1,13 +1,18 @@
 //! The machine and its events.
 
-ghost use Rattle.std.specs.Prelude.{◌≡◌, ◌↔◌, ◌+◌, ◌&&◌, [], Ok, Err, Some, None, IfOk, OnOk, OnErr, true, false, ℕ, length, slice_get, take, if◌then◌else◌};
-ghost use Rattle.cil_model.specs.declared.reports.Report.TheVariants.{Absent, NothingPosted, Waiting};
-ghost use Rattle.cil_model.specs.declared.events.Event.TheVariants.{Step, Ack, Gc};
+ghost use Rattle.std.specs.Prelude.{◌≡◌, ◌↔◌, ◌++◌, ◌<◌, Ok, Err, Some, None, IfOk, OnOk, OnErr, true, false, ℕ, length, take, drop, if◌then◌else◌};
+ghost use Rattle.std.specs.List.{zip};
+ghost use Rattle.cil_model.specs.MachineContents.{end_of, is_live};
 ghost use Rattle.cil_model.specs.Ranges.{are_in_range, is_between};
-ghost use Rattle.verifier.specs.declared.program.Operation.TheVariants.{WriteInt32};
+ghost use Rattle.cil_model.specs.Runs.{opening};
+ghost use Rattle.cil_model.specs.StandsFor.{FollowsReference, StandsFor};
+ghost use Rattle.cil_model.specs.States.{State};
+ghost use Rattle.cil_model.specs.Turns.{run_of, turn};
+ghost use Rattle.verifier.specs.Resolved.{IsEntry};
 ghost use Rattle.interleaving_core.specs.Refusals.{number_of};
 ghost use Rattle.interleaving_core.specs.declared.machine.Refused.TheVariants.{Limits as BadLimits, OutOfMemory};
 
+use crate::engine::Engine;
 use crate::thread::Thread;
 use cil_model::events::Event;
 use cil_model::limits::{LEAST_WORDS, Limits, MOST_BUDGET, MOST_DEPTH, MOST_WORDS};
@@ -16,7 +21,7 @@ use cil_model::reports::{End, Report};
 use std::alloc::{AllocError, Global};
 use std::marker::Model;
 use thiserror::Error;
-use verifier::Verified;
+use verifier::{Program, TypedBody, Verified};
 
 /// Why a machine was not made.
 #[derive(Clone, Copy, Debug, PartialEq, Eq, Error)]
@@ -51,26 +56,35 @@ impl From<AllocError> for Refused {
 /// A machine that runs a verified program, one event at a time.
 #[derive(Debug, Drop)]
 pub struct Machine {
-    verified: Verified,
-    limits: Limits,
-    thread: Thread,
-    console: Vec<u8>,
+    engine: Engine,
+}
+
+impl Model for Machine {
+    ghost use Rattle.cil_model.specs.MachineContents.{Content};
+    ghost use Rattle.interleaving_core.specs.Threads.{IsReady};
+    ghost use Rattle.interleaving_core.specs.Views.{content_of};
+
+    ghost Value = { Content };
+
+    ghost view = { λ m. content_of m.engine };
+
+    ghost invariant = { λ m. IsReady m.engine };
 }
 
 impl Machine {
-    ghost use Rattle.interleaving_core.specs.Contents.{Counts, end_of, is_absent, is_live};
+    /// A machine before its first event.
 
-    /// A machine before its first event: thread 0 is at the entry point, and nothing was printed.
-    ///
-    /// The memory of thread 0's frames is taken here. Limits beyond their ranges are refused before that;
-    /// the program is dropped where a machine is refused.
-    pub fn new(alloc: Global, verified: Verified, limits: Limits) -> Result<Machine, Refused>
-        ensures limits { (result ≡ Err BadLimits) ↔ (are_in_range limits ≡ false) }
+    fn begin(
+        alloc: Global,
+        program: Program,
+        body: TypedBody,
+        limits: Limits,
+    ) -> Result<Machine, AllocError>
+        requires entry { IsEntry program body }
+        requires budget { 0 < limits.budget }
+        ensures opening { IfOk result (λ m. (s : State) × (opening program limits ≡ Some s) × StandsFor m s) }
     {
-        if !are_in_range(limits) {
-            return Err(Refused::Limits);
-        }
-        let stack = Vec::with_capacity(alloc, verified.entry_point().max_stack)?;
+        let stack = Vec::with_capacity(alloc, body.max_stack)?;
         let thread = Thread {
             place: 0,
             stack,
@@ -78,11 +92,77 @@ impl Machine {
             end: None,
         };
         Ok(Machine {
-            verified,
-            limits,
-            thread,
-            console: Vec::new(alloc),
+            engine: Engine {
+                program,
+                limits,
+                body,
+                thread,
+                console: Vec::new(alloc),
+            },
         })
+    }
+
+    /// What the machine does on one event, and what it reports.
+    ///
+    /// Want of memory, which a print alone can meet, changes nothing and isn't counted.
+    pub fn step(&mut self, event: Event) -> Result<Report, NoMemory>
+        ensures turns { IfOk result (λ report. (self.new, report) ≡ turn self.old event) }
+        ensures refused { OnErr result (self.new ≡ self.old) }
+    {
+        self.engine.step(event)
+    }
+
+    /// Does the events in order, and appends the report of each.
+    ///
+    /// It stops at the first want of memory, the growth of `reports` included, which comes before its event.
+    pub fn run(&mut self, events: &[Event], reports: &mut Vec<Report>) -> Result<(), NoMemory>
+        ensures turns { OnOk result ((self.new ≡ (run_of self.old events.now).0) × (reports.new.items ≡ reports.old.items ++ (run_of self.old events.now).1)) }
+        ensures follows { OnOk result (FollowsReference self.old self.new (zip events.now (drop (length reports.old.items) reports.new.items))) }
+        ensures stopped { OnErr result ((count : ℕ) × (count < length events.now) × (self.new ≡ (run_of self.old (take count events.now)).0)
+            × (reports.new.items ≡ reports.old.items ++ (run_of self.old (take count events.now)).1)) }
+    {
+        let _engine = &self.engine;
+        for event in events {
+            reports.reserve(1)?;
+            reports.push_reserved(self.step(*event)?);
+        }
+        Ok(())
+    }
+
+    /// The bytes printed so far.
+    pub fn console(&self) -> &[u8]
+        ensures { result.now ≡ self.now.printed }
+    {
+        self.engine.console.as_slice()
+    }
+
+    /// How the thread ended. None where it is live or was never started.
+    pub fn end_of(&self, thread: u8) -> Option<End>
+        ensures { result ≡ end_of self.now thread }
+    {
+        self.engine.end_of(thread)
+    }
+
+    /// Whether the thread was started and hasn't ended.
+    pub fn is_live(&self, thread: u8) -> bool
+        ensures { result ≡ is_live self.now thread }
+    {
+        self.engine.is_live(thread)
+    }
+
+    /// How many threads are live.
+    pub fn live(&self) -> usize
+        ensures { result ≡ (if is_live self.now 0 then 1 else 0) }
+    {
+        usize::from(self.is_live(0))
+    }
+
+    /// How many threads were started, the first one counted. Their numbers are those below.
+    pub fn started(&self) -> usize
+        ensures { result ≡ length self.now.threads }
+    {
+        let _engine = &self.engine;
+        1
     }
 }
 
