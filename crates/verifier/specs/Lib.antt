@@ -1,3 +1,5 @@
 pub mod Numbers
-pub mod StraightLine
+pub mod Printing
 pub mod Resolved
+pub mod StraightLine
+pub mod Typed

@@ -1,7 +1,13 @@
 //! The rules on names, entry points and limits, and the resolved program where they are kept.
 
-ghost use Rattle.std.specs.Prelude.{◌≡◌, ◌<◌, vec_len, IfOk};
+ghost use Rattle.std.specs.Prelude.{◌≡◌, ◌++◌, map, IfOk, OnOk};
+ghost use Rattle.cil_model.specs.declared.trees.Tree as trees;
+ghost use Rattle.cil_model.specs.Declarations.{methods_of};
 ghost use Rattle.std.specs.Iterator.{IsFinite};
+ghost use Rattle.std.specs.Option.{option_copied};
+ghost use Rattle.cil_model.specs.Bodies.{code_of, is_entry_point};
+ghost use Rattle.cil_model.specs.Legality.{is_entry_method};
+ghost use Rattle.verifier.specs.Resolved.{method_body, methods_of_source, bodies_of, IsEntryNumber};
 ghost use Rattle.verifier.specs.Numbers.{number_of};
 ghost use Rattle.verifier.specs.declared.legality.MetaError.TheVariants.{OutOfMemory};
 
@@ -87,37 +93,47 @@ pub fn resolve(alloc: Global, tree: Tree) -> Result<Program, MetaError>
     Ok(Program::new(tree, bodies, entry_point))
 }
 
-/// The methods with code, resolved, and which of them is the entry point, where the tree keeps the rules.
-fn legal_bodies(alloc: Global, tree: &Tree) -> Result<(Vec<Body>, usize), MetaError>
-    ensures { IfOk result (λ r. r.1 < vec_len r.0) }
+/// The code of the methods, and the number of the entry point, where the tree keeps the rules.
+fn legal_bodies(alloc: Global, tree: &Tree) -> Result<(Vec<Option<Body>>, usize), MetaError>
+    ensures bodies { IfOk result (λ r. r.0.items ≡ bodies_of tree.now) }
+    ensures entry_point { IfOk result (λ r. IsEntryNumber tree.now r.1) }
 {
     let methods = methods(alloc, tree)?;
     check_doubled_names(alloc, tree, &methods)?;
     check_names(tree, &methods)?;
-    let resolved = resolved_bodies(alloc, &methods)?;
+    let entry_point = entry_number(&methods)?;
     check_limits(tree, &methods)?;
-    Ok(resolved)
+    Ok((resolved_bodies(alloc, &methods)?, entry_point))
 }
 
 /// All methods, in source order.
-fn methods<'a>(alloc: Global, tree: &'a Tree) -> Result<Vec<&'a Method>, AllocError> {
-    tree.classes
-        .as_slice()
-        .iter()
-        .flat_map(|class| class.members.as_slice().iter())
-        .filter_map(method_of)
-        .collect(alloc)
+#[tactic(auto, using(crate::proofs::EntryLemmas::methods_by_class))]
+fn methods<'a>(alloc: Global, tree: &'a Tree) -> Result<Vec<&'a Method>, AllocError>
+    ensures { IfOk result (λ methods. map (λ m. m.now) methods.items ≡ methods_of_source tree.now) }
+{
+    let mut methods = Vec::new(alloc);
+    for class in tree.classes.as_slice() {
+        add_methods(class, &mut methods)?;
+    }
+    Ok(methods)
 }
 
-fn method_of(member: &Member) -> Option<&Method> {
-    match member {
-        Member::Method(method) => Some(method),
-        Member::Field(_) => None,
+/// Appends the methods of a class.
+fn add_methods<'a>(class: &'a Class, methods: &mut Vec<&'a Method>) -> Result<(), AllocError>
+    ensures { OnOk result (map (λ m. m.now) methods.new.items ≡ map (λ m. m.now) methods.old.items ++ methods_of class.now) }
+{
+    for member in class.members.as_slice() {
+        if let Member::Method(method) = member {
+            methods.push(method)?;
+        }
     }
+    Ok(())
 }
 
 /// The code of a method that has some.
-fn code_of(method: &Method) -> Option<&Code> {
+fn code_of(method: &Method) -> Option<&Code>
+    ensures { option_copied result ≡ code_of method.now.kind }
+{
     match &method.kind {
         MethodKind::Static(code) | MethodKind::Instance(code) => Some(code),
         MethodKind::Virtual { code, .. } => Some(code),
@@ -227,32 +243,54 @@ fn check_owners(tree: &Tree, code: &Code) -> Result<(), MetaError> {
     Ok(())
 }
 
-/// The methods with code, resolved, and which of them is the one entry point.
-fn resolved_bodies(alloc: Global, methods: &[&Method]) -> Result<(Vec<Body>, usize), MetaError>
-    ensures { IfOk result (λ r. r.1 < vec_len r.0) }
+/// The code of each method, where it has some.
+fn resolved_bodies(alloc: Global, methods: &[&Method]) -> Result<Vec<Option<Body>>, NoMemory>
+    ensures { IfOk result (λ bodies. bodies.items ≡ map method_body (map (λ m. m.now) methods.now)) }
 {
-    let mut bodies = Vec::new(alloc);
-    let mut entry_point = None;
-    for (number, method) in methods.iter().enumerate() {
-        let Some(code) = code_of(method) else {
-            continue;
-        };
-        if code.is_entry_point {
-            if entry_point.is_some() || !may_enter(method) {
-                return Err(MetaError::EntryPoint);
-            }
-            entry_point = Some(bodies.len());
-        }
-        bodies.push(Body::new(alloc, number, &method.signature.return_type, code)?)?;
+    let mut bodies = Vec::with_capacity(alloc, methods.len())?;
+    for method in methods {
+        bodies.push(resolved_body(alloc, method)?)?;
     }
-    match entry_point {
-        Some(place) => Ok((bodies, place)),
-        None => Err(MetaError::EntryPoint),
+    Ok(bodies)
+}
+
+fn resolved_body(alloc: Global, method: &Method) -> Result<Option<Body>, NoMemory>
+    ensures { IfOk result (λ body. body ≡ method_body method.now) }
+{
+    match code_of(method) {
+        Some(code) => Ok(Some(Body::new(alloc, &method.signature.return_type, code)?)),
+        None => Ok(None),
     }
 }
 
+/// The number of the one entry point among the methods.
+fn entry_number(methods: &[&Method]) -> Result<usize, MetaError>
+    ensures { IfOk result (λ number. (tree : trees.Tree) → map (λ m. m.now) methods.now ≡ methods_of_source tree → IsEntryNumber tree number) }
+{
+    let mut entry_point = None;
+    for (number, method) in methods.iter().enumerate() {
+        if !is_entry_point(method) {
+            continue;
+        }
+        if entry_point.is_some() || !may_enter(method) {
+            return Err(MetaError::EntryPoint);
+        }
+        entry_point = Some(number);
+    }
+    entry_point.ok_or(MetaError::EntryPoint)
+}
+
+/// Whether a method has `.entrypoint` (ECMA-335 II.15.4.1.2).
+fn is_entry_point(method: &Method) -> bool
+    ensures { result ≡ is_entry_point method.now }
+{
+    code_of(method).is_some_and(|code| code.is_entry_point)
+}
+
 /// Whether a method may be the entry point: static, without parameters, and nothing is returned.
-fn may_enter(method: &Method) -> bool {
+fn may_enter(method: &Method) -> bool
+    ensures { result ≡ is_entry_method method.now }
+{
     matches!(method.kind, MethodKind::Static(_))
         && method.signature.parameters.as_slice().is_empty()
         && method.signature.return_type.is_none()

@@ -4,9 +4,11 @@
 mod layout;
 mod legality;
 mod program;
+mod straight_line;
 mod typing;
 
 pub use layout::{Layout, lay_out};
 pub use legality::{MetaError, resolve};
 pub use program::{Body, Operation, Program, Returned};
-pub use typing::{TypedBody, Verified, VerifyError, verify};
+pub use straight_line::TypedBody;
+pub use typing::{Verified, VerifyError, verify};

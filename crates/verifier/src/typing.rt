@@ -1,12 +1,13 @@
 //! Whether code has a typing.
 
-ghost use Rattle.std.specs.Prelude.{◌≡◌, ◌<◌, ◌≤◌, true, IfOk};
+ghost use Rattle.std.specs.Prelude.{◌≡◌, ℕ, IfOk, IfSome, OnOk, None, Some, Err, is_some, option_map};
 ghost use Rattle.verifier.specs.Numbers.{typing_number_of};
-ghost use Rattle.verifier.specs.StraightLine.{is_typed, is_returned};
-ghost use Rattle.verifier.specs.declared.typing.VerifyError.TheVariants.{OutOfMemory};
+ghost use Rattle.verifier.specs.Typed.{all_of, first_refused, first_untyped, is_typed_body, natural, IsEntry, IsTypedCode};
+ghost use Rattle.verifier.specs.declared.typing.VerifyError.TheVariants.{NoTyping, OutOfMemory};
 
 use crate::layout::Layout;
-use crate::program::{Body, Operation, Program, Returned};
+use crate::program::{Body, Operation, Program};
+use crate::straight_line::{TypedBody, is_typed};
 use std::alloc::{AllocError, AllocFailed, Global};
 use std::marker::Model;
 use thiserror::Error;
@@ -49,15 +50,6 @@ impl<T: Drop> From<AllocFailed<T>> for VerifyError {
     }
 }
 
-/// Code with the most that its stack holds; each operand is there when it runs.
-#[derive(Debug, Drop)]
-pub struct TypedBody {
-    pub returned: Returned,
-    pub max_stack: usize,
-    pub operations: Vec<Operation>,
-    pub ghost typed: { is_typed max_stack returned operations.items 0 ≡ true },
-}
-
 /// A program that keeps the rules and whose methods all have a typing.
 #[derive(Debug, Drop)]
 pub struct Verified {
@@ -69,10 +61,13 @@ pub struct Verified {
 /// Contracts see the tree.
 impl Model for Verified {
     ghost use Rattle.cil_model.specs.declared.trees.Tree.{Tree};
+    ghost use Rattle.verifier.specs.Typed.{IsEntry};
 
     ghost Value = { Tree };
 
     ghost view = { λ v. v.program };
+
+    ghost invariant = { λ v. IsEntry v.program v.entry_point };
 }
 
 impl Verified {
@@ -88,22 +83,39 @@ impl Verified {
         &self.layout
     }
 
-    /// The code that thread 0 begins with.
-    pub fn entry_point(&self) -> &TypedBody {
+    /// The code that thread 0 begins with (ECMA-335 II.15.4.1.2).
+    pub fn entry_point(&self) -> &TypedBody
+        ensures { IsEntry self.now result.now }
+    {
         &self.entry_point
+    }
+
+    /// The same, without the program.
+    pub fn into_entry_point(self) -> TypedBody
+        ensures { IsEntry self result }
+    {
+        let Verified {
+            program,
+            layout,
+            entry_point,
+        } = self;
+        drop(program);
+        drop(layout);
+        entry_point
     }
 }
 
 /// Verifies each method of a program (ECMA-335 III.1.8).
 ///
 /// That the layout is `lay_out`'s of this program is the caller's condition. Both are dropped where it refuses.
+/// It is not exact yet: a method with an instruction that does not run today is refused, though it may have a typing.
 pub fn verify(alloc: Global, program: Program, layout: Layout) -> Result<Verified, VerifyError>
     ensures kept { IfOk result (λ verified. verified ≡ program) }
+    ensures accepted { OnOk result (first_refused program ≡ None) }
+    ensures refused { (method : ℕ) → result ≡ Err (NoTyping method) → first_refused program ≡ Some method }
 {
-    for body in program.bodies() {
-        typed(alloc, body)?;
-    }
-    let entry_point = typed(alloc, program.entry_point())?;
+    check_bodies(alloc, program.bodies())?;
+    let entry_point = typed_entry_point(alloc, &program)?;
     Ok(Verified {
         program,
         layout,
@@ -111,48 +123,75 @@ pub fn verify(alloc: Global, program: Program, layout: Layout) -> Result<Verifie
     })
 }
 
-/// The body with its typing, where it has one and all of it runs today.
-fn typed(alloc: Global, body: &Body) -> Result<TypedBody, VerifyError> {
-    let refused = VerifyError::NoTyping {
-        method: body.method,
+/// Each body has a typing.
+fn check_bodies(alloc: Global, bodies: &[Option<Body>]) -> Result<(), VerifyError>
+    ensures accepted { OnOk result (first_untyped 0 bodies.now ≡ None) }
+    ensures refused { (method : ℕ) → result ≡ Err (NoTyping method) → first_untyped 0 bodies.now ≡ Some method }
+{
+    for (method, body) in bodies.iter().enumerate() {
+        let Some(body) = body else {
+            continue;
+        };
+        if typed(alloc, body)?.is_none() {
+            return Err(VerifyError::NoTyping { method });
+        }
+    }
+    Ok(())
+}
+
+/// The code that thread 0 begins with.
+fn typed_entry_point(alloc: Global, program: &Program) -> Result<TypedBody, AllocError>
+    requires { first_refused program.now ≡ None }
+    ensures { IfOk result (IsEntry program.now) }
+{
+    let (_, body) = program.entry_point();
+    match typed(alloc, body)? {
+        Some(entry_point) => Ok(entry_point),
+        None => unreachable!(),
+    }
+}
+
+/// The body with its typing, where all of it runs and it has one.
+fn typed(alloc: Global, body: &Body) -> Result<Option<TypedBody>, AllocError>
+    ensures typed { IfOk result (λ typed. is_some typed ≡ is_typed_body body.now) }
+    ensures code { IfOk result (λ typed. IfSome typed (IsTypedCode body.now)) }
+{
+    let Some(max_stack) = stack_size(body.max_stack) else {
+        return Ok(None);
     };
-    let max_stack = usize::try_from(body.max_stack).map_err(|_| refused)?;
-    let mut operations = Vec::with_capacity(alloc, body.operations.len())?;
-    for operation in &body.operations {
-        operations.push((*operation).ok_or(refused)?)?;
-    }
+    let Some(operations) = all_operations(alloc, body.operations.as_slice())? else {
+        return Ok(None);
+    };
     if !is_typed(max_stack, body.returned, &operations) {
-        return Err(refused);
+        return Ok(None);
     }
-    Ok(TypedBody {
+    Ok(Some(TypedBody {
         returned: body.returned,
         max_stack,
         operations,
-    })
+    }))
 }
 
-fn is_typed(most: usize, returned: Returned, operations: &[Operation]) -> bool
-    ensures { result ≡ is_typed most returned operations.now 0 }
+/// The most that a stack holds, where it is not negative.
+fn stack_size(max_stack: i64) -> Option<usize>
+    ensures { result ≡ natural max_stack }
 {
-    let mut height = 0usize;
-    for operation in operations {
-        match operation {
-            Operation::LoadInt32(_) if height < most => height += 1,
-            Operation::Add if 2 <= height => height -= 1,
-            Operation::WriteInt32 if 1 <= height => height -= 1,
-            Operation::Return => return is_returned(returned, height),
-            _ => return false,
-        }
-    }
-    false
+    usize::try_from(max_stack).ok()
 }
 
-fn is_returned(returned: Returned, height: usize) -> bool
-    ensures { result ≡ is_returned returned height }
+/// The operations, where none is missing.
+fn all_operations(
+    alloc: Global,
+    resolved: &[Option<Operation>],
+) -> Result<Option<Vec<Operation>>, AllocError>
+    ensures { IfOk result (λ all. option_map (λ v. v.items) all ≡ all_of resolved.now) }
 {
-    match returned {
-        Returned::Nothing => height == 0,
-        Returned::Int32 => height == 1,
-        Returned::Other => false,
+    let mut operations = Vec::with_capacity(alloc, resolved.len())?;
+    for operation in resolved {
+        let Some(operation) = operation else {
+            return Ok(None);
+        };
+        operations.push(*operation)?;
     }
+    Ok(Some(operations))
 }

@@ -1,7 +1,7 @@
-use Rattle.std.proofs.Common.{◌<◌}
-use Rattle.std.specs.Prelude.{IfSome, vec_len}
+use Rattle.std.proofs.Common.{◌≡◌, ◌++◌, drop, map}
+use Rattle.verifier.specs.Resolved.{method_body}
 use Rattle.verifier.proofs.legality.resolved_bodies.Given as goal
 
--- the entry point is among the bodies so far
-abbrev pub invariant-loop-number : goal.invariant-loop-number
-invariant-loop-number l = IfSome l.entry_point (λ place. place < vec_len l.bodies)
+-- the bodies so far, and then those of the methods that are left
+abbrev pub invariant-loop-method : goal.invariant-loop-method
+invariant-loop-method l = l.bodies.items ++ map method_body (map (λ m. m.now) (drop l.method-index l.methods)) ≡ map method_body (map (λ m. m.now) l.methods)

@@ -1,6 +1,6 @@
 use Rattle.std.proofs.Common.{◌≡◌, drop}
 use Rattle.verifier.specs.StraightLine.{is_typed}
-use Rattle.verifier.proofs.typing.is_typed.Given as goal
+use Rattle.verifier.proofs.straight_line.is_typed.Given as goal
 
 -- what is left has a typing exactly where the whole has one
 abbrev pub invariant-loop-operation : goal.invariant-loop-operation

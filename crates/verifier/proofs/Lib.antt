@@ -1,0 +1,3 @@
+pub mod BodyLemmas
+pub mod EntryLemmas
+pub mod OperationLemmas
