@@ -1,5 +1,5 @@
 -- Events that change nothing.
-use Rattle.std.proofs.Common.{◌≡◌, ◌-◌, ℕ, Bool, true, false, is_none, if◌then◌else◌, Option, Some, None, option_map, unwrap_or, slice_get, refl, sym, ap, ◌∙◌, subst}
+use Rattle.std.proofs.Common.{◌≡◌, ◌-◌, ℕ, true, false, is_none, if◌then◌else◌, Option, Some, None, option_map, unwrap_or, slice_get, refl, sym, ap}
 use Rattle.std.specs.Option.{option_map_or}
 use Rattle.cil_model.specs.declared.events.Event.TheVariants.{Step, Ack}
 use Rattle.cil_model.specs.declared.reports.Report.{Report}

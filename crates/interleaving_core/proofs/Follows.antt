@@ -1,11 +1,11 @@
 -- Each step of a machine is a step of the reference machine, and keeps what the machine needs.
-use Rattle.std.proofs.Common.{◌≡◌, ◌+◌, ◌-◌, ◌<◌, ℕ, zero, suc, ℤ, Bool, true, false, is_none, if◌then◌else◌, List, [], ◌∷◌, map, drop, length, Option, Some, None, slice_get, slice_set, refl, sym, ap, ◌∙◌, subst, arith}
+use Rattle.std.proofs.Common.{◌≡◌, ◌-◌, ℕ, zero, suc, Bool, true, is_none, if◌then◌else◌, List, [], ◌∷◌, map, drop, length, Option, Some, None, slice_get, slice_set, refl, sym, ap, ◌∙◌, subst, arith}
 use Rattle.std.specs.Option.{option_map_or}
 use Rattle.cil_model.specs.declared.events.Event.TheVariants.{Step}
 use Rattle.cil_model.specs.declared.reports.End.{End}
 use Rattle.cil_model.specs.declared.reports.End.TheVariants.{Done, Budget}
 use Rattle.cil_model.specs.declared.reports.Report.{Report}
-use Rattle.cil_model.specs.declared.reports.Report.TheVariants.{Ran, Ended, Absent}
+use Rattle.cil_model.specs.declared.reports.Report.TheVariants.{Ran, Absent}
 use Rattle.cil_model.specs.declared.types.ClassName.{ClassName}
 use Rattle.cil_model.specs.declared.trees.Method.{Method}
 use Rattle.cil_model.specs.Values.{ObjectName, Value, Int32 as Int32Value}

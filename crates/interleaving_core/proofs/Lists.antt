@@ -1,7 +1,7 @@
 -- Lists that agree, and what is left of a list.
-use Rattle.std.proofs.Common.{◌≡◌, ◌+◌, ℕ, zero, suc, ℤ, List, [], ◌∷◌, map, drop, Option, Some, None, slice_get, slice_set, option_map, refl, sym, ap, ◌∙◌, arith}
-use Rattle.cil_model.specs.Values.{Value, Int32 as Int32Value, Int64 as Int64Value, Native as NativeValue, Null as NullValue, Reference}
-use Rattle.cil_model.specs.MachineContents.{Word, Int32, Int64, Native, Null, Address}
+use Rattle.std.proofs.Common.{◌≡◌, ◌+◌, ℕ, zero, suc, ℤ, List, [], ◌∷◌, map, drop, Option, Some, None, slice_get, slice_set, option_map, refl, ap, ◌∙◌, arith}
+use Rattle.cil_model.specs.Values.{Value, Int32 as Int32Value}
+use Rattle.cil_model.specs.MachineContents.{Word, Int32}
 use Rattle.cil_model.specs.StandsFor.{Names, Agree, IsValue, int32, int64, native, null, reference}
 
 -- both are there and agree, or neither is

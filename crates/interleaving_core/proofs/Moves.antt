@@ -1,31 +1,29 @@
 -- Each instruction does to the machine's frames what it does to the reference machine's.
-use Rattle.std.proofs.Common.{◌≡◌, ◌+◌, ◌-◌, ◌<◌, ◌==◌, ℕ, zero, suc, ℤ, Bool, true, false, ◌&&◌, nat_le, nat_lt, List, [], ◌∷◌, ◌++◌, map, drop, length, Option, Some, None, slice_get, option_map, refl, sym, ap, ◌∙◌, subst, arith}
+use Rattle.std.proofs.Common.{◌≡◌, ◌+◌, ◌-◌, ℕ, suc, ℤ, Bool, true, false, ◌&&◌, nat_le, nat_lt, List, [], ◌∷◌, ◌++◌, map, drop, length, Some, None, slice_get, option_map, refl, sym, ap, ◌∙◌, subst, arith}
 use Rattle.std.proofs.lemmas.Bool.Decides.{nat_tests}
-use Rattle.std.specs.Option.{option_map_or}
 use Rattle.std.specs.Fmt.{signed_decimal}
 use Rattle.std.specs.Int.{w32, int_wrapping_add}
 use Rattle.cil_model.specs.declared.types.ClassName.{ClassName}
 use Rattle.cil_model.specs.declared.instructions.BinaryOperation.TheVariants.{Add as AddOperation}
-use Rattle.cil_model.specs.declared.instructions.Instruction.{Instruction}
 use Rattle.cil_model.specs.declared.instructions.Instruction.TheVariants.{LoadInt32 as LoadInt32Instruction, Binary, Return as ReturnInstruction}
 use Rattle.cil_model.specs.declared.trees.Line.{Line}
 use Rattle.cil_model.specs.declared.trees.Method.{Method}
 use Rattle.cil_model.specs.Bodies.{lines_of}
 use Rattle.cil_model.specs.Examples.{write_line}
-use Rattle.cil_model.specs.Values.{ObjectName, Value, Int32 as Int32Value}
+use Rattle.cil_model.specs.Values.{Value, Int32 as Int32Value}
 use Rattle.cil_model.specs.States.{State, Frame as StateFrame}
 use Rattle.cil_model.specs.Effects.{Setting, Effect, Goes as GoesOn, given as given_state}
-use Rattle.cil_model.specs.Steps.{effect_of, execute as execute_state, instruction_at as state_instruction}
+use Rattle.cil_model.specs.Steps.{effect_of, execute as execute_state}
 use Rattle.cil_model.specs.MachineContents.{Word, Int32, Frame, Content}
 use Rattle.cil_model.specs.Turns.{given, Move, Goes, move_of, execute, instruction_at}
-use Rattle.cil_model.specs.StandsFor.{Names, Agree, IsValue, IsObject, IsFrame}
+use Rattle.cil_model.specs.StandsFor.{Names, Agree, IsValue, IsFrame}
 use Rattle.verifier.specs.declared.program.Operation.{Operation}
 use Rattle.verifier.specs.declared.program.Operation.TheVariants.{LoadInt32, Add, WriteInt32, Return}
 use Rattle.verifier.specs.declared.program.Returned.TheVariants.{Nothing}
 use Rattle.verifier.specs.Resolved.{instruction_of}
 use Rattle.verifier.specs.StraightLine.{is_typed}
 use Rattle.interleaving_core.specs.Sound.{IsReady}
-use Rattle.interleaving_core.proofs.Lists.{same_numbers, numbers_agree, get_of_map, first_left, rest_left, one_more}
+use Rattle.interleaving_core.proofs.Lists.{numbers_agree, get_of_map, first_left, rest_left, one_more}
 
 -- the next frame, if any, is ready
 abbrev pub AreReady : List Frame → Type 0

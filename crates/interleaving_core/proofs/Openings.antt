@@ -1,5 +1,5 @@
 -- A machine at its beginning stands for the opening state.
-use Rattle.std.proofs.Common.{◌≡◌, ℕ, ℤ, List, [], ◌∷◌, map, Option, Some, None, option_map, option_and_then, slice_get, refl, sym, ap, ◌∙◌, subst, Bool, true, false, if◌then◌else◌}
+use Rattle.std.proofs.Common.{◌≡◌, ℕ, List, [], ◌∷◌, map, Option, Some, None, option_map, option_and_then, slice_get, refl, sym, ap, ◌∙◌, subst, Bool, true, false, if◌then◌else◌}
 use Rattle.std.specs.Option.{option_map_or}
 use Rattle.cil_model.specs.declared.types.ClassName.{ClassName}
 use Rattle.cil_model.specs.declared.types.DeclaredType.{DeclaredType}
@@ -10,18 +10,17 @@ use Rattle.cil_model.specs.declared.trees.Tree.{Tree}
 use Rattle.cil_model.specs.declared.trees.Code.{Code}
 use Rattle.cil_model.specs.declared.trees.Method.{Method}
 use Rattle.cil_model.specs.Assignable.{is_reference}
-use Rattle.cil_model.specs.Bodies.{entry_points, code_of}
-use Rattle.cil_model.specs.Effects.{new_frame}
+use Rattle.cil_model.specs.Bodies.{code_of}
 use Rattle.cil_model.specs.declared.reports.End.{End}
 use Rattle.cil_model.specs.Runs.{opening, opening_at}
 use Rattle.cil_model.specs.States.{State}
-use Rattle.cil_model.specs.Values.{ObjectName, Null as NullValue, zero_of, integer_zero as integer_zero_value}
+use Rattle.cil_model.specs.Values.{Null as NullValue, zero_of, integer_zero as integer_zero_value}
 use Rattle.cil_model.specs.MachineContents.{Word, Null, Frame, Content, zero_word, integer_zero}
-use Rattle.cil_model.specs.StandsFor.{Names, Agree, IsValue, int32, int64, null, IsFrame, IsThread, StandsBy, StandsFor}
-use Rattle.verifier.specs.declared.typing.TypedBody.{TypedBody}
-use Rattle.verifier.specs.Resolved.{IsEntry}
+use Rattle.cil_model.specs.StandsFor.{Names, Agree, IsValue, int32, int64, null, StandsFor}
+use Rattle.verifier.specs.declared.straight_line.TypedBody.{TypedBody}
+use Rattle.verifier.specs.Typed.{IsEntry}
 use Rattle.interleaving_core.specs.declared.thread.Thread.{Thread}
-use Rattle.interleaving_core.specs.Views.{words_of, first_frame, frames_of, thread_of, content}
+use Rattle.interleaving_core.specs.Views.{words_of, frames_of, content}
 
 -- no object has a name yet
 no_names : Names

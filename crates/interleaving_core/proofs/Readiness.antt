@@ -1,13 +1,11 @@
 -- An engine that is ready has a sound content.
-use Rattle.std.proofs.Common.{◌≡◌, ◌<◌, ℕ, zero, suc, ℤ, true, List, [], ◌∷◌, map, reverse, drop, length, Option, Some, None, option_map, slice_get, vec_len, refl, sym, ap, ◌∙◌, subst}
+use Rattle.std.proofs.Common.{◌≡◌, ℕ, zero, suc, [], ◌∷◌, map, reverse, drop, length, Some, None, slice_get, vec_len, refl, sym, ap, ◌∙◌, subst}
 use Rattle.std.proofs.lemmas.List.{length-reverse}
 use Rattle.std.specs.Option.{option_map_or}
 use Rattle.cil_model.specs.declared.trees.Code.{Code}
 use Rattle.cil_model.specs.declared.trees.Line.{Line}
-use Rattle.cil_model.specs.Bodies.{entry_points, lines_of}
-use Rattle.cil_model.specs.MachineContents.{Frame, Thread as ThreadContent, Content}
-use Rattle.verifier.specs.declared.program.Returned.TheVariants.{Nothing}
-use Rattle.verifier.specs.Resolved.{IsEntry, instruction_of}
+use Rattle.cil_model.specs.Bodies.{entry_points}
+use Rattle.cil_model.specs.MachineContents.{Frame, Thread as ThreadContent}
 use Rattle.verifier.specs.StraightLine.{is_typed}
 use Rattle.interleaving_core.specs.declared.engine.Engine.{Engine}
 use Rattle.interleaving_core.specs.Sound.{IsReady as IsReadyFrame, IsLiveReady, IsSound}

@@ -1,8 +1,7 @@
 -- One step of the thread is the turn of its content.
-use Rattle.std.proofs.Common.{◌≡◌, ◌⊎◌, inl, inr, ◌+◌, ◌-◌, ◌==◌, ℕ, zero, suc, Bool, true, false, ◌&&◌, is_none, drop, length, if◌then◌else◌, List, [], ◌∷◌, map, Option, Some, None, option_map, slice_get, refl, sym, ap, ◌∙◌, subst, arith}
+use Rattle.std.proofs.Common.{◌≡◌, ◌⊎◌, inl, inr, ◌+◌, ◌-◌, ◌==◌, ℕ, zero, suc, Bool, true, false, ◌&&◌, is_none, drop, length, if◌then◌else◌, List, [], ◌∷◌, Option, Some, None, option_map, slice_get, refl, sym, ap, ◌∙◌, subst, arith}
 use Rattle.std.proofs.lemmas.Bool.Decides.{nat_tests}
 use Rattle.std.specs.Option.{option_map_or}
-use Rattle.cil_model.specs.declared.types.ClassName.{ClassName}
 use Rattle.cil_model.specs.declared.limits.Limits.{Limits}
 use Rattle.cil_model.specs.declared.trees.Tree.{Tree}
 use Rattle.cil_model.specs.declared.trees.Code.{Code}
@@ -19,14 +18,15 @@ use Rattle.cil_model.specs.Legality.{is_entry_method}
 use Rattle.cil_model.specs.MachineContents.{Frame, Thread as ThreadContent, Content}
 use Rattle.cil_model.specs.Turns.{Goes, given, execute, instruction_at, move_of, settled, turn}
 use Rattle.verifier.specs.declared.program.Operation.{Operation}
-use Rattle.verifier.specs.declared.typing.TypedBody.{TypedBody}
+use Rattle.verifier.specs.declared.straight_line.TypedBody.{TypedBody}
 use Rattle.verifier.specs.declared.program.Returned.{Returned}
 use Rattle.verifier.specs.StraightLine.{is_typed}
-use Rattle.verifier.specs.Resolved.{IsEntry, instruction_of}
+use Rattle.verifier.specs.Typed.{IsEntry}
+use Rattle.verifier.specs.Resolved.{instruction_of}
 use Rattle.interleaving_core.specs.declared.thread.Thread.{Thread}
 use Rattle.interleaving_core.specs.Contents.{report_of}
 use Rattle.interleaving_core.specs.Threads.{end_after}
-use Rattle.interleaving_core.specs.Views.{shown, first_frame, frames_of, thread_of, left_by, content}
+use Rattle.interleaving_core.specs.Views.{shown, first_frame, frames_of, left_by, content}
 use Rattle.interleaving_core.proofs.Lists.{get_of_map, first_left}
 
 not_none : (n : ℕ) → (suc n == 0) ≡ false

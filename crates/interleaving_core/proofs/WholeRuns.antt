@@ -6,17 +6,15 @@ use Rattle.std.specs.List.{zip}
 use Rattle.std.specs.Prelude.{OnErr}
 use Rattle.cil_model.specs.declared.events.Event.{Event}
 use Rattle.cil_model.specs.declared.events.Event.TheVariants.{Step, Ack, Gc}
-use Rattle.cil_model.specs.declared.limits.Limits.{Limits}
 use Rattle.cil_model.specs.declared.reports.Report.{Report}
-use Rattle.cil_model.specs.declared.trees.Tree.{Tree}
 use Rattle.cil_model.specs.States.{State}
-use Rattle.cil_model.specs.Steps.{Outcome, Answers, step}
+use Rattle.cil_model.specs.Steps.{Answers, step}
 use Rattle.cil_model.specs.Runs.{RunsTo, run, is_refusal, followed_by, thread_part, step_reports, preceded_by}
 use Rattle.cil_model.specs.MachineContents.{Content}
 use Rattle.cil_model.specs.Turns.{turn, run_of}
 use Rattle.cil_model.specs.StandsFor.{StandsFor, RunsAlike, FollowsReference}
 use Rattle.interleaving_core.specs.Sound.{IsSound}
-use Rattle.interleaving_core.proofs.Follows.{StepsAlike, step_alike}
+use Rattle.interleaving_core.proofs.Follows.{step_alike}
 
 -- a run of the rest, behind a step
 behind : (c : Content) (s s' : State) (t : ℕ) (r : Report) (after new : Content) (events : List (Event × Report))

@@ -1,13 +1,12 @@
 -- Stacks of numbers as words, and what the instructions do to them.
-use Rattle.std.proofs.Common.{◌≡◌, ◌+◌, ℕ, ℤ, List, [], ◌∷◌, ◌++◌, map, reverse, refl, sym, ap, ◌∙◌, Option, Some, None, Vec, Global}
+use Rattle.std.proofs.Common.{◌≡◌, ◌+◌, ℕ, ℤ, List, [], ◌∷◌, ◌++◌, map, sym, ap, ◌∙◌, Some, None}
 use Rattle.std.proofs.lemmas.List.{reverse-append}
 use Rattle.std.specs.Fmt.{signed_decimal}
 use Rattle.std.specs.Int.{w32, int_wrapping_add}
 use Rattle.std.specs.Option.{option_map_or}
 use Rattle.cil_model.specs.declared.reports.End.TheVariants.{Done}
 use Rattle.cil_model.specs.MachineContents.{Word, Int32, Frame, Content}
-use Rattle.cil_model.specs.Turns.{Move, NotYet, Goes, given, line_of, sum_of, leave, leave_word, execute}
-use Rattle.cil_model.specs.Stacks.{take_one, take_two}
+use Rattle.cil_model.specs.Turns.{Goes, leave, leave_word, execute}
 use Rattle.verifier.specs.Resolved.{instruction_of}
 use Rattle.verifier.specs.declared.program.Operation.{Operation}
 use Rattle.verifier.specs.declared.program.Operation.TheVariants.{LoadInt32, Add, WriteInt32, Return}

@@ -3,8 +3,8 @@ use Rattle.std.specs.Prelude.{◌≡◌, ◌≤◌, ◌<◌, ◌==◌, ℕ, true
 use Rattle.cil_model.specs.declared.reports.End.{End}
 use Rattle.cil_model.specs.declared.reports.End.TheVariants.{Budget}
 use Rattle.verifier.specs.StraightLine.{is_typed}
-use Rattle.verifier.specs.declared.typing.TypedBody.{TypedBody}
-use Rattle.verifier.specs.Resolved.{IsEntry}
+use Rattle.verifier.specs.declared.straight_line.TypedBody.{TypedBody}
+use Rattle.verifier.specs.Typed.{IsEntry}
 use Rattle.interleaving_core.specs.declared.engine.Engine.{Engine}
 use Rattle.interleaving_core.specs.declared.thread.Thread.{Thread}
 

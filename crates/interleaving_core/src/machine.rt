@@ -8,7 +8,7 @@ ghost use Rattle.cil_model.specs.Runs.{opening};
 ghost use Rattle.cil_model.specs.StandsFor.{FollowsReference, StandsFor};
 ghost use Rattle.cil_model.specs.States.{State};
 ghost use Rattle.cil_model.specs.Turns.{run_of, turn};
-ghost use Rattle.verifier.specs.Resolved.{IsEntry};
+ghost use Rattle.verifier.specs.Typed.{IsEntry};
 ghost use Rattle.interleaving_core.specs.Refusals.{number_of};
 ghost use Rattle.interleaving_core.specs.declared.machine.Refused.TheVariants.{Limits as BadLimits, OutOfMemory};
 
@@ -72,8 +72,23 @@ impl Model for Machine {
 }
 
 impl Machine {
-    /// A machine before its first event.
+    /// A machine before its first event: thread 0 is at the entry point, and nothing was printed.
+    ///
+    /// The memory of thread 0's frames is taken here. Limits beyond their ranges are refused before that;
+    /// the program is dropped where a machine is refused.
+    pub fn new(alloc: Global, verified: Verified, limits: Limits) -> Result<Machine, Refused>
+        ensures limits { (result ≡ Err BadLimits) ↔ (are_in_range limits ≡ false) }
+        ensures program { IfOk result (λ m. (m.tree ≡ verified) × (m.limits ≡ limits)) }
+        ensures opening { IfOk result (λ m. (s : State) × (opening verified limits ≡ Some s) × StandsFor m s) }
+    {
+        if !are_in_range(limits) {
+            return Err(Refused::Limits);
+        }
+        let (program, body) = verified.into_parts();
+        Ok(Machine::begin(alloc, program, body, limits)?)
+    }
 
+    /// A machine before its first event, within limits that are in range.
     fn begin(
         alloc: Global,
         program: Program,
@@ -82,6 +97,7 @@ impl Machine {
     ) -> Result<Machine, AllocError>
         requires entry { IsEntry program body }
         requires budget { 0 < limits.budget }
+        ensures program { IfOk result (λ m. (m.tree ≡ program) × (m.limits ≡ limits)) }
         ensures opening { IfOk result (λ m. (s : State) × (opening program limits ≡ Some s) × StandsFor m s) }
     {
         let stack = Vec::with_capacity(alloc, body.max_stack)?;

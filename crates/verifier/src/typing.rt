@@ -90,18 +90,18 @@ impl Verified {
         &self.entry_point
     }
 
-    /// The same, without the program.
-    pub fn into_entry_point(self) -> TypedBody
-        ensures { IsEntry self result }
+    /// The program, and the code that thread 0 begins with.
+    pub fn into_parts(self) -> (Program, TypedBody)
+        ensures program { result.0 ≡ self }
+        ensures entry_point { IsEntry self result.1 }
     {
         let Verified {
             program,
             layout,
             entry_point,
         } = self;
-        drop(program);
         drop(layout);
-        entry_point
+        (program, entry_point)
     }
 }
 
