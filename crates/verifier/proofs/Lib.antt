@@ -1,3 +1,4 @@
 pub mod BodyLemmas
 pub mod EntryLemmas
 pub mod OperationLemmas
+pub mod TypingLemmas

@@ -2,7 +2,7 @@
 
 ghost use Rattle.std.specs.Prelude.{◌≡◌, ℕ, IfOk, IfSome, OnOk, None, Some, Err, is_some, option_map};
 ghost use Rattle.verifier.specs.Numbers.{typing_number_of};
-ghost use Rattle.verifier.specs.Typed.{all_of, first_refused, first_untyped, is_typed_body, natural, IsEntry, IsTypedCode};
+ghost use Rattle.verifier.specs.Typed.{all_of, first_refused, first_untyped, is_typed_body, natural, AllTyped, IsEntry, IsTypedCode};
 ghost use Rattle.verifier.specs.declared.typing.VerifyError.TheVariants.{NoTyping, OutOfMemory};
 
 use crate::layout::Layout;
@@ -112,6 +112,7 @@ impl Verified {
 pub fn verify(alloc: Global, program: Program, layout: Layout) -> Result<Verified, VerifyError>
     ensures kept { IfOk result (λ verified. verified ≡ program) }
     ensures accepted { OnOk result (first_refused program ≡ None) }
+    ensures typed { OnOk result (AllTyped program) }
     ensures refused { (method : ℕ) → result ≡ Err (NoTyping method) → first_refused program ≡ Some method }
 {
     check_bodies(alloc, program.bodies())?;
