@@ -1,4 +1,4 @@
 pub mod CommandLine
 pub mod Failures
-pub mod Schedules
+pub mod Orders
 pub mod Statuses

@@ -8,16 +8,18 @@ use Rattle.cil_model.specs.Ranges.{are_in_range}
 use Rattle.cil_model.specs.declared.reports.End.{End}
 use Rattle.cil_model.specs.declared.reports.End.TheVariants.{Done}
 use Rattle.cilvm.specs.declared.orders.Order.{Order}
-use Rattle.cilvm.specs.declared.orders.Order.TheVariants.{Check, Run}
+use Rattle.cilvm.specs.declared.orders.Order.TheVariants.{Check, Run, Replay}
 
 abbrev pub is_check : Order → Bool
 is_check (Check file) = true
 is_check (Run file schedule limits) = false
+is_check (Replay file schedule limits) = false
 
 -- 2 comes only of limits out of range
 abbrev pub IsStatus : Order → ℕ → Type 0
 IsStatus (Check file) n = (n ≡ 0) ⊎ ((n ≡ 1) ⊎ (n ≡ 5))
 IsStatus (Run file schedule limits) n = (n ≤ 5) × (are_in_range limits ≡ true → n ≢ 2)
+IsStatus (Replay file schedule limits) n = (n ≤ 5) × (are_in_range limits ≡ true → n ≢ 2)
 
 -- a thread that hasn't ended is live
 abbrev pub is_live : Option End → Bool

@@ -1,28 +1,28 @@
 //! Does what an order asks for.
-ghost use Rattle.std.specs.Prelude.{◌≡◌, ◌≢◌, ◌⊎◌, ◌++◌, ◌∷◌, [], IfErr, IfOk, OnOk, codes, true, false, ℕ};
+ghost use Rattle.std.specs.Prelude.{◌≡◌, ◌≢◌, ◌≤◌, ◌⊎◌, ◌++◌, ◌∷◌, [], IfErr, IfOk, OnOk, codes, true, false, ℕ};
 ghost use Rattle.std.specs.List.{list_all, list_any};
 ghost use Rattle.std.specs.Io.KnownBytes.{Appends};
 ghost use Rattle.cil_model.specs.Ranges.{are_in_range};
 ghost use Rattle.cil_model.specs.Sources.{HasTree, IsAnswer};
 ghost use Rattle.ilasm_reader.specs.Answers.{numbered};
 ghost use Rattle.ilasm_reader.specs.declared.reading.ReadError.TheVariants as reading;
+ghost use Rattle.schedule_text.specs.Errors.{number_of as schedule_number_of};
+ghost use Rattle.schedule_text.specs.declared.errors.ScheduleError.TheVariants as scheduling;
 ghost use Rattle.verifier.specs.Numbers.{typing_number_of, number_of as legality_number_of};
 ghost use Rattle.verifier.specs.declared.legality.MetaError.TheVariants as resolving;
 ghost use Rattle.verifier.specs.declared.typing.VerifyError.TheVariants as verifying;
 ghost use Rattle.cilvm.specs.Failures.{IsFailureOfDevice, IsRefusalUnless, IsStatusOf, PrintsError};
 ghost use Rattle.cilvm.specs.Failures.{is_out_of_range, is_refusal, message_of};
-ghost use Rattle.cilvm.specs.Schedules.{number_of};
 ghost use Rattle.cilvm.specs.Statuses.{IsStatus, is_check, is_done, is_live, status_of};
 ghost use Rattle.cilvm.specs.declared.drive.Failure.TheVariants.{Memory};
-ghost use Rattle.cilvm.specs.declared.schedule.ScheduleError.TheVariants.{OutOfMemory};
 
 use crate::orders::Order;
-use crate::schedule::{ScheduleError, read_schedule};
 use cil_model::limits::Limits;
 use cil_model::memory::NoMemory;
 use cil_model::reports::End;
 use ilasm_reader::ReadError;
 use interleaving_core::{Machine, Refused};
+use schedule_text::{ScheduleError, read_schedule};
 use std::alloc::{AllocError, Global};
 use std::io;
 use std::io::{ErrorKind, Write};
@@ -107,7 +107,7 @@ impl From<VerifyError> for Failure {
 
 impl From<ScheduleError> for Failure {
     ghost from_gives = { λ error failure.
-        IsRefusalUnless (error ≡ OutOfMemory) (number_of error) failure };
+        IsRefusalUnless (error ≡ scheduling.OutOfMemory) (schedule_number_of error) failure };
 
     fn from(error: ScheduleError) -> Failure {
         match error {
@@ -135,7 +135,7 @@ pub fn drive<W: Write, E: Write>(
         × PrintsError (E.contents err.old) (E.contents err.new) }
     ensures kept { «record».new ≡ «record».old }
 {
-    match perform(alloc, order, source, out, err) {
+    match perform(alloc, order, source, schedule, out, err) {
         Ok(status) => status,
         Err(failure) => report(failure, err),
     }
@@ -160,6 +160,7 @@ fn perform<W: Write, E: Write>(
     alloc: Global,
     order: &Order<'_>,
     source: &[u8],
+    schedule: &[u8],
     out: &mut W,
     err: &mut E,
 ) -> Result<u8, Failure>
@@ -178,15 +179,32 @@ fn perform<W: Write, E: Write>(
             Ok(0)
         }
         Order::Run {
-            schedule,
+            schedule: text,
             limits,
             ..
-        } => {
-            let machine = run(alloc, verified, limits, schedule.as_bytes())?;
-            let ends = ends(alloc, &machine)?;
-            show(machine.console(), ends.as_slice(), out, err)
-        }
+        } => show_run(alloc, verified, limits, text.as_bytes(), out, err),
+        Order::Replay { limits, .. } => show_run(alloc, verified, limits, schedule, out, err),
     }
+}
+
+/// Runs a program by the events of a text, prints what the run leaves, and answers its status.
+fn show_run<W: Write, E: Write>(
+    alloc: Global,
+    verified: Verified,
+    limits: Limits,
+    text: &[u8],
+    out: &mut W,
+    err: &mut E,
+) -> Result<u8, Failure>
+    ensures status { IfOk result (λ status. (status ≤ 4) × (status ≢ 1) × (status ≢ 2)) }
+    ensures failure { IfErr result (λ failure. is_out_of_range failure ≡ true
+        → are_in_range limits ≡ false) }
+    ensures untouched { IfErr result (λ failure. is_refusal failure ≡ true
+        → (W.contents out.new ≡ W.contents out.old) × (E.contents err.new ≡ E.contents err.old)) }
+{
+    let machine = run(alloc, verified, limits, text)?;
+    let ends = ends(alloc, &machine)?;
+    show(machine.console(), ends.as_slice(), out, err)
 }
 
 /// The verified program of a source, whose tree is the one that the bytes have.

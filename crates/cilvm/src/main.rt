@@ -1,13 +1,10 @@
 //! The program `cilvm`.
 #![tactic(auto)]
 
-ghost use Rattle.std.specs.Prelude.{◌<◌, ◌^◌};
-
 mod commands;
 mod drive;
 mod line;
 mod orders;
-mod schedule;
 
 use cil_model::limits::MOST_SOURCE_BYTES;
 use drive::Failure;
@@ -57,11 +54,12 @@ fn program(rt: &HostRuntime) -> Result<u8, Failure> {
 
 fn carry_out(rt: &HostRuntime, order: &Order<'_>) -> Result<u8, Failure> {
     let alloc = rt.alloc();
-    let file = match *order {
-        Order::Check { file } | Order::Run { file, .. } => file,
-    };
     // a longer source is refused, so no more of it is read than shows that it is longer
-    let source = contents(rt, alloc, file, MOST_SOURCE_BYTES as u64)?;
+    let source = contents(rt, alloc, order.file(), MOST_SOURCE_BYTES as u64 + 1)?;
+    let schedule = match order.schedule_file() {
+        Some(file) => contents(rt, alloc, file, u64::MAX)?,
+        None => Vec::new(alloc),
+    };
     let errors = rt.stderr();
     let mut out = io::writer(rt);
     let mut err = io::writer(&errors);
@@ -70,7 +68,7 @@ fn carry_out(rt: &HostRuntime, order: &Order<'_>) -> Result<u8, Failure> {
         alloc,
         order,
         source.as_slice(),
-        &[],
+        schedule.as_slice(),
         &mut out,
         &mut err,
         &mut record,
@@ -78,13 +76,9 @@ fn carry_out(rt: &HostRuntime, order: &Order<'_>) -> Result<u8, Failure> {
     Ok(status)
 }
 
-/// The file's bytes, but no more than `most` and one.
-fn contents(rt: &impl Files, alloc: Global, file: &str, most: u64) -> io::Result<Vec<u8>>
-    requires { most < 2 ^ 63 }
-{
+/// The file's first bytes, up to so many.
+fn contents(rt: &impl Files, alloc: Global, file: &str, most: u64) -> io::Result<Vec<u8>> {
     let mut bytes = Vec::new(alloc);
-    File::open(rt, file)?
-        .take(most + 1)
-        .read_to_end(&mut bytes)?;
+    File::open(rt, file)?.take(most).read_to_end(&mut bytes)?;
     Ok(bytes)
 }
