@@ -1,4 +1,5 @@
 pub mod CommandLine
 pub mod Failures
 pub mod Orders
-pub mod Statuses
+pub mod Outcomes
+pub mod Threads

@@ -1,5 +1,6 @@
 -- What an order names (this profile).
-use Rattle.std.specs.Prelude.{ℕ, List, Option, Some, None}
+use Rattle.std.specs.Prelude.{◌≡◌, ◌⊎◌, ℕ, true, List, Option, Some, None}
+use Rattle.cil_model.specs.Sources.{is_too_long}
 use Rattle.cilvm.specs.declared.orders.Order.{Order}
 use Rattle.cilvm.specs.declared.orders.Order.TheVariants.{Check, Run, Replay}
 
@@ -13,3 +14,8 @@ file_of (Replay file schedule limits) = file.now
 abbrev pub schedule_file_of : Order → Option (List ℕ)
 schedule_file_of (Replay file schedule limits) = Some schedule.now
 schedule_file_of _ = None
+
+-- these bytes are the source that a file holds, or too long as that is too
+abbrev pub StandsFor : List ℕ → List ℕ → Type 0
+StandsFor bytes source =
+    (bytes ≡ source) ⊎ ((is_too_long bytes ≡ true) × (is_too_long source ≡ true))

@@ -3,18 +3,15 @@
 
 mod commands;
 mod drive;
+mod files;
 mod line;
 mod orders;
 
-use cil_model::limits::MOST_SOURCE_BYTES;
 use drive::Failure;
 use line::LineFault;
 use orders::Order;
-use std::alloc::Global;
 use std::fs::File;
-use std::io::Read;
 use std::process::ExitCode;
-use std::rt::Files;
 use std::{env, io};
 
 fn main(rt: HostRuntime) -> ExitCode {
@@ -54,10 +51,9 @@ fn program(rt: &HostRuntime) -> Result<u8, Failure> {
 
 fn carry_out(rt: &HostRuntime, order: &Order<'_>) -> Result<u8, Failure> {
     let alloc = rt.alloc();
-    // a longer source is refused, so no more of it is read than shows that it is longer
-    let source = contents(rt, alloc, order.file(), MOST_SOURCE_BYTES as u64 + 1)?;
+    let source = files::source(alloc, File::open(rt, order.file())?)?;
     let schedule = match order.schedule_file() {
-        Some(file) => contents(rt, alloc, file, u64::MAX)?,
+        Some(file) => files::text(alloc, File::open(rt, file)?)?,
         None => Vec::new(alloc),
     };
     let errors = rt.stderr();
@@ -76,9 +72,5 @@ fn carry_out(rt: &HostRuntime, order: &Order<'_>) -> Result<u8, Failure> {
     Ok(status)
 }
 
-/// The file's first bytes, up to so many.
-fn contents(rt: &impl Files, alloc: Global, file: &str, most: u64) -> io::Result<Vec<u8>> {
-    let mut bytes = Vec::new(alloc);
-    File::open(rt, file)?.take(most).read_to_end(&mut bytes)?;
-    Ok(bytes)
-}
+#[cfg(test)]
+mod tests;
