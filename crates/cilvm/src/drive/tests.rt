@@ -7,7 +7,7 @@ use cil_model::reports::{End, Report};
 use interleaving_core::{Machine, Refused};
 use std::alloc::Global;
 use std::io;
-use std::io::Write;
+use std::io::{Cursor, Write};
 use std::process::Abort;
 
 /// Adds 2 and 3, and prints the sum.
@@ -344,8 +344,13 @@ fn refuses_limits_out_of_range(rt: HostRuntime) {
     }
 }
 
-/// Asserts that a command is answered as usual, or that memory ran out. A test run in which some
-/// allocation fails shows that no other answer comes.
+/// What was written to an output that holds its bytes itself, and so never wants memory.
+fn written(page: &Cursor<[u8; 64]>) -> Option<&[u8]> {
+    page.get_ref().as_slice().get(..page.position() as usize)
+}
+
+/// Asserts that a command is answered as usual, or that it tells that memory ran out and nothing else.
+/// A test run in which some allocation fails shows that no other answer comes.
 fn assert_usual_or_memory<'a>(
     rt: &(impl Abort + AllocGlobal),
     words: &'a [&'a str],
@@ -364,12 +369,25 @@ fn assert_usual_or_memory<'a>(
             return;
         }
     };
-    let (status, out, err) = driven_order(alloc, &order, source, schedule);
+    let mut out = Cursor::new([0; 64]);
+    let mut err = Cursor::new([0; 64]);
+    let mut record = Vec::new(alloc);
+    let status = drive(
+        alloc,
+        &order,
+        source,
+        schedule,
+        &mut out,
+        &mut err,
+        &mut record,
+    );
     let is_usual = status == usual.0
-        && out.as_slice() == usual.1.as_bytes()
-        && err.as_slice() == usual.2.as_bytes();
-    let is_told = err.is_empty() || err.as_slice() == b"memory\n".as_slice();
-    assert!(rt; is_usual || status == 5 && is_told, "{status} at {words:?}");
+        && written(&out) == Some(usual.1.as_bytes())
+        && written(&err) == Some(usual.2.as_bytes());
+    let is_told = status == 5
+        && written(&out) == Some(b"".as_slice())
+        && written(&err) == Some(b"memory\n".as_slice());
+    assert!(rt; is_usual || is_told, "{status} at {words:?}");
 }
 
 #[test]
@@ -382,6 +400,9 @@ fn answers_as_usual_or_has_no_memory(rt: HostRuntime) {
     assert_usual_or_memory(&rt, replay.as_slice(), source, b"s0*2 g s0*3", usual);
     let bad = (1, "", "error 502\n");
     assert_usual_or_memory(&rt, replay.as_slice(), source, b"s0*5 s16", bad);
+    let short = ["cilvm", "run", "add.il", "--schedule=g s0*9", "--budget=3"];
+    let spent = (3, "", "thread 0: budget\n");
+    assert_usual_or_memory(&rt, short.as_slice(), source, &[], spent);
     let check = ["cilvm", "check", "add.il"];
     assert_usual_or_memory(&rt, check.as_slice(), source, &[], (0, "accepted\n", ""));
     assert_usual_or_memory(&rt, check.as_slice(), b"}", &[], (1, "", "error 103\n"));

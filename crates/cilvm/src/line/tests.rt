@@ -151,3 +151,30 @@ fn shows_help(rt: HostRuntime) {
     );
     assert_help(&rt, &["cilvm", "help", "check"], "Usage: cilvm check");
 }
+
+/// Asserts that an answer is the usual one, or that memory ran out. A test run in which some allocation
+/// fails shows that no other answer comes.
+fn assert_usual_or_memory(rt: &(impl Abort + AllocGlobal), words: &[&str], usual: &str) {
+    let is_usual = match order(rt.alloc(), words) {
+        Ok(order) => order.file() == usual,
+        Err(LineFault::Help(text) | LineFault::Bad(text)) => text.contains(usual),
+        Err(LineFault::Memory) => true,
+    };
+    assert!(rt; is_usual, "{words:?}");
+}
+
+#[test]
+fn answers_as_usual_or_has_no_memory(rt: HostRuntime) {
+    let run = ["cilvm", "run", "a.il", "--schedule", "s0", "--words=64"];
+    assert_usual_or_memory(&rt, &run, "a.il");
+    assert_usual_or_memory(&rt, &["cilvm", "replay", "b.il", "s"], "b.il");
+    assert_usual_or_memory(&rt, &["cilvm", "check", "c.il"], "c.il");
+    assert_usual_or_memory(&rt, &["cilvm"], "Usage: cilvm <COMMAND>");
+    assert_usual_or_memory(&rt, &["cilvm", "run", "--help"], "s0*5  five steps");
+    assert_usual_or_memory(&rt, &["cilvm", "chekc"], "unrecognized subcommand 'chekc'");
+    assert_usual_or_memory(
+        &rt,
+        &["cilvm", "run", "a", "--schedule"],
+        "a value is required",
+    );
+}
