@@ -1,0 +1,6 @@
+pub mod Repeats
+pub mod CycleLaws
+pub mod EntryLaws
+pub mod Tests
+pub mod UnknownLaws
+pub mod MentionLaws

@@ -1,0 +1,11 @@
+// Which trees are legal programs.
+#![tactic(auto)]
+
+pub mod bodies;
+pub mod cycles;
+pub mod doubled;
+pub mod entry;
+pub mod mentions;
+#[cfg(test)]
+mod tests;
+pub mod unknown;
