@@ -4,3 +4,5 @@ pub mod EntryLaws
 pub mod Tests
 pub mod UnknownLaws
 pub mod MentionLaws
+pub mod NumberedMethods
+pub mod ImplementLaws

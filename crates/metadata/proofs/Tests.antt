@@ -1,8 +1,9 @@
 -- Tests of whole lists.
-use Rattle.std.proofs.Common.{◌≡◌, Bool, true, false, not, ◌&&◌, ◌||◌, List, [], ◌∷◌, ◌++◌, Option, Some, None, is_some, option_map, refl, sym, ap, ◌∙◌}
+use Rattle.std.proofs.Common.{◌≡◌, ◌<◌, ◌+◌, ℕ, suc, length, drop, get_or, arith, Bool, true, false, not, ◌&&◌, ◌||◌, List, [], ◌∷◌, ◌++◌, Option, Some, None, is_some, option_map, refl, sym, ap, ◌∙◌}
 use Rattle.std.specs.Prelude.{flat_map, filter_map}
 use Rattle.std.specs.List.{list_any, list_all, cons_option}
 use Rattle.std.specs.Option.{option_map_or}
+use Rattle.std.proofs.Math.Seq.{drop-cons}
 use Rattle.std.proofs.lemmas.List.Folds.{list_all-append, list_any-append}
 
 pub and_false : (b : Bool) → b && false ≡ false
@@ -62,3 +63,9 @@ not_list_any {X} p (x ∷ xs) = by_case (p x) (not_list_any p xs)
     by_case : (b : Bool) → not (list_any p xs) ≡ list_all (λ x. not (p x)) xs → not (b || list_any p xs) ≡ not b && list_all (λ x. not (p x)) xs
     by_case true e = refl
     by_case false e = e
+
+-- an item that passes changes no test of what is left
+pub all_after : {X : Type 0} (p : X → Bool) (xs : List X) (i : ℕ) (x : X) → i < length xs → x ≡ get_or xs i x → p x ≡ true → list_all p (drop (i + 1) xs) ≡ list_all p (drop i xs)
+all_after p xs i x l e h =
+    let k : i + 1 ≡ suc i = omega arith in
+    ap (λ n. list_all p (drop n xs)) k ∙ sym (ap (list_all p) (drop-cons xs i x l ∙ ap (λ y. y ∷ drop (suc i) xs) (sym e)) ∙ ap (λ b. b && list_all p (drop (suc i) xs)) h)

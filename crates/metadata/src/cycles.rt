@@ -13,11 +13,7 @@ use name_tables::lookups::NameTables;
 fn is_own_base(names: &NameTables, class: &Class) -> bool
     ensures { result ≡ is_own_base names.now.classes.tree.now (source_name class.now) }
 {
-    let own = ClassKey {
-        assembly: None,
-        name: &class.name,
-    };
-    let Some(number) = names.classes.number(own) else {
+    let Some(number) = names.classes.number(ClassKey::of_source(class)) else {
         return false;
     };
     let Some(base) = names.classes.base(number) else {

@@ -5,6 +5,7 @@ pub mod bodies;
 pub mod cycles;
 pub mod doubled;
 pub mod entry;
+pub mod implemented;
 pub mod mentions;
 #[cfg(test)]
 mod tests;

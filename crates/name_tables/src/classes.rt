@@ -59,10 +59,7 @@ impl<'a> DeclaredClass<'a> {
     pub fn of_source(alloc: Global, class: &'a Class) -> Result<Self, NoMemory>
         ensures { IfOk result (λ d. entry_of d ≡ source_entry class.now) }
     {
-        let name = ClassKey {
-            assembly: None,
-            name: &class.name,
-        };
+        let name = ClassKey::of_source(class);
         let methods = methods_of(alloc, class)?;
         Ok(match &class.kind {
             ClassKind::Interface => DeclaredClass {

@@ -6,7 +6,7 @@ ghost use Rattle.cil_model.specs.Same.{same_options, same_lists, same_text, same
 use crate::kinds::is_static;
 use cil_model::instructions::MethodName;
 use cil_model::texts::Text;
-use cil_model::trees::{Field, Method};
+use cil_model::trees::{Class, Field, Method};
 use cil_model::types::{ClassName, DeclaredType, Signature};
 use std::hash::{Hash, Hasher};
 
@@ -286,6 +286,7 @@ fn are_same_types(own: &[DeclaredType], other: &[DeclaredType]) -> bool
 
 /// A class as a name has it.
 impl<'a> ClassKey<'a> {
+    ghost use Rattle.cil_model.specs.Declarations.{source_name};
     ghost use Rattle.name_tables.specs.Keys.{class_of_key};
 
     pub fn of(name: &'a ClassName) -> Self
@@ -294,6 +295,16 @@ impl<'a> ClassKey<'a> {
         ClassKey {
             assembly: name.assembly.as_ref(),
             name: &name.name,
+        }
+    }
+
+    /// A class of the source by its plain name (ECMA-335 II.5.3).
+    pub fn of_source(class: &'a Class) -> Self
+        ensures { class_of_key result ≡ source_name class.now }
+    {
+        ClassKey {
+            assembly: None,
+            name: &class.name,
         }
     }
 }
