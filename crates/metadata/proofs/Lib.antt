@@ -6,3 +6,4 @@ pub mod UnknownLaws
 pub mod MentionLaws
 pub mod NumberedMethods
 pub mod ImplementLaws
+pub mod SlotLaws

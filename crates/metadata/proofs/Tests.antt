@@ -14,6 +14,9 @@ pub and_true : (b : Bool) → b && true ≡ b
 and_true true = refl
 and_true false = refl
 
+pub third_decides : (a b c : Bool) → a ≡ true → b ≡ false → a && not b && c ≡ c
+third_decides a b c h k = ap (λ x. x && not b && c) h ∙ ap (λ x. not x && c) k
+
 pub is_some-option_map : {X Y : Type 0} (f : X → Y) (o : Option X) → is_some (option_map f o) ≡ is_some o
 is_some-option_map f None = refl
 is_some-option_map f (Some x) = refl

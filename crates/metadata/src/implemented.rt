@@ -41,7 +41,11 @@ fn implement_methods(names: &NameTables, chain: &[usize], methods: &[&Method]) -
     ensures { result ≡ list_all (λ m. list_any (is_virtual_found names.now.classes.tree.now (identity_of m)) chain.now) (map (λ m. m.now) methods.now) }
 {
     for method in methods {
-        if !implements_method(names, chain, MethodKey::new(&method.name, &method.signature)) {
+        if !implements_method(
+            names,
+            chain,
+            MethodKey::new(&method.name, &method.signature),
+        ) {
             return false;
         }
     }

@@ -6,6 +6,7 @@ pub mod cycles;
 pub mod doubled;
 pub mod entry;
 pub mod implemented;
+pub mod kinds;
 pub mod mentions;
 #[cfg(test)]
 mod tests;
