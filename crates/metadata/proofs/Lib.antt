@@ -7,3 +7,4 @@ pub mod MentionLaws
 pub mod NumberedMethods
 pub mod ImplementLaws
 pub mod SlotLaws
+pub mod CountLaws

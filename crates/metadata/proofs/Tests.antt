@@ -72,3 +72,20 @@ pub all_after : {X : Type 0} (p : X → Bool) (xs : List X) (i : ℕ) (x : X) �
 all_after p xs i x l e h =
     let k : i + 1 ≡ suc i = omega arith in
     ap (λ n. list_all p (drop n xs)) k ∙ sym (ap (list_all p) (drop-cons xs i x l ∙ ap (λ y. y ∷ drop (suc i) xs) (sym e)) ∙ ap (λ b. b && list_all p (drop (suc i) xs)) h)
+
+-- ---- five tests in a row
+
+pub first_fails : (a b c d e : Bool) → a ≡ false → a && b && c && d && e ≡ false
+first_fails a b c d e h = ap (λ x. x && b && c && d && e) h
+
+pub second_fails : (a b c d e : Bool) → b ≡ false → a && b && c && d && e ≡ false
+second_fails a b c d e h = ap (λ x. a && x && c && d && e) h ∙ ap (λ x. x && c && d && e) (and_false a)
+
+pub third_fails : (a b c d e : Bool) → c ≡ false → a && b && c && d && e ≡ false
+third_fails a b c d e h = ap (λ x. a && b && x && d && e) h ∙ ap (λ x. x && d && e) (and_false (a && b))
+
+pub fourth_fails : (a b c d e : Bool) → d ≡ false → a && b && c && d && e ≡ false
+fourth_fails a b c d e h = ap (λ x. a && b && c && x && e) h ∙ ap (λ x. x && e) (and_false (a && b && c))
+
+pub last_decides : (a b c d e : Bool) → a ≡ true → b ≡ true → c ≡ true → d ≡ true → a && b && c && d && e ≡ e
+last_decides a b c d e h i j k = ap (λ x. x && b && c && d && e) h ∙ ap (λ x. x && c && d && e) i ∙ ap (λ x. x && d && e) j ∙ ap (λ x. x && e) k

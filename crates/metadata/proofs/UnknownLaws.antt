@@ -18,7 +18,7 @@ use Rattle.cil_model.specs.Mentions.{bases_named, class_of_element, owners_of_in
 use Rattle.cil_model.specs.Legality.{labels_before, is_known_extern, is_resolved, is_source_interface, is_possible_base, is_possible_type, class_finds, finds_member, finds_labels, lacks_name}
 use Rattle.name_tables.proofs.Lists.{option_map_of_map}
 use Rattle.name_tables.proofs.FirstPlaces.{is_some-position_from}
-use Rattle.metadata.proofs.Tests.{and_false, and_true, list_all_congr, list_all-flat_map, list_any-flat_map, list_all-filter_map, list_all_both}
+use Rattle.metadata.proofs.Tests.{first_fails, second_fails, third_fails, fourth_fails, last_decides, and_false, and_true, list_all_congr, list_all-flat_map, list_any-flat_map, list_all-filter_map, list_all_both}
 
 -- ---- classes of the source
 
@@ -31,23 +31,6 @@ never e = absurd (lost e)
   where
     lost : true ≡ false → ⊥
     lost h = cc
-
--- ---- five tests in a row
-
-pub first_fails : (a b c d e : Bool) → a ≡ false → a && b && c && d && e ≡ false
-first_fails a b c d e h = ap (λ x. x && b && c && d && e) h
-
-pub second_fails : (a b c d e : Bool) → b ≡ false → a && b && c && d && e ≡ false
-second_fails a b c d e h = ap (λ x. a && x && c && d && e) h ∙ ap (λ x. x && c && d && e) (and_false a)
-
-pub third_fails : (a b c d e : Bool) → c ≡ false → a && b && c && d && e ≡ false
-third_fails a b c d e h = ap (λ x. a && b && x && d && e) h ∙ ap (λ x. x && d && e) (and_false (a && b))
-
-pub fourth_fails : (a b c d e : Bool) → d ≡ false → a && b && c && d && e ≡ false
-fourth_fails a b c d e h = ap (λ x. a && b && c && x && e) h ∙ ap (λ x. x && e) (and_false (a && b && c))
-
-pub last_decides : (a b c d e : Bool) → a ≡ true → b ≡ true → c ≡ true → d ≡ true → a && b && c && d && e ≡ e
-last_decides a b c d e h i j k = ap (λ x. x && b && c && d && e) h ∙ ap (λ x. x && c && d && e) i ∙ ap (λ x. x && d && e) j ∙ ap (λ x. x && e) k
 
 module _ (tree : Tree) where
   -- no class of the source has brackets

@@ -1,2 +1,3 @@
 pub mod Named
 pub mod Found
+pub mod Counts

@@ -7,6 +7,7 @@ pub mod doubled;
 pub mod entry;
 pub mod implemented;
 pub mod kinds;
+pub mod limits;
 pub mod mentions;
 #[cfg(test)]
 mod tests;
