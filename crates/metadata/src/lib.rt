@@ -9,6 +9,7 @@ pub mod implemented;
 pub mod kinds;
 pub mod limits;
 pub mod mentions;
+pub mod rules;
 #[cfg(test)]
 mod tests;
 pub mod unknown;
