@@ -10,7 +10,7 @@ use name_tables::keys::ClassKey;
 use name_tables::lookups::NameTables;
 
 /// Whether a class stands in the chain of its base.
-fn is_own_base(names: &NameTables, class: &Class) -> bool
+pub(crate) fn is_own_base(names: &NameTables, class: &Class) -> bool
     ensures { result ≡ is_own_base names.now.classes.tree.now (source_name class.now) }
 {
     let Some(number) = names.classes.number(ClassKey::of_source(class)) else {

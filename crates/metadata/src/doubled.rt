@@ -18,7 +18,7 @@ use name_tables::keys::{ClassKey, TextKey};
 use name_tables::places::Places;
 use std::alloc::Global;
 
-fn text_keys(alloc: Global, texts: &[Text]) -> Result<Vec<TextKey<'_>>, NoMemory>
+pub(crate) fn text_keys(alloc: Global, texts: &[Text]) -> Result<Vec<TextKey<'_>>, NoMemory>
     ensures { IfOk result (λ v. map text_of_key v.items ≡ texts.now) }
 {
     let mut keys = Vec::new(alloc);
@@ -28,7 +28,7 @@ fn text_keys(alloc: Global, texts: &[Text]) -> Result<Vec<TextKey<'_>>, NoMemory
     Ok(keys)
 }
 
-fn class_names(alloc: Global, classes: &[Class]) -> Result<Vec<TextKey<'_>>, NoMemory>
+pub(crate) fn class_names(alloc: Global, classes: &[Class]) -> Result<Vec<TextKey<'_>>, NoMemory>
     ensures { IfOk result (λ v. map text_of_key v.items ≡ map (λ c. c.name) classes.now) }
 {
     let mut keys = Vec::new(alloc);
@@ -38,7 +38,7 @@ fn class_names(alloc: Global, classes: &[Class]) -> Result<Vec<TextKey<'_>>, NoM
     Ok(keys)
 }
 
-fn field_names(alloc: Global, class: &Class) -> Result<Vec<TextKey<'_>>, NoMemory>
+pub(crate) fn field_names(alloc: Global, class: &Class) -> Result<Vec<TextKey<'_>>, NoMemory>
     ensures { IfOk result (λ v. map text_of_key v.items ≡ map (λ f. f.name) (fields_of class.now)) }
 {
     let fields = fields_of(alloc, class)?;
@@ -113,7 +113,7 @@ fn has_repeated_label(alloc: Global, class: &Class) -> Result<bool, NoMemory>
     Ok(false)
 }
 
-fn class_doubles(alloc: Global, class: &Class) -> Result<bool, NoMemory>
+pub(crate) fn class_doubles(alloc: Global, class: &Class) -> Result<bool, NoMemory>
     ensures { IfOk result (λ b. b ≡ class_doubles class.now) }
 {
     if has_repeated_text(alloc, field_names(alloc, class)?)? {

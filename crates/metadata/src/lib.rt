@@ -2,6 +2,7 @@
 #![tactic(auto)]
 
 pub mod bodies;
+mod culprits;
 pub mod cycles;
 pub mod doubled;
 pub mod entry;
@@ -9,6 +10,7 @@ pub mod implemented;
 pub mod kinds;
 pub mod limits;
 pub mod mentions;
+pub mod program;
 pub mod rules;
 #[cfg(test)]
 mod tests;

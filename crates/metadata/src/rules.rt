@@ -14,6 +14,7 @@ use crate::unknown::lacks_name;
 use cil_model::memory::NoMemory;
 use name_tables::lookups::NameTables;
 use std::alloc::Global;
+use std::fmt;
 
 /// A rule that each legal program keeps. The number of each stands beside it.
 #[derive(Clone, Copy, Debug, PartialEq, Eq)]
@@ -47,6 +48,23 @@ impl Rule {
             Rule::KindsFit => 205,
             Rule::OneEntryPoint => 206,
             Rule::LimitsAreKept => 207,
+        }
+    }
+}
+
+/// What is so where the rule is broken.
+impl fmt::Display for Rule {
+    fn fmt<W: fmt::Write>(&self, f: &mut fmt::Formatter<W>) -> fmt::Result {
+        match self {
+            Rule::NamesStandOnce => write!(f, "a name stands twice"),
+            Rule::NamesAreKnown => write!(f, "a name stands for nothing of the kind needed"),
+            Rule::BasesEnd => write!(f, "a class stands in the chain of its base"),
+            Rule::InterfacesAreImplemented => {
+                write!(f, "a method of an interface that the class lists is absent")
+            }
+            Rule::KindsFit => write!(f, "the kind of a method does not fit"),
+            Rule::OneEntryPoint => write!(f, "not exactly one entry point"),
+            Rule::LimitsAreKept => write!(f, "a limit is passed"),
         }
     }
 }

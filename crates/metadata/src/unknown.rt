@@ -28,7 +28,7 @@ use std::alloc::Global;
 // ---- names of assemblies and classes
 
 /// Whether an extern is one of the two libraries of this profile.
-fn is_known_extern(name: &Text) -> bool
+pub(crate) fn is_known_extern(name: &Text) -> bool
     ensures { result ≡ is_known_extern name.now }
 {
     name.as_str() == "mscorlib" || name.as_str() == "cilvm"
@@ -164,7 +164,7 @@ fn is_known_heading(names: &NameTables, base: &ClassName, interfaces: &[ClassNam
 }
 
 /// Whether the base and the interfaces of a class are what they have to be.
-fn is_known_class(names: &NameTables, class: &Class) -> bool
+pub(crate) fn is_known_class(names: &NameTables, class: &Class) -> bool
     ensures { result ≡ (list_all (is_resolved names.now.classes.tree.now) (bases_named class.now.kind ++ interfaces_named class.now.kind) && class_finds names.now.classes.tree.now class.now) }
 {
     match &class.kind {
@@ -191,7 +191,7 @@ fn are_known_classes(names: &NameTables) -> bool
 // ---- types
 
 /// Whether the class that a type names, where it names one, may stand there.
-fn is_known_type(names: &NameTables, declared: &DeclaredType) -> bool
+pub(crate) fn is_known_type(names: &NameTables, declared: &DeclaredType) -> bool
     ensures { result ≡ option_map_or (λ c. is_resolved names.now.classes.tree.now c && is_possible_type names.now.classes.tree.now c) (class_of_element declared.now.element) true }
 {
     let Element::Class(class) = &declared.element else {
@@ -216,7 +216,7 @@ fn are_known_types(names: &NameTables, types: &[&DeclaredType]) -> bool
 
 // ---- labels
 
-fn is_placed<'a>(labels: &Places<TextKey<'a>>, label: &'a Text) -> bool
+pub(crate) fn is_placed<'a>(labels: &Places<TextKey<'a>>, label: &'a Text) -> bool
     ensures { result ≡ list_any (same_text label.now) (map text_of_key labels.now) }
 {
     labels.first(TextKey { text: label }).is_some()
@@ -317,7 +317,7 @@ fn finds_member(names: &NameTables, instruction: &Instruction) -> bool
 }
 
 /// Whether the owner that an instruction names is a class that may stand there, with the member.
-fn is_known_instruction(names: &NameTables, instruction: &Instruction) -> bool
+pub(crate) fn is_known_instruction(names: &NameTables, instruction: &Instruction) -> bool
     ensures { result ≡ (list_all (is_resolved names.now.classes.tree.now) (owners_of_instruction instruction.now) && finds_member names.now.classes.tree.now instruction.now) }
 {
     if let Some(owner) = owner_of_instruction(instruction) {

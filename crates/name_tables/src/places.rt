@@ -1,6 +1,6 @@
 // A list of keys, with the first place of each found by hash.
 
-ghost use Rattle.std.specs.Prelude.{◌≡◌, IfOk};
+ghost use Rattle.std.specs.Prelude.{◌≡◌, IfOk, is_some};
 ghost use Rattle.std.specs.List.{position_from};
 ghost use Rattle.cil_model.specs.Legality.{has_repeat};
 
@@ -16,11 +16,11 @@ use std::marker::Model;
 pub struct Places<K: Eq + Hash + Copy + Drop> {
     keys: Vec<K>,
     firsts: IndexMap<K, usize>,
-    repeats: bool,
+    repeated: Option<usize>,
 }
 
 impl<K: Eq + Hash + Copy + Drop> Model for Places<K> {
-    ghost use Rattle.std.specs.Prelude.{◌≡◌, List};
+    ghost use Rattle.std.specs.Prelude.{◌≡◌, List, is_some};
     ghost use Rattle.std.specs.List.{position_from};
     ghost use Rattle.indexmap.specs.IndexMap.{get};
     ghost use Rattle.cil_model.specs.Legality.{has_repeat};
@@ -29,7 +29,7 @@ impl<K: Eq + Hash + Copy + Drop> Model for Places<K> {
 
     ghost view = { λ p. p.keys.items };
 
-    ghost invariant = { λ p. ((q : K) → get K.eq p.firsts q ≡ position_from (K.eq q) 0 p.keys.items) × (p.repeats ≡ has_repeat K.eq p.keys.items) };
+    ghost invariant = { λ p. ((q : K) → get K.eq p.firsts q ≡ position_from (K.eq q) 0 p.keys.items) × (is_some p.repeated ≡ has_repeat K.eq p.keys.items) };
 }
 
 impl<K: Eq + Hash + Copy + Drop> Places<K> {
@@ -38,16 +38,16 @@ impl<K: Eq + Hash + Copy + Drop> Places<K> {
         ensures { IfOk result (λ p. p ≡ keys.items) }
     {
         let mut firsts = IndexMap::new(alloc);
-        let mut repeats = false;
+        let mut repeated = None;
         for place in (0..keys.len()).rev() {
             if firsts.insert(keys[place], place)?.is_some() {
-                repeats = true;
+                repeated = Some(place);
             }
         }
         Ok(Places {
             keys,
             firsts,
-            repeats,
+            repeated,
         })
     }
 
@@ -62,7 +62,14 @@ impl<K: Eq + Hash + Copy + Drop> Places<K> {
     pub fn has_repeat(&self) -> bool
         ensures { result ≡ has_repeat K.eq self.now }
     {
-        self.repeats
+        self.repeated.is_some()
+    }
+
+    /// The first place of a key that stands again further on; none where no two of the keys are equal.
+    pub fn repeated(&self) -> Option<usize>
+        ensures { is_some result ≡ has_repeat K.eq self.now }
+    {
+        self.repeated
     }
 
     /// The keys in their order.
