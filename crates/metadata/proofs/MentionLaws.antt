@@ -1,0 +1,24 @@
+-- The types that a method names, as they are collected.
+use Rattle.std.proofs.Common.{◌≡◌, List, [], ◌∷◌, ◌++◌, map, refl, sym, ap, ◌∙◌, append_assoc}
+use Rattle.std.specs.Prelude.{flat_map}
+use Rattle.std.proofs.lemmas.List.Folds.{flat_map-map}
+use Rattle.cil_model.specs.declared.types.DeclaredType.{DeclaredType}
+use Rattle.cil_model.specs.declared.trees.Code.{Code}
+use Rattle.cil_model.specs.declared.trees.Line.{Line}
+use Rattle.cil_model.specs.declared.trees.Method.{Method}
+use Rattle.cil_model.specs.Bodies.{lines_of}
+use Rattle.cil_model.specs.Mentions.{codes_of, types_of_signature, types_of_instruction, types_of_method}
+
+pub append_nothing : {X : Type 0} (xs : List X) → xs ++ [] ≡ xs
+append_nothing [] = refl
+append_nothing (x ∷ xs) = ap (λ ys. x ∷ ys) (append_nothing xs)
+
+-- the signature, the locals, and what the instructions name
+pub method_types : (m : Method) (old signature locals all : List DeclaredType) → signature ≡ old ++ types_of_signature m.signature →
+    locals ≡ signature ++ (flat_map (λ (c : Code). c.locals) (codes_of m) ++ []) → all ≡ locals ++ flat_map (λ (l : Line). types_of_instruction l.instruction) (lines_of m) → all ≡ old ++ types_of_method m
+method_types m old signature locals all e f g =
+    let s = types_of_signature m.signature in
+    let k = flat_map (λ (c : Code). c.locals) (codes_of m) in
+    let i : flat_map (λ (l : Line). types_of_instruction l.instruction) (lines_of m) ≡ flat_map types_of_instruction (map (λ (l : Line). l.instruction) (lines_of m)) = sym (flat_map-map types_of_instruction (λ (l : Line). l.instruction) (lines_of m)) in
+    g ∙ ap (λ xs. xs ++ flat_map (λ (l : Line). types_of_instruction l.instruction) (lines_of m)) (f ∙ ap (λ xs. signature ++ xs) (append_nothing k) ∙ ap (λ xs. xs ++ k) e ∙ append_assoc old s k) ∙
+    append_assoc old (s ++ k) _ ∙ ap (λ xs. old ++ (s ++ k ++ xs)) i

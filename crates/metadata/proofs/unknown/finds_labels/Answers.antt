@@ -1,0 +1,14 @@
+use Rattle.std.proofs.Common.{◌≡◌, sym, ap, ◌∙◌, map}
+use Rattle.std.specs.List.{list_all}
+use Rattle.cil_model.specs.declared.trees.Line.{Line}
+use Rattle.cil_model.specs.Legality.{labels_before}
+use Rattle.name_tables.specs.Keys.{text_of_key}
+use Rattle.metadata.proofs.UnknownLaws.{are_labels, labels_found}
+use Rattle.metadata.proofs.unknown.finds_labels.Goals as goal
+
+pub returns : goal.returns
+returns c =
+    let m = c.args.method.now in
+    c.are_all_placed.ensures ∙ ap (λ ks. list_all (λ (x : Line). are_labels (map text_of_key ks) x.instruction) c.lines_of.result.now) c.in_ok-labels.ensures ∙
+    ap (λ ls. list_all (λ (x : Line). are_labels ls x.instruction) c.lines_of.result.now) c.in_ok-label_keys.ensures ∙
+    ap (λ xs. list_all (λ (x : Line). are_labels (labels_before m) x.instruction) xs) c.lines_of.ensures ∙ labels_found m

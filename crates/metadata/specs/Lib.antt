@@ -1,0 +1,4 @@
+pub mod Named
+pub mod Found
+pub mod Counts
+pub mod RuleNumbers

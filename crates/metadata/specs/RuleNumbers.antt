@@ -1,0 +1,21 @@
+-- The numbers of the rules of legality (this profile).
+use Rattle.std.specs.Prelude.{ℕ}
+use Rattle.metadata.specs.declared.program.MetaError.{MetaError}
+use Rattle.metadata.specs.declared.program.MetaError.TheVariants.{Broken, OutOfMemory}
+use Rattle.metadata.specs.declared.rules.Rule.{Rule}
+use Rattle.metadata.specs.declared.rules.Rule.TheVariants.{NamesStandOnce, NamesAreKnown, BasesEnd, InterfacesAreImplemented, KindsFit, OneEntryPoint, LimitsAreKept}
+
+-- the number that is printed where the rule is broken
+abbrev pub rule_number : Rule → ℕ
+rule_number NamesStandOnce = 201
+rule_number NamesAreKnown = 202
+rule_number BasesEnd = 203
+rule_number InterfacesAreImplemented = 204
+rule_number KindsFit = 205
+rule_number OneEntryPoint = 206
+rule_number LimitsAreKept = 207
+
+-- the number that is printed for a refusal
+abbrev pub number_of : MetaError → ℕ
+number_of (Broken rule culprit) = rule_number rule
+number_of OutOfMemory = 208

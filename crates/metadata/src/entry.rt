@@ -1,0 +1,85 @@
+// The entry point.
+
+ghost use Rattle.std.specs.Prelude.{◌≡◌, ◌==◌, ◌&&◌, IfOk, map, count_by};
+ghost use Rattle.cil_model.specs.Bodies.{is_entry_point};
+ghost use Rattle.std.specs.List.{list_any};
+ghost use Rattle.cil_model.specs.Legality.{is_entry_method, lacks_entry};
+ghost use Rattle.cil_model.specs.Mentions.{methods_of_tree};
+
+use crate::bodies::code_of;
+use cil_model::memory::NoMemory;
+use cil_model::trees::{Method, Tree};
+use name_tables::classes::methods_of;
+use name_tables::kinds::is_static;
+use std::alloc::Global;
+
+/// Whether a method has an entry point (ECMA-335 II.15.4.1.2).
+pub fn is_entry_point(method: &Method) -> bool
+    ensures { result ≡ is_entry_point method.now }
+{
+    match code_of(&method.kind) {
+        None => false,
+        Some(code) => code.is_entry_point,
+    }
+}
+
+/// Whether a method is static and void, without parameters.
+pub fn is_entry_method(method: &Method) -> bool
+    ensures { result ≡ is_entry_method method.now }
+{
+    is_static(&method.kind)
+        && method.signature.return_type.is_none()
+        && method.signature.parameters.as_slice().is_empty()
+}
+
+/// The methods of all classes, in source order. Fails for want of memory alone.
+pub fn methods_of_tree(alloc: Global, tree: &Tree) -> Result<Vec<&Method>, NoMemory>
+    ensures { IfOk result (λ v. map (λ m. m.now) v.items ≡ methods_of_tree tree.now) }
+{
+    let mut all = Vec::new(alloc);
+    for class in tree.classes.as_slice() {
+        let methods = methods_of(alloc, class)?;
+        for method in methods.as_slice() {
+            all.push(*method)?;
+        }
+    }
+    Ok(all)
+}
+
+fn count_entry_points(methods: &[&Method]) -> usize
+    ensures { result ≡ count_by is_entry_point (map (λ m. m.now) methods.now) }
+{
+    methods.iter().filter(|m| is_entry_point(m)).count()
+}
+
+fn is_fit_entry(method: &Method) -> bool
+    ensures { result ≡ is_entry_point method.now && is_entry_method method.now }
+{
+    is_entry_point(method) && is_entry_method(method)
+}
+
+fn has_entry_method(methods: &[&Method]) -> bool
+    ensures { result ≡ list_any (λ m. is_entry_point m && is_entry_method m) (map (λ m. m.now) methods.now) }
+{
+    for method in methods {
+        if is_fit_entry(method) {
+            return true;
+        }
+    }
+    false
+}
+
+fn has_one_entry(methods: &[&Method]) -> bool
+    ensures { result ≡ (count_by is_entry_point (map (λ m. m.now) methods.now) == 1) && list_any (λ m. is_entry_point m && is_entry_method m) (map (λ m. m.now) methods.now) }
+{
+    count_entry_points(methods) == 1 && has_entry_method(methods)
+}
+
+/// Whether the source has none or several entry points, or one in a method that is not static, void and without parameters
+/// (number 206). Fails for want of memory alone.
+pub fn lacks_entry(alloc: Global, tree: &Tree) -> Result<bool, NoMemory>
+    ensures { IfOk result (λ b. b ≡ lacks_entry tree.now) }
+{
+    let methods = methods_of_tree(alloc, tree)?;
+    Ok(!has_one_entry(methods.as_slice()))
+}

@@ -1,0 +1,302 @@
+// Methods whose kinds do not fit.
+
+ghost use Rattle.std.specs.Prelude.{◌≡◌, ◌==◌, ◌&&◌, ◌||◌, not, if◌then◌else◌, false, IfOk, map, filter_map, slice_get};
+ghost use Rattle.std.specs.List.{list_any, list_all};
+ghost use Rattle.std.specs.Option.{option_map_or};
+ghost use Rattle.cil_model.specs.Chains.{base_of, chain_within, longest_chain, is_virtual, is_abstract_method};
+ghost use Rattle.cil_model.specs.Declarations.{source_name};
+ghost use Rattle.cil_model.specs.Legality.{is_interface_method, has_abstract_slot, overrides_no_virtual, kinds_fit, misfits_kind};
+ghost use Rattle.metadata.specs.Found.{slot_filled_at, slot_over, slot_numbered, open_over, open_numbered, is_left_open, class_leaves_open, plain_numbered};
+ghost use Rattle.name_tables.specs.Keys.{class_of_key, method_of_key};
+ghost use Rattle.name_tables.specs.Numbers.{class_number, declarations};
+ghost use Rattle.name_tables.specs.Sameness.{identity_of};
+
+use cil_model::memory::NoMemory;
+use cil_model::trees::{Class, ClassKind, Method};
+use name_tables::classes::methods_of;
+use name_tables::keys::{ClassKey, MethodKey};
+use name_tables::kinds::{is_abstract_method, is_new_slot_method, is_virtual};
+use name_tables::lookups::NameTables;
+use std::alloc::Global;
+
+// ---- slots along a chain: each is known by the number of the class that introduced it
+
+/// The slot that a method of a class fills over the one that it inherits (ECMA-335 II.10.3).
+fn slot_filled(class: usize, inherited: Option<usize>, method: &Method) -> Option<usize>
+    ensures { result ≡ slot_filled_at class inherited method.now }
+{
+    if !is_virtual(&method.kind) {
+        return None;
+    }
+    if is_new_slot_method(&method.kind) {
+        return Some(class);
+    }
+    Some(inherited.unwrap_or(class))
+}
+
+/// The slot of this name and signature as seen from a class, where it is known as seen from its base.
+fn slot_over(
+    names: &NameTables,
+    key: MethodKey,
+    class: usize,
+    inherited: Option<usize>,
+) -> Option<usize>
+    ensures { result ≡ slot_over names.now.classes.tree.now (method_of_key key.entry) class inherited }
+{
+    match names.classes.method(class, key) {
+        None => inherited,
+        Some(method) => slot_filled(class, inherited, method),
+    }
+}
+
+/// The slot that the nearest method of this name and signature along a chain fills.
+fn slot_along(names: &NameTables, key: MethodKey, chain: &[usize]) -> Option<usize>
+    ensures { result ≡ slot_numbered names.now.classes.tree.now (method_of_key key.entry) chain.now }
+{
+    let mut slot = None;
+    for place in (0..chain.len()).rev() {
+        slot = slot_over(names, key, chain[place], slot);
+    }
+    slot
+}
+
+fn is_slot(slot: Option<usize>, wanted: usize) -> bool
+    ensures { result ≡ option_map_or (λ n. n == wanted) slot false }
+{
+    match slot {
+        None => false,
+        Some(number) => number == wanted,
+    }
+}
+
+/// Whether an abstract method fills a slot as seen from a class, where it is known as seen from its base. `fills` tells
+/// whether the class's method of the slot's name and signature fills that very slot.
+fn open_over(names: &NameTables, key: MethodKey, class: usize, fills: bool, is_open: bool) -> bool
+    ensures { result ≡ open_over names.now.classes.tree.now (method_of_key key.entry) class fills is_open }
+{
+    if !fills {
+        return is_open;
+    }
+    match names.classes.method(class, key) {
+        None => is_open,
+        Some(method) => is_abstract_method(&method.kind),
+    }
+}
+
+/// Whether the nearest method along a chain that fills a slot is abstract.
+fn is_open(names: &NameTables, key: MethodKey, chain: &[usize], wanted: usize) -> bool
+    ensures { result ≡ open_numbered names.now.classes.tree.now (method_of_key key.entry) wanted chain.now }
+{
+    let mut slot = None;
+    let mut is_open = false;
+    for place in (0..chain.len()).rev() {
+        slot = slot_over(names, key, chain[place], slot);
+        is_open = open_over(names, key, chain[place], is_slot(slot, wanted), is_open);
+    }
+    is_open
+}
+
+/// Whether a slot that is known along one chain is filled by an abstract method along another.
+fn is_left_open(names: &NameTables, key: MethodKey, chain: &[usize], introduced: &[usize]) -> bool
+    ensures { result ≡ is_left_open names.now.classes.tree.now (method_of_key key.entry) chain.now introduced.now }
+{
+    match slot_along(names, key, introduced) {
+        None => false,
+        Some(slot) => is_open(names, key, chain, slot),
+    }
+}
+
+fn method_leaves_open(
+    names: &NameTables,
+    chain: &[usize],
+    introduced: &[usize],
+    method: &Method,
+) -> bool
+    ensures { result ≡ (is_virtual method.now.kind && is_left_open names.now.classes.tree.now (identity_of method.now) chain.now introduced.now) }
+{
+    if !is_virtual(&method.kind) {
+        return false;
+    }
+    let key = MethodKey::new(&method.name, &method.signature);
+    is_left_open(names, key, chain, introduced)
+}
+
+fn methods_leave_open(
+    names: &NameTables,
+    chain: &[usize],
+    introduced: &[usize],
+    methods: &[&Method],
+) -> bool
+    ensures { result ≡ list_any (λ m. is_virtual m.kind && is_left_open names.now.classes.tree.now (identity_of m) chain.now introduced.now) (map (λ m. m.now) methods.now) }
+{
+    for method in methods {
+        if method_leaves_open(names, chain, introduced, method) {
+            return true;
+        }
+    }
+    false
+}
+
+/// Whether a slot that a class's methods fill is filled by an abstract method along a chain.
+fn class_leaves_open(names: &NameTables, chain: &[usize], class: usize) -> bool
+    ensures { result ≡ class_leaves_open names.now.classes.tree.now chain.now class }
+{
+    match names.classes.class(class) {
+        None => false,
+        Some(declared) => methods_leave_open(
+            names,
+            chain,
+            names.chain(declared.name),
+            declared.methods.as_slice(),
+        ),
+    }
+}
+
+fn some_leaves_open(names: &NameTables, chain: &[usize], classes: &[usize]) -> bool
+    ensures { result ≡ list_any (class_leaves_open names.now.classes.tree.now chain.now) classes.now }
+{
+    for class in classes {
+        if class_leaves_open(names, chain, *class) {
+            return true;
+        }
+    }
+    false
+}
+
+/// Whether an abstract method fills a slot of the class (ECMA-335 II.15.4.2).
+fn has_abstract_slot(names: &NameTables, class: ClassKey) -> bool
+    ensures { result ≡ has_abstract_slot names.now.classes.tree.now (class_of_key class.entry) }
+{
+    let chain = names.chain(class);
+    some_leaves_open(names, chain, chain)
+}
+
+// ---- methods without newslot
+
+/// The numbers of the chain of a class's base.
+fn base_chain<'a>(names: &'a NameTables, class: &Class) -> &'a [usize]
+    ensures { result.now ≡ filter_map (class_number names.now.classes.tree.now) (chain_within names.now.classes.tree.now (longest_chain names.now.classes.tree.now) (base_of names.now.classes.tree.now (source_name class.now))) }
+{
+    match names.classes.declared(ClassKey::of_source(class)) {
+        None => &[],
+        Some(declared) => match declared.base {
+            None => &[],
+            Some(base) => names.chain(ClassKey::of(base)),
+        },
+    }
+}
+
+/// Whether the nearest method of this name and signature along a chain is not virtual.
+fn is_plain(names: &NameTables, key: MethodKey, chain: &[usize]) -> bool
+    ensures { result ≡ plain_numbered names.now.classes.tree.now (method_of_key key.entry) chain.now }
+{
+    for class in chain {
+        if let Some(method) = names.classes.method(*class, key) {
+            return !is_virtual(&method.kind);
+        }
+    }
+    false
+}
+
+/// Whether a method is virtual without newslot over one that is not virtual (ECMA-335 II.10.3.1, this profile).
+fn overrides_no_virtual(names: &NameTables, class: &Class, method: &Method) -> bool
+    ensures { result ≡ overrides_no_virtual names.now.classes.tree.now (source_name class.now) method.now }
+{
+    if !is_virtual(&method.kind) {
+        return false;
+    }
+    if is_new_slot_method(&method.kind) {
+        return false;
+    }
+    let key = MethodKey::new(&method.name, &method.signature);
+    is_plain(names, key, base_chain(names, class))
+}
+
+fn some_overrides_no_virtual(names: &NameTables, class: &Class, methods: &[&Method]) -> bool
+    ensures { result ≡ list_any (overrides_no_virtual names.now.classes.tree.now (source_name class.now)) (map (λ m. m.now) methods.now) }
+{
+    for method in methods {
+        if overrides_no_virtual(names, class, method) {
+            return true;
+        }
+    }
+    false
+}
+
+// ---- whole classes
+
+fn has_abstract_method(methods: &[&Method]) -> bool
+    ensures { result ≡ list_any (λ m. is_abstract_method m.kind) (map (λ m. m.now) methods.now) }
+{
+    for method in methods {
+        if is_abstract_method(&method.kind) {
+            return true;
+        }
+    }
+    false
+}
+
+/// Whether a class is abstract, or has no abstract method and no slot that one fills.
+fn is_complete(names: &NameTables, class: &Class, is_abstract: bool, methods: &[&Method]) -> bool
+    ensures { result ≡ (is_abstract || (not (list_any (λ m. is_abstract_method m.kind) (map (λ m. m.now) methods.now)) && not (has_abstract_slot names.now.classes.tree.now (source_name class.now)))) }
+{
+    if is_abstract {
+        return true;
+    }
+    if has_abstract_method(methods) {
+        return false;
+    }
+    !has_abstract_slot(names, ClassKey::of_source(class))
+}
+
+/// Whether a method is `newslot abstract virtual instance` (ECMA-335 II.12.1, this profile).
+fn is_interface_method(method: &Method) -> bool
+    ensures { result ≡ is_interface_method method.now }
+{
+    is_abstract_method(&method.kind) && is_new_slot_method(&method.kind)
+}
+
+fn are_interface_methods(methods: &[&Method]) -> bool
+    ensures { result ≡ list_all is_interface_method (map (λ m. m.now) methods.now) }
+{
+    for method in methods {
+        if !is_interface_method(method) {
+            return false;
+        }
+    }
+    true
+}
+
+fn class_fits(names: &NameTables, class: &Class, is_abstract: bool, methods: &[&Method]) -> bool
+    ensures { result ≡ ((is_abstract || (not (list_any (λ m. is_abstract_method m.kind) (map (λ m. m.now) methods.now)) && not (has_abstract_slot names.now.classes.tree.now (source_name class.now)))) && not (list_any (overrides_no_virtual names.now.classes.tree.now (source_name class.now)) (map (λ m. m.now) methods.now))) }
+{
+    if !is_complete(names, class, is_abstract, methods) {
+        return false;
+    }
+    !some_overrides_no_virtual(names, class, methods)
+}
+
+/// Whether the kind of each method fits its class and what it inherits (ECMA-335 II.15.4.2). Fails for want of memory alone.
+pub fn kinds_fit(alloc: Global, names: &NameTables, class: &Class) -> Result<bool, NoMemory>
+    ensures { IfOk result (λ b. b ≡ kinds_fit names.now.classes.tree.now class.now) }
+{
+    let methods = methods_of(alloc, class)?;
+    match &class.kind {
+        ClassKind::Interface => Ok(are_interface_methods(methods.as_slice())),
+        ClassKind::Class { is_abstract, .. } => {
+            Ok(class_fits(names, class, *is_abstract, methods.as_slice()))
+        }
+    }
+}
+
+/// Whether a method's kind does not fit its class or what it inherits (number 205). Fails for want of memory alone.
+pub fn misfits_kind(alloc: Global, names: &NameTables) -> Result<bool, NoMemory>
+    ensures { IfOk result (λ b. b ≡ misfits_kind names.now.classes.tree.now) }
+{
+    for class in names.classes.tree.classes.as_slice() {
+        if !kinds_fit(alloc, names, class)? {
+            return Ok(true);
+        }
+    }
+    Ok(false)
+}

@@ -1,0 +1,193 @@
+// What a tree names: its types and its instructions, in source order.
+
+ghost use Rattle.std.specs.Prelude.{◌≡◌, [], ◌∷◌, ◌++◌, IfOk, map, option_map, option_to_list, flat_map};
+ghost use Rattle.cil_model.specs.Bodies.{labels_of};
+ghost use Rattle.cil_model.specs.Declarations.{fields_of};
+ghost use Rattle.cil_model.specs.Mentions.{types_of_signature, types_of_instruction, owners_of_instruction, instructions_of, types_of_method, methods_of_tree, instructions_of_tree, types_of_tree};
+
+use crate::bodies::{lines_of, locals_of};
+use crate::entry::methods_of_tree;
+use cil_model::instructions::Instruction;
+use cil_model::memory::NoMemory;
+use cil_model::texts::Text;
+use cil_model::trees::{Class, Method, Tree};
+use cil_model::types::{ClassName, DeclaredType, Signature};
+use name_tables::classes::fields_of;
+use std::alloc::Global;
+use std::slice::from_ref;
+
+/// Types that stand together in the text: a list of parameters, and one more type behind it.
+#[derive(Clone, Copy)]
+pub struct NamedTypes<'a> {
+    pub parameters: &'a [DeclaredType],
+    pub last: Option<&'a DeclaredType>,
+}
+
+impl<'a> NamedTypes<'a> {
+    ghost use Rattle.metadata.specs.Named.{types_named};
+
+    fn none() -> Self
+        ensures { types_named result ≡ [] }
+    {
+        NamedTypes {
+            parameters: &[],
+            last: None,
+        }
+    }
+
+    fn one(declared: &'a DeclaredType) -> Self
+        ensures { types_named result ≡ declared.now ∷ [] }
+    {
+        NamedTypes {
+            parameters: &[],
+            last: Some(declared),
+        }
+    }
+
+    /// The types of parameters and of the result (ECMA-335 II.15.3).
+    pub fn of_signature(signature: &'a Signature) -> Self
+        ensures { types_named result ≡ types_of_signature signature.now }
+    {
+        NamedTypes {
+            parameters: signature.parameters.as_slice(),
+            last: signature.return_type.as_ref(),
+        }
+    }
+
+    /// The types that an instruction names.
+    pub fn of_instruction(instruction: &'a Instruction) -> Self
+        ensures { types_named result ≡ types_of_instruction instruction.now }
+    {
+        match instruction {
+            Instruction::LoadField(reference)
+            | Instruction::StoreField(reference)
+            | Instruction::LoadStaticField(reference)
+            | Instruction::StoreStaticField(reference) => NamedTypes::one(&reference.field_type),
+            Instruction::NewArray(declared)
+            | Instruction::CastClass(declared)
+            | Instruction::IsInstance(declared) => NamedTypes::one(declared),
+            Instruction::Call { method, .. } => NamedTypes::of_signature(&method.signature),
+            Instruction::CallVirtual { signature, .. } => NamedTypes::of_signature(signature),
+            Instruction::NewObject(_, parameters) => NamedTypes {
+                parameters: parameters.as_slice(),
+                last: None,
+            },
+            _ => NamedTypes::none(),
+        }
+    }
+
+    /// Adds them to a list. On want of memory the list may hold some of them.
+    fn add_to(self, types: &mut Vec<&'a DeclaredType>) -> Result<(), NoMemory>
+        ensures { IfOk result (λ _. map (λ t. t.now) types.new.items ≡ map (λ t. t.now) types.old.items ++ types_named self.entry) }
+    {
+        for parameter in self.parameters {
+            types.push(parameter)?;
+        }
+        if let Some(last) = self.last {
+            types.push(last)?;
+        }
+        Ok(())
+    }
+}
+
+/// The class whose member an instruction names.
+pub fn owner_of_instruction(instruction: &Instruction) -> Option<&ClassName>
+    ensures { option_to_list (option_map (λ c. c.now) result) ≡ owners_of_instruction instruction.now }
+{
+    match instruction {
+        Instruction::LoadField(reference)
+        | Instruction::StoreField(reference)
+        | Instruction::LoadStaticField(reference)
+        | Instruction::StoreStaticField(reference) => Some(&reference.owner),
+        Instruction::Call { method, .. } => Some(&method.owner),
+        Instruction::CallVirtual { owner, .. } => Some(owner),
+        Instruction::NewObject(class, _) => Some(class),
+        _ => None,
+    }
+}
+
+/// The labels to which an instruction may go (ECMA-335 III.1.7.2).
+pub fn labels_of(instruction: &Instruction) -> &[Text]
+    ensures { result.now ≡ labels_of instruction.now }
+{
+    match instruction {
+        Instruction::Branch(label)
+        | Instruction::BranchTrue(label)
+        | Instruction::BranchFalse(label)
+        | Instruction::BranchCompare(_, label) => from_ref(label),
+        Instruction::Switch(labels) => labels.as_slice(),
+        _ => &[],
+    }
+}
+
+fn add_types_of_method<'a>(
+    types: &mut Vec<&'a DeclaredType>,
+    method: &'a Method,
+) -> Result<(), NoMemory>
+    ensures { IfOk result (λ _. map (λ t. t.now) types.new.items ≡ map (λ t. t.now) types.old.items ++ types_of_method method.now) }
+{
+    NamedTypes::of_signature(&method.signature).add_to(types)?;
+    let locals = NamedTypes {
+        parameters: locals_of(method),
+        last: None,
+    };
+    locals.add_to(types)?;
+    for line in lines_of(method) {
+        NamedTypes::of_instruction(&line.instruction).add_to(types)?;
+    }
+    Ok(())
+}
+
+/// The types of all fields.
+fn add_types_of_fields<'a>(
+    alloc: Global,
+    types: &mut Vec<&'a DeclaredType>,
+    class: &'a Class,
+) -> Result<(), NoMemory>
+    ensures { IfOk result (λ _. map (λ t. t.now) types.new.items ≡ map (λ t. t.now) types.old.items ++ map (λ f. f.field_type) (fields_of class.now)) }
+{
+    let fields = fields_of(alloc, class)?;
+    for field in fields.as_slice() {
+        types.push(&field.field_type)?;
+    }
+    Ok(())
+}
+
+/// Every type that stands in the tree, those of fields first. Fails for want of memory alone.
+pub fn types_of_tree(alloc: Global, tree: &Tree) -> Result<Vec<&DeclaredType>, NoMemory>
+    ensures { IfOk result (λ v. map (λ t. t.now) v.items ≡ types_of_tree tree.now) }
+{
+    let mut types = Vec::new(alloc);
+    for class in tree.classes.as_slice() {
+        add_types_of_fields(alloc, &mut types, class)?;
+    }
+    let methods = methods_of_tree(alloc, tree)?;
+    for method in methods.as_slice() {
+        add_types_of_method(&mut types, method)?;
+    }
+    Ok(types)
+}
+
+fn add_instructions<'a>(
+    instructions: &mut Vec<&'a Instruction>,
+    method: &'a Method,
+) -> Result<(), NoMemory>
+    ensures { IfOk result (λ _. map (λ i. i.now) instructions.new.items ≡ map (λ i. i.now) instructions.old.items ++ instructions_of method.now) }
+{
+    for line in lines_of(method) {
+        instructions.push(&line.instruction)?;
+    }
+    Ok(())
+}
+
+/// Every instruction of the tree, in source order. Fails for want of memory alone.
+pub fn instructions_of_tree(alloc: Global, tree: &Tree) -> Result<Vec<&Instruction>, NoMemory>
+    ensures { IfOk result (λ v. map (λ i. i.now) v.items ≡ instructions_of_tree tree.now) }
+{
+    let methods = methods_of_tree(alloc, tree)?;
+    let mut instructions = Vec::new(alloc);
+    for method in methods.as_slice() {
+        add_instructions(&mut instructions, method)?;
+    }
+    Ok(instructions)
+}

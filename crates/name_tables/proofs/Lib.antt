@@ -1,0 +1,3 @@
+pub mod FirstPlaces
+pub mod Lists
+pub mod NumberLaws

@@ -1,0 +1,12 @@
+use Rattle.std.proofs.Common.{◌≡◌, ap, ◌∙◌, option_map, Some, true}
+use Rattle.cil_model.specs.declared.types.ClassName.{ClassName}
+use Rattle.cil_model.specs.Chains.{find_method}
+use Rattle.name_tables.specs.Sameness.{MethodIdentity}
+use Rattle.name_tables.specs.Keys.{method_of_key}
+use Rattle.name_tables.proofs.lookups.NameTables.find_virtual.Goals as goal
+
+pub returns : goal.returns
+returns c =
+    let t = c.args.self.now.classes.tree.now in
+    c.find_call.ensures ∙ ap (λ (o : ClassName). option_map Some (find_method t true (record { owner = o; name = (method_of_key c.named.result).name; signature = (method_of_key c.named.result).signature }))) c.of.ensures ∙
+    ap (λ (k : MethodIdentity). option_map Some (find_method t true (record { owner = c.args.owner.now; name = k.name; signature = k.signature }))) c.named.ensures

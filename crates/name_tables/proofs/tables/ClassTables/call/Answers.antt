@@ -1,0 +1,19 @@
+use Rattle.std.proofs.Common.{◌≡◌, length, refl, sym, ap, ◌∙◌, Some, option_map, option_and_then, slice_get}
+use Rattle.std.specs.List.{position_from}
+use Rattle.std.proofs.lemmas.Option.{slice_get-map, slice_get_read}
+use Rattle.cil_model.specs.declared.types.ClassName.{ClassName}
+use Rattle.cil_model.specs.Declarations.{Declaration}
+use Rattle.name_tables.specs.declared.class_tables.ClassTable.{ClassTable}
+use Rattle.name_tables.specs.Entries.{entry_of}
+use Rattle.name_tables.specs.Keys.{called_of_key}
+use Rattle.name_tables.specs.Numbers.{declarations}
+use Rattle.name_tables.specs.Sameness.{same_called, called_of}
+use Rattle.name_tables.proofs.tables.ClassTables.call.Goals as goal
+
+pub returns-in-Some : goal.returns-in-Some
+returns-in-Some c =
+    let r : slice_get c.deref.result.now c.args.number ≡ Some c.in-Some.table.now = slice_get_read c.deref.result.now (length c.deref.result.now) c.args.number c.in-Some.table.now refl c.in-Some.ensures.lookup.3.0 c.in-Some.ensures.lookup.1 in
+    let h : slice_get c.args.self.now.classes.items c.args.number ≡ Some c.in-Some.table.now = ap (λ xs. slice_get xs c.args.number) (sym c.deref.ensures.value) ∙ r in
+    let k : slice_get (declarations c.args.self.now.tree.now) c.args.number ≡ Some (entry_of c.in-Some.table.now.class) =
+    sym (ap (λ xs. slice_get xs c.args.number) c.args.self.now.classes_are) ∙ slice_get-map (λ (t : ClassTable). entry_of t.class) c.args.self.now.classes.items c.args.number ∙ ap (option_map (λ (t : ClassTable). entry_of t.class)) h in
+    c.call.ensures ∙ sym (ap (option_and_then (λ (e : ClassName × Declaration). position_from (λ m. same_called (called_of_key c.args.key) (called_of m)) 0 e.1.methods)) k)

@@ -1,0 +1,6 @@
+pub mod Sameness
+pub mod SamenessLaws
+pub mod Keys
+pub mod BuiltInTable
+pub mod Entries
+pub mod Numbers

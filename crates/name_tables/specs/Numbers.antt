@@ -1,0 +1,62 @@
+-- The classes and members of a tree by numbers: built-in classes first, then those of the source, in order.
+use Rattle.std.specs.Prelude.{ℕ, Bool, not, List, [], ◌∷◌, ◌++◌, map, filter_map, find, Option, Some, None, option_map, option_and_then, slice_get}
+use Rattle.std.specs.Option.{option_map_or}
+use Rattle.std.specs.List.{position_from}
+use Rattle.cil_model.specs.declared.types.ClassName.{ClassName}
+use Rattle.cil_model.specs.declared.trees.Tree.{Tree}
+use Rattle.cil_model.specs.declared.trees.Class.{Class}
+use Rattle.cil_model.specs.declared.trees.Field.{Field}
+use Rattle.cil_model.specs.declared.trees.Method.{Method}
+use Rattle.cil_model.specs.Same.{same_class}
+use Rattle.cil_model.specs.Declarations.{Declaration, built_ins, source_name, declared_as, fields_of, methods_of}
+use Rattle.cil_model.specs.declared.instructions.FieldReference.{FieldReference}
+use Rattle.cil_model.specs.declared.instructions.MethodReference.{MethodReference}
+use Rattle.cil_model.specs.Chains.{chain_of, classes_searched}
+use Rattle.name_tables.specs.Sameness.{MethodIdentity, same_field, same_identity, same_called, identity_of, called_of}
+
+abbrev pub source_entry : Class → ClassName × Declaration
+source_entry c = (source_name c, declared_as c.kind (fields_of c) (methods_of c))
+
+-- every class that a name may stand for, with what it declares; its number is its place
+abbrev pub declarations : Tree → List (ClassName × Declaration)
+declarations tree = built_ins ++ map source_entry tree.classes
+
+-- the number of the class that a name stands for
+abbrev pub class_number : Tree → ClassName → Option ℕ
+class_number tree name = position_from (λ (e : ClassName × Declaration). same_class name e.0) 0 (declarations tree)
+
+-- the numbers of a class's chain, without names that stand for nothing
+abbrev pub chain_numbers : Tree → ClassName → List ℕ
+chain_numbers tree c = filter_map (class_number tree) (chain_of tree c)
+
+-- the first number at which a place is found, with that place
+abbrev pub nearest_number : (ℕ → Option ℕ) → List ℕ → Option (ℕ × ℕ)
+nearest_number at [] = None
+nearest_number at (n ∷ ns) = option_map_or (λ place. Some (n, place)) (at n) (nearest_number at ns)
+
+-- the field or method at a place of a class
+abbrev pub member_at : {X : Type 0} → (Declaration → List X) → Tree → ℕ × ℕ → Option (ClassName × X)
+member_at part tree number = option_and_then (λ (e : ClassName × Declaration). option_map (λ x. (e.0, x)) (slice_get (part e.1) number.1)) (slice_get (declarations tree) number.0)
+
+-- the first place of a class at which a member passes
+abbrev pub place_in : {X : Type 0} → (Declaration → List X) → (X → Bool) → Tree → ℕ → Option ℕ
+place_in part test tree n = option_and_then (λ (e : ClassName × Declaration). position_from test 0 (part e.1)) (slice_get (declarations tree) n)
+
+abbrev pub field_at : Tree → ℕ × ℕ → Option (ClassName × Field)
+field_at = member_at (λ d. d.fields)
+
+abbrev pub method_at : Tree → ℕ × ℕ → Option (ClassName × Method)
+method_at = member_at (λ d. d.methods)
+
+-- the class and the place of the field or method that a reference finds
+abbrev pub field_number : Tree → Bool → FieldReference → Option (ℕ × ℕ)
+field_number tree is_static r = nearest_number (place_in (λ d. d.fields) (same_field (record { is_static = is_static; field_type = r.field_type; name = r.name })) tree) (chain_numbers tree r.owner)
+
+abbrev pub method_number : Tree → Bool → MethodReference → Option (ℕ × ℕ)
+method_number tree is_instance r =
+    nearest_number (place_in (λ d. d.methods) (λ m. same_called (record { name = r.name; signature = r.signature }, not is_instance) (called_of m)) tree)
+    (filter_map (class_number tree) (classes_searched tree r.name r.owner))
+
+-- the method of a class with this name and signature, by the number of the class
+abbrev pub method_found : Tree → MethodIdentity → ℕ → Option Method
+method_found tree k n = option_and_then (λ (e : ClassName × Declaration). find (λ m. same_identity k (identity_of m)) e.1.methods) (slice_get (declarations tree) n)

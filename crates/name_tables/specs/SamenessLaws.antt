@@ -1,0 +1,46 @@
+-- When fields and methods are the same they are equal, and the other way round.
+use Rattle.std.proofs.Common.{◌≡◌, Bool, IsTrue, Option}
+use Rattle.std.proofs.lemmas.Bool.{and_from}
+use Rattle.std.specs.Cmp.{IsEquivalence}
+use Rattle.cil_model.specs.declared.trees.Field.{Field}
+use Rattle.cil_model.proofs.SameLaws.{both_first, both_second, same_text_equal, same_flag_equal, same_type_equal, same_signature_equal, same_method_name_equal}
+use Rattle.cil_model.proofs.SameLaws.{same_text_itself, same_flag_itself, same_type_itself, same_signature_itself, same_method_name_itself, equivalence}
+use Rattle.name_tables.specs.Sameness.{MethodIdentity, same_field, same_identity, same_called}
+
+-- ---- what is the same is equal
+
+pub same_field_equal : (a b : Field) → IsTrue (same_field a b) → a ≡ b
+same_field_equal a b h = λ i. record {
+  is_static = same_flag_equal a.is_static b.is_static (both_second _ _ h) i;
+  field_type = same_type_equal a.field_type b.field_type (both_second _ _ (both_first _ _ h)) i;
+  name = same_text_equal a.name b.name (both_first _ _ (both_first _ _ h)) i;
+}
+
+pub same_identity_equal : (a b : MethodIdentity) → IsTrue (same_identity a b) → a ≡ b
+same_identity_equal a b h = λ i. record {
+  name = same_method_name_equal a.name b.name (both_first _ _ h) i;
+  signature = same_signature_equal a.signature b.signature (both_second _ _ h) i;
+}
+
+pub same_called_equal : (a b : MethodIdentity × Bool) → IsTrue (same_called a b) → a ≡ b
+same_called_equal a b h = λ i. (same_identity_equal a.0 b.0 (both_first _ _ h) i, same_flag_equal a.1 b.1 (both_second _ _ h) i)
+
+-- ---- what is equal is the same
+
+pub same_field_itself : (f : Field) → IsTrue (same_field f f)
+same_field_itself f = and_from _ _ (and_from _ _ (same_text_itself f.name) (same_type_itself f.field_type)) (same_flag_itself f.is_static)
+
+pub same_identity_itself : (m : MethodIdentity) → IsTrue (same_identity m m)
+same_identity_itself m = and_from _ _ (same_method_name_itself m.name) (same_signature_itself m.signature)
+
+pub same_called_itself : (m : MethodIdentity × Bool) → IsTrue (same_called m m)
+same_called_itself m = and_from _ _ (same_identity_itself m.0) (same_flag_itself m.1)
+
+pub field_equivalence : IsEquivalence same_field
+field_equivalence = equivalence same_field same_field_itself same_field_equal
+
+pub identity_equivalence : IsEquivalence same_identity
+identity_equivalence = equivalence same_identity same_identity_itself same_identity_equal
+
+pub called_equivalence : IsEquivalence same_called
+called_equivalence = equivalence same_called same_called_itself same_called_equal

@@ -1,0 +1,226 @@
+// The built-in classes, made from their table.
+
+ghost use Rattle.std.specs.Prelude.{◌≡◌, IfOk, Some, codes, option_to_list, map, slice_get, pos, ◌∷◌, [], true, false};
+ghost use Rattle.cil_model.specs.declared.instructions.Instruction.TheVariants.{Return};
+ghost use Rattle.cil_model.specs.Declarations.{built_ins, void_method, plain, object_constructor, no_code, return_alone, run_method};
+
+use cil_model::instructions::{Instruction, MethodName};
+use cil_model::memory::NoMemory;
+use cil_model::sequences::Sequence;
+use cil_model::texts::Text;
+use cil_model::trees::{Code, Line, Method, MethodKind};
+use cil_model::types::{ClassName, DeclaredType, Element, Signature};
+use std::alloc::Global;
+
+/// A built-in class: its name, its base and its methods. It has no fields.
+#[derive(Drop)]
+pub struct BuiltInClass {
+    pub name: ClassName,
+    pub base: Option<ClassName>,
+    pub methods: Sequence<Method>,
+}
+
+fn text(alloc: Global, characters: &str) -> Result<Text, NoMemory>
+    ensures { IfOk result (λ t. t ≡ characters.now) }
+{
+    Ok(Text::new(String::from_str(alloc, characters)?))
+}
+
+fn class_name(alloc: Global, assembly: &str, name: &str) -> Result<ClassName, NoMemory>
+    ensures { IfOk result (λ c. c ≡ record { assembly = Some assembly.now; name = name.now }) }
+{
+    Ok(ClassName {
+        assembly: Some(text(alloc, assembly)?),
+        name: text(alloc, name)?,
+    })
+}
+
+fn object_name(alloc: Global) -> Result<ClassName, NoMemory>
+    ensures { IfOk result (λ c. c ≡ record { assembly = Some (codes "mscorlib"); name = codes "System.Object" }) }
+{
+    class_name(alloc, "mscorlib", "System.Object")
+}
+
+fn no_code(alloc: Global) -> Code
+    ensures { result ≡ no_code }
+{
+    Code {
+        is_entry_point: false,
+        max_stack: 0,
+        locals: Sequence::new(Vec::new(alloc)),
+        lines: Sequence::new(Vec::new(alloc)),
+    }
+}
+
+/// `ret` without labels.
+fn return_line(alloc: Global) -> Line
+    ensures { result ≡ record { labels = []; instruction = Return } }
+{
+    Line {
+        labels: Sequence::new(Vec::new(alloc)),
+        instruction: Instruction::Return,
+    }
+}
+
+fn return_alone(alloc: Global) -> Result<Code, NoMemory>
+    ensures { IfOk result (λ c. c ≡ return_alone) }
+{
+    let mut lines = Vec::new(alloc);
+    lines.push(return_line(alloc))?;
+    Ok(Code {
+        is_entry_point: false,
+        max_stack: 0,
+        locals: Sequence::new(Vec::new(alloc)),
+        lines: Sequence::new(lines),
+    })
+}
+
+/// A method without a result, of at most one parameter.
+fn method(
+    alloc: Global,
+    name: MethodName,
+    parameter: Option<Element>,
+    kind: MethodKind,
+) -> Result<Method, NoMemory>
+    ensures { IfOk result (λ m. m ≡ void_method name (map plain (option_to_list parameter)) kind) }
+{
+    let parameters = match parameter {
+        None => Vec::new(alloc),
+        Some(element) => vec![in alloc;
+            DeclaredType {
+                element,
+                brackets: 0
+            },
+        ]?,
+    };
+    Ok(Method {
+        name,
+        signature: Signature {
+            parameters: Sequence::new(parameters),
+            return_type: None,
+        },
+        kind,
+    })
+}
+
+fn static_method(alloc: Global, name: &str, parameter: Element) -> Result<Method, NoMemory>
+    ensures { IfOk result (λ m. m ≡ void_method (MethodName.Named name.now) (plain parameter ∷ []) (MethodKind.Static no_code)) }
+{
+    let name = MethodName::Named(text(alloc, name)?);
+    method(
+        alloc,
+        name,
+        Some(parameter),
+        MethodKind::Static(no_code(alloc)),
+    )
+}
+
+fn instance_method(alloc: Global, name: &str) -> Result<Method, NoMemory>
+    ensures { IfOk result (λ m. m ≡ void_method (MethodName.Named name.now) [] (MethodKind.Instance no_code)) }
+{
+    let name = MethodName::Named(text(alloc, name)?);
+    method(alloc, name, None, MethodKind::Instance(no_code(alloc)))
+}
+
+fn constructor(alloc: Global) -> Result<Method, NoMemory>
+    ensures { IfOk result (λ m. m ≡ object_constructor) }
+{
+    method(
+        alloc,
+        MethodName::Constructor,
+        None,
+        MethodKind::Instance(no_code(alloc)),
+    )
+}
+
+fn run(alloc: Global) -> Result<Method, NoMemory>
+    ensures { IfOk result (λ m. m ≡ run_method) }
+{
+    let name = MethodName::Named(text(alloc, "Run")?);
+    let kind = MethodKind::Virtual {
+        is_new_slot: true,
+        code: return_alone(alloc)?,
+    };
+    method(alloc, name, None, kind)
+}
+
+impl BuiltInClass {
+    ghost use Rattle.name_tables.specs.BuiltInTable.{built_in_entry};
+
+    fn object(alloc: Global) -> Result<Self, NoMemory>
+        ensures { IfOk result (λ b. Some (built_in_entry b) ≡ slice_get built_ins 0) }
+    {
+        let mut methods = Vec::new(alloc);
+        methods.push(constructor(alloc)?)?;
+        Ok(BuiltInClass {
+            name: object_name(alloc)?,
+            base: None,
+            methods: Sequence::new(methods),
+        })
+    }
+
+    fn string(alloc: Global) -> Result<Self, NoMemory>
+        ensures { IfOk result (λ b. Some (built_in_entry b) ≡ slice_get built_ins 1) }
+    {
+        Ok(BuiltInClass {
+            name: class_name(alloc, "mscorlib", "System.String")?,
+            base: Some(object_name(alloc)?),
+            methods: Sequence::new(Vec::new(alloc)),
+        })
+    }
+
+    fn console(alloc: Global) -> Result<Self, NoMemory>
+        ensures { IfOk result (λ b. Some (built_in_entry b) ≡ slice_get built_ins 2) }
+    {
+        let mut methods = Vec::new(alloc);
+        methods.push(static_method(alloc, "WriteLine", Element::Int32)?)?;
+        methods.push(static_method(alloc, "WriteLine", Element::Int64)?)?;
+        methods.push(static_method(alloc, "WriteLine", Element::String)?)?;
+        Ok(BuiltInClass {
+            name: class_name(alloc, "mscorlib", "System.Console")?,
+            base: None,
+            methods: Sequence::new(methods),
+        })
+    }
+
+    fn monitor(alloc: Global) -> Result<Self, NoMemory>
+        ensures { IfOk result (λ b. Some (built_in_entry b) ≡ slice_get built_ins 3) }
+    {
+        let mut methods = Vec::new(alloc);
+        methods.push(static_method(alloc, "Enter", Element::Object)?)?;
+        methods.push(static_method(alloc, "Exit", Element::Object)?)?;
+        Ok(BuiltInClass {
+            name: class_name(alloc, "mscorlib", "System.Threading.Monitor")?,
+            base: None,
+            methods: Sequence::new(methods),
+        })
+    }
+
+    fn thread(alloc: Global) -> Result<Self, NoMemory>
+        ensures { IfOk result (λ b. Some (built_in_entry b) ≡ slice_get built_ins 4) }
+    {
+        let mut methods = Vec::new(alloc);
+        methods.push(constructor(alloc)?)?;
+        methods.push(run(alloc)?)?;
+        methods.push(instance_method(alloc, "Start")?)?;
+        methods.push(instance_method(alloc, "Join")?)?;
+        Ok(BuiltInClass {
+            name: class_name(alloc, "cilvm", "Cilvm.Thread")?,
+            base: Some(object_name(alloc)?),
+            methods: Sequence::new(methods),
+        })
+    }
+
+    /// All of them, in the order of their table. Fails for want of memory alone.
+    pub fn all(alloc: Global) -> Result<Sequence<BuiltInClass>, NoMemory>
+        ensures { IfOk result (λ b. map built_in_entry b ≡ built_ins) }
+    {
+        let mut all = Vec::new(alloc);
+        all.push(BuiltInClass::object(alloc)?)?;
+        all.push(BuiltInClass::string(alloc)?)?;
+        all.push(BuiltInClass::console(alloc)?)?;
+        all.push(BuiltInClass::monitor(alloc)?)?;
+        all.push(BuiltInClass::thread(alloc)?)?;
+        Ok(Sequence::new(all))
+    }
+}

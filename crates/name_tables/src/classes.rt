@@ -1,0 +1,108 @@
+// Classes with what they declare, each found by its name or its number.
+
+ghost use Rattle.std.specs.Prelude.{◌≡◌, IfOk, map};
+ghost use Rattle.cil_model.specs.Declarations.{fields_of, methods_of};
+
+use crate::built_in::BuiltInClass;
+use crate::keys::ClassKey;
+use cil_model::memory::NoMemory;
+use cil_model::trees::{Class, ClassKind, Field, Member, Method};
+use cil_model::types::ClassName;
+use std::alloc::Global;
+
+/// A class with what it declares. It borrows from the tree, or from the table of built-in classes.
+#[derive(Drop)]
+pub struct DeclaredClass<'a> {
+    pub name: ClassKey<'a>,
+    pub is_interface: bool,
+    pub is_abstract: bool,
+    pub base: Option<&'a ClassName>,
+    pub interfaces: &'a [ClassName],
+    pub fields: Vec<&'a Field>,
+    pub methods: Vec<&'a Method>,
+}
+
+/// The fields among the members of a class, in source order.
+pub fn fields_of(alloc: Global, class: &Class) -> Result<Vec<&Field>, NoMemory>
+    ensures { IfOk result (λ v. map (λ f. f.now) v.items ≡ fields_of class.now) }
+{
+    let mut fields = Vec::new(alloc);
+    for member in class.members.as_slice() {
+        let Member::Field(field) = member else {
+            continue;
+        };
+        fields.push(field)?;
+    }
+    Ok(fields)
+}
+
+/// The methods among the members of a class, in source order.
+pub fn methods_of(alloc: Global, class: &Class) -> Result<Vec<&Method>, NoMemory>
+    ensures { IfOk result (λ v. map (λ f. f.now) v.items ≡ methods_of class.now) }
+{
+    let mut methods = Vec::new(alloc);
+    for member in class.members.as_slice() {
+        let Member::Method(method) = member else {
+            continue;
+        };
+        methods.push(method)?;
+    }
+    Ok(methods)
+}
+
+impl<'a> DeclaredClass<'a> {
+    ghost use Rattle.name_tables.specs.Entries.{entry_of};
+    ghost use Rattle.name_tables.specs.Numbers.{source_entry};
+    ghost use Rattle.name_tables.specs.BuiltInTable.{built_in_entry};
+
+    /// A class of the source. Fails for want of memory alone.
+    pub fn of_source(alloc: Global, class: &'a Class) -> Result<Self, NoMemory>
+        ensures { IfOk result (λ d. entry_of d ≡ source_entry class.now) }
+    {
+        let name = ClassKey::of_source(class);
+        let methods = methods_of(alloc, class)?;
+        Ok(match &class.kind {
+            ClassKind::Interface => DeclaredClass {
+                name,
+                is_interface: true,
+                is_abstract: true,
+                base: None,
+                interfaces: &[],
+                fields: Vec::new(alloc),
+                methods,
+            },
+            ClassKind::Class {
+                is_abstract,
+                base,
+                interfaces,
+            } => DeclaredClass {
+                name,
+                is_interface: false,
+                is_abstract: *is_abstract,
+                base: Some(base),
+                interfaces: interfaces.as_slice(),
+                fields: fields_of(alloc, class)?,
+                methods,
+            },
+        })
+    }
+
+    /// A built-in class. Fails for want of memory alone.
+    pub fn of_built_in(alloc: Global, class: &'a BuiltInClass) -> Result<Self, NoMemory>
+        ensures { IfOk result (λ d. entry_of d ≡ built_in_entry class.now) }
+    {
+        let mut methods = Vec::new(alloc);
+        for method in class.methods.as_slice() {
+            methods.push(method)?;
+        }
+        Ok(DeclaredClass {
+            name: ClassKey::of(&class.name),
+            is_interface: false,
+            is_abstract: false,
+            base: class.base.as_ref(),
+            interfaces: &[],
+            fields: Vec::new(alloc),
+            methods,
+        })
+    }
+}

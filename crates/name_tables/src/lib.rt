@@ -1,0 +1,13 @@
+// Look-ups of classes and members by hash, each of which finds what the definitions find.
+#![tactic(auto)]
+
+pub mod built_in;
+pub mod class_tables;
+pub mod classes;
+pub mod keys;
+pub mod kinds;
+pub mod lookups;
+pub mod places;
+pub mod tables;
+#[cfg(test)]
+mod tests;

@@ -1,0 +1,187 @@
+// What the references of a tree find, by numbers.
+
+ghost use Rattle.std.specs.Prelude.{◌≡◌, [], IfOk, map, option_map, Some, true};
+ghost use Rattle.std.specs.List.{cons_option};
+ghost use Rattle.cil_model.specs.Bodies.{virtual_reference, constructor_reference};
+ghost use Rattle.cil_model.specs.Chains.{find_field, find_method};
+ghost use Rattle.name_tables.specs.BuiltInTable.{built_in_entry};
+ghost use Rattle.cil_model.specs.Declarations.{built_ins};
+ghost use Rattle.name_tables.specs.Keys.{class_of_key, field_of_key, called_of_key, reference_of_keys};
+ghost use Rattle.name_tables.specs.Numbers.{chain_numbers, nearest_number, place_in, field_at, method_at, declarations, class_number};
+ghost use Rattle.name_tables.specs.Sameness.{same_field, same_called, called_of};
+
+use crate::built_in::BuiltInClass;
+use crate::keys::{CallKey, ClassKey, FieldKey, MethodKey};
+use crate::tables::ClassTables;
+use cil_model::instructions::{FieldReference, MethodReference};
+use cil_model::memory::NoMemory;
+use cil_model::texts::Text;
+use cil_model::trees::Tree;
+use cil_model::types::{ClassName, DeclaredType, Signature};
+use std::alloc::Global;
+
+/// Where a member stands: the number of its class, and its place among the fields or the methods of that class.
+#[derive(Clone, Copy, PartialEq, Eq, Debug)]
+pub struct MemberNumber {
+    pub class: usize,
+    pub place: usize,
+}
+
+/// The tables of a tree, with the chain of each class.
+#[derive(Drop)]
+pub struct NameTables<'a> {
+    pub classes: ClassTables<'a>,
+    chains: Vec<Vec<usize>>,
+    ghost chains_are: { map (λ v. v.items) chains.items ≡ map (λ e. chain_numbers classes.tree.now e.0) (declarations classes.tree.now) },
+}
+
+fn chains(alloc: Global, classes: &ClassTables) -> Result<Vec<Vec<usize>>, NoMemory>
+    ensures { IfOk result (λ v. map (λ c. c.items) v.items ≡ map (λ e. chain_numbers classes.now.tree.now e.0) (declarations classes.now.tree.now)) }
+{
+    let mut chains = Vec::new(alloc);
+    for name in classes.names() {
+        chains.push(classes.chain(alloc, *name)?)?;
+    }
+    Ok(chains)
+}
+
+impl<'a> NameTables<'a> {
+    /// Makes the tables of a tree from it and the built-in classes. Fails for want of memory alone.
+    pub fn new(alloc: Global, tree: &'a Tree, table: &'a [BuiltInClass]) -> Result<Self, NoMemory>
+        requires { map built_in_entry table.now ≡ built_ins }
+        ensures { IfOk result (λ t. t.classes.tree.now ≡ tree.now) }
+    {
+        let classes = ClassTables::new(alloc, tree, table)?;
+        let chains = chains(alloc, &classes)?;
+        Ok(NameTables { classes, chains })
+    }
+
+    /// The numbers of a declared class's chain; none where the name stands for nothing.
+    pub fn chain(&self, name: ClassKey) -> &[usize]
+        ensures { result.now ≡ chain_numbers self.now.classes.tree.now (class_of_key name.entry) }
+    {
+        let Some(number) = self.classes.number(name) else {
+            return &[];
+        };
+        match self.chains.get(number) {
+            None => &[],
+            Some(chain) => chain.as_slice(),
+        }
+    }
+
+    /// The nearest class of a chain with this field.
+    fn nearest_field(&self, chain: &[usize], key: FieldKey) -> Option<MemberNumber>
+        ensures { option_map (λ m. (m.class, m.place)) result ≡ nearest_number (place_in (λ d. d.fields) (same_field (field_of_key key.entry)) self.now.classes.tree.now) chain.now }
+    {
+        for class in chain {
+            if let Some(place) = self.classes.field(*class, key) {
+                return Some(MemberNumber {
+                    class: *class,
+                    place,
+                });
+            }
+        }
+        None
+    }
+
+    /// The nearest class of a chain with this method.
+    fn nearest_call(&self, chain: &[usize], key: CallKey) -> Option<MemberNumber>
+        ensures { option_map (λ m. (m.class, m.place)) result ≡ nearest_number (place_in (λ d. d.methods) (λ m. same_called (called_of_key key.entry) (called_of m)) self.now.classes.tree.now) chain.now }
+    {
+        for class in chain {
+            if let Some(place) = self.classes.call(*class, key) {
+                return Some(MemberNumber {
+                    class: *class,
+                    place,
+                });
+            }
+        }
+        None
+    }
+
+    /// The method that a class itself declares.
+    fn own_call(&self, owner: ClassKey, key: CallKey) -> Option<MemberNumber>
+        ensures { option_map (λ m. (m.class, m.place)) result ≡ nearest_number (place_in (λ d. d.methods) (λ m. same_called (called_of_key key.entry) (called_of m)) self.now.classes.tree.now) (cons_option (class_number self.now.classes.tree.now (class_of_key owner.entry)) []) }
+    {
+        match self.classes.number(owner) {
+            None => None,
+            Some(class) => match self.classes.call(class, key) {
+                None => None,
+                Some(place) => Some(MemberNumber { class, place }),
+            },
+        }
+    }
+
+    /// The field of this name, type and staticness in the nearest class of the owner's chain (ECMA-335 II.16, this profile).
+    pub fn find_field(&self, is_static: bool, reference: &FieldReference) -> Option<MemberNumber>
+        ensures { option_map (λ m. field_at self.now.classes.tree.now (m.class, m.place)) result ≡ option_map Some (find_field self.now.classes.tree.now is_static reference.now) }
+    {
+        let key = FieldKey {
+            is_static,
+            field_type: &reference.field_type,
+            name: &reference.name,
+        };
+        self.nearest_field(self.chain(ClassKey::of(&reference.owner)), key)
+    }
+
+    /// The method of this name, signature and staticness in the nearest class of the owner's chain, a constructor in the owner
+    /// alone (ECMA-335 II.15.1.3, II.10.5.1).
+    fn find_call(
+        &self,
+        owner: ClassKey,
+        method: MethodKey,
+        is_instance: bool,
+    ) -> Option<MemberNumber>
+        ensures { option_map (λ m. method_at self.now.classes.tree.now (m.class, m.place)) result ≡ option_map Some (find_method self.now.classes.tree.now is_instance (reference_of_keys owner.entry method.entry)) }
+    {
+        let key = CallKey {
+            method,
+            is_static: !is_instance,
+        };
+        match method.name {
+            None => self.own_call(owner, key),
+            Some(_) => self.nearest_call(self.chain(owner), key),
+        }
+    }
+
+    /// The method that a reference finds: of its name, signature and staticness in the nearest class of the owner's chain, a
+    /// constructor in the owner alone (ECMA-335 II.15.1.3, II.10.5.1).
+    pub fn find_method(
+        &self,
+        is_instance: bool,
+        reference: &MethodReference,
+    ) -> Option<MemberNumber>
+        ensures { option_map (λ m. method_at self.now.classes.tree.now (m.class, m.place)) result ≡ option_map Some (find_method self.now.classes.tree.now is_instance reference.now) }
+    {
+        let owner = ClassKey::of(&reference.owner);
+        let method = MethodKey::new(&reference.name, &reference.signature);
+        self.find_call(owner, method, is_instance)
+    }
+
+    /// The instance method that `callvirt` names (ECMA-335 III.4.2).
+    pub fn find_virtual(
+        &self,
+        owner: &ClassName,
+        name: &Text,
+        signature: &Signature,
+    ) -> Option<MemberNumber>
+        ensures { option_map (λ m. method_at self.now.classes.tree.now (m.class, m.place)) result ≡ option_map Some (find_method self.now.classes.tree.now true (virtual_reference owner.now name.now signature.now)) }
+    {
+        self.find_call(ClassKey::of(owner), MethodKey::named(name, signature), true)
+    }
+
+    /// The constructor that `newobj` names (ECMA-335 III.4.21).
+    pub fn find_constructor(
+        &self,
+        class: &ClassName,
+        parameters: &[DeclaredType],
+    ) -> Option<MemberNumber>
+        ensures { option_map (λ m. method_at self.now.classes.tree.now (m.class, m.place)) result ≡ option_map Some (find_method self.now.classes.tree.now true (constructor_reference class.now parameters.now)) }
+    {
+        self.find_call(
+            ClassKey::of(class),
+            MethodKey::constructor(parameters),
+            true,
+        )
+    }
+}

@@ -1,0 +1,177 @@
+// Every class of a tree with its members, found by name and by number.
+
+ghost use Rattle.std.specs.Prelude.{◌≡◌, ◌++◌, IfOk, map, option_map, option_and_then, slice_get};
+ghost use Rattle.cil_model.specs.Declarations.{built_ins, declaration_of};
+ghost use Rattle.cil_model.specs.Chains.{longest_chain};
+ghost use Rattle.name_tables.specs.BuiltInTable.{built_in_entry};
+ghost use Rattle.name_tables.specs.Entries.{declaration_in, entry_of};
+ghost use Rattle.name_tables.specs.Keys.{class_of_key, field_of_key, method_of_key, called_of_key};
+ghost use Rattle.name_tables.specs.Numbers.{source_entry, declarations, class_number, chain_numbers, place_in, method_found};
+ghost use Rattle.name_tables.specs.Sameness.{same_field, same_called, called_of};
+
+use crate::built_in::BuiltInClass;
+use crate::class_tables::ClassTable;
+use crate::classes::DeclaredClass;
+use crate::keys::{CallKey, ClassKey, FieldKey, MethodKey};
+use crate::places::Places;
+use cil_model::memory::NoMemory;
+use cil_model::trees::{Method, Tree};
+use std::alloc::Global;
+
+/// Every class that a name may stand for: the built-in ones, then those of the source, in order. A class's number is its
+/// place here.
+#[derive(Drop)]
+pub struct ClassTables<'a> {
+    pub tree: &'a Tree,
+    classes: Vec<ClassTable<'a>>,
+    names: Places<ClassKey<'a>>,
+    ghost classes_are: { map (λ t. entry_of t.class) classes.items ≡ declarations tree.now },
+    ghost names_are: { map class_of_key names ≡ map (λ e. e.0) (declarations tree.now) },
+}
+
+fn class_tables<'a>(
+    alloc: Global,
+    tree: &'a Tree,
+    table: &'a [BuiltInClass],
+) -> Result<Vec<ClassTable<'a>>, NoMemory>
+    ensures { IfOk result (λ v. map (λ t. entry_of t.class) v.items ≡ map built_in_entry table.now ++ map source_entry tree.now.classes) }
+{
+    let mut classes = Vec::new(alloc);
+    for class in table {
+        let declared = DeclaredClass::of_built_in(alloc, class)?;
+        classes.push(ClassTable::new(alloc, declared)?)?;
+    }
+    for class in tree.classes.as_slice() {
+        let declared = DeclaredClass::of_source(alloc, class)?;
+        classes.push(ClassTable::new(alloc, declared)?)?;
+    }
+    Ok(classes)
+}
+
+fn class_keys<'a>(alloc: Global, classes: &[ClassTable<'a>]) -> Result<Vec<ClassKey<'a>>, NoMemory>
+    ensures { IfOk result (λ v. map class_of_key v.items ≡ map (λ e. e.0) (map (λ t. entry_of t.class) classes.now)) }
+{
+    let mut keys = Vec::new(alloc);
+    for class in classes {
+        keys.push(class.class.name)?;
+    }
+    Ok(keys)
+}
+
+impl<'a> ClassTables<'a> {
+    /// Makes the tables of a tree from it and the built-in classes. Fails for want of memory alone.
+    pub fn new(alloc: Global, tree: &'a Tree, table: &'a [BuiltInClass]) -> Result<Self, NoMemory>
+        requires { map built_in_entry table.now ≡ built_ins }
+        ensures { IfOk result (λ t. t.tree.now ≡ tree.now) }
+    {
+        let classes = class_tables(alloc, tree, table)?;
+        let names = Places::new(alloc, class_keys(alloc, classes.as_slice())?)?;
+        Ok(ClassTables {
+            tree,
+            classes,
+            names,
+        })
+    }
+
+    /// The names of the classes, by number.
+    pub fn names(&self) -> &[ClassKey<'a>]
+        ensures { map class_of_key result.now ≡ map (λ e. e.0) (declarations self.now.tree.now) }
+    {
+        self.names.keys()
+    }
+
+    /// The number of the class that a name stands for.
+    pub fn number(&self, name: ClassKey) -> Option<usize>
+        ensures { result ≡ class_number self.now.tree.now (class_of_key name.entry) }
+    {
+        self.names.first(name)
+    }
+
+    /// What the class of a number declares.
+    pub fn class(&self, number: usize) -> Option<&DeclaredClass<'a>>
+        ensures { option_map (λ d. entry_of d.now) result ≡ slice_get (declarations self.now.tree.now) number }
+    {
+        match self.classes.get(number) {
+            None => None,
+            Some(table) => Some(&table.class),
+        }
+    }
+
+    /// The base that the class of a number names.
+    pub fn base(&self, number: usize) -> Option<ClassKey<'a>>
+        ensures { option_map class_of_key result ≡ option_and_then (λ e. e.1.base) (slice_get (declarations self.now.tree.now) number) }
+    {
+        match self.class(number) {
+            None => None,
+            Some(class) => class.base.map(|base| ClassKey::of(base)),
+        }
+    }
+
+    /// The first field of a class with this name, type and staticness.
+    pub fn field(&self, number: usize, key: FieldKey) -> Option<usize>
+        ensures { result ≡ place_in (λ d. d.fields) (same_field (field_of_key key.entry)) self.now.tree.now number }
+    {
+        match self.classes.get(number) {
+            None => None,
+            Some(table) => table.field(key),
+        }
+    }
+
+    /// What the class that a name stands for declares.
+    pub fn declared(&self, name: ClassKey) -> Option<&DeclaredClass<'a>>
+        ensures { option_map (λ d. declaration_in d.now) result ≡ declaration_of self.now.tree.now (class_of_key name.entry) }
+    {
+        match self.number(name) {
+            None => None,
+            Some(number) => self.class(number),
+        }
+    }
+
+    /// The first method of a class with this name and signature.
+    pub fn method(&self, number: usize, key: MethodKey) -> Option<&'a Method>
+        ensures { option_map (λ m. m.now) result ≡ method_found self.now.tree.now (method_of_key key.entry) number }
+    {
+        match self.classes.get(number) {
+            None => None,
+            Some(table) => table.method(key),
+        }
+    }
+
+    /// The first method of a class with this name, signature and staticness.
+    pub fn call(&self, number: usize, key: CallKey) -> Option<usize>
+        ensures { result ≡ place_in (λ d. d.methods) (λ m. same_called (called_of_key key.entry) (called_of m)) self.now.tree.now number }
+    {
+        match self.classes.get(number) {
+            None => None,
+            Some(table) => table.call(key),
+        }
+    }
+
+    /// The numbers of a class's chain, the class itself first, up to as many classes as a chain without a cycle may have.
+    /// Fails for want of memory alone.
+    pub fn chain(&self, alloc: Global, first: ClassKey<'a>) -> Result<Vec<usize>, NoMemory>
+        ensures { IfOk result (λ v. v.items ≡ chain_numbers self.now.tree.now (class_of_key first.entry)) }
+    {
+        let mut numbers = Vec::new(alloc);
+        let mut next = Some(first);
+        let mut left = self.longest_chain();
+        while left > 0 {
+            let Some(name) = next else {
+                return Ok(numbers);
+            };
+            let Some(number) = self.number(name) else {
+                return Ok(numbers);
+            };
+            numbers.push(number)?;
+            next = self.base(number);
+            left -= 1;
+        }
+        Ok(numbers)
+    }
+
+    fn longest_chain(&self) -> usize
+        ensures { result ≡ longest_chain self.now.tree.now }
+    {
+        self.tree.classes.as_slice().len() + 3
+    }
+}
