@@ -70,6 +70,14 @@ impl Program {
     {
         &self.tree
     }
+
+    /// The same, without the program. Takes no memory.
+    pub fn into_tree(self) -> Tree
+        ensures { result ≡ self }
+    {
+        let Program { tree } = self;
+        tree
+    }
 }
 
 /// What the tree breaks first, with its name.

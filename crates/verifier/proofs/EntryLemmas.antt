@@ -3,7 +3,6 @@ use Rattle.std.proofs.Common.{◌≡◌, ℕ, zero, suc, Bool, true, false, List
 use Rattle.std.specs.List.{filter, flat_map}
 use Rattle.std.proofs.lemmas.List.{map-append}
 use Rattle.std.specs.Option.{option_map, ok_or}
-use Rattle.std.specs.Result.{IfOk}
 use Rattle.std.proofs.lemmas.Option.{slice_get-map, slice_get_read, slice_get_within}
 use Rattle.cil_model.specs.declared.types.ClassName.{ClassName}
 use Rattle.cil_model.specs.declared.trees.Tree.{Tree}
@@ -15,9 +14,9 @@ use Rattle.cil_model.specs.declared.trees.Class.{Class}
 use Rattle.cil_model.specs.Declarations.{source_name, methods_of}
 use Rattle.cil_model.specs.Bodies.{code_of, is_entry_point, entry_points, source_methods}
 use Rattle.cil_model.specs.Chains.{is_static}
-use Rattle.cil_model.specs.Legality.{is_entry_method}
+use Rattle.cil_model.specs.Legality.{is_entry_method, IsLegal}
+use Rattle.cil_model.proofs.Legal.{entry_alone}
 use Rattle.cil_model.proofs.SameLaws.{both_first}
-use Rattle.verifier.specs.declared.legality.MetaError.TheVariants.{EntryPoint}
 use Rattle.verifier.specs.declared.program.Body.{Body}
 use Rattle.verifier.specs.Resolved.{body_of, method_body, methods_of_source, bodies_of, IsEntryNumber}
 
@@ -40,19 +39,6 @@ methods_by_class tree = sym (seconds_of_classes tree.classes)
 
 -- ---- the number of the entry point
 
--- the first entry point of some methods has this number, and the others are all in the rest
-pub record IsFirstEntry (methods rest : List Method) (number : ℕ) : Type 0 where
-  pub method : Method
-  pub numbered : slice_get methods number ≡ Some method
-  pub enters : is_entry_point method ≡ true
-  pub first : filter is_entry_point methods ≡ method ∷ filter is_entry_point rest
-  pub fits : is_entry_method method ≡ true
-
--- the entry point that was found before the rest
-abbrev pub SoFar : List Method → List Method → Option ℕ → Type 0
-SoFar methods rest None = filter is_entry_point methods ≡ filter is_entry_point rest
-SoFar methods rest (Some number) = IsFirstEntry methods rest number
-
 -- a list of pairs that pass a test on the second, from the list of the seconds that pass it
 filter_seconds : {X Y : Type 0} (p : Y → Bool) (xs : List (X × Y)) → map (λ (x : X × Y). x.1) (filter (λ (x : X × Y). p x.1) xs) ≡ filter p (map (λ (x : X × Y). x.1) xs)
 filter_seconds p [] = refl
@@ -63,48 +49,16 @@ filter_seconds {X} {Y} p (x ∷ xs) = by_test (p x.1) (filter_seconds p xs)
     by_test true e = cc
     by_test false e = e
 
--- another method leaves what was found
-pub skips : (methods : List Method) (m : Method) (rest : List Method) (found : Option ℕ) → is_entry_point m ≡ false → SoFar methods (m ∷ rest) found → SoFar methods rest found
-skips methods m rest None other so_far = so_far ∙ dropped
-  where
-    dropped : filter is_entry_point (m ∷ rest) ≡ filter is_entry_point rest
-    dropped = rw other
-skips methods m rest (Some number) other so_far = record { method = so_far.method; numbered = so_far.numbered; enters = so_far.enters; first = so_far.first ∙ ap (λ ms. so_far.method ∷ ms) dropped; fits = so_far.fits }
-  where
-    dropped : filter is_entry_point (m ∷ rest) ≡ filter is_entry_point rest
-    dropped = rw other
+-- the entry points are all in the rest
+abbrev pub AllLeft : List Method → List Method → Type 0
+AllLeft methods rest = filter is_entry_point methods ≡ filter is_entry_point rest
 
--- the first entry point is found
-pub finds : (methods : List Method) (m : Method) (rest : List Method) (number : ℕ) →
-    slice_get methods number ≡ Some m → is_entry_point m ≡ true → is_entry_method m ≡ true → SoFar methods (m ∷ rest) None → SoFar methods rest (Some number)
-finds methods m rest number numbered here fits so_far = record { method = m; numbered = numbered; enters = here; first = so_far ∙ kept; fits = fits }
-  where
-    kept : filter is_entry_point (m ∷ rest) ≡ m ∷ filter is_entry_point rest
-    kept = rw here
-
--- the same at a place of a list that shows the methods
-pub finds_at : {X : Type 0} (shown : X → Method) (xs : List X) (i : ℕ) (x : X) (found : Option ℕ) → i < length xs → x ≡ get_or xs i x →
-    is_some found ≡ false → is_entry_point (shown x) ≡ true → is_entry_method (shown x) ≡ true → SoFar (map shown xs) (map shown (drop i xs)) found → IsFirstEntry (map shown xs) (map shown (drop (i + 1) xs)) i
-finds_at shown xs i x (Some n) below at none here fits so_far = absurd (lost none)
-  where
-    lost : true ≡ false → ⊥
-    lost h = cc
-finds_at shown xs i x None below at none here fits so_far =
+-- another method is passed over
+pub passes_at : {X : Type 0} (shown : X → Method) (xs : List X) (i : ℕ) (x : X) → i < length xs → x ≡ get_or xs i x → is_entry_point (shown x) ≡ false
+    → AllLeft (map shown xs) (map shown (drop i xs)) → AllLeft (map shown xs) (map shown (drop (i + 1) xs))
+passes_at shown xs i x below at other so_far =
     let opened : drop i xs ≡ x ∷ drop (i + 1) xs = rw (add-one, at) (drop-cons xs i x below) in
-    let numbered : slice_get (map shown xs) i ≡ Some (shown x) = slice_get-map shown xs i ∙ ap (option_map shown) (slice_get_read xs (length xs) i x refl below at) in
-    finds (map shown xs) (shown x) (map shown (drop (i + 1) xs)) i numbered here fits (so_far ∙ ap (λ ys. filter is_entry_point (map shown ys)) opened)
-
--- a list of pairs with one second
-one_pair : {X Y : Type 0} (xs : List (X × Y)) (y : Y) → map (λ (x : X × Y). x.1) xs ≡ y ∷ [] → (z : X × Y) × (xs ≡ z ∷ [])
-one_pair {X} {Y} [] y e = absurd (lost e)
-  where
-    lost : [] ≡ y ∷ [] → ⊥
-    lost h = cc
-one_pair (x ∷ []) y e = (x, refl)
-one_pair {X} {Y} (x ∷ x' ∷ xs) y e = absurd (lost e)
-  where
-    lost : x.1 ∷ x'.1 ∷ map (λ (x : X × Y). x.1) xs ≡ y ∷ [] → ⊥
-    lost h = cc
+    so_far ∙ ap (λ ys. filter is_entry_point (map shown ys)) opened ∙ ap (λ b. cond b (shown x ∷ filter is_entry_point (map shown (drop (i + 1) xs))) (filter is_entry_point (map shown (drop (i + 1) xs)))) other
 
 -- the pair at a place, from its second
 pair_at : {X Y : Type 0} (xs : List (X × Y)) (n : ℕ) (y : Y) → slice_get (map (λ (x : X × Y). x.1) xs) n ≡ Some y → (o : X) × (slice_get xs n ≡ Some (o, y))
@@ -172,18 +126,23 @@ module _ {X : Type 0} (p : X → Bool) where
           rest h' = cc
       by_test false later h = later h
 
--- the entry point of a whole source
-pub entry_found : (tree : Tree) (methods : List Method) (number : ℕ) → SoFar methods [] (Some number) → methods ≡ methods_of_source tree → IsEntryNumber tree number
-entry_found tree methods number found e =
-    let at = pair_at (source_methods tree) number found.method (ap (λ ms. slice_get ms number) (sym e) ∙ found.numbered) in
-    let one = one_pair (entry_points tree) found.method (filter_seconds is_entry_point (source_methods tree) ∙ ap (filter is_entry_point) (sym e) ∙ found.first) in
-    let same : (at.0, found.method) ≡ one.0 = only (λ (f : ClassName × Method). is_entry_point f.1) (source_methods tree) number (at.0, found.method) one.0 at.1 found.enters one.1 in
-    record { owner = at.0; method = found.method; numbered = at.1; alone = one.1 ∙ ap (λ f. f ∷ []) (sym same); fits = found.fits }
+-- the entry point of a legal program is where a method has `.entrypoint`
+pub entry_at : {X : Type 0} (tree : Tree) (legal : IsLegal tree) (shown : X → Method) (xs : List X) (i : ℕ) (x : X) → i < length xs → x ≡ get_or xs i x → is_entry_point (shown x) ≡ true → map shown xs ≡ methods_of_source tree → IsEntryNumber tree i
+entry_at tree legal shown xs i x below at here e =
+    let numbered : slice_get (map shown xs) i ≡ Some (shown x) = slice_get-map shown xs i ∙ ap (option_map shown) (slice_get_read xs (length xs) i x refl below at) in
+    let there = pair_at (source_methods tree) i (shown x) (ap (λ ms. slice_get ms i) (sym e) ∙ numbered) in
+    let one = entry_alone tree legal in
+    let same : (there.0, shown x) ≡ one.0 = only (λ (f : ClassName × Method). is_entry_point f.1) (source_methods tree) i (there.0, shown x) one.0 there.1 here one.1 in
+    record { owner = there.0; method = shown x; numbered = there.1; alone = one.1 ∙ ap (λ f. f ∷ []) (sym same); fits = ap (λ (f : ClassName × Method). is_entry_method f.1) same ∙ one.2 }
 
--- what is answered of a whole source
-pub entry_answered : (methods : List Method) (found : Option ℕ) → SoFar methods [] found → IfOk (ok_or found EntryPoint) (λ number. (tree : Tree) → methods ≡ methods_of_source tree → IsEntryNumber tree number)
-entry_answered methods None so_far = tt
-entry_answered methods (Some number) so_far = λ tree e. entry_found tree methods number so_far e
+-- it is not missed
+pub entry_there : (tree : Tree) (legal : IsLegal tree) (methods : List Method) → methods ≡ methods_of_source tree → AllLeft methods [] → ⊥
+entry_there tree legal methods e none =
+    let one = entry_alone tree legal in
+    lost (ap (map (λ (f : ClassName × Method). f.1)) (sym one.1) ∙ filter_seconds is_entry_point (source_methods tree) ∙ ap (filter is_entry_point) (sym e) ∙ none)
+  where
+    lost : {x : Method} → x ∷ [] ≡ [] → ⊥
+    lost h = cc
 
 -- ---- the body of the entry point
 

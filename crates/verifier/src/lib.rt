@@ -8,7 +8,7 @@ mod straight_line;
 mod typing;
 
 pub use layout::{Layout, lay_out};
-pub use legality::{MetaError, resolve};
+pub use legality::resolve;
 pub use program::{Body, Operation, Program, Returned};
 pub use straight_line::TypedBody;
 pub use typing::{Verified, VerifyError, verify};
