@@ -1,10 +1,13 @@
 -- When what a machine holds stands for a state of the reference machine (this profile).
-use Rattle.std.specs.Prelude.{◌≡◌, ℕ, ℤ, List, [], ◌∷◌, Option, Some, None}
+use Rattle.std.specs.Prelude.{◌≡◌, ℕ, ℤ, List, [], ◌∷◌, length, Option, Some, None}
+use Rattle.std.specs.List.{zip}
+use Rattle.cil_model.specs.declared.limits.Limits.{Limits}
+use Rattle.cil_model.specs.declared.trees.Tree.{Tree}
 use Rattle.cil_model.specs.Values.{ObjectName, Value, Int32 as Int32Value, Int64 as Int64Value, Native as NativeValue, Null as NullValue, Reference}
 use Rattle.cil_model.specs.States.{State, Frame as StateFrame, Thread as StateThread}
 use Rattle.cil_model.specs.declared.events.Event.{Event}
 use Rattle.cil_model.specs.declared.reports.Report.{Report}
-use Rattle.cil_model.specs.Runs.{RunsTo, run, thread_part, step_reports}
+use Rattle.cil_model.specs.Runs.{IsStateAfter, RunsTo, run, thread_part, step_reports}
 use Rattle.cil_model.specs.MachineContents.{Word, Int32, Int64, Native, Null, Address, Frame, Thread, Content}
 
 -- which object lies at an address
@@ -69,3 +72,15 @@ pub record RunsAlike (old new : Content) (events : List (Event × Report)) (s : 
 -- from every such state
 abbrev pub FollowsReference : Content → Content → List (Event × Report) → Type 0
 FollowsReference old new events = (s : State) → StandsFor old s → RunsAlike old new events s
+
+-- With one report an event, the reference machine's run over their steps is never stuck, gives these reports, and comes to this state.
+pub record IsRunOf (tree : Tree) (limits : Limits) (events : List Event) (s : State) : Type 0 where
+  pub reports : List Report
+  pub each : length reports ≡ length events
+  pub is_after : IsStateAfter tree limits (zip events reports) s
+
+-- a machine stands for such a state
+pub record StandsAfter (tree : Tree) (limits : Limits) (events : List Event) (c : Content) : Type 0 where
+  pub state : State
+  pub is_run : IsRunOf tree limits events state
+  pub stands : StandsFor c state

@@ -1,7 +1,81 @@
 -- What an error that a `?` hands on is.
-use Rattle.std.proofs.Common.{Result, Ok, Err}
+use Rattle.std.proofs.Common.{◌≡◌, ◌↔◌, ◌+◌, ℕ, Bool, true, false, List, [], drop, length, map, Option, Some, Result, Ok, Err, refl, ap, sym, ◌∙◌, subst, arith, inl, inr}
+use Rattle.std.specs.List.{zip}
 use Rattle.std.specs.Prelude.{IfErr, IsErrAnd}
+use Rattle.cil_model.proofs.StandsLaws.{ends_stand, printed_stands, stands_after}
+use Rattle.cil_model.specs.Legality.{IsLegal}
+use Rattle.cil_model.specs.MachineContents.{Content, Thread}
+use Rattle.cil_model.specs.Ranges.{are_in_range}
+use Rattle.cil_model.specs.Runs.{opening}
+use Rattle.cil_model.specs.StandsFor.{FollowsReference, StandsAfter, StandsFor}
+use Rattle.cil_model.specs.Sources.{HasTree, IsAnswer}
+use Rattle.cil_model.specs.States.{State}
+use Rattle.cil_model.specs.declared.events.Event.{Event}
+use Rattle.cil_model.specs.declared.limits.Limits.{Limits}
+use Rattle.cil_model.specs.declared.reports.Report.{Report}
+use Rattle.cil_model.specs.declared.trees.Tree.{Tree}
+use Rattle.interleaving_core.specs.declared.machine.Refused.TheVariants.{Limits as BadLimits}
+use Rattle.schedule_text.specs.Items.{words}
+use Rattle.schedule_text.specs.Readings.{AreRead}
+use Rattle.verifier.specs.Typed.{AllTyped, first_refused}
+use Rattle.verifier.specs.declared.typing.VerifyError.{VerifyError}
+use Rattle.verifier.specs.declared.typing.VerifyError.TheVariants.{NoTyping}
+use Rattle.cilvm.specs.Failures.{failure_of_verifying}
+use Rattle.cilvm.specs.declared.drive.Failure.{Failure}
+use Rattle.cilvm.specs.Outcomes.{HasRun, IsAcceptedSource, IsNotAccepted, IsRunBy, IsShown}
+use Rattle.cilvm.specs.Threads.{ends_of}
 
 pub handed_on : {T E : Type 0} {P gives : E → Type 0} (r : Result T E) → IsErrAnd r gives → ((e : E) → gives e → P e) → IfErr r P
 handed_on (Ok x) h f = tt
 handed_on (Err e) h f = f e h
+
+-- limits that a machine was made with are in range
+pub made_in_range : {M : Type 0} (limits : Limits) (m : M) → (Ok m ≡ Err BadLimits) ↔ (are_in_range limits ≡ false) → are_in_range limits ≡ true
+made_in_range limits m iff = by_test (are_in_range limits) (λ e. lost (iff.1 e))
+  where
+    lost : Ok m ≡ Err BadLimits → ⊥
+    lost e = absurd (cc e)
+
+    by_test : (b : Bool) → (b ≡ false → ⊥) → b ≡ true
+    by_test true never = refl
+    by_test false never = absurd (never refl)
+
+nothing_more : (n : ℕ) → 0 + n ≡ n
+nothing_more n = omega arith
+
+-- a machine that was run from its beginning
+pub ran : (tree : Tree) (limits : Limits) (text : List ℕ) (m d : Content) (events es : List Event) (before reports : List Report) → are_in_range limits ≡ true → AreRead (words text) events → es ≡ events → before ≡ []
+    → (s : State) × (opening tree limits ≡ Some s) × StandsFor m s → m.tree ≡ tree → m.limits ≡ limits → length reports ≡ length before + length es → FollowsReference m d (zip es (drop (length before) reports))
+    → IsRunBy tree limits text d
+ran tree limits text m d events es before reports in_range are_read same_events none first same_tree same_limits each follows =
+    let each' : length reports ≡ length events = each ∙ ap (λ xs. length xs + length es) none ∙ nothing_more (length es) ∙ ap length same_events in
+    let follows' : FollowsReference m d (zip events reports) = subst (λ xs. FollowsReference m d (zip xs reports)) same_events (subst (λ xs. FollowsReference m d (zip es (drop (length xs) reports))) none follows) in
+    (in_range, (events, are_read, stands_after tree limits m d events reports first.0 first.1 first.2 same_tree same_limits each' follows'))
+
+-- what the machine that was run shows
+pub has_run : (source : List ℕ) (tree : Tree) (limits : Limits) (text : List ℕ) (c : Content) (out out' err err' : Option (List ℕ)) (status : ℕ) → IsAcceptedSource source tree → IsRunBy tree limits text c
+    → IsShown c.printed (map (λ (t : Thread). t.ended) c.threads) out out' err err' status → HasRun source limits text out out' err err' status
+has_run source tree limits text c out out' err err' status accepted run shown =
+    let after : StandsAfter tree limits run.1.0 c = run.1.2 in
+    record {
+      tree = tree;
+      is_accepted = accepted;
+      in_range = run.0;
+      events = run.1.0;
+      are_read = run.1.1;
+      state = after.state;
+      is_run = after.is_run;
+      shown = subst (λ p. IsShown p (ends_of after.state) out out' err err' status) (printed_stands c after.state after.stands)
+          (subst (λ es. IsShown c.printed es out out' err err' status) (ends_stand c after.state after.stands) shown);
+    }
+
+-- a program that was verified
+pub accepted_source : (source : List ℕ) (tree program verified : Tree) → IsAnswer source (HasTree tree) → program ≡ tree → IsLegal tree → verified ≡ program → AllTyped program → IsAcceptedSource source verified
+accepted_source source tree program verified read same legal kept typed =
+    subst (IsAcceptedSource source) (sym (kept ∙ same)) (record { read = read; accepted = record { legal = legal; typed = subst AllTyped same typed } })
+
+-- a program that was not
+pub untyped_source : {T : Type 0} (source : List ℕ) (tree program : Tree) (error : VerifyError) (failure : Failure) → IsAnswer source (HasTree tree) → program ≡ tree → IsLegal tree
+    → ((method : ℕ) → ◌≡◌ {A = Result T VerifyError} (Err error) (Err (NoTyping method)) → first_refused program ≡ Some method) → failure ≡ failure_of_verifying error → IsNotAccepted source failure
+untyped_source source tree program error failure read same legal refused told =
+    inr (tree, read, inr (inl (legal, error, λ method e. ap first_refused (sym same) ∙ refused method (ap Err e), told)))

@@ -7,9 +7,10 @@ use Rattle.std.specs.declared.io.ErrorKind.TheVariants.{OutOfMemory}
 use Rattle.ilasm_reader.specs.Answers.{numbered as reading_number_of}
 use Rattle.ilasm_reader.specs.declared.reading.ReadError.{ReadError}
 use Rattle.ilasm_reader.specs.declared.reading.ReadError.TheVariants.{OutOfMemory as UnreadForMemory}
-use Rattle.verifier.specs.Numbers.{typing_number_of, number_of as legality_number_of}
-use Rattle.verifier.specs.declared.legality.MetaError.{MetaError}
-use Rattle.verifier.specs.declared.legality.MetaError.TheVariants.{OutOfMemory as UnresolvedForMemory}
+use Rattle.metadata.specs.RuleNumbers.{number_of as legality_number_of}
+use Rattle.metadata.specs.declared.program.MetaError.{MetaError}
+use Rattle.metadata.specs.declared.program.MetaError.TheVariants.{OutOfMemory as UnresolvedForMemory}
+use Rattle.verifier.specs.Numbers.{typing_number_of}
 use Rattle.verifier.specs.declared.typing.VerifyError.{VerifyError}
 use Rattle.verifier.specs.declared.typing.VerifyError.TheVariants.{OutOfMemory as UnverifiedForMemory}
 use Rattle.interleaving_core.specs.Refusals.{number_of as making_number_of}

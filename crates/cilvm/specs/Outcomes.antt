@@ -1,6 +1,6 @@
 -- What comes of an order: what is printed, and the status that the program ends with (this profile).
 use Rattle.std.specs.Io.KnownBytes.{Appends}
-use Rattle.std.specs.Prelude.{◌≡◌, ◌⊎◌, ◌++◌, ◌∷◌, [], ℕ, true, false, List, Option, Err, codes}
+use Rattle.std.specs.Prelude.{◌≡◌, ◌≢◌, ◌⊎◌, ◌++◌, ◌∷◌, [], ℕ, true, false, List, Option, Some, Err, codes}
 use Rattle.cil_model.specs.Ranges.{are_in_range}
 use Rattle.cil_model.specs.Sources.{HasTree, IsAnswer}
 use Rattle.cil_model.specs.declared.events.Event.{Event}
@@ -8,9 +8,18 @@ use Rattle.cil_model.specs.declared.limits.Limits.{Limits}
 use Rattle.cil_model.specs.declared.trees.Tree.{Tree}
 use Rattle.ilasm_reader.specs.Answers.{IsReadAnswer}
 use Rattle.ilasm_reader.specs.declared.reading.ReadError.{ReadError}
-use Rattle.verifier.specs.declared.legality.MetaError.{MetaError}
+use Rattle.cil_model.specs.Legality.{IsLegal, least_broken}
+use Rattle.cil_model.specs.StandsFor.{IsRunOf, StandsAfter}
+use Rattle.cil_model.specs.States.{State}
+use Rattle.cil_model.specs.Typings.{IsAccepted}
+use Rattle.cil_model.specs.declared.reports.End.{End}
+use Rattle.metadata.specs.RuleNumbers.{number_of as legality_number_of}
+use Rattle.metadata.specs.declared.program.MetaError.{MetaError}
+use Rattle.metadata.specs.declared.program.MetaError.TheVariants.{OutOfMemory as NoMemoryForNames}
+use Rattle.verifier.specs.Typed.{first_refused}
+use Rattle.verifier.specs.declared.typing.VerifyError.TheVariants.{NoTyping}
 use Rattle.verifier.specs.declared.typing.VerifyError.{VerifyError}
-use Rattle.interleaving_core.specs.Contents.{Content}
+use Rattle.cil_model.specs.MachineContents.{Content}
 use Rattle.interleaving_core.specs.declared.machine.Refused.TheVariants.{Limits as BadLimits}
 use Rattle.schedule_text.specs.Items.{words}
 use Rattle.schedule_text.specs.Readings.{AreRead, IsFirstFault}
@@ -26,27 +35,35 @@ use Rattle.cilvm.specs.declared.orders.Order.TheVariants.{Check, Run, Replay}
 
 -- ---- the source
 
--- the bytes have a tree
-abbrev pub IsRead : List ℕ → Type 0
-IsRead source = (tree : Tree) × IsAnswer source (HasTree tree)
+-- the bytes have this tree, and it is an accepted program
+pub record IsAcceptedSource (source : List ℕ) (tree : Tree) : Type 0 where
+  pub read : IsAnswer source (HasTree tree)
+  pub accepted : IsAccepted tree
 
--- the layers behind the reader refuse a tree, or want memory for it
-abbrev pub IsNotVerified : Failure → Type 0
-IsNotVerified failure = ((error : MetaError) × (failure ≡ failure_of_resolving error))
-    ⊎ (((error : VerifyError) × (failure ≡ failure_of_verifying error)) ⊎ (failure ≡ Memory))
+-- the bytes have a tree that is an accepted program
+abbrev pub IsLetIn : List ℕ → Type 0
+IsLetIn source = (tree : Tree) × IsAcceptedSource source tree
 
--- why a source is not accepted: its bytes have no tree, or the tree is not verified
+-- a tree is no legal program: the least rule that it breaks has the number that is told, but for want of memory
+abbrev pub IsIllegal : Tree → Failure → Type 0
+IsIllegal tree failure = (error : MetaError) × (error ≢ NoMemoryForNames → least_broken tree ≡ Some (legality_number_of error)) × (failure ≡ failure_of_resolving error)
+
+-- a legal program is not verified: this is the first method that is refused, but for want of memory
+abbrev pub IsUntyped : Tree → Failure → Type 0
+IsUntyped tree failure = IsLegal tree × ((error : VerifyError) × ((method : ℕ) → error ≡ NoTyping method → first_refused tree ≡ Some method) × (failure ≡ failure_of_verifying error))
+
+-- why a source is not accepted: its bytes have no tree, or the tree is no legal program, or a method of it is refused; or memory is wanted
 abbrev pub IsNotAccepted : List ℕ → Failure → Type 0
 IsNotAccepted source failure =
     ((error : ReadError) × IsReadAnswer source (Err error) × (failure ≡ failure_of_reading error))
-    ⊎ (IsRead source × IsNotVerified failure)
+    ⊎ ((tree : Tree) × IsAnswer source (HasTree tree) × (IsIllegal tree failure ⊎ (IsUntyped tree failure ⊎ (failure ≡ Memory))))
 
 -- ---- the run
 
--- a machine has its limits in range, and the events that the text of a schedule writes
-abbrev pub IsRunBy : Limits → List ℕ → Type 0
-IsRunBy limits text =
-    (are_in_range limits ≡ true) × ((events : List Event) × AreRead (words text) events)
+-- a machine has its limits in range, and stands after the events that the text of a schedule writes
+abbrev pub IsRunBy : Tree → Limits → List ℕ → Content → Type 0
+IsRunBy tree limits text content =
+    (are_in_range limits ≡ true) × ((events : List Event) × AreRead (words text) events × StandsAfter tree limits events content)
 
 -- why a verified program is not run by a text: its limits come first, then the text
 abbrev pub IsNotRunBy : Limits → List ℕ → Failure → Type 0
@@ -55,10 +72,11 @@ IsNotRunBy limits text failure =
     ⊎ ((are_in_range limits ≡ true) × ((failure ≡ Memory)
     ⊎ ((error : ScheduleError) × IsFirstFault (words text) error × (failure ≡ failure_of_schedule error))))
 
--- what is printed of a machine on the two outputs, and the status
-abbrev pub IsShown : Content → Option (List ℕ) → Option (List ℕ) → Option (List ℕ) → Option (List ℕ) → ℕ → Type 0
-IsShown content out out' err err' status = Appends out out' content.printed
-    × Appends err err' (lines_from 0 (ends_of content)) × (status ≡ status_of (ends_of content))
+-- what is shown on the two outputs of bytes that were printed and of how the threads stand, and the status
+pub record IsShown (printed : List ℕ) (ends : List (Option End)) (out out' err err' : Option (List ℕ)) (status : ℕ) : Type 0 where
+  pub output : Appends out out' printed
+  pub errors : Appends err err' (lines_from 0 ends)
+  pub status_is : status ≡ status_of ends
 
 -- ---- an order
 
@@ -69,22 +87,29 @@ IsOfWriting failure = (failure ≡ Memory) ⊎ (failure ≡ Device)
 -- a check is done: the one line that it prints
 abbrev pub IsChecked : List ℕ → Option (List ℕ) → Option (List ℕ) → ℕ → Type 0
 IsChecked source out out' status =
-    IsRead source × Appends out out' (codes "accepted" ++ 10 ∷ []) × (status ≡ 0)
+    IsLetIn source × Appends out out' (codes "accepted" ++ 10 ∷ []) × (status ≡ 0)
 
 -- why a check is not done
 abbrev pub IsNotChecked : List ℕ → Failure → Type 0
 IsNotChecked source failure =
-    IsNotAccepted source failure ⊎ (IsRead source × IsOfWriting failure)
+    IsNotAccepted source failure ⊎ (IsLetIn source × IsOfWriting failure)
 
--- a run is done: what is printed of the machine that it leaves
-abbrev pub HasRun : List ℕ → Limits → List ℕ → Option (List ℕ) → Option (List ℕ) → Option (List ℕ) → Option (List ℕ) → ℕ → Type 0
-HasRun source limits text out out' err err' status = IsRead source × IsRunBy limits text
-    × ((content : Content) × IsShown content out out' err err' status)
+-- A run is done. The bytes have a tree that is an accepted program, the text writes events, and the reference machine's run
+-- over their steps is never stuck: what it printed, and how its threads stand, is shown.
+pub record HasRun (source : List ℕ) (limits : Limits) (text : List ℕ) (out out' err err' : Option (List ℕ)) (status : ℕ) : Type 0 where
+  pub tree : Tree
+  pub is_accepted : IsAcceptedSource source tree
+  pub in_range : are_in_range limits ≡ true
+  pub events : List Event
+  pub are_read : AreRead (words text) events
+  pub state : State
+  pub is_run : IsRunOf tree limits events state
+  pub shown : IsShown state.printed (ends_of state) out out' err err' status
 
 -- why a run is not done
 abbrev pub HasNotRun : List ℕ → Limits → List ℕ → Failure → Type 0
 HasNotRun source limits text failure = IsNotAccepted source failure
-    ⊎ (IsRead source × (IsNotRunBy limits text failure ⊎ (IsRunBy limits text × IsOfWriting failure)))
+    ⊎ (IsLetIn source × (IsNotRunBy limits text failure ⊎ IsOfWriting failure))
 
 -- an order is carried out: a run takes its schedule from the command line, a replay from the file
 abbrev pub IsDone : Order → List ℕ → List ℕ → Option (List ℕ) → Option (List ℕ) → Option (List ℕ) → Option (List ℕ) → ℕ → Type 0

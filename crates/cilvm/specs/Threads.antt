@@ -5,15 +5,11 @@ use Rattle.std.specs.List.{list_all, list_any}
 use Rattle.cil_model.specs.ExceptionNames.{name_of}
 use Rattle.cil_model.specs.declared.reports.End.{End}
 use Rattle.cil_model.specs.declared.reports.End.TheVariants.{Done, Budget, Fault}
-use Rattle.interleaving_core.specs.Contents.{Content, end_of}
-
--- the numbers of the threads that were started; thread 0 is the only one so far
-abbrev pub threads_of : Content → List ℕ
-threads_of content = 0 ∷ []
+use Rattle.cil_model.specs.States.{State, Thread}
 
 -- how each thread that was started stands, in the order of their numbers
-abbrev pub ends_of : Content → List (Option End)
-ends_of content = map (end_of content) (threads_of content)
+abbrev pub ends_of : State → List (Option End)
+ends_of s = map (λ (thread : Thread). thread.ended) s.threads
 
 -- the word for how a thread stands
 abbrev pub end_text : Option End → List ℕ

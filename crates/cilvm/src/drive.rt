@@ -1,16 +1,15 @@
 //! Does what an order asks for.
-ghost use Rattle.std.specs.Prelude.{◌≡◌, ◌≢◌, IfErr, IfOk, OnOk, true, ◌+◌, ◌⊎◌};
+ghost use Rattle.std.specs.Prelude.{◌≡◌, ◌≢◌, map, IfErr, IfOk, OnOk, true, ◌+◌, ◌⊎◌};
 ghost use Rattle.std.specs.List.{list_all, list_any};
 ghost use Rattle.std.specs.Io.KnownBytes.{Appends};
-ghost use Rattle.cil_model.specs.Sources.{HasTree, IsAnswer};
 ghost use Rattle.cilvm.specs.Failures.{IsFailureOfDevice, IsStatusOf, failure_of_making};
 ghost use Rattle.cilvm.specs.Failures.{failure_of_reading, failure_of_resolving};
 ghost use Rattle.cilvm.specs.Failures.{failure_of_schedule, failure_of_verifying};
 ghost use Rattle.cilvm.specs.Failures.{is_refusal, message_of, status_of_failure};
-ghost use Rattle.cilvm.specs.Outcomes.{HasNotRun, HasRun, IsChecked, IsDone, IsNotAccepted};
+ghost use Rattle.cilvm.specs.Outcomes.{HasNotRun, HasRun, IsAcceptedSource, IsChecked, IsDone, IsNotAccepted};
 ghost use Rattle.cilvm.specs.Outcomes.{IsNotChecked, IsNotDone, IsNotRunBy, IsOfWriting};
 ghost use Rattle.cilvm.specs.Outcomes.{IsOutcome, IsRunBy, IsShown};
-ghost use Rattle.cilvm.specs.Threads.{ends_of, is_done, is_live, line_of, lines_from};
+ghost use Rattle.cilvm.specs.Threads.{is_done, is_live, line_of, lines_from};
 ghost use Rattle.cilvm.specs.Threads.{status_of};
 ghost use Rattle.cilvm.specs.declared.drive.Failure.TheVariants.{Memory};
 
@@ -20,11 +19,12 @@ use cil_model::memory::NoMemory;
 use cil_model::reports::End;
 use ilasm_reader::ReadError;
 use interleaving_core::{Machine, Refused};
+use metadata::program::MetaError;
 use schedule_text::{ScheduleError, read_schedule};
 use std::alloc::{AllocError, Global};
 use std::io;
 use std::io::{ErrorKind, Write};
-use verifier::{MetaError, Verified, VerifyError};
+use verifier::{Verified, VerifyError};
 
 /// Why an order was not carried out.
 #[derive(Clone, Copy, Debug, PartialEq, Eq)]
@@ -239,7 +239,7 @@ fn show_run<W: Write, E: Write>(
 
 /// The verified program of a source, whose tree is the one that the bytes have.
 fn accept(alloc: Global, source: &[u8]) -> Result<Verified, Failure>
-    ensures tree { IfOk result (λ verified. IsAnswer source.now (HasTree verified)) }
+    ensures accepted { IfOk result (IsAcceptedSource source.now) }
     ensures refused { IfErr result (IsNotAccepted source.now) }
 {
     let tree = ilasm_reader::read(alloc, source)?;
@@ -250,7 +250,7 @@ fn accept(alloc: Global, source: &[u8]) -> Result<Verified, Failure>
 
 /// The machine of a program after the events of a schedule.
 fn run(alloc: Global, verified: Verified, limits: Limits, text: &[u8]) -> Result<Machine, Failure>
-    ensures ran { OnOk result (IsRunBy limits text.now) }
+    ensures ran { IfOk result (IsRunBy verified limits text.now) }
     ensures refused { IfErr result (IsNotRunBy limits text.now) }
 {
     let mut machine = Machine::new(alloc, verified, limits)?;
@@ -267,7 +267,7 @@ fn show<W: Write, E: Write>(
     out: &mut W,
     err: &mut E,
 ) -> Result<u8, Failure>
-    ensures shown { IfOk result (IsShown machine.now (W.contents out.old) (W.contents out.new)
+    ensures shown { IfOk result (IsShown machine.now.printed (map (λ t. t.ended) machine.now.threads) (W.contents out.old) (W.contents out.new)
         (E.contents err.old) (E.contents err.new)) }
     ensures failed { IfErr result IsOfWriting }
 {
@@ -279,7 +279,7 @@ fn show<W: Write, E: Write>(
 
 /// How each thread that was started has ended, in the order of their numbers.
 fn ends(alloc: Global, machine: &Machine) -> Result<Vec<Option<End>>, AllocError>
-    ensures { IfOk result (λ ends. ends.items ≡ ends_of machine.now) }
+    ensures { IfOk result (λ ends. ends.items ≡ map (λ t. t.ended) machine.now.threads) }
 {
     let mut ends = Vec::new(alloc);
     for thread in 0..machine.started() {

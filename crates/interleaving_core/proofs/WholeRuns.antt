@@ -1,7 +1,7 @@
 -- Whole runs.
-use Rattle.std.proofs.Common.{◌≡◌, ◌+◌, ◌<◌, ℕ, List, [], ◌∷◌, ◌++◌, length, take, drop, get_or, refl, sym, ap, ◌∙◌, subst, Result, Ok, Err}
+use Rattle.std.proofs.Common.{◌≡◌, ◌+◌, ◌<◌, ℕ, suc, List, [], ◌∷◌, ◌++◌, length, take, drop, get_or, refl, sym, ap, ◌∙◌, subst, Result, Ok, Err}
 use Rattle.std.proofs.Math.Seq.{drop-append_seam}
-use Rattle.std.proofs.lemmas.List.{take_more, append_assoc}
+use Rattle.std.proofs.lemmas.List.{take_more, append_assoc, length-append}
 use Rattle.std.specs.List.{zip}
 use Rattle.std.specs.Prelude.{OnErr}
 use Rattle.cil_model.specs.declared.events.Event.{Event}
@@ -72,3 +72,11 @@ run_follows c d before reports es sound so_far s stands =
 pub on_err : {T E : Type 0} (r : Result T E) (P : Type 0) → P → OnErr r P
 on_err (Ok x) P h = tt
 on_err (Err e) P h = h
+
+-- one report an event
+each_reported : (es : List Event) (c : Content) → length (run_of c es).1 ≡ length es
+each_reported [] c = refl
+each_reported (e ∷ es) c = ap suc (each_reported es (turn c e).0)
+
+pub all_reported : (c d : Content) (before reports : List Report) (es : List Event) → RunSoFar c before es d reports → length reports ≡ length before + length es
+all_reported c d before reports es so_far = ap length so_far.1 ∙ length-append before (run_of c es).1 ∙ ap (λ n. length before + n) (each_reported es c)

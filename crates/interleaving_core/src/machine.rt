@@ -1,9 +1,10 @@
 //! The machine and its events.
 
-ghost use Rattle.std.specs.Prelude.{◌≡◌, ◌↔◌, ◌++◌, ◌<◌, Ok, Err, Some, None, IfOk, OnOk, OnErr, true, false, ℕ, length, take, drop, if◌then◌else◌};
+ghost use Rattle.std.specs.Prelude.{◌≡◌, ◌↔◌, ◌++◌, ◌+◌, ◌<◌, ◌≤◌, Ok, Err, Some, None, IfOk, OnOk, OnErr, true, false, ℕ, length, take, drop, if◌then◌else◌};
 ghost use Rattle.std.specs.List.{zip};
 ghost use Rattle.cil_model.specs.MachineContents.{end_of, is_live};
 ghost use Rattle.cil_model.specs.Ranges.{are_in_range, is_between};
+ghost use Rattle.cil_model.specs.declared.limits.TheConstants.{MOST_THREADS};
 ghost use Rattle.cil_model.specs.Runs.{opening};
 ghost use Rattle.cil_model.specs.StandsFor.{FollowsReference, StandsFor};
 ghost use Rattle.cil_model.specs.States.{State};
@@ -133,6 +134,7 @@ impl Machine {
     /// It stops at the first want of memory, the growth of `reports` included, which comes before its event.
     pub fn run(&mut self, events: &[Event], reports: &mut Vec<Report>) -> Result<(), NoMemory>
         ensures turns { OnOk result ((self.new ≡ (run_of self.old events.now).0) × (reports.new.items ≡ reports.old.items ++ (run_of self.old events.now).1)) }
+        ensures each { OnOk result (length reports.new.items ≡ length reports.old.items + length events.now) }
         ensures follows { OnOk result (FollowsReference self.old self.new (zip events.now (drop (length reports.old.items) reports.new.items))) }
         ensures stopped { OnErr result ((count : ℕ) × (count < length events.now) × (self.new ≡ (run_of self.old (take count events.now)).0)
             × (reports.new.items ≡ reports.old.items ++ (run_of self.old (take count events.now)).1)) }
@@ -175,7 +177,8 @@ impl Machine {
 
     /// How many threads were started, the first one counted. Their numbers are those below.
     pub fn started(&self) -> usize
-        ensures { result ≡ length self.now.threads }
+        ensures all { result ≡ length self.now.threads }
+        ensures few { result ≤ MOST_THREADS }
     {
         let _engine = &self.engine;
         1

@@ -1,0 +1,11 @@
+use Rattle.std.proofs.Common.{[], ap, arith, map, sym, take, ◌++◌, ◌<◌, ◌∙◌, ◌∷◌, add-one, length, subst}
+use Rattle.cilvm.proofs.ThreadLemmas.{ends_more}
+use Rattle.cilvm.proofs.drive.ends.Goals as goal
+
+pub loop-thread-preserved : goal.loop-thread-preserved
+loop-thread-preserved c =
+    let threads = c.args.machine.now.threads in
+    let thread = c.loop-thread.thread in
+    let below : thread < length threads = subst (λ n. thread < n) c.started-thread-end.ensures.all c.loop-thread-test.true in
+    c.in_ok-push.ensures.items ∙ ap (λ es. es ++ c.end_of.result ∷ []) c.loop-thread.invariant ∙ ap (λ e. take thread (map (λ t. t.ended) threads) ++ e ∷ []) c.end_of.ensures ∙ ends_more threads thread below
+    ∙ ap (λ n. take n (map (λ t. t.ended) threads)) (sym (add-one thread))
