@@ -12,3 +12,6 @@ pub use legality::{MetaError, resolve};
 pub use program::{Body, Operation, Program, Returned};
 pub use straight_line::TypedBody;
 pub use typing::{Verified, VerifyError, verify};
+
+#[cfg(test)]
+mod tests;
