@@ -1,4 +1,5 @@
 pub mod BodyLemmas
 pub mod EntryLemmas
 pub mod OperationLemmas
+pub mod RefusalLemmas
 pub mod TypingLemmas

@@ -1,6 +1,7 @@
 //! From the tree of a source to code that is known to run: names and legality, layout, typing.
 #![tactic(auto)]
 
+mod laws;
 mod layout;
 mod legality;
 mod program;
