@@ -1,5 +1,6 @@
 pub mod BodyLemmas
 pub mod EntryLemmas
+pub mod FirstLemmas
 pub mod OperationLemmas
 pub mod RefusalLemmas
 pub mod TypingLemmas
