@@ -12,7 +12,8 @@ use Rattle.verifier.specs.declared.program.Operation.{Operation}
 use Rattle.verifier.specs.Resolved.{body_of, method_body, methods_of_source, bodies_of}
 use Rattle.verifier.specs.Typed.{all_of, has_typed_code, is_typed_body, first_untyped, first_refused}
 use Rattle.verifier.proofs.EntryLemmas.{body_at}
-use Rattle.verifier.proofs.TypingLemmas.{lost, nothing, found, method_has_typing}
+use Rattle.verifier.proofs.Cases.{lost, nothing, found}
+use Rattle.verifier.proofs.TypingLemmas.{method_has_typing}
 use Rattle.verifier.proofs.RefusalLemmas.{body_passes}
 
 -- the numbers begin with the given one

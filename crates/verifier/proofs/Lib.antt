@@ -1,4 +1,5 @@
 pub mod BodyLemmas
+pub mod Cases
 pub mod EntryLemmas
 pub mod FirstLemmas
 pub mod OperationLemmas

@@ -23,7 +23,8 @@ use Rattle.verifier.specs.Typed.{all_of, natural, are_typed, is_typed_body}
 use Rattle.verifier.specs.StraightLine.{is_typed, is_returned}
 use Rattle.verifier.proofs.BodyLemmas.{all_present}
 use Rattle.verifier.proofs.OperationLemmas.{all_stand}
-use Rattle.verifier.proofs.TypingLemmas.{i4s, lost, nothing, found, length-i4s}
+use Rattle.verifier.proofs.Cases.{lost, nothing, found}
+use Rattle.verifier.proofs.TypingLemmas.{i4s, length-i4s}
 
 -- ---- what lies above integers
 

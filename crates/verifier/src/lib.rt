@@ -1,7 +1,7 @@
 //! From the tree of a source to code that is known to run: names and legality, layout, typing.
 #![tactic(auto)]
 
-mod laws;
+pub mod laws;
 mod layout;
 mod legality;
 mod program;
