@@ -14,6 +14,7 @@ use Rattle.verifier.specs.Resolved.{returned_of, body_of, method_body, bodies_of
 use Rattle.verifier.specs.Typed.{all_of, natural, has_typed_code, first_untyped, first_refused, is_typed_body, IsEntry, IsTypedCode}
 use Rattle.verifier.proofs.OperationLemmas.{all_stand}
 use Rattle.verifier.proofs.EntryLemmas.{body_at, entry_code}
+use Rattle.verifier.proofs.Cases.{lost, nothing}
 
 -- a list of which none is missing
 pub all_present : {X : Type 0} (xs : List (Option X)) (ys : List X) → all_of xs ≡ Some ys → xs ≡ map Some ys
@@ -21,17 +22,11 @@ all_present [] ys e = ap (map Some) (none_left e)
   where
     none_left : Some [] ≡ Some ys → [] ≡ ys
     none_left h = cc
-all_present (None ∷ xs) ys e = absurd (lost e)
-  where
-    lost : None ≡ Some ys → ⊥
-    lost h = cc
+all_present (None ∷ xs) ys e = nothing e
 all_present {X} (Some x ∷ xs) ys e = by_rest (all_of xs) (all_present xs) e
   where
     by_rest : (rest : Option (List X)) → ((zs : List X) → rest ≡ Some zs → xs ≡ map Some zs) → option_map (λ zs. x ∷ zs) rest ≡ Some ys → Some x ∷ xs ≡ map Some ys
-    by_rest None later h = absurd (lost h)
-      where
-        lost : None ≡ Some ys → ⊥
-        lost h' = cc
+    by_rest None later h = nothing h
     by_rest (Some zs) later h = ap (λ ws. Some x ∷ ws) (later zs refl) ∙ ap (map Some) (same h)
       where
         same : Some (x ∷ zs) ≡ Some ys → x ∷ zs ≡ ys
@@ -39,10 +34,7 @@ all_present {X} (Some x ∷ xs) ys e = by_rest (all_of xs) (all_present xs) e
 
 -- where none is the first without a typing, each has one
 pub typed_at : (k : ℕ) (bodies : List (Option Body)) (n : ℕ) (body : Option Body) → first_untyped k bodies ≡ None → slice_get bodies n ≡ Some body → has_typed_code body ≡ true
-typed_at k [] n body none at = absurd (lost at)
-  where
-    lost : None ≡ Some body → ⊥
-    lost h = cc
+typed_at k [] n body none at = nothing at
 typed_at k (b ∷ bodies) zero body none at = by_test (has_typed_code b) none (ap has_typed_code (same at))
   where
     same : Some b ≡ Some body → b ≡ body
@@ -82,10 +74,7 @@ entry_returns_nothing m fits = ends m.signature.return_type (both_second (is_sta
   where
     ends : (t : Option DeclaredType) → IsTrue (is_none t) → t ≡ None
     ends None h = refl
-    ends (Some t) h = absurd (lost h)
-      where
-        lost : false ≡ true → ⊥
-        lost h' = cc
+    ends (Some t) h = lost h
 
 -- the typed body of the one entry point is its code
 pub is_entry : (tree : Tree) (number : ℕ) (body : Body) (typed : TypedBody) → IsEntryNumber tree number → slice_get (bodies_of tree) number ≡ Some (Some body) → IsTypedCode body typed → IsEntry tree typed

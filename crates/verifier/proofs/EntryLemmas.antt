@@ -19,6 +19,7 @@ use Rattle.cil_model.proofs.Legal.{entry_alone}
 use Rattle.cil_model.proofs.SameLaws.{both_first}
 use Rattle.verifier.specs.declared.program.Body.{Body}
 use Rattle.verifier.specs.Resolved.{body_of, method_body, methods_of_source, bodies_of, IsEntryNumber}
+use Rattle.verifier.proofs.Cases.{lost, nothing}
 
 -- ---- the methods of the source
 
@@ -62,10 +63,7 @@ passes_at shown xs i x below at other so_far =
 
 -- the pair at a place, from its second
 pair_at : {X Y : Type 0} (xs : List (X × Y)) (n : ℕ) (y : Y) → slice_get (map (λ (x : X × Y). x.1) xs) n ≡ Some y → (o : X) × (slice_get xs n ≡ Some (o, y))
-pair_at {X} {Y} [] n y e = absurd (lost e)
-  where
-    lost : None ≡ Some y → ⊥
-    lost h = cc
+pair_at {X} {Y} [] n y e = nothing e
 pair_at {X} {Y} (x ∷ xs) zero y e = (x.0, ap (λ (z : Y). Some (x.0, z)) (same e))
   where
     same : Some x.1 ≡ Some y → x.1 ≡ y
@@ -100,10 +98,7 @@ module _ {X : Type 0} (p : X → Bool) where
 
   -- what passes a test that one item passes is that item
   only : (xs : List X) (n : ℕ) (x z : X) → slice_get xs n ≡ Some x → p x ≡ true → filter p xs ≡ z ∷ [] → x ≡ z
-  only [] n x z at passes one = absurd (lost at)
-    where
-      lost : None ≡ Some x → ⊥
-      lost h = cc
+  only [] n x z at passes one = nothing at
   only (y ∷ ys) zero x z at passes one = first (rw (passed) at one)
     where
       same : Some y ≡ Some x → y ≡ x
@@ -157,10 +152,7 @@ pub static_code : (kind : MethodKind) → is_static kind ≡ true → (code : Co
 static_code (Static code) e = (code, refl)
 static_code (Instance code) e = (code, refl)
 static_code (Virtual is_new_slot code) e = (code, refl)
-static_code (Abstract is_new_slot) e = absurd (lost e)
-  where
-    lost : false ≡ true → ⊥
-    lost h = cc
+static_code (Abstract is_new_slot) e = lost e
 
 -- the entry point is static, and has no result
 pub entry_is_static : (m : Method) → is_entry_method m ≡ true → is_static m.kind ≡ true

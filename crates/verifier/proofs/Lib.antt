@@ -1,4 +1,7 @@
 pub mod BodyLemmas
+pub mod Cases
 pub mod EntryLemmas
+pub mod FirstLemmas
 pub mod OperationLemmas
+pub mod RefusalLemmas
 pub mod TypingLemmas

@@ -12,6 +12,7 @@ use Rattle.verifier.specs.declared.program.Operation.{Operation}
 use Rattle.verifier.specs.declared.program.Operation.TheVariants.{LoadInt32, Add, WriteInt32, Return}
 use Rattle.verifier.specs.Printing.{write_int32, is_write_int32}
 use Rattle.verifier.specs.Resolved.{instruction_of, binary_operation, call_operation, operation_of, operations_of}
+use Rattle.verifier.proofs.Cases.{nothing}
 
 -- references with the same parts
 same_reference : (r s : MethodReference) → r.owner ≡ s.owner → r.name ≡ s.name → r.signature ≡ s.signature → r ≡ s
@@ -38,17 +39,11 @@ called r op e = by_test (is_write_int32 r) (write_int32_alone r) e
       where
         this : Some WriteInt32 ≡ Some op → WriteInt32 ≡ op
         this h' = cc
-    by_test false same h = absurd (lost h)
-      where
-        lost : None ≡ Some op → ⊥
-        lost h' = cc
+    by_test false same h = nothing h
 
 -- no operation
 none_runs : {A : Type 0} (op : Operation) → None ≡ Some op → A
-none_runs {A} op e = absurd (lost e)
-  where
-    lost : None ≡ Some op → ⊥
-    lost h = cc
+none_runs {A} op e = nothing e
 
 -- the sum
 summed : (operator : BinaryOperation) (op : Operation) → binary_operation operator ≡ Some op → Binary operator ≡ instruction_of op
@@ -118,11 +113,11 @@ stands_for (NewObject a b) op e = none_runs op e
 stands_for (CallVirtual a b c) op e = none_runs op e
 
 -- what an operation stands for has that operation
-pub operation_of-instruction_of : (op : Operation) → operation_of (instruction_of op) ≡ Some op
-operation_of-instruction_of (LoadInt32 value) = refl
-operation_of-instruction_of Add = refl
-operation_of-instruction_of WriteInt32 = refl
-operation_of-instruction_of Return = refl
+pub operation_found : (op : Operation) → operation_of (instruction_of op) ≡ Some op
+operation_found (LoadInt32 value) = refl
+operation_found Add = refl
+operation_found WriteInt32 = refl
+operation_found Return = refl
 
 -- so it is for whole lists
 pub all_stand : (lines : List Line) (ops : List Operation) → operations_of lines ≡ map Some ops → map (λ (l : Line). l.instruction) lines ≡ map instruction_of ops

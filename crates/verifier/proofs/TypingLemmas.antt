@@ -27,9 +27,10 @@ use Rattle.verifier.specs.StraightLine.{is_typed, is_returned}
 use Rattle.verifier.proofs.BodyLemmas.{all_present, natural_is, typed_at}
 use Rattle.verifier.proofs.EntryLemmas.{body_at}
 use Rattle.verifier.proofs.OperationLemmas.{all_stand}
+use Rattle.verifier.proofs.Cases.{lost, nothing, found}
 
 -- so many 32-bit integers
-abbrev i4s : ℕ → List StackType
+abbrev pub i4s : ℕ → List StackType
 i4s zero = []
 i4s (suc n) = i4 ∷ i4s n
 
@@ -48,22 +49,7 @@ typing_from n (Return ∷ ops) = Some (i4s n) ∷ unreached ops
 
 -- ---- lists
 
-lost : {A : Type 0} → false ≡ true → A
-lost {A} e = absurd (apart e)
-  where
-    apart : false ≡ true → ⊥
-    apart h = cc
-
-nothing : {X A : Type 0} {x : X} → None ≡ Some x → A
-nothing {X} {A} {x} e = absurd (apart e)
-  where
-    apart : None ≡ Some x → ⊥
-    apart h = cc
-
-found : {X : Type 0} {x y : X} → Some x ≡ Some y → x ≡ y
-found e = cc
-
-length-i4s : (n : ℕ) → length (i4s n) ≡ n
+pub length-i4s : (n : ℕ) → length (i4s n) ≡ n
 length-i4s zero = refl
 length-i4s (suc n) = ap suc (length-i4s n)
 

@@ -1,6 +1,7 @@
 //! From the tree of a source to code that is known to run: names and legality, layout, typing.
 #![tactic(auto)]
 
+pub mod laws;
 mod layout;
 mod legality;
 mod program;
@@ -12,3 +13,6 @@ pub use legality::resolve;
 pub use program::{Body, Operation, Program, Returned};
 pub use straight_line::TypedBody;
 pub use typing::{Verified, VerifyError, verify};
+
+#[cfg(test)]
+mod tests;
