@@ -305,8 +305,8 @@ module _ (plan : PlanView) where
 
   -- the stage, as a seat polls it
   pub polls : (slots id : ℕ) (q : WriterView)
-      → Allows (KeepsFlip plan) slots id (OfWriter q, []) (m + m + n) (λ x. x) (λ x (me : Holder). (me ≡ (OfWriter (record q { polled = x }), [])) × IsPostedOrOneLess q.taken_up x × (q.polled ≤ x))
-  polls slots id q s r _ at _ = let w : IsWriterView s.words plan id q = r.known id (OfWriter q) at in let x : ℕ = stage s.words in let c = r.paced q.index w.in_range in let q' : WriterView = record q { polled = x } in (
+      → Allows (KeepsFlip plan) slots id (OfWriter q, []) (m + m + n) (λ x. x) (λ x (me : Holder). (me ≡ (OfWriter (record q { polled = x }), [])) × IsPostedOrOneLess q.taken_up x × (q.polled ≤ x) × (x ≤ 2))
+  polls slots id q s r _ at _ = let w : IsWriterView s.words plan id q = r.known id (OfWriter q) at in let o : IsCopierView s.words plan (length s.views) 0 r.copier = r.known 0 (OfCopier r.copier) r.copier_is in let x : ℕ = stage s.words in let c = r.paced q.index w.in_range in let q' : WriterView = record q { polled = x } in (
     OfWriter q',
     keeps,
     tt,
@@ -324,7 +324,7 @@ module _ (plan : PlanView) where
         }
         (λ j v _ k. k) (λ k _ t. t)
         (λ k _ _ t. record { first_is = t.first_is; same = t.same; checked = t.checked; wrote_first = t.wrote_first; wrote_second = t.wrote_second; wrote_value = t.wrote_value }) (λ k a _ _ t. t)),
-    (refl, (omega (arith, c.0, w.taken_up_is), omega (arith, c.1, w.taken_up_is)), w.polled_stage),
+    (refl, (omega (arith, c.0, w.taken_up_is), omega (arith, c.1, w.taken_up_is)), w.polled_stage, omega (arith, o.stage_is, o.last)),
   )
 
   -- a store of `forward y` to the second copy of an own slot, after which slot i says y and nothing is pending
@@ -510,9 +510,9 @@ module _ (plan : PlanView) where
 
   -- An equal second load: while the owner has stored nothing else, what it wrote is what was stored as the copy.
   pub loads_to_check : (slots id i : ℕ) (p : CopierView) → i < m → p.stage ≡ 0 → p.copying ≡ Some i → p.stored ≡ true
-      → Allows (KeepsFlip plan) slots id (OfCopier p, []) i (λ x. x) (λ x (me : Holder). (x ≡ p.value → me ≡ (OfCopier (record p { copying = None; copied = set p.copied i true }), [])) × (x ≢ p.value → me ≡ (OfCopier (record p { copying = None }), [])))
+      → Allows (KeepsFlip plan) slots id (OfCopier p, []) i (λ x. x) (λ x (me : Holder). (x ≡ p.value → me ≡ (OfCopier (record p { copying = None; checked = x; copied = set p.copied i true }), [])) × (x ≢ p.value → me ≡ (OfCopier (record p { copying = None; checked = x }), [])))
   loads_to_check slots id i p l zero_is busy done s r _ at _ = let o : IsCopierView s.words plan (length s.views) id p = r.known id (OfCopier p) at in let x : ℕ = first s.words i in dite (ℕ_discrete x p.value)
-      (λ found. let p' : CopierView = record p { copying = None; copied = set p.copied i true } in (
+      (λ found. let p' : CopierView = record p { copying = None; checked = x; copied = set p.copied i true } in (
         OfCopier p',
         keeps,
         tt,
@@ -544,7 +544,7 @@ module _ (plan : PlanView) where
             }),
         ((λ _. refl), λ ne. absurd (ne found)),
       ))
-      (λ lost. let p' : CopierView = record p { copying = None } in (
+      (λ lost. let p' : CopierView = record p { copying = None; checked = x } in (
         OfCopier p',
         keeps,
         tt,

@@ -104,6 +104,7 @@ dealt_copier plan dealt = record {
   found = replicate plan.seats 0;
   copying = None;
   value = 0;
+  checked = 0;
   stored = false;
   copied = replicate (length plan.owners) false;
   retired = replicate (length plan.owners) false;

@@ -25,7 +25,7 @@ writer_part (OfCopier p) = record { plan = no_plan; index = 0; taken_up = 0; pol
 
 -- what the copier knows (of a writer's view nothing is asked)
 abbrev pub copier_part : View → CopierView
-copier_part (OfWriter q) = record { plan = no_plan; stage = 0; dealt = 0; found = []; copying = None; value = 0; stored = false; copied = []; retired = [] }
+copier_part (OfWriter q) = record { plan = no_plan; stage = 0; dealt = 0; found = []; copying = None; value = 0; checked = 0; stored = false; copied = []; retired = [] }
 copier_part (OfCopier p) = p
 
 -- the copier's view once it gave out the next writer, and that writer's view
@@ -65,7 +65,7 @@ StoresAlone step before y after = let q = writer_part before.0 in (k x : ℕ) �
 -- A load of the stage by a seat.
 abbrev pub PollsStage : WordStep → Holder → ℕ → Holder → Type 0
 PollsStage step before x after = let q = writer_part before.0 in
-    (after ≡ (OfWriter (record q { polled = x }), [])) × IsPostedOrOneLess q.taken_up x × (q.polled ≤ x)
+    (after ≡ (OfWriter (record q { polled = x }), [])) × IsPostedOrOneLess q.taken_up x × (q.polled ≤ x) × (x ≤ 2)
 
 -- A store of the stage that a seat takes up.
 abbrev pub TakesUp : WordStep → Holder → ℕ → Holder → Type 0
@@ -84,8 +84,8 @@ StoresCopy step before y after = let p = copier_part before.0 in (k : ℕ) → p
 -- The copier's second load of a first copy. The slot counts as copied where the value is the same.
 abbrev pub LoadsToCheck : WordStep → Holder → ℕ → Holder → Type 0
 LoadsToCheck step before x after = let p = copier_part before.0 in
-    (x ≡ p.value → after ≡ (OfCopier (record p { copying = None; copied = slice_set p.copied step.word true }), []))
-    × (x ≢ p.value → after ≡ (OfCopier (record p { copying = None }), []))
+    (x ≡ p.value → after ≡ (OfCopier (record p { copying = None; checked = x; copied = slice_set p.copied step.word true }), []))
+    × (x ≢ p.value → after ≡ (OfCopier (record p { copying = None; checked = x }), []))
 
 -- The copier's load of the stage that a seat has taken up.
 abbrev pub FindsStage : WordStep → Holder → ℕ → Holder → Type 0

@@ -74,6 +74,15 @@ impl Model for Writer {
         × (knows.index < knows.plan.seats) };
 }
 
+impl Writer {
+    /// The stage that the seat has taken up: 0, 1 or 2.
+    pub fn taken_up(&self) -> u64
+        ensures { result ≡ self.now.knows.taken_up }
+    {
+        self.taken_up
+    }
+}
+
 /// The right to copy, to move to the next stage and to retire.
 #[derive(Drop)]
 pub struct Copier {
@@ -94,6 +103,15 @@ impl Model for Copier {
     ghost invariant = { λ c. let knows = copier_part c.token.me.0 in
         (c.token.me ≡ (OfCopier knows, []))
         × (c.stage ≡ knows.stage) };
+}
+
+impl Copier {
+    /// The stage: 0, 1 or 2.
+    pub fn stage(&self) -> u64
+        ensures { result ≡ self.now.knows.stage }
+    {
+        self.stage
+    }
 }
 
 /// The words of this plan, all 0, and the copier's token.
@@ -165,6 +183,13 @@ impl FlipTable {
         Ok((table, copier_of(token, &plan), writers))
     }
 
+    /// How many seats there are.
+    pub fn seats(&self) -> usize
+        ensures { result ≡ self.now.plan.seats }
+    {
+        self.seats
+    }
+
     /// Loads the first copy of a slot, at stage 0: a value below the limit, and in a slot of the writer's own what it
     /// last wrote.
     pub fn load_first(&self, mut writer: Writer, slot: usize) -> (u64, Writer)
@@ -178,20 +203,20 @@ impl FlipTable {
         (value, writer)
     }
 
-    /// Loads the second copy of a slot, from stage 1 on: the forward of a value below the limit, and in a slot of the
-    /// writer's own that of what it last wrote.
+    /// Loads the second copy of a slot, from stage 1 on, and answers the value whose forward stands there: a value below
+    /// the limit, and in a slot of the writer's own what it last wrote.
     pub fn load_second(&self, mut writer: Writer, slot: usize) -> (u64, Writer)
         requires table { IsWriterOf self.now writer × (slot < length self.now.plan.owners) }
         requires stage { (0 < writer.knows.taken_up) × (writer.knows.pending ≡ None) }
         ensures writer { result.1 ≡ writer }
-        ensures small { (x : ℕ) × (x < self.now.plan.limit) × (result.0 ≡ forward x) }
-        ensures own { slice_index self.now.plan.owners slot ≡ writer.knows.index → result.0 ≡ forward (slice_index writer.knows.written slot) }
+        ensures small { result.0 < self.now.plan.limit }
+        ensures own { slice_index self.now.plan.owners slot ≡ writer.knows.index → result.0 ≡ slice_index writer.knows.written slot }
     {
-        let value = self
+        let word = self
             .words
             .shared
             .load::<LoadSecond>(&mut writer.token, self.slots + slot);
-        (value, writer)
+        (word / FORWARD, writer)
     }
 
     /// Stores to the first copy of a slot of the writer's own, at stages 0 and 1. The second copy is still to be stored.
@@ -242,6 +267,7 @@ impl FlipTable {
         ensures writer { result.1 ≡ record writer { knows = record writer.knows { polled = result.0 } } }
         ensures paced { IsPostedOrOneLess writer.knows.taken_up result.0 }
         ensures rises { writer.knows.polled ≤ result.0 }
+        ensures last { result.0 ≤ 2 }
     {
         let word = self.slots + self.slots + self.seats;
         writer.polled = self.words.shared.load::<PollStage>(&mut writer.token, word);
@@ -293,8 +319,8 @@ impl FlipTable {
     pub fn load_to_check(&self, mut copier: Copier, slot: usize) -> (u64, Copier)
         requires table { IsCopierOf self.now copier × (slot < length self.now.plan.owners) }
         requires stage { (copier.knows.stage ≡ 0) × (copier.knows.copying ≡ Some slot) × (copier.knows.stored ≡ true) }
-        ensures same { result.0 ≡ copier.knows.value → result.1 ≡ record copier { knows = record copier.knows { copying = None; copied = slice_set copier.knows.copied slot true } } }
-        ensures changed { result.0 ≢ copier.knows.value → result.1 ≡ record copier { knows = record copier.knows { copying = None } } }
+        ensures same { result.0 ≡ copier.knows.value → result.1 ≡ record copier { knows = record copier.knows { copying = None; checked = result.0; copied = slice_set copier.knows.copied slot true } } }
+        ensures changed { result.0 ≢ copier.knows.value → result.1 ≡ record copier { knows = record copier.knows { copying = None; checked = result.0 } } }
     {
         let value = self
             .words

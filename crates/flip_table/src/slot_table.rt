@@ -54,6 +54,8 @@ pub struct CopierView {
     pub copying: Option<u64>,
     /// The value that it loaded for this.
     pub value: u64,
+    /// The value that it last loaded to check a copy.
+    pub checked: u64,
     /// Whether that value is stored in the second copy.
     pub stored: bool,
     /// Of each slot, whether it was copied.
