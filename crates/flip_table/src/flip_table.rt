@@ -75,6 +75,13 @@ impl Model for Writer {
 }
 
 impl Writer {
+    /// Which seat this is, counted from 0.
+    pub fn index(&self) -> usize
+        ensures { result ≡ self.now.knows.index }
+    {
+        self.index
+    }
+
     /// The stage that the seat has taken up: 0, 1 or 2.
     pub fn taken_up(&self) -> u64
         ensures { result ≡ self.now.knows.taken_up }

@@ -96,6 +96,15 @@ impl Model for Writer {
         × (length w.token.knows.written ≡ length w.token.knows.plan.owners) };
 }
 
+impl Writer {
+    /// Which seat this is, counted from 0.
+    pub fn seat(&self) -> usize
+        ensures { result ≡ self.now.seat }
+    {
+        self.token.index()
+    }
+}
+
 /// The right to copy, to move to the next stage and to retire.
 #[derive(Drop)]
 pub struct Copier {
