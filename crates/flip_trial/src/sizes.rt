@@ -1,9 +1,9 @@
 //! The sizes of a trial.
 
-ghost use Rattle.std.specs.Prelude.{◌≡◌, ◌↔◌, ◌+◌, ◌*◌, ◌<◌, ◌≤◌, IsSome, IfSome};
+ghost use Rattle.std.specs.Prelude.{◌≡◌, ◌+◌, ◌*◌, ◌<◌, ◌≤◌};
 
 /// The sizes of a trial.
-#[derive(Clone, Copy)]
+#[derive(Clone, Copy, Debug, PartialEq, Eq)]
 pub struct Sizes {
     /// How many seats there are: 1 to 16.
     pub seats: u8,
@@ -29,23 +29,20 @@ pub(crate) struct Slot {
 impl Sizes {
     ghost use Rattle.flip_trial.specs.Trial.{place_count};
 
-    /// These sizes, where each is in its range.
-    pub fn new(seats: u8, objects: u16, slots: u8, rounds: u16) -> Option<Sizes>
-        ensures some { IsSome result ↔ ((0 < seats) × (seats ≤ 16) × (0 < objects) × (objects ≤ 256) × (0 < slots) × (slots ≤ 16) × (rounds ≤ 10000)) }
-        ensures sizes { IfSome result (λ sizes. (sizes.seats ≡ seats) × (sizes.objects ≡ objects) × (sizes.slots ≡ slots) × (sizes.rounds ≡ rounds)) }
+    /// These sizes, each of which has to be in its range.
+    pub fn new(seats: u8, objects: u16, slots: u8, rounds: u16) -> Sizes
+        requires seats { (0 < seats) × (seats ≤ 16) }
+        requires objects { (0 < objects) × (objects ≤ 256) }
+        requires slots { (0 < slots) × (slots ≤ 16) }
+        requires rounds { rounds ≤ 10000 }
+        ensures { (result.seats ≡ seats) × (result.objects ≡ objects) × (result.slots ≡ slots) × (result.rounds ≡ rounds) }
     {
-        if seats == 0 || objects == 0 || slots == 0 {
-            return None;
-        }
-        if seats > 16 || objects > 256 || slots > 16 || rounds > 10_000 {
-            return None;
-        }
-        Some(Sizes {
+        Sizes {
             seats,
             objects,
             slots,
             rounds,
-        })
+        }
     }
 
     /// How many slots all objects have together.

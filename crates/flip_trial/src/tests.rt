@@ -1,11 +1,11 @@
-ghost use Rattle.std.specs.Prelude.{◌≡◌, IfOk, IfSome};
+ghost use Rattle.std.specs.Prelude.{◌≡◌, IfOk};
 
 use crate::{Outcome, Sizes, run};
 use std::test::Fail;
 
 #[test]
 fn one_seat_keeps_what_it_stores(rt: HostRuntime) -> Result<(), Fail> {
-    let sizes = Sizes::new(1, 2, 3, 4).expect(&rt, "sizes in range");
+    let sizes = Sizes::new(1, 2, 3, 4);
     let outcome = run(&rt, rt.alloc(), sizes).expect(&rt, "memory");
     assert_eq!(rt;
         outcome,
@@ -20,7 +20,7 @@ fn one_seat_keeps_what_it_stores(rt: HostRuntime) -> Result<(), Fail> {
 
 #[test]
 fn four_seats_keep_what_they_store_while_slots_are_copied(rt: HostRuntime) -> Result<(), Fail> {
-    let sizes = Sizes::new(4, 8, 4, 100).expect(&rt, "sizes in range");
+    let sizes = Sizes::new(4, 8, 4, 100);
     let outcome = run(&rt, rt.alloc(), sizes).expect(&rt, "memory");
     assert_eq!(rt;
         outcome,
@@ -35,7 +35,7 @@ fn four_seats_keep_what_they_store_while_slots_are_copied(rt: HostRuntime) -> Re
 
 #[test]
 fn two_seats_store_to_one_object_to_the_end(rt: HostRuntime) -> Result<(), Fail> {
-    let sizes = Sizes::new(2, 1, 2, 10_000).expect(&rt, "sizes in range");
+    let sizes = Sizes::new(2, 1, 2, 10_000);
     let outcome = run(&rt, rt.alloc(), sizes).expect(&rt, "memory");
     assert_eq!(rt;
         outcome,
@@ -45,16 +45,5 @@ fn two_seats_store_to_one_object_to_the_end(rt: HostRuntime) -> Result<(), Fail>
             finished: true
         }
     );
-    Ok(())
-}
-
-#[test]
-fn sizes_out_of_range_are_refused(rt: HostRuntime) -> Result<(), Fail> {
-    assert!(rt; Sizes::new(0, 1, 1, 1).is_none());
-    assert!(rt; Sizes::new(17, 1, 1, 1).is_none());
-    assert!(rt; Sizes::new(1, 257, 1, 1).is_none());
-    assert!(rt; Sizes::new(1, 1, 17, 1).is_none());
-    assert!(rt; Sizes::new(1, 1, 1, 10_001).is_none());
-    assert!(rt; Sizes::new(16, 256, 16, 0).is_some());
     Ok(())
 }
