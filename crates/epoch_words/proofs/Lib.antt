@@ -1,1 +1,2 @@
 pub mod StepsKeep
+pub mod Views

@@ -1,12 +1,11 @@
 -- Each kind of step, and the giving out of a seat, keeps the rule of the shared words.
-use Rattle.std.proofs.Common.{◌≡◌, ◌≢◌, ℕ, zero, suc, ◌+◌, ◌<◌, ◌≤◌, ◌⊎◌, List, [], ◌∷◌, ◌++◌, length, get_or, set, sym, refl, ap, ◌∙◌, subst, ⊎_elim, inl, inr, arith, length-set, length-append, get_or-set_other, get_or-set_same}
+use Rattle.std.proofs.Common.{◌≡◌, ◌≢◌, ℕ, ◌+◌, ◌<◌, ◌≤◌, List, [], ◌∷◌, ◌++◌, length, get_or, set, sym, refl, ap, ◌∙◌, subst, arith, length-set, length-append, get_or-set_other, get_or-set_same}
 use mathlib.Core.Logic.{dite}
-use mathlib.Core.Option.{Option, none, some, some-injective, some-ne-none}
+use mathlib.Core.Option.{Option, none}
 use native.Mathlib.Decide.{ℕ_discrete}
-use lib.ListN.{get_elem?}
 use lib.Seq.{set-get_or}
 use Rattle.atomic_table.specs.Table.{State, step, keeps, Allows, Splits}
-use Rattle.atomic_table.proofs.Lists.{at_set}
+use Rattle.epoch_words.proofs.Views.{at_inside, changed, longer}
 use Rattle.epoch_words.specs.Rule.{seat_view, herald_view, IsPaced, IsSeatView, IsHeraldView, Knows, KeepsEpochs}
 use Rattle.epoch_words.specs.Steps.{Holder, dealing_herald, dealt_seat, LoadsPosted, StoresSeen, LoadsSeen, StoresPosted}
 use Rattle.epoch_words.specs.Tokens.{FoundAll, IsPostedOrOneLess}
@@ -28,9 +27,7 @@ stepped_keeps : (workers : ℕ) (s : Table) → KeepsEpochs workers s → (after
 stepped_keeps workers s rule after homes mover w same_length paced mine others = record {
   words_are = same_length ∙ rule.words_are;
   paced = paced;
-  known = λ j v e. subst (λ k. Knows after workers k j v) (sym (length-set s.views mover w)) (⊎_elim
-      (λ (t : (j ≡ mover) × (w ≡ v)). subst (λ (z : ℕ × View). Knows after workers (length s.views) z.0 z.1) (λ i. (sym t.0 i, t.1 i)) mine)
-      (λ (t : (j ≢ mover) × (get_elem? s.views j ≡ some v)). others j v t.0 (rule.known j v t.1)) (at_set s.views mover j w v e));
+  known = λ j v e. subst (λ k. Knows after workers k j v) (sym (length-set s.views mover w)) (changed (Knows after workers (length s.views)) s.views mover w mine (λ a b ne h. others a b ne (rule.known a b h)) j v e);
 }
 
 -- a load of word i
@@ -58,11 +55,6 @@ pub loads_posted : (key workers slots id : ℕ) (me : Holder) (index seen polled
     → Allows (KeepsEpochs key) slots id me workers (λ n. n) (LoadsPosted (step slots workers 0 0 none) me)
 loads_posted key workers slots id me index seen polled key_is me_is = subst (λ (z : ℕ × Holder). Allows (KeepsEpochs z.0) slots id z.1 workers (λ n. n) (LoadsPosted (step slots workers 0 0 none) z.1)) (λ i. (sym key_is i, sym me_is i))
     (loads_posted_at workers slots id (record { index = index; seen = seen; polled = polled }))
-
-at_inside : {A : Type 0} (l : List A) (i : ℕ) (a : A) → get_elem? l i ≡ some a → i < length l
-at_inside [] i a e = absurd (some-ne-none a (sym e))
-at_inside (x ∷ xs) zero a e = omega arith
-at_inside (x ∷ xs) (suc i) a e = let h = at_inside xs i a e in omega arith
 
 -- a store of x to the word of seat i
 module _ (workers : ℕ) (ws : List ℕ) (i x : ℕ) (in_range : i < workers) where
@@ -191,12 +183,6 @@ stores_posted key workers slots id me posted dealt found key_is me_is all =
     subst (λ (z : ℕ × Holder). Allows (KeepsEpochs z.0) slots id z.1 workers (λ _. posted + 1) (λ _. StoresPosted (step slots workers (posted + 1) 0 none) z.1 (posted + 1))) (λ i. (sym key_is i, sym me_is i))
     (stores_posted_at workers slots id (record { posted = posted; dealt = dealt; found = found }) all)
 
-at_end : {A : Type 0} (l : List A) (a b : A) (j : ℕ) → get_elem? (l ++ a ∷ []) j ≡ some b → (get_elem? l j ≡ some b) ⊎ ((j ≡ length l) × (a ≡ b))
-at_end [] a b zero e = inr (refl, some-injective a b e)
-at_end [] a b (suc j) e = absurd (some-ne-none b (sym e))
-at_end (x ∷ xs) a b zero e = inl e
-at_end (x ∷ xs) a b (suc j) e = ⊎_elim (λ t. inl t) (λ t. inr (ap suc t.0, t.1)) (at_end xs a b j e)
-
 -- what others know, once there is one place more
 joined_others : (workers : ℕ) (ws : List ℕ) (places more j : ℕ) (v : View) → j ≢ 0 → Knows ws workers places j v → Knows ws workers more j v
 joined_others workers ws places more j (OfSeat seat) ne k = k
@@ -208,24 +194,24 @@ deals_at workers id herald room s rule at = let k : IsHeraldView s.words workers
     let more : length (set s.views id left ++ right ∷ []) ≡ places = length-append (set s.views id left) (right ∷ []) ∙ ap (λ (x : ℕ). x + 1) len in record {
       words_are = rule.words_are;
       paced = rule.paced;
-      known = λ j v e. subst (λ (x : ℕ). Knows s.words workers x j v) (sym more) (⊎_elim
-          (λ (old : get_elem? (set s.views id left) j ≡ some v). ⊎_elim
-          (λ (t : (j ≡ id) × (left ≡ v)). subst (λ (z : ℕ × View). Knows s.words workers places z.0 z.1) (λ i. (sym t.0 i, t.1 i)) record {
+      known = λ j v e. subst (λ (x : ℕ). Knows s.words workers x j v) (sym more) (longer (Knows s.words workers places) (set s.views id left) right
+          record {
+            place_is = len ∙ k.places_are;
+            in_range = omega (arith, k.found_each);
+            seen_is = k.undealt_is herald.dealt (omega arith) (omega (arith, k.found_each));
+            seen_polled = omega arith;
+            polled_posted = omega arith;
+          }
+          (changed (Knows s.words workers places) s.views id left
+          record {
             place_is = k.place_is;
             places_are = ap (λ (x : ℕ). x + 1) k.places_are;
             found_each = k.found_each;
             posted_is = k.posted_is;
             found_since = k.found_since;
             undealt_is = λ i l h. k.undealt_is i (omega arith) h;
-          })
-          (λ (t : (j ≢ id) × (get_elem? s.views j ≡ some v)). joined_others workers s.words (length s.views) places j v (λ e. t.0 (e ∙ sym k.place_is)) (rule.known j v t.1)) (at_set s.views id j left v old))
-          (λ (t : (j ≡ length (set s.views id left)) × (right ≡ v)). subst (λ (z : ℕ × View). Knows s.words workers places z.0 z.1) (λ i. (sym t.0 i, t.1 i)) record {
-            place_is = len ∙ k.places_are;
-            in_range = omega (arith, k.found_each);
-            seen_is = k.undealt_is herald.dealt (omega arith) (omega (arith, k.found_each));
-            seen_polled = omega arith;
-            polled_posted = omega arith;
-          }) (at_end (set s.views id left) right v j e));
+          }
+          (λ a b ne h. joined_others workers s.words (length s.views) places a b (λ e. ne (e ∙ sym k.place_is)) (rule.known a b h))) j v e);
     }
 
 pub deals : (key id : ℕ) (me : Holder) (posted dealt : ℕ) (found : List ℕ) → me ≡ (herald_view posted dealt found, []) → dealt < length found → Splits (KeepsEpochs key) id me.0 (dealing_herald me.0) (dealt_seat me.0)

@@ -1,5 +1,5 @@
 -- The rule holds at the making, and the giving out of a writer keeps it.
-use Rattle.std.proofs.Common.{◌≡◌, ◌≢◌, ◌⊎◌, ℕ, zero, suc, ◌+◌, ◌<◌, List, [], ◌∷◌, ◌++◌, length, get_or, set, replicate, sym, refl, ap, ◌∙◌, subst, ⊎_elim, inl, inr, arith, length-set, length-append}
+use Rattle.std.proofs.Common.{Bool, true, false, ◌≡◌, ◌≢◌, ℕ, zero, suc, ◌+◌, ◌<◌, List, [], ◌∷◌, ◌++◌, length, get_or, set, replicate, sym, refl, ap, ◌∙◌, subst, ⊎_elim, inl, inr, arith, length-set, length-append}
 use Rattle.std.proofs.lemmas.List.{length-replicate}
 use mathlib.Core.Option.{some, some-injective, some-ne-none}
 use lib.ListN.{get_elem?}
@@ -12,21 +12,17 @@ use Rattle.flip_table.specs.declared.slot_table.View.TheVariants.{OfWriter, OfCo
 use Rattle.flip_table.specs.declared.slot_table.WriterView.{WriterView}
 use Rattle.flip_table.specs.Rule.{forward, dealt_copier, opening_writer, opening_view, IsCopierView, Knows, KeepsFlip}
 use Rattle.flip_table.specs.Steps.{Holder, dealing_copier, dealt_writer, writer_part}
-use Rattle.flip_table.proofs.StepsKeep.{Slot, Twin, copier_of, owner, at_inside}
+use Rattle.epoch_words.proofs.Views.{at_inside, at_end, changed, longer}
+use Rattle.flip_table.proofs.StepsKeep.{Slot, Twin, copier_of, owner}
 
 abbrev Table : Type 0
 Table = State (Unit {0}) View
 
-zeros : (count i : ℕ) → get_or (replicate {A = ℕ} count 0) i 0 ≡ 0
-zeros zero i = refl
-zeros (suc count) zero = refl
-zeros (suc count) (suc i) = zeros count i
-
-at_end : {A : Type 0} (l : List A) (a b : A) (j : ℕ) → get_elem? (l ++ a ∷ []) j ≡ some b → (get_elem? l j ≡ some b) ⊎ ((j ≡ length l) × (a ≡ b))
-at_end [] a b zero e = inr (refl, some-injective a b e)
-at_end [] a b (suc j) e = absurd (some-ne-none b (sym e))
-at_end (x ∷ xs) a b zero e = inl e
-at_end (x ∷ xs) a b (suc j) e = ⊎_elim (λ t. inl t) (λ t. inr (ap suc t.0, t.1)) (at_end xs a b j e)
+-- every element of such a list is its filling
+blank : {A : Type 0} (count i : ℕ) (a : A) → get_or (replicate count a) i a ≡ a
+blank zero i a = refl
+blank (suc count) zero a = refl
+blank (suc count) (suc i) a = blank count i a
 
 -- what others know, once there is one place more
 joined_others : (plan : PlanView) (ws : List ℕ) (places more j : ℕ) (v : View) → j ≢ 0 → Knows ws plan places j v → Knows ws plan more j v
@@ -38,14 +34,25 @@ deals_at plan id p of room s r at = let k : IsCopierView s.words plan (length s.
     let q' : WriterView = opening_writer p.plan p.dealt in let right : View = OfWriter q' in let places : ℕ = length s.views + 1 in let is = copier_of plan s r id p at in
     let len : length (set s.views id left) ≡ length s.views = length-set s.views id left in
     let wide : length p.plan.owners ≡ length plan.owners = ap (λ (z : PlanView). length z.owners) of in
-    let written : (i : ℕ) → get_or q'.written i 0 ≡ 0 = λ i. zeros (length p.plan.owners) i in
+    let written : (i : ℕ) → get_or q'.written i 0 ≡ 0 = λ i. blank (length p.plan.owners) i 0 in
     let more : length (set s.views id left ++ right ∷ []) ≡ places = length-append (set s.views id left) (right ∷ []) ∙ ap (λ (x : ℕ). x + 1) len in record {
       words_are = r.words_are;
       owned = r.owned;
       paced = r.paced;
-      known = λ j v e. subst (λ (x : ℕ). Knows s.words plan x j v) (sym more) (⊎_elim
-          (λ (old : get_elem? (set s.views id left) j ≡ some v). ⊎_elim
-          (λ (t : (j ≡ id) × (left ≡ v)). subst (λ (z : ℕ × View). Knows s.words plan places z.0 z.1) (λ i. (sym t.0 i, t.1 i)) record {
+      known = λ j v e. subst (λ (x : ℕ). Knows s.words plan x j v) (sym more) (longer (Knows s.words plan places) (set s.views id left) right
+          record {
+            plan_is = of;
+            place_is = len ∙ k.places_are;
+            in_range = room;
+            taken_up_is = k.undealt_is p.dealt (omega arith) room;
+            taken_up_polled = omega arith;
+            polled_stage = omega arith;
+            written_each = length-replicate {A = ℕ} (length p.plan.owners) 0 ∙ wide;
+            wrote_written = λ i _. inl (written i);
+            settled = λ _. refl;
+          }
+          (changed (Knows s.words plan places) s.views id left
+          record {
             plan_is = k.plan_is;
             place_is = k.place_is;
             places_are = ap (λ (x : ℕ). x + 1) k.places_are;
@@ -58,19 +65,8 @@ deals_at plan id p of room s r at = let k : IsCopierView s.words plan (length s.
             retired_each = k.retired_each;
             all_copied = k.all_copied;
             all_found = k.all_found;
-          })
-          (λ (t : (j ≢ id) × (get_elem? s.views j ≡ some v)). joined_others plan s.words (length s.views) places j v (λ e. t.0 (e ∙ sym k.place_is)) (r.known j v t.1)) (at_set s.views id j left v old))
-          (λ (t : (j ≡ length (set s.views id left)) × (right ≡ v)). subst (λ (z : ℕ × View). Knows s.words plan places z.0 z.1) (λ i. (sym t.0 i, t.1 i)) record {
-            plan_is = of;
-            place_is = len ∙ k.places_are;
-            in_range = room;
-            taken_up_is = k.undealt_is p.dealt (omega arith) room;
-            taken_up_polled = omega arith;
-            polled_stage = omega arith;
-            written_each = length-replicate {A = ℕ} (length p.plan.owners) 0 ∙ wide;
-            wrote_written = λ i _. inl (written i);
-            settled = λ _. refl;
-          }) (at_end (set s.views id left) right v j e));
+          }
+          (λ a b ne h. joined_others plan s.words (length s.views) places a b (λ e. ne (e ∙ sym k.place_is)) (r.known a b h))) j v e);
       copier = p';
       copier_is = at_longer (set s.views id left) (right ∷ []) 0 left (ap (λ (x : ℕ). get_elem? (set s.views id left) x) (sym k.place_is) ∙ set_here s.views id left (at_inside s.views id (OfCopier p) at));
       slots = λ i l. let t : Slot plan s.words i p = subst (λ (z : CopierView). Slot plan s.words i z) is (r.slots i l) in record { live = t.live; dead = t.dead; small = t.small; unwritten = λ h. t.unwritten (omega arith) };
@@ -100,8 +96,8 @@ only_one a b (suc j) e = absurd (some-ne-none b (sym e))
 
 pub opens : (plan : PlanView) (words : List ℕ) (count : ℕ) → words ≡ replicate count 0 → count ≡ length plan.owners + length plan.owners + plan.seats + 1 → ((k : ℕ) → k < length plan.owners → get_or plan.owners k 0 < plan.seats) → 0 < plan.limit
     → KeepsFlip plan (opening words [] (opening_view plan))
-opens plan words count is count_is owned room = let null : (i : ℕ) → get_or words i 0 ≡ 0 = λ i. ap (λ (z : List ℕ). get_or z i 0) is ∙ zeros count i in
-    let no_retired : (k : ℕ) → get_or (replicate (length plan.owners) 0) k 0 ≡ 1 → ⊥ = λ k h. omega (arith, h, zeros (length plan.owners) k) in record {
+opens plan words count is count_is owned room = let null : (i : ℕ) → get_or words i 0 ≡ 0 = λ i. ap (λ (z : List ℕ). get_or z i 0) is ∙ blank count i 0 in
+    let no_retired : (k : ℕ) → get_or (replicate (length plan.owners) false) k false ≡ true → ⊥ = λ k h. let unset : get_or (replicate (length plan.owners) false) k false ≡ false = blank (length plan.owners) k false in cc in record {
       words_are = ap length is ∙ (length-replicate {A = ℕ} count 0 ∙ count_is);
       owned = owned;
       paced = λ j _. let a = null (length plan.owners + length plan.owners + j) in let b = null (length plan.owners + length plan.owners + plan.seats) in (omega arith, omega arith);
@@ -112,10 +108,10 @@ opens plan words count is count_is owned room = let null : (i : ℕ) → get_or 
         stage_is = null (length plan.owners + length plan.owners + plan.seats);
         last = omega arith;
         found_each = length-replicate {A = ℕ} plan.seats 0;
-        found_since = λ a _. let h = zeros plan.seats a in omega arith;
+        found_since = λ a _. omega (arith, blank {A = ℕ} plan.seats a 0);
         undealt_is = λ a _ _. null (length plan.owners + length plan.owners + a);
-        copied_each = length-replicate {A = ℕ} (length plan.owners) 0;
-        retired_each = length-replicate {A = ℕ} (length plan.owners) 0;
+        copied_each = length-replicate {A = Bool} (length plan.owners) false;
+        retired_each = length-replicate {A = Bool} (length plan.owners) false;
         all_copied = λ h. absurd (omega arith);
         all_found = λ a h. absurd (no_retired a h);
       };

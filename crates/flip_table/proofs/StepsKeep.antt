@@ -1,8 +1,8 @@
 -- Each kind of step keeps the rule of the shared words.
-use Rattle.std.proofs.Common.{◌≡◌, ◌≢◌, ◌⊎◌, ℕ, zero, suc, ◌+◌, ◌<◌, ◌≤◌, List, [], ◌∷◌, ◌++◌, length, get_or, set, sym, refl, ap, ◌∙◌, subst, ⊎_elim, inl, inr, arith, length-set, get_or-set_other, get_or-set_same}
+use Rattle.std.proofs.Common.{true, false, Some, None, ◌≡◌, ◌≢◌, ◌⊎◌, ℕ, ◌+◌, ◌<◌, ◌≤◌, List, [], ◌∷◌, ◌++◌, length, get_or, set, sym, refl, ap, ◌∙◌, subst, ⊎_elim, inl, inr, arith, length-set, get_or-set_other, get_or-set_same}
 use Rattle.std.proofs.lemmas.List.Elements.{Contains-append_left, Contains-append_right}
 use mathlib.Core.Logic.{dite}
-use mathlib.Core.Option.{Option, some, some-injective, some-ne-none}
+use mathlib.Core.Option.{Option, some, some-injective}
 use native.Mathlib.Decide.{ℕ_discrete}
 use lib.ListN.{get_elem?}
 use lib.Seq.{set-get_or}
@@ -13,7 +13,9 @@ use Rattle.flip_table.specs.declared.slot_table.PlanView.{PlanView}
 use Rattle.flip_table.specs.declared.slot_table.View.{View}
 use Rattle.flip_table.specs.declared.slot_table.View.TheVariants.{OfWriter, OfCopier}
 use Rattle.flip_table.specs.declared.slot_table.WriterView.{WriterView}
-use Rattle.flip_table.specs.Rule.{retired_mark, forward, FoundAll, CopiedAll, SaysWritten, IsAmong, IsSlot, IsTwin, IsWriterView, IsCopierView, Knows, IsStageOrOneLess, KeepsFlip}
+use Rattle.flip_table.specs.Rule.{retired_mark, forward, AllMarked, SaysWritten, IsAmong, IsSlot, IsTwin, IsWriterView, IsCopierView, Knows, KeepsFlip}
+use Rattle.epoch_words.specs.Tokens.{FoundAll, IsPostedOrOneLess}
+use Rattle.epoch_words.proofs.Views.{at_inside, changed}
 use Rattle.flip_table.specs.Steps.{Holder, writer_part, copier_part}
 
 abbrev Table : Type 0
@@ -21,16 +23,6 @@ Table = State (Unit {0}) View
 
 abbrev Homes : Type 0
 Homes = List (Option (Unit {0}))
-
-pub at_inside : {A : Type 0} (l : List A) (i : ℕ) (a : A) → get_elem? l i ≡ some a → i < length l
-at_inside [] i a e = absurd (some-ne-none a (sym e))
-at_inside (x ∷ xs) zero a e = omega arith
-at_inside (x ∷ xs) (suc i) a e = let h = at_inside xs i a e in omega arith
-
--- the views after a step at the place `mover`: its own, or another's
-changed : (P : ℕ → View → Type 0) (vs : List View) (mover : ℕ) (w : View) → P mover w → ((j : ℕ) (v : View) → j ≢ mover → get_elem? vs j ≡ some v → P j v) → (j : ℕ) (v : View) → get_elem? (set vs mover w) j ≡ some v → P j v
-changed P vs mover w mine others j v e = ⊎_elim (λ (t : (j ≡ mover) × (w ≡ v)). subst (λ (z : ℕ × View). P z.0 z.1) (λ i. (sym t.0 i, t.1 i)) mine)
-    (λ (t : (j ≢ mover) × (get_elem? vs j ≡ some v)). others j v t.0 t.1) (at_set vs mover j w v e)
 
 -- what was written stays so, once more is written
 among_more : (wrote : List (ℕ × ℕ)) (p : ℕ × ℕ) (k x : ℕ) → IsAmong wrote k x → IsAmong (wrote ++ p ∷ []) k x
@@ -68,7 +60,7 @@ module _ (plan : PlanView) where
   Slot ws k p = IsSlot plan.limit (first ws k) (second ws k) k (owner k) p
 
   abbrev Paced : List ℕ → Type 0
-  Paced ws = (j : ℕ) → j < n → IsStageOrOneLess (taken ws j) (stage ws)
+  Paced ws = (j : ℕ) → j < n → IsPostedOrOneLess (taken ws j) (stage ws)
 
   -- what every other view knows goes on to hold
   abbrev KeepsOthers : ℕ → List ℕ → List ℕ → ℕ → Type 0
@@ -119,7 +111,7 @@ module _ (plan : PlanView) where
 
   -- a store to a copy of a slot leaves the stages
   paced_apart : (ws : List ℕ) (i x : ℕ) → i < m + m → Paced ws → Paced (set ws i x)
-  paced_apart ws i x l paced j lj = subst (λ (z : ℕ × ℕ). IsStageOrOneLess z.0 z.1) (λ c. (sym (get_or-set_other ws i (m + m + j) x 0 (λ e. omega arith)) c, sym (get_or-set_other ws i (m + m + n) x 0 (λ e. omega arith)) c)) (paced j lj)
+  paced_apart ws i x l paced j lj = subst (λ (z : ℕ × ℕ). IsPostedOrOneLess z.0 z.1) (λ c. (sym (get_or-set_other ws i (m + m + j) x 0 (λ e. omega arith)) c, sym (get_or-set_other ws i (m + m + n) x 0 (λ e. omega arith)) c)) (paced j lj)
 
   knows_apart : (places : ℕ) (ws : List ℕ) (i x : ℕ) → i < m + m → (j : ℕ) (v : View) → Knows ws plan places j v → Knows (set ws i x) plan places j v
   knows_apart places ws i x l j (OfWriter q) k = record {
@@ -149,8 +141,8 @@ module _ (plan : PlanView) where
   }
 
   -- no slot is retired while a seat has not taken up stage 2
-  unretired : (ws : List ℕ) (places j c : ℕ) (q : WriterView) (p : CopierView) → IsWriterView ws plan j q → IsCopierView ws plan places c p → q.taken_up ≤ 1 → (k : ℕ) → get_or p.retired k 0 ≢ 1
-  unretired ws places j c q p w o low k gone = let two : get_or p.found q.index 0 ≡ 2 = o.all_found k gone q.index (omega (arith, o.found_each, w.in_range)) in let least = o.found_since q.index w.in_range in omega (arith, w.taken_up_is)
+  unretired : (ws : List ℕ) (places j c : ℕ) (q : WriterView) (p : CopierView) → IsWriterView ws plan j q → IsCopierView ws plan places c p → q.taken_up ≤ 1 → (k : ℕ) → get_or p.retired k false ≢ true
+  unretired ws places j c q p w o low k gone = let two : get_or p.found q.index 0 ≡ 2 = o.all_found k gone q.index w.in_range in let least = o.found_since q.index w.in_range in omega (arith, w.taken_up_is)
 
   same_state : (s : Table) → KeepsFlip plan s → (i id : ℕ) (v : View) → get_elem? s.views id ≡ some v → KeepsFlip plan record { words = set s.words i (get_or s.words i 0); homes = s.homes; views = set s.views id v }
   same_state s r i id v at = subst (λ (z : List ℕ × List View). KeepsFlip plan record { words = z.0; homes = s.homes; views = z.1 }) (λ c. (sym (set-get_or s.words i 0) c, sym (set_again s.views id v at) c)) r
@@ -175,23 +167,23 @@ module _ (plan : PlanView) where
   )
 
   -- from stage 1 on a load of any slot gives a forward, and of an own slot that of what was written
-  pub loads_second : (slots id i : ℕ) (q : WriterView) → i < m → 0 < q.taken_up → q.pending ≡ 0
+  pub loads_second : (slots id i : ℕ) (q : WriterView) → i < m → 0 < q.taken_up → q.pending ≡ None
       → Allows (KeepsFlip plan) slots id (OfWriter q, []) (m + i) (λ x. x) (λ y (me : Holder). (me ≡ (OfWriter q, [])) × ((x : ℕ) × (x < plan.limit) × (y ≡ forward x)) × (owner i ≡ q.index → y ≡ forward (get_or q.written i 0)))
   loads_second slots id i q l high calm s r _ at _ = let w : IsWriterView s.words plan id q = r.known id (OfWriter q) at in let o : IsCopierView s.words plan (length s.views) 0 r.copier = r.known 0 (OfCopier r.copier) r.copier_is in
-      let done : get_or r.copier.copied i 0 ≡ 1 = o.all_copied (omega (arith, w.taken_up_polled, w.polled_stage, o.stage_is)) i (omega (arith, o.copied_each)) in (
+      let done : get_or r.copier.copied i false ≡ true = o.all_copied (omega (arith, w.taken_up_polled, w.polled_stage, o.stage_is)) i (omega (arith, o.copied_each)) in (
         OfWriter q,
         keeps,
         tt,
         same_state s r (m + i) id (OfWriter q) at,
-        (refl, (r.slots i l).small, λ own. ⊎_elim (λ b. absurd (omega (arith, b, calm))) (λ e. e) ((r.twins i q l (own_place s r id i q at own)).same done)),
+        (refl, (r.slots i l).small, λ own. ⊎_elim (λ b. absurd (cc)) (λ e. e) ((r.twins i q l (own_place s r id i q at own)).same done)),
       )
 
   -- at stages 0 and 1: the first copy of an own slot
-  pub stores_first : (slots id i x : ℕ) (q : WriterView) → i < m → owner i ≡ q.index → q.taken_up ≤ 1 → q.pending ≡ 0 → x < plan.limit
-      → Allows (KeepsFlip plan) slots id (OfWriter q, []) i (λ _. x) (λ _ (me : Holder). me ≡ (OfWriter (record q { written = set q.written i x; wrote = q.wrote ++ (i, x) ∷ []; pending = i + 1 }), []))
+  pub stores_first : (slots id i x : ℕ) (q : WriterView) → i < m → owner i ≡ q.index → q.taken_up ≤ 1 → q.pending ≡ None → x < plan.limit
+      → Allows (KeepsFlip plan) slots id (OfWriter q, []) i (λ _. x) (λ _ (me : Holder). me ≡ (OfWriter (record q { written = set q.written i x; wrote = q.wrote ++ (i, x) ∷ []; pending = Some i }), []))
   stores_first slots id i x q l own low idle small s r _ at _ = let w : IsWriterView s.words plan id q = r.known id (OfWriter q) at in
       let o : IsCopierView s.words plan (length s.views) 0 r.copier = r.known 0 (OfCopier r.copier) r.copier_is in let dealt = dealt_before s r id q at in
-      let ws : List ℕ = set s.words i x in let wide : i < length s.words = omega (arith, r.words_are) in let q' : WriterView = record q { written = set q.written i x; wrote = q.wrote ++ (i, x) ∷ []; pending = i + 1 } in
+      let ws : List ℕ = set s.words i x in let wide : i < length s.words = omega (arith, r.words_are) in let q' : WriterView = record q { written = set q.written i x; wrote = q.wrote ++ (i, x) ∷ []; pending = Some i } in
       let u : IsWriterView ws plan id q = knows_apart (length s.views) s.words i x (omega arith) id (OfWriter q) w in
       let here : (k : ℕ) → k ≡ i → first ws k ≡ x = λ k e. ap (λ (z : ℕ). get_or ws z 0) e ∙ get_or-set_same s.words i x 0 wide in
       let stays : (k : ℕ) → k < m → second ws k ≡ second s.words k = λ k lk. get_or-set_other s.words i (m + k) x 0 (λ e. omega arith) in
@@ -226,15 +218,15 @@ module _ (plan : PlanView) where
             (λ k lk mine t. dite (ℕ_discrete k i)
             (λ e. record {
               first_is = λ _. here k e ∙ sym (wrote k e);
-              same = λ _. inl (ap (λ (z : ℕ). z + 1) (sym e));
-              checked = λ _ _. inr (inl (ap (λ (z : ℕ). z + 1) (sym e)));
+              same = λ _. inl (ap Some (sym e));
+              checked = λ _ _. inr (inl (ap Some (sym e)));
               wrote_first = λ _. subst (λ (z : ℕ). IsAmong q'.wrote k z) (sym (here k e)) (among_last q.wrote k i x e);
               wrote_second = λ y h. more k y (t.wrote_second y (sym (stays k lk) ∙ h));
               wrote_value = λ h. more k r.copier.value (t.wrote_value h);
             })
             (λ ne. let v : Twin ws k q r.copier = apart (λ a b. IsTwin a b k q r.copier) s.words i k x ne (λ e. omega arith) t in
             let kept : get_or q.written k 0 ≡ get_or (set q.written i x) k 0 = sym (get_or-set_other q.written i k x 0 ne) in
-            let again : SaysWritten (second ws k) k q → SaysWritten (second ws k) k q' = ⊎_elim (λ b. absurd (omega (arith, b, idle))) (λ d. inr (d ∙ ap forward kept)) in
+            let again : SaysWritten (second ws k) k q → SaysWritten (second ws k) k q' = ⊎_elim (λ b. absurd (cc)) (λ d. inr (d ∙ ap forward kept)) in
             record {
               first_is = λ h. v.first_is h ∙ kept;
               same = λ c. again (v.same c);
@@ -248,7 +240,7 @@ module _ (plan : PlanView) where
       )
 
   -- the seat takes up what it polled
-  pub takes_up : (slots id : ℕ) (q : WriterView) → q.pending ≡ 0
+  pub takes_up : (slots id : ℕ) (q : WriterView) → q.pending ≡ None
       → Allows (KeepsFlip plan) slots id (OfWriter q, []) (m + m + q.index) (λ _. q.polled) (λ _ (me : Holder). me ≡ (OfWriter (record q { taken_up = q.polled }), []))
   takes_up slots id q idle s r _ at _ = let w : IsWriterView s.words plan id q = r.known id (OfWriter q) at in let i : ℕ = m + m + q.index in let x : ℕ = q.polled in let ws : List ℕ = set s.words i x in let dealt = dealt_before s r id q at in
       let o : IsCopierView s.words plan (length s.views) 0 r.copier = r.known 0 (OfCopier r.copier) r.copier_is in
@@ -313,8 +305,8 @@ module _ (plan : PlanView) where
 
   -- the stage, as a seat polls it
   pub polls : (slots id : ℕ) (q : WriterView)
-      → Allows (KeepsFlip plan) slots id (OfWriter q, []) (m + m + n) (λ x. x) (λ x (me : Holder). (me ≡ (OfWriter (record q { polled = x }), [])) × IsStageOrOneLess q.taken_up x × (q.polled ≤ x))
-  polls slots id q s r _ at _ = let w : IsWriterView s.words plan id q = r.known id (OfWriter q) at in let x : ℕ = stage s.words in let c = r.paced q.index w.in_range in let q' : WriterView = record q { polled = x } in (
+      → Allows (KeepsFlip plan) slots id (OfWriter q, []) (m + m + n) (λ x. x) (λ x (me : Holder). (me ≡ (OfWriter (record q { polled = x }), [])) × IsPostedOrOneLess q.taken_up x × (q.polled ≤ x) × (x ≤ 2))
+  polls slots id q s r _ at _ = let w : IsWriterView s.words plan id q = r.known id (OfWriter q) at in let o : IsCopierView s.words plan (length s.views) 0 r.copier = r.known 0 (OfCopier r.copier) r.copier_is in let x : ℕ = stage s.words in let c = r.paced q.index w.in_range in let q' : WriterView = record q { polled = x } in (
     OfWriter q',
     keeps,
     tt,
@@ -332,17 +324,17 @@ module _ (plan : PlanView) where
         }
         (λ j v _ k. k) (λ k _ t. t)
         (λ k _ _ t. record { first_is = t.first_is; same = t.same; checked = t.checked; wrote_first = t.wrote_first; wrote_second = t.wrote_second; wrote_value = t.wrote_value }) (λ k a _ _ t. t)),
-    (refl, (omega (arith, c.0, w.taken_up_is), omega (arith, c.1, w.taken_up_is)), w.polled_stage),
+    (refl, (omega (arith, c.0, w.taken_up_is), omega (arith, c.1, w.taken_up_is)), w.polled_stage, omega (arith, o.stage_is, o.last)),
   )
 
   -- a store of `forward y` to the second copy of an own slot, after which slot i says y and nothing is pending
   seconds : (s : Table) (r : KeepsFlip plan s) (id i y : ℕ) (q : WriterView) (written' : List ℕ) (wrote' : List (ℕ × ℕ)) → get_elem? s.views id ≡ some (OfWriter q) → i < m → owner i ≡ q.index → y < plan.limit → length written' ≡ length q.written
       → get_or written' i 0 ≡ y → IsAmong wrote' i y → ((k x : ℕ) → IsAmong q.wrote k x → IsAmong wrote' k x) → (1 < q.taken_up ⊎ (written' ≡ q.written))
-      → ((k : ℕ) → k ≢ i → (get_or written' k 0 ≡ get_or q.written k 0) × (q.pending ≢ k + 1))
-      → KeepsFlip plan record { words = set s.words (m + i) (forward y); homes = s.homes; views = set s.views id (OfWriter (record q { written = written'; wrote = wrote'; pending = 0 })) }
+      → ((k : ℕ) → k ≢ i → (get_or written' k 0 ≡ get_or q.written k 0) × (q.pending ≢ Some k))
+      → KeepsFlip plan record { words = set s.words (m + i) (forward y); homes = s.homes; views = set s.views id (OfWriter (record q { written = written'; wrote = wrote'; pending = None })) }
   seconds s r id i y q written' wrote' at l own small len said among more old else = let w : IsWriterView s.words plan id q = r.known id (OfWriter q) at in let dealt = dealt_before s r id q at in
       let x : ℕ = forward y in let j : ℕ = m + i in let ws : List ℕ = set s.words j x in
-      let q' : WriterView = record q { written = written'; wrote = wrote'; pending = 0 } in let u : IsWriterView ws plan id q = knows_apart (length s.views) s.words j x (omega arith) id (OfWriter q) w in
+      let q' : WriterView = record q { written = written'; wrote = wrote'; pending = None } in let u : IsWriterView ws plan id q = knows_apart (length s.views) s.words j x (omega arith) id (OfWriter q) w in
       let here : (k : ℕ) → k ≡ i → second ws k ≡ x = λ k e. ap (λ (z : ℕ). get_or ws (m + z) 0) e ∙ get_or-set_same s.words j x 0 (omega (arith, r.words_are)) in
       let stays : (k : ℕ) → k < m → first ws k ≡ first s.words k = λ k lk. get_or-set_other s.words j k x 0 (λ e. omega arith) in
       writer_steps s r ws s.homes id q q' at (length-set s.words j x) (paced_apart s.words j x (omega arith) r.paced)
@@ -369,7 +361,7 @@ module _ (plan : PlanView) where
       })
       (λ ne. apart (λ a b. IsSlot plan.limit a b k (owner k) r.copier) s.words j k x (λ e. omega arith) (λ e. ne (omega arith)) t))
       (λ k lk mine t. let wrote : q.taken_up ≤ 1 → first s.words k ≡ get_or written' k 0 = λ h. ⊎_elim (λ a. absurd (omega (arith, a, h))) (λ e. t.first_is h ∙ ap (λ (z : List ℕ). get_or z k 0) (sym e)) old in
-      let wrote_first : get_or r.copier.retired k 0 ≢ 1 → IsAmong wrote' k (first ws k) = λ h. subst (λ (z : ℕ). IsAmong wrote' k z) (sym (stays k lk)) (more k (first s.words k) (t.wrote_first h)) in
+      let wrote_first : get_or r.copier.retired k false ≢ true → IsAmong wrote' k (first ws k) = λ h. subst (λ (z : ℕ). IsAmong wrote' k z) (sym (stays k lk)) (more k (first s.words k) (t.wrote_first h)) in
       dite (ℕ_discrete k i)
       (λ e. let is : second ws k ≡ forward (get_or written' k 0) = here k e ∙ ap forward (sym said ∙ ap (λ (z : ℕ). get_or written' z 0) (sym e)) in
       record {
@@ -393,25 +385,25 @@ module _ (plan : PlanView) where
       (λ k a lk other t. apart (λ b c. IsTwin b c k a r.copier) s.words j k x (λ e. omega arith) (λ e. other (ap owner (let same : k ≡ i = omega arith in same) ∙ own)) t)
 
   -- at stages 0 and 1: the second copy of the slot whose first copy was stored just before
-  pub stores_second : (slots id i y : ℕ) (q : WriterView) → i < m → owner i ≡ q.index → q.pending ≡ i + 1 → get_or q.written i 0 ≡ y → y < plan.limit
-      → Allows (KeepsFlip plan) slots id (OfWriter q, []) (m + i) (λ _. forward y) (λ _ (me : Holder). me ≡ (OfWriter (record q { pending = 0 }), []))
+  pub stores_second : (slots id i y : ℕ) (q : WriterView) → i < m → owner i ≡ q.index → q.pending ≡ Some i → get_or q.written i 0 ≡ y → y < plan.limit
+      → Allows (KeepsFlip plan) slots id (OfWriter q, []) (m + i) (λ _. forward y) (λ _ (me : Holder). me ≡ (OfWriter (record q { pending = None }), []))
   stores_second slots id i y q l own busy said small s r _ at _ = let w : IsWriterView s.words plan id q = r.known id (OfWriter q) at in (
-    OfWriter (record q { pending = 0 }),
+    OfWriter (record q { pending = None }),
     keeps,
     tt,
-    seconds s r id i y q q.written q.wrote at l own small refl said (subst (λ (z : ℕ). IsAmong q.wrote i z) said (w.wrote_written i l)) (λ k x h. h) (inr refl) (λ k ne. (refl, λ e. ne (omega arith))),
+    seconds s r id i y q q.written q.wrote at l own small refl said (subst (λ (z : ℕ). IsAmong q.wrote i z) said (w.wrote_written i l)) (λ k x h. h) (inr refl) (λ k ne. (refl, λ e. ne (cc))),
     refl,
   )
 
   -- at stage 2 a store goes to the second copy alone
-  pub stores_alone : (slots id i y : ℕ) (q : WriterView) → i < m → owner i ≡ q.index → 1 < q.taken_up → q.pending ≡ 0 → y < plan.limit
-      → Allows (KeepsFlip plan) slots id (OfWriter q, []) (m + i) (λ _. forward y) (λ _ (me : Holder). me ≡ (OfWriter (record q { written = set q.written i y; wrote = q.wrote ++ (i, y) ∷ []; pending = 0 }), []))
+  pub stores_alone : (slots id i y : ℕ) (q : WriterView) → i < m → owner i ≡ q.index → 1 < q.taken_up → q.pending ≡ None → y < plan.limit
+      → Allows (KeepsFlip plan) slots id (OfWriter q, []) (m + i) (λ _. forward y) (λ _ (me : Holder). me ≡ (OfWriter (record q { written = set q.written i y; wrote = q.wrote ++ (i, y) ∷ []; pending = None }), []))
   stores_alone slots id i y q l own high idle small s r _ at _ = let w : IsWriterView s.words plan id q = r.known id (OfWriter q) at in (
-    OfWriter (record q { written = set q.written i y; wrote = q.wrote ++ (i, y) ∷ []; pending = 0 }),
+    OfWriter (record q { written = set q.written i y; wrote = q.wrote ++ (i, y) ∷ []; pending = None }),
     keeps,
     tt,
     seconds s r id i y q (set q.written i y) (q.wrote ++ (i, y) ∷ []) at l own small (length-set q.written i y) (get_or-set_same q.written i y 0 (omega (arith, w.written_each)))
-        (among_last q.wrote i i y refl) (λ k x h. among_more q.wrote (i, y) k x h) (inl high) (λ k ne. (get_or-set_other q.written i k y 0 ne, λ e. omega (arith, e, idle))),
+        (among_last q.wrote i i y refl) (λ k x h. among_more q.wrote (i, y) k x h) (inl high) (λ k ne. (get_or-set_other q.written i k y 0 ne, λ e. cc)),
     refl,
   )
 
@@ -422,13 +414,13 @@ module _ (plan : PlanView) where
       (copier_steps s r s.words s.homes me p p' at refl r.paced placed (λ j v _ k. k) slots step_of)
 
   -- at stage 0 no slot is retired, as there is a seat
-  ended : (s : Table) (r : KeepsFlip plan s) (id i : ℕ) (p : CopierView) → i < m → IsCopierView s.words plan (length s.views) id p → p.stage ≡ 0 → get_or p.retired i 0 ≢ 1
-  ended s r id i p l o zero_is d = let j : ℕ = owner i in let lj : j < n = r.owned i l in let two : get_or p.found j 0 ≡ 2 = o.all_found i d j (omega (arith, lj, o.found_each)) in let f = o.found_since j lj in let c = r.paced j lj in omega (arith, two, f, c.0, o.stage_is)
+  ended : (s : Table) (r : KeepsFlip plan s) (id i : ℕ) (p : CopierView) → i < m → IsCopierView s.words plan (length s.views) id p → p.stage ≡ 0 → get_or p.retired i false ≢ true
+  ended s r id i p l o zero_is d = let j : ℕ = owner i in let lj : j < n = r.owned i l in let two : get_or p.found j 0 ≡ 2 = o.all_found i d j lj in let f = o.found_since j lj in let c = r.paced j lj in omega (arith, two, f, c.0, o.stage_is)
 
   -- only at stage 0 does the copier load a slot for copying
   pub loads_to_copy : (slots id i : ℕ) (p : CopierView) → i < m → p.stage ≡ 0
-      → Allows (KeepsFlip plan) slots id (OfCopier p, []) i (λ x. x) (λ x (me : Holder). (me ≡ (OfCopier (record p { copying = i + 1; value = x; stored = 0 }), [])) × (x < plan.limit))
-  loads_to_copy slots id i p l zero_is s r _ at _ = let o : IsCopierView s.words plan (length s.views) id p = r.known id (OfCopier p) at in let x : ℕ = first s.words i in let p' : CopierView = record p { copying = i + 1; value = x; stored = 0 } in
+      → Allows (KeepsFlip plan) slots id (OfCopier p, []) i (λ x. x) (λ x (me : Holder). (me ≡ (OfCopier (record p { copying = Some i; value = x; stored = false }), [])) × (x < plan.limit))
+  loads_to_copy slots id i p l zero_is s r _ at _ = let o : IsCopierView s.words plan (length s.views) id p = r.known id (OfCopier p) at in let x : ℕ = first s.words i in let p' : CopierView = record p { copying = Some i; value = x; stored = false } in
       let slot : Slot s.words i p = subst (λ (z : CopierView). Slot s.words i z) (copier_of s r id p at) (r.slots i l) in (
         OfCopier p',
         keeps,
@@ -448,23 +440,23 @@ module _ (plan : PlanView) where
               all_copied = o.all_copied;
               all_found = o.all_found;
             }
-            (λ k _ t. record { live = t.live; dead = t.dead; small = t.small; unwritten = λ h. let u = t.unwritten h in (u.0, u.1, λ e. let same : i ≡ k = omega (arith, e) in ap (λ (z : ℕ). first s.words z) same ∙ u.0) })
+            (λ k _ t. record { live = t.live; dead = t.dead; small = t.small; unwritten = λ h. let u = t.unwritten h in (u.0, u.1, λ e. let same : i ≡ k = cc in ap (λ (z : ℕ). first s.words z) same ∙ u.0) })
             (λ k q lk w t. record {
               first_is = t.first_is;
               same = t.same;
-              checked = λ _ b. absurd (omega (arith, b));
+              checked = λ _ b. absurd (cc);
               wrote_first = t.wrote_first;
               wrote_second = t.wrote_second;
-              wrote_value = λ e. let same : k ≡ i = omega (arith, e) in subst (λ (z : ℕ). IsAmong q.wrote k (first s.words z)) same (t.wrote_first (ended s r id k p lk o zero_is));
+              wrote_value = λ e. let same : k ≡ i = cc in subst (λ (z : ℕ). IsAmong q.wrote k (first s.words z)) same (t.wrote_first (ended s r id k p lk o zero_is));
             }),
         (refl, slot.live (ended s r id i p l o zero_is)),
       )
 
   -- the copier stores the forward of what it loaded
-  pub stores_copy : (slots id i x : ℕ) (p : CopierView) → i < m → p.stage ≡ 0 → p.copying ≡ i + 1 → x ≡ forward p.value → p.value < plan.limit
-      → Allows (KeepsFlip plan) slots id (OfCopier p, []) (m + i) (λ _. x) (λ _ (me : Holder). me ≡ (OfCopier (record p { stored = 1; copied = set p.copied i 0 }), []))
+  pub stores_copy : (slots id i x : ℕ) (p : CopierView) → i < m → p.stage ≡ 0 → p.copying ≡ Some i → x ≡ forward p.value → p.value < plan.limit
+      → Allows (KeepsFlip plan) slots id (OfCopier p, []) (m + i) (λ _. x) (λ _ (me : Holder). me ≡ (OfCopier (record p { stored = true; copied = set p.copied i false }), []))
   stores_copy slots id i x p l zero_is busy is small s r _ at _ = let o : IsCopierView s.words plan (length s.views) id p = r.known id (OfCopier p) at in let j : ℕ = m + i in let ws : List ℕ = set s.words j x in
-      let p' : CopierView = record p { stored = 1; copied = set p.copied i 0 } in let u : IsCopierView ws plan (length s.views) id p = knows_apart (length s.views) s.words j x (omega arith) id (OfCopier p) o in
+      let p' : CopierView = record p { stored = true; copied = set p.copied i false } in let u : IsCopierView ws plan (length s.views) id p = knows_apart (length s.views) s.words j x (omega arith) id (OfCopier p) o in
       let here : (k : ℕ) → k ≡ i → second ws k ≡ x = λ k e. ap (λ (z : ℕ). get_or ws (m + z) 0) e ∙ get_or-set_same s.words j x 0 (omega (arith, r.words_are)) in
       let stays : (k : ℕ) → k < m → first ws k ≡ first s.words k = λ k lk. get_or-set_other s.words j k x 0 (λ e. omega arith) in (
         OfCopier p',
@@ -480,7 +472,7 @@ module _ (plan : PlanView) where
               found_each = u.found_each;
               found_since = u.found_since;
               undealt_is = u.undealt_is;
-              copied_each = length-set p.copied i 0 ∙ u.copied_each;
+              copied_each = length-set p.copied i false ∙ u.copied_each;
               retired_each = u.retired_each;
               all_copied = λ h. absurd (omega arith);
               all_found = u.all_found;
@@ -491,24 +483,24 @@ module _ (plan : PlanView) where
               live = λ h. subst (λ (z : ℕ). z < plan.limit) (sym (stays k lk)) (t.live h);
               dead = λ d. stays k lk ∙ t.dead d;
               small = (p.value, small, here k e ∙ is);
-              unwritten = λ h. let old = t.unwritten h in let null : p.value ≡ 0 = old.2 (busy ∙ ap (λ (z : ℕ). z + 1) (sym e)) in (stays k lk ∙ old.0, here k e ∙ (is ∙ ap forward null), old.2);
+              unwritten = λ h. let old = t.unwritten h in let null : p.value ≡ 0 = old.2 (busy ∙ ap Some (sym e)) in (stays k lk ∙ old.0, here k e ∙ (is ∙ ap forward null), old.2);
             })
             (λ ne. let v : Slot ws k p = apart (λ a b. IsSlot plan.limit a b k (owner k) p) s.words j k x (λ e. omega arith) (λ e. ne (omega arith)) t in record { live = v.live; dead = v.dead; small = v.small; unwritten = v.unwritten }))
             (λ k q lk _ t. dite (ℕ_discrete k i)
-            (λ e. let unset : get_or (set p.copied i 0) k 0 ≡ 0 = ap (λ (z : ℕ). get_or (set p.copied i 0) z 0) e ∙ get_or-set_same p.copied i 0 0 (omega (arith, o.copied_each)) in
+            (λ e. let unset : get_or (set p.copied i false) k false ≡ false = ap (λ (z : ℕ). get_or (set p.copied i false) z false) e ∙ get_or-set_same p.copied i false false (omega (arith, o.copied_each)) in
             record {
               first_is = λ h. stays k lk ∙ t.first_is h;
-              same = λ c. absurd (omega (arith, c, unset));
+              same = λ c. absurd (cc);
               checked = λ _ _. inl (here k e ∙ is);
               wrote_first = λ h. subst (λ (z : ℕ). IsAmong q.wrote k z) (sym (stays k lk)) (t.wrote_first h);
-              wrote_second = λ z h. let same : p.value ≡ z = omega (arith, h, here k e, is) in subst (λ (c : ℕ). IsAmong q.wrote k c) same (t.wrote_value (busy ∙ ap (λ (z : ℕ). z + 1) (sym e)));
+              wrote_second = λ z h. let same : p.value ≡ z = omega (arith, h, here k e, is) in subst (λ (c : ℕ). IsAmong q.wrote k c) same (t.wrote_value (busy ∙ ap Some (sym e)));
               wrote_value = t.wrote_value;
             })
             (λ ne. let v : Twin ws k q p = apart (λ a b. IsTwin a b k q p) s.words j k x (λ e. omega arith) (λ e. ne (omega arith)) t in
             record {
               first_is = v.first_is;
-              same = λ c. v.same (sym (get_or-set_other p.copied i k 0 0 ne) ∙ c);
-              checked = λ a _. absurd (ne (omega (arith, a, busy)));
+              same = λ c. v.same (sym (get_or-set_other p.copied i k false false ne) ∙ c);
+              checked = λ a _. absurd (ne (cc));
               wrote_first = v.wrote_first;
               wrote_second = v.wrote_second;
               wrote_value = v.wrote_value;
@@ -517,10 +509,10 @@ module _ (plan : PlanView) where
       )
 
   -- An equal second load: while the owner has stored nothing else, what it wrote is what was stored as the copy.
-  pub loads_to_check : (slots id i : ℕ) (p : CopierView) → i < m → p.stage ≡ 0 → p.copying ≡ i + 1 → p.stored ≡ 1
-      → Allows (KeepsFlip plan) slots id (OfCopier p, []) i (λ x. x) (λ x (me : Holder). (x ≡ p.value → me ≡ (OfCopier (record p { copying = 0; copied = set p.copied i 1 }), [])) × (x ≢ p.value → me ≡ (OfCopier (record p { copying = 0 }), [])))
+  pub loads_to_check : (slots id i : ℕ) (p : CopierView) → i < m → p.stage ≡ 0 → p.copying ≡ Some i → p.stored ≡ true
+      → Allows (KeepsFlip plan) slots id (OfCopier p, []) i (λ x. x) (λ x (me : Holder). (x ≡ p.value → me ≡ (OfCopier (record p { copying = None; checked = x; copied = set p.copied i true }), [])) × (x ≢ p.value → me ≡ (OfCopier (record p { copying = None; checked = x }), [])))
   loads_to_check slots id i p l zero_is busy done s r _ at _ = let o : IsCopierView s.words plan (length s.views) id p = r.known id (OfCopier p) at in let x : ℕ = first s.words i in dite (ℕ_discrete x p.value)
-      (λ found. let p' : CopierView = record p { copying = 0; copied = set p.copied i 1 } in (
+      (λ found. let p' : CopierView = record p { copying = None; checked = x; copied = set p.copied i true } in (
         OfCopier p',
         keeps,
         tt,
@@ -534,25 +526,25 @@ module _ (plan : PlanView) where
               found_each = o.found_each;
               found_since = o.found_since;
               undealt_is = o.undealt_is;
-              copied_each = length-set p.copied i 1 ∙ o.copied_each;
+              copied_each = length-set p.copied i true ∙ o.copied_each;
               retired_each = o.retired_each;
               all_copied = λ h. absurd (omega arith);
               all_found = o.all_found;
             }
-            (λ k _ t. record { live = t.live; dead = t.dead; small = t.small; unwritten = λ h. let u = t.unwritten h in (u.0, u.1, λ e. absurd (omega (arith, e))) })
+            (λ k _ t. record { live = t.live; dead = t.dead; small = t.small; unwritten = λ h. let u = t.unwritten h in (u.0, u.1, λ e. absurd (cc)) })
             (λ k q lk w t. record {
               first_is = t.first_is;
               same = λ c. dite (ℕ_discrete k i)
-                  (λ e. ⊎_elim (λ d. inr (d ∙ ap forward (sym found ∙ (ap (λ (z : ℕ). first s.words z) (sym e) ∙ t.first_is (low q w))))) (λ d. d) (t.checked (busy ∙ ap (λ (z : ℕ). z + 1) (sym e)) done))
-                  (λ ne. t.same (sym (get_or-set_other p.copied i k 1 0 ne) ∙ c));
-              checked = λ a _. absurd (omega (arith, a));
+                  (λ e. ⊎_elim (λ d. inr (d ∙ ap forward (sym found ∙ (ap (λ (z : ℕ). first s.words z) (sym e) ∙ t.first_is (low q w))))) (λ d. d) (t.checked (busy ∙ ap Some (sym e)) done))
+                  (λ ne. t.same (sym (get_or-set_other p.copied i k true false ne) ∙ c));
+              checked = λ a _. absurd (cc);
               wrote_first = t.wrote_first;
               wrote_second = t.wrote_second;
-              wrote_value = λ e. absurd (omega (arith, e));
+              wrote_value = λ e. absurd (cc);
             }),
         ((λ _. refl), λ ne. absurd (ne found)),
       ))
-      (λ lost. let p' : CopierView = record p { copying = 0 } in (
+      (λ lost. let p' : CopierView = record p { copying = None; checked = x } in (
         OfCopier p',
         keeps,
         tt,
@@ -571,8 +563,8 @@ module _ (plan : PlanView) where
               all_copied = o.all_copied;
               all_found = o.all_found;
             }
-            (λ k _ t. record { live = t.live; dead = t.dead; small = t.small; unwritten = λ h. let u = t.unwritten h in (u.0, u.1, λ e. absurd (omega (arith, e))) })
-            (λ k q _ _ t. record { first_is = t.first_is; same = t.same; checked = λ a _. absurd (omega (arith, a)); wrote_first = t.wrote_first; wrote_second = t.wrote_second; wrote_value = λ e. absurd (omega (arith, e)) }),
+            (λ k _ t. record { live = t.live; dead = t.dead; small = t.small; unwritten = λ h. let u = t.unwritten h in (u.0, u.1, λ e. absurd (cc)) })
+            (λ k q _ _ t. record { first_is = t.first_is; same = t.same; checked = λ a _. absurd (cc); wrote_first = t.wrote_first; wrote_second = t.wrote_second; wrote_value = λ e. absurd (cc) }),
         ((λ e. absurd (lost e)), λ _. refl),
       ))
     where
@@ -581,7 +573,7 @@ module _ (plan : PlanView) where
 
   -- the stage that a seat has taken up
   pub finds : (slots id j : ℕ) (p : CopierView) → j < n
-      → Allows (KeepsFlip plan) slots id (OfCopier p, []) (m + m + j) (λ x. x) (λ x (me : Holder). (me ≡ (OfCopier (record p { found = set p.found j x }), [])) × IsStageOrOneLess x p.stage × (get_or p.found j 0 ≤ x))
+      → Allows (KeepsFlip plan) slots id (OfCopier p, []) (m + m + j) (λ x. x) (λ x (me : Holder). (me ≡ (OfCopier (record p { found = set p.found j x }), [])) × IsPostedOrOneLess x p.stage × (get_or p.found j 0 ≤ x))
   finds slots id j p l s r _ at _ = let o : IsCopierView s.words plan (length s.views) id p = r.known id (OfCopier p) at in let x : ℕ = taken s.words j in let c = r.paced j l in let p' : CopierView = record p { found = set p.found j x } in
       let here : (a : ℕ) → a ≡ j → get_or (set p.found j x) a 0 ≡ x = λ a e. ap (λ (z : ℕ). get_or (set p.found j x) z 0) e ∙ get_or-set_same p.found j x 0 (omega (arith, o.found_each)) in (
         OfCopier p',
@@ -602,7 +594,7 @@ module _ (plan : PlanView) where
               copied_each = o.copied_each;
               retired_each = o.retired_each;
               all_copied = o.all_copied;
-              all_found = λ k d a la. let two : get_or p.found a 0 ≡ 2 = o.all_found k d a (omega (arith, la, length-set p.found j x)) in dite (ℕ_discrete a j)
+              all_found = λ k d a la. let two : get_or p.found a 0 ≡ 2 = o.all_found k d a la in dite (ℕ_discrete a j)
                   (λ e. let b = o.found_since j l in let f : get_or p.found j 0 ≡ 2 = ap (λ (z : ℕ). get_or p.found z 0) (sym e) ∙ two in omega (arith, here a e, b, f, c.0, o.stage_is, o.last))
                   (λ ne. get_or-set_other p.found j a x 0 ne ∙ two);
             }
@@ -612,7 +604,7 @@ module _ (plan : PlanView) where
       )
 
   -- the next stage, once every seat was found to have taken up this one and, at stage 0, every slot is copied
-  pub posts : (slots id : ℕ) (p : CopierView) → FoundAll p.stage p → p.stage < 2 → (p.stage ≡ 0 → CopiedAll p)
+  pub posts : (slots id : ℕ) (p : CopierView) → FoundAll n p.stage p.found → p.stage < 2 → (p.stage ≡ 0 → AllMarked p.copied)
       → Allows (KeepsFlip plan) slots id (OfCopier p, []) (m + m + n) (λ _. p.stage + 1) (λ _ (me : Holder). me ≡ (OfCopier (record p { stage = p.stage + 1 }), []))
   posts slots id p all low copied s r _ at _ = let o : IsCopierView s.words plan (length s.views) id p = r.known id (OfCopier p) at in let x : ℕ = p.stage + 1 in let i : ℕ = m + m + n in let ws : List ℕ = set s.words i x in let p' : CopierView = record p { stage = x } in
       let here : stage ws ≡ x = get_or-set_same s.words i x 0 (omega (arith, r.words_are)) in let there : (j : ℕ) → j < n → taken ws j ≡ taken s.words j = λ j lj. get_or-set_other s.words i (m + m + j) x 0 (λ e. omega arith) in (
@@ -620,7 +612,7 @@ module _ (plan : PlanView) where
         keeps,
         tt,
         copier_steps s r ws s.homes id p p' at (length-set s.words i x)
-            (λ j lj. let c = r.paced j lj in let f = o.found_since j lj in let a = all j (omega (arith, lj, o.found_each)) in (omega (arith, c.0, there j lj, here, o.stage_is), omega (arith, f, a, there j lj, here)))
+            (λ j lj. let c = r.paced j lj in let f = o.found_since j lj in let a = all j lj in (omega (arith, c.0, there j lj, here, o.stage_is), omega (arith, f, a, there j lj, here)))
             record {
               plan_is = o.plan_is;
               place_is = o.place_is;
@@ -657,14 +649,14 @@ module _ (plan : PlanView) where
       others ws x here there up j (OfCopier c) ne k = absurd (ne k.place_is)
 
   -- the mark over the first copy, once every seat was found at stage 2
-  pub retires : (slots id i : ℕ) (p : CopierView) → i < m → FoundAll 2 p
-      → Allows (KeepsFlip plan) slots id (OfCopier p, []) i (λ _. retired_mark) (λ _ (me : Holder). me ≡ (OfCopier (record p { retired = set p.retired i 1 }), []))
-  retires slots id i p l all s r _ at _ = let o : IsCopierView s.words plan (length s.views) id p = r.known id (OfCopier p) at in let ws : List ℕ = set s.words i retired_mark in let p' : CopierView = record p { retired = set p.retired i 1 } in
+  pub retires : (slots id i : ℕ) (p : CopierView) → i < m → FoundAll n 2 p.found
+      → Allows (KeepsFlip plan) slots id (OfCopier p, []) i (λ _. retired_mark) (λ _ (me : Holder). me ≡ (OfCopier (record p { retired = set p.retired i true }), []))
+  retires slots id i p l all s r _ at _ = let o : IsCopierView s.words plan (length s.views) id p = r.known id (OfCopier p) at in let ws : List ℕ = set s.words i retired_mark in let p' : CopierView = record p { retired = set p.retired i true } in
       let wide : i < length s.words = omega (arith, r.words_are) in let u : IsCopierView ws plan (length s.views) id p = knows_apart (length s.views) s.words i retired_mark (omega arith) id (OfCopier p) o in
       let here : (k : ℕ) → k ≡ i → first ws k ≡ retired_mark = λ k e. ap (λ (z : ℕ). get_or ws z 0) e ∙ get_or-set_same s.words i retired_mark 0 wide in
       let stays : (k : ℕ) → k < m → second ws k ≡ second s.words k = λ k lk. get_or-set_other s.words i (m + k) retired_mark 0 (λ e. omega arith) in
-      let two : (j : ℕ) → j < n → 2 ≤ taken s.words j = λ j lj. let a = all j (omega (arith, o.found_each, lj)) in let least = o.found_since j lj in omega arith in
-      let retired_is : (k : ℕ) → k ≡ i → get_or (set p.retired i 1) k 0 ≡ 1 = λ k e. ap (λ (z : ℕ). get_or (set p.retired i 1) z 0) e ∙ get_or-set_same p.retired i 1 0 (omega (arith, o.retired_each)) in (
+      let two : (j : ℕ) → j < n → 2 ≤ taken s.words j = λ j lj. let a = all j lj in let least = o.found_since j lj in omega arith in
+      let retired_is : (k : ℕ) → k ≡ i → get_or (set p.retired i true) k false ≡ true = λ k e. ap (λ (z : ℕ). get_or (set p.retired i true) z false) e ∙ get_or-set_same p.retired i true false (omega (arith, o.retired_each)) in (
         OfCopier p',
         keeps,
         tt,
@@ -679,7 +671,7 @@ module _ (plan : PlanView) where
               found_since = u.found_since;
               undealt_is = u.undealt_is;
               copied_each = u.copied_each;
-              retired_each = length-set p.retired i 1 ∙ u.retired_each;
+              retired_each = length-set p.retired i true ∙ u.retired_each;
               all_copied = u.all_copied;
               all_found = λ _ _. all;
             }
@@ -692,7 +684,7 @@ module _ (plan : PlanView) where
               unwritten = λ h. let a = two (owner k) (r.owned k lk) in let b = o.undealt_is (owner k) h (r.owned k lk) in absurd (omega (arith, a, b));
             })
             (λ ne. let v : Slot ws k p = apart (λ a b. IsSlot plan.limit a b k (owner k) p) s.words i k retired_mark ne (λ e. omega arith) t in
-            let kept : get_or (set p.retired i 1) k 0 ≡ get_or p.retired k 0 = get_or-set_other p.retired i k 1 0 ne in
+            let kept : get_or (set p.retired i true) k false ≡ get_or p.retired k false = get_or-set_other p.retired i k true false ne in
             record { live = λ h. v.live (λ e. h (kept ∙ e)); dead = λ h. v.dead (sym kept ∙ h); small = v.small; unwritten = v.unwritten }))
             (λ k q lk w t. let high : q.taken_up ≤ 1 → ⊥ = λ h. let a = two q.index w.in_range in omega (arith, w.taken_up_is, a) in
             record {
@@ -700,7 +692,7 @@ module _ (plan : PlanView) where
               same = λ c. subst (λ (z : ℕ). SaysWritten z k q) (sym (stays k lk)) (t.same c);
               checked = λ a b. subst (λ (z : ℕ). (z ≡ forward p.value) ⊎ SaysWritten z k q) (sym (stays k lk)) (t.checked a b);
               wrote_first = λ h. dite (ℕ_discrete k i) (λ e. absurd (h (retired_is k e)))
-                  (λ ne. subst (λ (z : ℕ). IsAmong q.wrote k z) (sym (get_or-set_other s.words i k retired_mark 0 ne)) (t.wrote_first (λ e. h (get_or-set_other p.retired i k 1 0 ne ∙ e))));
+                  (λ ne. subst (λ (z : ℕ). IsAmong q.wrote k z) (sym (get_or-set_other s.words i k retired_mark 0 ne)) (t.wrote_first (λ e. h (get_or-set_other p.retired i k true false ne ∙ e))));
               wrote_second = λ z h. t.wrote_second z (sym (stays k lk) ∙ h);
               wrote_value = t.wrote_value;
             }),

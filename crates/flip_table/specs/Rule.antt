@@ -1,9 +1,10 @@
 -- The rule of the shared words. With m slots and n seats, word k is the first copy of slot k, word m + k the second, word 2 m + j the stage that seat j has taken up, and word 2 m + n the stage (this profile).
-use Rattle.std.specs.Prelude.{◌≡◌, ◌≢◌, ◌⊎◌, ℕ, ◌+◌, ◌*◌, ◌<◌, ◌≤◌, List, [], length, replicate, slice_index}
+use Rattle.std.specs.Prelude.{◌≡◌, ◌⊎◌, ℕ, ◌+◌, ◌*◌, ◌<◌, ◌≤◌, Bool, true, false, Some, None, List, [], length, replicate, slice_index, slice_index_or}
 use Rattle.std.specs.List.{Contains}
 use mathlib.Core.Option.{some}
 use lib.ListN.{get_elem?}
 use Rattle.atomic_table.specs.Table.{State}
+use Rattle.epoch_words.specs.Tokens.{FoundAll, IsPostedOrOneLess}
 use Rattle.flip_table.specs.declared.slot_table.CopierView.{CopierView}
 use Rattle.flip_table.specs.declared.slot_table.PlanView.{PlanView}
 use Rattle.flip_table.specs.declared.slot_table.View.{View}
@@ -18,40 +19,36 @@ retired_mark = 65536
 abbrev pub forward : ℕ → ℕ
 forward value = 131072 * value
 
--- Every stage that is taken up is the stage or one less.
-abbrev pub IsStageOrOneLess : ℕ → ℕ → Type 0
-IsStageOrOneLess taken_up stage = (taken_up ≤ stage) × (stage ≤ taken_up + 1)
-
 -- The value is null, or was once written to slot k.
 abbrev pub IsAmong : List (ℕ × ℕ) → ℕ → ℕ → Type 0
 IsAmong wrote k value = (value ≡ 0) ⊎ Contains wrote (k, value)
 
--- Each seat was found to have taken up this stage.
-abbrev pub FoundAll : ℕ → CopierView → Type 0
-FoundAll stage p = (j : ℕ) → j < length p.found → slice_index p.found j ≡ stage
+-- Slot k has its mark in this list.
+abbrev pub IsMarked : List Bool → ℕ → Type 0
+IsMarked marks k = slice_index_or marks k false ≡ true
 
-abbrev pub CopiedAll : CopierView → Type 0
-CopiedAll p = (k : ℕ) → k < length p.copied → slice_index p.copied k ≡ 1
+abbrev pub AllMarked : List Bool → Type 0
+AllMarked marks = (k : ℕ) → k < length marks → IsMarked marks k
 
 -- The second copy says what the writer of slot k last wrote, or its writer has yet to store it.
 abbrev pub SaysWritten : ℕ → ℕ → WriterView → Type 0
-SaysWritten second k q = (q.pending ≡ k + 1) ⊎ (second ≡ forward (slice_index q.written k))
+SaysWritten second k q = (q.pending ≡ Some k) ⊎ (second ≡ forward (slice_index q.written k))
 
 -- What holds of slot k with these two copies, whoever its writer is.
 pub record IsSlot (limit first second k owner : ℕ) (p : CopierView) : Type 0 where
-  pub live : slice_index p.retired k ≢ 1 → first < limit
-  pub dead : slice_index p.retired k ≡ 1 → first ≡ retired_mark
+  pub live : ¬ IsMarked p.retired k → first < limit
+  pub dead : IsMarked p.retired k → first ≡ retired_mark
   pub small : (x : ℕ) × (x < limit) × (second ≡ forward x)
-  pub unwritten : p.dealt ≤ owner → (first ≡ 0) × (second ≡ forward 0) × (p.copying ≡ k + 1 → p.value ≡ 0)
+  pub unwritten : p.dealt ≤ owner → (first ≡ 0) × (second ≡ forward 0) × (p.copying ≡ Some k → p.value ≡ 0)
 
 -- The same, where its writer knows q. The last three: each live word of the slot is null or among what its writer wrote.
 pub record IsTwin (first second k : ℕ) (q : WriterView) (p : CopierView) : Type 0 where
   pub first_is : q.taken_up ≤ 1 → first ≡ slice_index q.written k
-  pub same : slice_index p.copied k ≡ 1 → SaysWritten second k q
-  pub checked : p.copying ≡ k + 1 → p.stored ≡ 1 → (second ≡ forward p.value) ⊎ SaysWritten second k q
-  pub wrote_first : slice_index p.retired k ≢ 1 → IsAmong q.wrote k first
+  pub same : IsMarked p.copied k → SaysWritten second k q
+  pub checked : p.copying ≡ Some k → p.stored ≡ true → (second ≡ forward p.value) ⊎ SaysWritten second k q
+  pub wrote_first : ¬ IsMarked p.retired k → IsAmong q.wrote k first
   pub wrote_second : (x : ℕ) → second ≡ forward x → IsAmong q.wrote k x
-  pub wrote_value : p.copying ≡ k + 1 → IsAmong q.wrote k p.value
+  pub wrote_value : p.copying ≡ Some k → IsAmong q.wrote k p.value
 
 -- What the writer of seat j knows, whose view has the place j + 1.
 pub record IsWriterView (words : List ℕ) (plan : PlanView) (place : ℕ) (q : WriterView) : Type 0 where
@@ -63,7 +60,7 @@ pub record IsWriterView (words : List ℕ) (plan : PlanView) (place : ℕ) (q : 
   pub polled_stage : q.polled ≤ slice_index words (length plan.owners + length plan.owners + plan.seats)
   pub written_each : length q.written ≡ length plan.owners
   pub wrote_written : (k : ℕ) → k < length plan.owners → IsAmong q.wrote k (slice_index q.written k)
-  pub settled : 1 < q.taken_up → q.pending ≡ 0
+  pub settled : 1 < q.taken_up → q.pending ≡ None
 
 -- What the copier knows, whose view has the place 0 of so many.
 pub record IsCopierView (words : List ℕ) (plan : PlanView) (places place : ℕ) (p : CopierView) : Type 0 where
@@ -77,8 +74,8 @@ pub record IsCopierView (words : List ℕ) (plan : PlanView) (places place : ℕ
   pub undealt_is : (j : ℕ) → p.dealt ≤ j → j < plan.seats → slice_index words (length plan.owners + length plan.owners + j) ≡ 0
   pub copied_each : length p.copied ≡ length plan.owners
   pub retired_each : length p.retired ≡ length plan.owners
-  pub all_copied : 0 < p.stage → CopiedAll p
-  pub all_found : (k : ℕ) → slice_index p.retired k ≡ 1 → FoundAll 2 p
+  pub all_copied : 0 < p.stage → AllMarked p.copied
+  pub all_found : (k : ℕ) → IsMarked p.retired k → FoundAll plan.seats 2 p.found
 
 abbrev pub Knows : List ℕ → PlanView → ℕ → ℕ → View → Type 0
 Knows words plan places place (OfWriter q) = IsWriterView words plan place q
@@ -89,7 +86,7 @@ pub record KeepsFlip (plan : PlanView) (table : State (Unit {0}) View) : Type 0 
   pub words_are : length table.words ≡ length plan.owners + length plan.owners + plan.seats + 1
   pub owned : (k : ℕ) → k < length plan.owners → slice_index plan.owners k < plan.seats
   pub paced : (j : ℕ) → j < plan.seats
-      → IsStageOrOneLess (slice_index table.words (length plan.owners + length plan.owners + j)) (slice_index table.words (length plan.owners + length plan.owners + plan.seats))
+      → IsPostedOrOneLess (slice_index table.words (length plan.owners + length plan.owners + j)) (slice_index table.words (length plan.owners + length plan.owners + plan.seats))
   pub known : (place : ℕ) (view : View) → get_elem? table.views place ≡ some view → Knows table.words plan (length table.views) place view
   pub copier : CopierView
   pub copier_is : get_elem? table.views 0 ≡ some (OfCopier copier)
@@ -105,16 +102,17 @@ dealt_copier plan dealt = record {
   stage = 0;
   dealt = dealt;
   found = replicate plan.seats 0;
-  copying = 0;
+  copying = None;
   value = 0;
-  stored = 0;
-  copied = replicate (length plan.owners) 0;
-  retired = replicate (length plan.owners) 0;
+  checked = 0;
+  stored = false;
+  copied = replicate (length plan.owners) false;
+  retired = replicate (length plan.owners) false;
 }
 
 -- the writer of a seat before any step
 abbrev pub opening_writer : PlanView → ℕ → WriterView
-opening_writer plan index = record { plan = plan; index = index; taken_up = 0; polled = 0; written = replicate (length plan.owners) 0; wrote = []; pending = 0 }
+opening_writer plan index = record { plan = plan; index = index; taken_up = 0; polled = 0; written = replicate (length plan.owners) 0; wrote = []; pending = None }
 
 -- the copier before any writer is given out
 abbrev pub opening_view : PlanView → View

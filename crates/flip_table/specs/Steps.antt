@@ -1,7 +1,8 @@
 -- The kinds of step: what each tells its holder, and what the holder knows after it (this profile).
-use Rattle.std.specs.Prelude.{◌≡◌, ◌≢◌, ℕ, ◌+◌, ◌<◌, ◌≤◌, [], ◌∷◌, ◌++◌, length, slice_index, slice_set}
+use Rattle.std.specs.Prelude.{true, false, Some, None, ◌≡◌, ◌≢◌, ℕ, ◌+◌, ◌<◌, ◌≤◌, [], ◌∷◌, ◌++◌, length, slice_index, slice_set}
 use Rattle.atomic_table.specs.Table.{Me, Step}
-use Rattle.flip_table.specs.Rule.{forward, opening_writer, IsStageOrOneLess}
+use Rattle.flip_table.specs.Rule.{forward, opening_writer}
+use Rattle.epoch_words.specs.Tokens.{IsPostedOrOneLess}
 use Rattle.flip_table.specs.declared.slot_table.CopierView.{CopierView}
 use Rattle.flip_table.specs.declared.slot_table.PlanView.{PlanView}
 use Rattle.flip_table.specs.declared.slot_table.View.{View}
@@ -20,11 +21,11 @@ no_plan = record { owners = []; seats = 0; limit = 0 }
 -- what a writer knows (of the copier's view nothing is asked)
 abbrev pub writer_part : View → WriterView
 writer_part (OfWriter q) = q
-writer_part (OfCopier p) = record { plan = no_plan; index = 0; taken_up = 0; polled = 0; written = []; wrote = []; pending = 0 }
+writer_part (OfCopier p) = record { plan = no_plan; index = 0; taken_up = 0; polled = 0; written = []; wrote = []; pending = None }
 
 -- what the copier knows (of a writer's view nothing is asked)
 abbrev pub copier_part : View → CopierView
-copier_part (OfWriter q) = record { plan = no_plan; stage = 0; dealt = 0; found = []; copying = 0; value = 0; stored = 0; copied = []; retired = [] }
+copier_part (OfWriter q) = record { plan = no_plan; stage = 0; dealt = 0; found = []; copying = None; value = 0; checked = 0; stored = false; copied = []; retired = [] }
 copier_part (OfCopier p) = p
 
 -- the copier's view once it gave out the next writer, and that writer's view
@@ -50,21 +51,21 @@ LoadsSecond step before y after = let q = writer_part before.0 in
 -- A store to a first copy. The seat has written x, and has yet to store it in the second copy.
 abbrev pub StoresFirst : WordStep → Holder → ℕ → Holder → Type 0
 StoresFirst step before x after = let q = writer_part before.0 in
-    after ≡ (OfWriter (record q { written = slice_set q.written step.word x; wrote = q.wrote ++ (step.word, x) ∷ []; pending = step.word + 1 }), [])
+    after ≡ (OfWriter (record q { written = slice_set q.written step.word x; wrote = q.wrote ++ (step.word, x) ∷ []; pending = Some step.word }), [])
 
 -- A store to the second copy of the slot whose first copy was stored just before.
 abbrev pub StoresSecond : WordStep → Holder → ℕ → Holder → Type 0
-StoresSecond step before y after = let q = writer_part before.0 in after ≡ (OfWriter (record q { pending = 0 }), [])
+StoresSecond step before y after = let q = writer_part before.0 in after ≡ (OfWriter (record q { pending = None }), [])
 
 -- A store to a second copy alone, at stage 2.
 abbrev pub StoresAlone : WordStep → Holder → ℕ → Holder → Type 0
 StoresAlone step before y after = let q = writer_part before.0 in (k x : ℕ) → step.word ≡ length q.plan.owners + k → y ≡ forward x
-    → after ≡ (OfWriter (record q { written = slice_set q.written k x; wrote = q.wrote ++ (k, x) ∷ []; pending = 0 }), [])
+    → after ≡ (OfWriter (record q { written = slice_set q.written k x; wrote = q.wrote ++ (k, x) ∷ []; pending = None }), [])
 
 -- A load of the stage by a seat.
 abbrev pub PollsStage : WordStep → Holder → ℕ → Holder → Type 0
 PollsStage step before x after = let q = writer_part before.0 in
-    (after ≡ (OfWriter (record q { polled = x }), [])) × IsStageOrOneLess q.taken_up x × (q.polled ≤ x)
+    (after ≡ (OfWriter (record q { polled = x }), [])) × IsPostedOrOneLess q.taken_up x × (q.polled ≤ x) × (x ≤ 2)
 
 -- A store of the stage that a seat takes up.
 abbrev pub TakesUp : WordStep → Holder → ℕ → Holder → Type 0
@@ -73,23 +74,23 @@ TakesUp step before x after = let q = writer_part before.0 in after ≡ (OfWrite
 -- The copier's load of a first copy, at stage 0.
 abbrev pub LoadsToCopy : WordStep → Holder → ℕ → Holder → Type 0
 LoadsToCopy step before x after = let p = copier_part before.0 in
-    (after ≡ (OfCopier (record p { copying = step.word + 1; value = x; stored = 0 }), [])) × (x < p.plan.limit)
+    (after ≡ (OfCopier (record p { copying = Some step.word; value = x; stored = false }), [])) × (x < p.plan.limit)
 
 -- The copier's store to a second copy. The slot stops counting as copied.
 abbrev pub StoresCopy : WordStep → Holder → ℕ → Holder → Type 0
-StoresCopy step before y after = let p = copier_part before.0 in (k : ℕ) → p.copying ≡ k + 1
-    → after ≡ (OfCopier (record p { stored = 1; copied = slice_set p.copied k 0 }), [])
+StoresCopy step before y after = let p = copier_part before.0 in (k : ℕ) → p.copying ≡ Some k
+    → after ≡ (OfCopier (record p { stored = true; copied = slice_set p.copied k false }), [])
 
 -- The copier's second load of a first copy. The slot counts as copied where the value is the same.
 abbrev pub LoadsToCheck : WordStep → Holder → ℕ → Holder → Type 0
 LoadsToCheck step before x after = let p = copier_part before.0 in
-    (x ≡ p.value → after ≡ (OfCopier (record p { copying = 0; copied = slice_set p.copied step.word 1 }), []))
-    × (x ≢ p.value → after ≡ (OfCopier (record p { copying = 0 }), []))
+    (x ≡ p.value → after ≡ (OfCopier (record p { copying = None; checked = x; copied = slice_set p.copied step.word true }), []))
+    × (x ≢ p.value → after ≡ (OfCopier (record p { copying = None; checked = x }), []))
 
 -- The copier's load of the stage that a seat has taken up.
 abbrev pub FindsStage : WordStep → Holder → ℕ → Holder → Type 0
 FindsStage step before x after = let p = copier_part before.0 in (j : ℕ) → step.word ≡ length p.plan.owners + length p.plan.owners + j
-    → (after ≡ (OfCopier (record p { found = slice_set p.found j x }), [])) × IsStageOrOneLess x p.stage × (slice_index p.found j ≤ x)
+    → (after ≡ (OfCopier (record p { found = slice_set p.found j x }), [])) × IsPostedOrOneLess x p.stage × (slice_index p.found j ≤ x)
 
 -- The copier's store of the next stage.
 abbrev pub PostsStage : WordStep → Holder → ℕ → Holder → Type 0
@@ -97,4 +98,4 @@ PostsStage step before x after = let p = copier_part before.0 in after ≡ (OfCo
 
 -- The copier's store of the mark over a first copy.
 abbrev pub Retires : WordStep → Holder → ℕ → Holder → Type 0
-Retires step before x after = let p = copier_part before.0 in after ≡ (OfCopier (record p { retired = slice_set p.retired step.word 1 }), [])
+Retires step before x after = let p = copier_part before.0 in after ≡ (OfCopier (record p { retired = slice_set p.retired step.word true }), [])

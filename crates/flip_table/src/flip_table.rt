@@ -1,9 +1,10 @@
 //! The calls, each of which is one step.
 
 ghost use Rattle.std.specs.Prelude.{◌≡◌, ◌≢◌, ◌+◌, ◌^◌, ◌<◌, ◌≤◌, [], ◌∷◌, ◌++◌, ℕ, length, slice_index, slice_set};
-ghost use Rattle.std.specs.Prelude.{All, IfOk, vec_len};
+ghost use Rattle.std.specs.Prelude.{All, IfOk, vec_len, true, false};
 ghost use Rattle.flip_table.specs.Plans.{plan_of};
-ghost use Rattle.flip_table.specs.Rule.{dealt_copier, forward, opening_view, CopiedAll, FoundAll, IsStageOrOneLess};
+ghost use Rattle.epoch_words.specs.Tokens.{FoundAll, IsPostedOrOneLess};
+ghost use Rattle.flip_table.specs.Rule.{dealt_copier, forward, opening_view, AllMarked};
 ghost use Rattle.flip_table.specs.Tokens.{opening_seat, opening_writers, IsCopierOf, IsWriterOf};
 ghost use Rattle.flip_table.specs.declared.slot_table.View.TheVariants.{OfCopier};
 
@@ -73,6 +74,22 @@ impl Model for Writer {
         × (knows.index < knows.plan.seats) };
 }
 
+impl Writer {
+    /// Which seat this is, counted from 0.
+    pub fn index(&self) -> usize
+        ensures { result ≡ self.now.knows.index }
+    {
+        self.index
+    }
+
+    /// The stage that the seat has taken up: 0, 1 or 2.
+    pub fn taken_up(&self) -> u64
+        ensures { result ≡ self.now.knows.taken_up }
+    {
+        self.taken_up
+    }
+}
+
 /// The right to copy, to move to the next stage and to retire.
 #[derive(Drop)]
 pub struct Copier {
@@ -93,6 +110,15 @@ impl Model for Copier {
     ghost invariant = { λ c. let knows = copier_part c.token.me.0 in
         (c.token.me ≡ (OfCopier knows, []))
         × (c.stage ≡ knows.stage) };
+}
+
+impl Copier {
+    /// The stage: 0, 1 or 2.
+    pub fn stage(&self) -> u64
+        ensures { result ≡ self.now.knows.stage }
+    {
+        self.stage
+    }
 }
 
 /// The words of this plan, all 0, and the copier's token.
@@ -164,6 +190,13 @@ impl FlipTable {
         Ok((table, copier_of(token, &plan), writers))
     }
 
+    /// How many seats there are.
+    pub fn seats(&self) -> usize
+        ensures { result ≡ self.now.plan.seats }
+    {
+        self.seats
+    }
+
     /// Loads the first copy of a slot, at stage 0: a value below the limit, and in a slot of the writer's own what it
     /// last wrote.
     pub fn load_first(&self, mut writer: Writer, slot: usize) -> (u64, Writer)
@@ -177,28 +210,28 @@ impl FlipTable {
         (value, writer)
     }
 
-    /// Loads the second copy of a slot, from stage 1 on: the forward of a value below the limit, and in a slot of the
-    /// writer's own that of what it last wrote.
+    /// Loads the second copy of a slot, from stage 1 on, and answers the value whose forward stands there: a value below
+    /// the limit, and in a slot of the writer's own what it last wrote.
     pub fn load_second(&self, mut writer: Writer, slot: usize) -> (u64, Writer)
         requires table { IsWriterOf self.now writer × (slot < length self.now.plan.owners) }
-        requires stage { (0 < writer.knows.taken_up) × (writer.knows.pending ≡ 0) }
+        requires stage { (0 < writer.knows.taken_up) × (writer.knows.pending ≡ None) }
         ensures writer { result.1 ≡ writer }
-        ensures small { (x : ℕ) × (x < self.now.plan.limit) × (result.0 ≡ forward x) }
-        ensures own { slice_index self.now.plan.owners slot ≡ writer.knows.index → result.0 ≡ forward (slice_index writer.knows.written slot) }
+        ensures small { result.0 < self.now.plan.limit }
+        ensures own { slice_index self.now.plan.owners slot ≡ writer.knows.index → result.0 ≡ slice_index writer.knows.written slot }
     {
-        let value = self
+        let word = self
             .words
             .shared
             .load::<LoadSecond>(&mut writer.token, self.slots + slot);
-        (value, writer)
+        (word / FORWARD, writer)
     }
 
     /// Stores to the first copy of a slot of the writer's own, at stages 0 and 1. The second copy is still to be stored.
     pub fn store_first(&self, mut writer: Writer, slot: usize, value: u64) -> Writer
         requires table { IsWriterOf self.now writer × (slot < length self.now.plan.owners) × (slice_index self.now.plan.owners slot ≡ writer.knows.index) }
-        requires stage { (writer.knows.taken_up ≤ 1) × (writer.knows.pending ≡ 0) }
+        requires stage { (writer.knows.taken_up ≤ 1) × (writer.knows.pending ≡ None) }
         requires value { value < self.now.plan.limit }
-        ensures { result ≡ record writer { knows = record writer.knows { written = slice_set writer.knows.written slot value; wrote = writer.knows.wrote ++ (slot, value) ∷ []; pending = slot + 1 } } }
+        ensures { result ≡ record writer { knows = record writer.knows { written = slice_set writer.knows.written slot value; wrote = writer.knows.wrote ++ (slot, value) ∷ []; pending = Some slot } } }
     {
         self.words
             .shared
@@ -209,9 +242,9 @@ impl FlipTable {
     /// Stores to the second copy of a slot what was stored to its first copy just before.
     pub fn store_second(&self, mut writer: Writer, slot: usize, value: u64) -> Writer
         requires table { IsWriterOf self.now writer × (slot < length self.now.plan.owners) × (slice_index self.now.plan.owners slot ≡ writer.knows.index) }
-        requires pending { writer.knows.pending ≡ slot + 1 }
+        requires pending { writer.knows.pending ≡ Some slot }
         requires value { (slice_index writer.knows.written slot ≡ value) × (value < self.now.plan.limit) }
-        ensures { result ≡ record writer { knows = record writer.knows { pending = 0 } } }
+        ensures { result ≡ record writer { knows = record writer.knows { pending = None } } }
     {
         let word = self.slots + slot;
         self.words
@@ -223,9 +256,9 @@ impl FlipTable {
     /// Stores to the second copy alone of a slot of the writer's own, at stage 2.
     pub fn store_alone(&self, mut writer: Writer, slot: usize, value: u64) -> Writer
         requires table { IsWriterOf self.now writer × (slot < length self.now.plan.owners) × (slice_index self.now.plan.owners slot ≡ writer.knows.index) }
-        requires stage { (1 < writer.knows.taken_up) × (writer.knows.pending ≡ 0) }
+        requires stage { (1 < writer.knows.taken_up) × (writer.knows.pending ≡ None) }
         requires value { value < self.now.plan.limit }
-        ensures { result ≡ record writer { knows = record writer.knows { written = slice_set writer.knows.written slot value; wrote = writer.knows.wrote ++ (slot, value) ∷ []; pending = 0 } } }
+        ensures { result ≡ record writer { knows = record writer.knows { written = slice_set writer.knows.written slot value; wrote = writer.knows.wrote ++ (slot, value) ∷ []; pending = None } } }
     {
         let word = self.slots + slot;
         self.words
@@ -239,8 +272,9 @@ impl FlipTable {
     pub fn poll(&self, mut writer: Writer) -> (u64, Writer)
         requires { IsWriterOf self.now writer }
         ensures writer { result.1 ≡ record writer { knows = record writer.knows { polled = result.0 } } }
-        ensures paced { IsStageOrOneLess writer.knows.taken_up result.0 }
+        ensures paced { IsPostedOrOneLess writer.knows.taken_up result.0 }
         ensures rises { writer.knows.polled ≤ result.0 }
+        ensures last { result.0 ≤ 2 }
     {
         let word = self.slots + self.slots + self.seats;
         writer.polled = self.words.shared.load::<PollStage>(&mut writer.token, word);
@@ -249,7 +283,7 @@ impl FlipTable {
 
     /// Takes up the stage that the seat last polled.
     pub fn take_up(&self, mut writer: Writer) -> Writer
-        requires { IsWriterOf self.now writer × (writer.knows.pending ≡ 0) }
+        requires { IsWriterOf self.now writer × (writer.knows.pending ≡ None) }
         ensures { result ≡ record writer { knows = record writer.knows { taken_up = writer.knows.polled } } }
     {
         let word = self.slots + self.slots + writer.index;
@@ -264,7 +298,7 @@ impl FlipTable {
     pub fn load_to_copy(&self, mut copier: Copier, slot: usize) -> (u64, Copier)
         requires table { IsCopierOf self.now copier × (slot < length self.now.plan.owners) }
         requires stage { copier.knows.stage ≡ 0 }
-        ensures copier { result.1 ≡ record copier { knows = record copier.knows { copying = slot + 1; value = result.0; stored = 0 } } }
+        ensures copier { result.1 ≡ record copier { knows = record copier.knows { copying = Some slot; value = result.0; stored = false } } }
         ensures small { result.0 < self.now.plan.limit }
     {
         let value = self
@@ -277,9 +311,9 @@ impl FlipTable {
     /// Stores the forward of the loaded value to the second copy of a slot. The slot stops counting as copied.
     pub fn store_copy(&self, mut copier: Copier, slot: usize, value: u64) -> Copier
         requires table { IsCopierOf self.now copier × (slot < length self.now.plan.owners) }
-        requires stage { (copier.knows.stage ≡ 0) × (copier.knows.copying ≡ slot + 1) }
+        requires stage { (copier.knows.stage ≡ 0) × (copier.knows.copying ≡ Some slot) }
         requires value { (copier.knows.value ≡ value) × (value < self.now.plan.limit) }
-        ensures { result ≡ record copier { knows = record copier.knows { stored = 1; copied = slice_set copier.knows.copied slot 0 } } }
+        ensures { result ≡ record copier { knows = record copier.knows { stored = true; copied = slice_set copier.knows.copied slot false } } }
     {
         let word = self.slots + slot;
         self.words
@@ -291,9 +325,9 @@ impl FlipTable {
     /// Loads the first copy again. Where it has the same value, the slot counts as copied.
     pub fn load_to_check(&self, mut copier: Copier, slot: usize) -> (u64, Copier)
         requires table { IsCopierOf self.now copier × (slot < length self.now.plan.owners) }
-        requires stage { (copier.knows.stage ≡ 0) × (copier.knows.copying ≡ slot + 1) × (copier.knows.stored ≡ 1) }
-        ensures same { result.0 ≡ copier.knows.value → result.1 ≡ record copier { knows = record copier.knows { copying = 0; copied = slice_set copier.knows.copied slot 1 } } }
-        ensures changed { result.0 ≢ copier.knows.value → result.1 ≡ record copier { knows = record copier.knows { copying = 0 } } }
+        requires stage { (copier.knows.stage ≡ 0) × (copier.knows.copying ≡ Some slot) × (copier.knows.stored ≡ true) }
+        ensures same { result.0 ≡ copier.knows.value → result.1 ≡ record copier { knows = record copier.knows { copying = None; checked = result.0; copied = slice_set copier.knows.copied slot true } } }
+        ensures changed { result.0 ≢ copier.knows.value → result.1 ≡ record copier { knows = record copier.knows { copying = None; checked = result.0 } } }
     {
         let value = self
             .words
@@ -306,7 +340,7 @@ impl FlipTable {
     pub fn find(&self, mut copier: Copier, seat: usize) -> (u64, Copier)
         requires { IsCopierOf self.now copier × (seat < self.now.plan.seats) }
         ensures copier { result.1 ≡ record copier { knows = record copier.knows { found = slice_set copier.knows.found seat result.0 } } }
-        ensures paced { IsStageOrOneLess result.0 copier.knows.stage }
+        ensures paced { IsPostedOrOneLess result.0 copier.knows.stage }
         ensures rises { slice_index copier.knows.found seat ≤ result.0 }
     {
         let word = self.slots + self.slots + seat;
@@ -317,8 +351,8 @@ impl FlipTable {
     /// Posts the next stage, once each seat was found to have taken up this one and, at stage 0, every slot is copied.
     pub fn post(&self, mut copier: Copier) -> Copier
         requires table { IsCopierOf self.now copier }
-        requires found { FoundAll copier.knows.stage copier.knows × (copier.knows.stage < 2) }
-        requires copied { copier.knows.stage ≡ 0 → CopiedAll copier.knows }
+        requires found { FoundAll self.now.plan.seats copier.knows.stage copier.knows.found × (copier.knows.stage < 2) }
+        requires copied { copier.knows.stage ≡ 0 → AllMarked copier.knows.copied }
         ensures { result ≡ record copier { knows = record copier.knows { stage = copier.knows.stage + 1 } } }
     {
         let word = self.slots + self.slots + self.seats;
@@ -332,8 +366,8 @@ impl FlipTable {
     /// Stores the mark over the first copy of a slot, once each seat was found at stage 2.
     pub fn retire(&self, mut copier: Copier, slot: usize) -> Copier
         requires table { IsCopierOf self.now copier × (slot < length self.now.plan.owners) }
-        requires found { FoundAll 2 copier.knows }
-        ensures { result ≡ record copier { knows = record copier.knows { retired = slice_set copier.knows.retired slot 1 } } }
+        requires found { FoundAll self.now.plan.seats 2 copier.knows.found }
+        ensures { result ≡ record copier { knows = record copier.knows { retired = slice_set copier.knows.retired slot true } } }
     {
         self.words
             .shared

@@ -38,8 +38,8 @@ pub struct WriterView {
     pub written: [u64; 0],
     /// Every slot and value that it ever wrote.
     pub wrote: [(u64, u64); 0],
-    /// One more than the slot whose second copy it has still to store, or 0.
-    pub pending: u64,
+    /// The slot whose second copy it has still to store.
+    pub pending: Option<u64>,
 }
 
 /// What the copier knows.
@@ -50,16 +50,18 @@ pub struct CopierView {
     pub dealt: u64,
     /// The stage that each seat was last found to have taken up.
     pub found: [u64; 0],
-    /// One more than the slot that it copies, or 0.
-    pub copying: u64,
+    /// The slot that it copies.
+    pub copying: Option<u64>,
     /// The value that it loaded for this.
     pub value: u64,
-    /// 1 once that value is stored in the second copy.
-    pub stored: u64,
-    /// 1 for each slot that was copied.
-    pub copied: [u64; 0],
-    /// 1 for each slot that was retired.
-    pub retired: [u64; 0],
+    /// The value that it last loaded to check a copy.
+    pub checked: u64,
+    /// Whether that value is stored in the second copy.
+    pub stored: bool,
+    /// Of each slot, whether it was copied.
+    pub copied: [bool; 0],
+    /// Of each slot, whether it was retired.
+    pub retired: [bool; 0],
 }
 
 /// What the holder of a token knows.

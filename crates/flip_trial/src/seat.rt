@@ -1,0 +1,97 @@
+//! What a seat does in a trial.
+
+ghost use Rattle.std.specs.Prelude.{◌≡◌, ◌+◌, ◌*◌, ◌<◌, ◌≤◌, ◌%◌, true};
+ghost use Rattle.word_flip.specs.Tokens.{IsWriterOf};
+ghost use Rattle.flip_trial.specs.Trial.{own_count, place_count, IsFlipOf, IsSameSeat};
+
+use crate::sizes::Sizes;
+use std::thread::yield_now;
+use word_flip::{Flip, Writer};
+
+/// No waiting loop takes more turns than this.
+pub(crate) const MOST_TURNS: u32 = 1_000_000;
+
+/// The last stage.
+const RECLAIM: u64 = 2;
+
+/// What a seat found.
+#[derive(Drop)]
+pub(crate) struct SeatReport {
+    /// How often a load gave what was stored just before.
+    pub kept: u64,
+    /// Whether the last stage was found in time.
+    pub reclaims: bool,
+}
+
+/// Stores an object to the place, loads it, and answers whether the load gave the same.
+fn keep(flip: &Flip, writer: Writer, sizes: Sizes, place: usize, round: u16) -> (bool, Writer)
+    requires flip { IsFlipOf sizes flip.now }
+    requires writer { IsWriterOf flip.now writer }
+    requires own { (place < place_count sizes) × (place % sizes.seats ≡ writer.seat) }
+    requires round { round < sizes.rounds }
+    ensures kept { result.0 ≡ true }
+    ensures writer { IsSameSeat writer result.1 }
+{
+    let slot = sizes.slot_at(place);
+    let object = Some((round + slot.object) % sizes.objects);
+    let writer = flip.store(writer, slot.object, slot.slot, object);
+    let (loaded, writer) = flip.load(writer, slot.object, slot.slot);
+    (loaded == object, writer)
+}
+
+/// Does so at each place of the seat's own, and counts where the load gave the same.
+fn keep_all(flip: &Flip, writer: Writer, sizes: Sizes, round: u16) -> (u64, Writer)
+    requires flip { IsFlipOf sizes flip.now }
+    requires writer { IsWriterOf flip.now writer }
+    requires round { round < sizes.rounds }
+    ensures kept { result.0 ≡ own_count writer }
+    ensures writer { IsSameSeat writer result.1 }
+{
+    let seat = writer.seat();
+    let mut writer = writer;
+    let mut kept = 0;
+    for place in 0..sizes.places() {
+        if place % usize::from(sizes.seats) == seat {
+            let (same, after) = keep(flip, writer, sizes, place, round);
+            kept += u64::from(same);
+            writer = after;
+        }
+    }
+    (kept, writer)
+}
+
+/// Takes up the posted stage until it is the last, and answers whether it came in time.
+fn await_reclaim(flip: &Flip, writer: Writer) -> bool
+    requires { IsWriterOf flip.now writer }
+{
+    let mut writer = writer;
+    for _ in 0..MOST_TURNS {
+        let (stage, after) = flip.flip_ack(writer);
+        if stage == RECLAIM {
+            return true;
+        }
+        writer = after;
+        yield_now();
+    }
+    false
+}
+
+/// The work of a seat: all rounds, each followed by taking up the posted stage, and then to wait for the last stage.
+pub(crate) fn run_seat(flip: &Flip, writer: Writer, sizes: Sizes) -> SeatReport
+    requires flip { IsFlipOf sizes flip.now }
+    requires writer { IsWriterOf flip.now writer }
+    ensures { result.kept ≡ sizes.rounds * own_count writer }
+{
+    let mut writer = writer;
+    let mut kept = 0;
+    for round in 0..sizes.rounds {
+        let (more, after) = keep_all(flip, writer, sizes, round);
+        kept += more;
+        let (_stage, after) = flip.flip_ack(after);
+        writer = after;
+    }
+    SeatReport {
+        kept,
+        reclaims: await_reclaim(flip, writer),
+    }
+}

@@ -1,0 +1,151 @@
+//! The trial.
+
+ghost use Rattle.std.specs.Prelude.{◌≡◌, ◌+◌, ◌*◌, ◌%◌, ◌<◌, ◌≤◌, ◌^◌, ℕ, All, IfOk, true, sum_by, vec_len, slice_index};
+ghost use Rattle.std.specs.Arc.{arc_value};
+ghost use Rattle.word_flip.specs.Tokens.{IsWriterOf};
+ghost use Rattle.flip_trial.specs.Promised.{promised, promised_by};
+ghost use Rattle.flip_trial.specs.Trial.{own_count, place_count, IsFlipOf};
+
+use crate::collector::run_copier;
+use crate::seat::{SeatReport, run_seat};
+use crate::sizes::Sizes;
+use std::alloc::{AllocError, Global};
+use std::snapshot::Snapshot;
+use std::sync::Arc;
+use std::thread;
+use std::thread::{Promise, PromisedHandle, Threads};
+use word_flip::{Flip, Writer};
+
+/// What a trial gave.
+#[derive(Clone, Copy, Debug, PartialEq, Eq)]
+pub struct Outcome {
+    /// How often a load gave what its seat had stored just before.
+    pub kept: u64,
+    /// How many first copies were retired.
+    pub retired: u64,
+    /// Whether every loop that waits ended in time.
+    pub finished: bool,
+}
+
+/// A seat keeps what it stores, in all rounds and all its slots.
+#[derive(Drop)]
+struct KeepsAll {
+    rounds: u16,
+    writer: Snapshot<Writer>,
+}
+
+impl Promise<SeatReport> for KeepsAll {
+    ghost use Rattle.std.specs.Prelude.{◌≡◌};
+    ghost use Rattle.flip_trial.specs.Promised.{promised};
+
+    ghost kept_by = { λ promise report. report.kept ≡ promised promise };
+}
+
+/// The thread of a seat.
+type SeatThread = PromisedHandle<SeatReport, KeepsAll>;
+
+/// The seat that writes to each place.
+fn owners(alloc: Global, sizes: Sizes) -> Result<Vec<u8>, AllocError>
+    ensures each { IfOk result (λ owners. (vec_len owners ≡ place_count sizes) × ((place : ℕ) → place < place_count sizes → slice_index owners.items place ≡ place % sizes.seats)) }
+{
+    let mut owners = Vec::new(alloc);
+    for place in 0..sizes.places() {
+        owners.push((place % usize::from(sizes.seats)) as u8)?;
+    }
+    Ok(owners)
+}
+
+/// Starts the thread of a seat.
+fn start_seat(
+    rt: &impl Threads,
+    flip: &Arc<Flip>,
+    writer: Writer,
+    sizes: Sizes,
+) -> Result<SeatThread, AllocError>
+    requires { IsFlipOf sizes (arc_value flip.now) × IsWriterOf (arc_value flip.now) writer }
+    ensures { IfOk result (λ thread. promised thread.promise ≡ sizes.rounds * own_count writer) }
+{
+    let theirs = Arc::try_clone(flip)?;
+    let promise = KeepsAll {
+        rounds: sizes.rounds,
+        writer: Snapshot::of(&writer),
+    };
+    let thread = thread::spawn_with(rt, promise, move || run_seat(&theirs, writer, sizes))?;
+    Ok(thread)
+}
+
+/// Waits for threads whose reports nobody needs.
+fn abandon(rt: &impl Threads, threads: Vec<SeatThread>) {
+    for thread in threads {
+        thread.join(rt);
+    }
+}
+
+/// Starts a thread for each writer. Where one can't be started, those before it are joined.
+fn start_all(
+    rt: &impl Threads,
+    alloc: Global,
+    flip: &Arc<Flip>,
+    writers: Vec<Writer>,
+    sizes: Sizes,
+) -> Result<Vec<SeatThread>, AllocError>
+    requires { IsFlipOf sizes (arc_value flip.now) × All (IsWriterOf (arc_value flip.now)) writers.items }
+    ensures { IfOk result (λ threads. sum_by promised_by threads.items ≡ sizes.rounds * sum_by own_count writers.items) }
+{
+    let mut threads = Vec::with_capacity(alloc, writers.len())?;
+    for writer in writers {
+        match start_seat(rt, flip, writer, sizes) {
+            Ok(thread) => threads.push_reserved(thread),
+            Err(refused) => {
+                abandon(rt, threads);
+                return Err(refused);
+            }
+        }
+    }
+    Ok(threads)
+}
+
+/// Joins each thread, and adds up what their seats found.
+fn join_all(rt: &impl Threads, threads: Vec<SeatThread>) -> SeatReport
+    requires { sum_by promised_by threads.items < 2 ^ 64 }
+    ensures { result.kept ≡ sum_by promised_by threads.items }
+{
+    let mut kept = 0;
+    let mut reclaims = true;
+    for thread in threads {
+        let report = thread.join(rt);
+        kept += report.kept;
+        reclaims = reclaims && report.reclaims;
+    }
+    SeatReport { kept, reclaims }
+}
+
+/// Runs a trial: each seat, in a thread of its own, stores an object to each of its slots, loads it, and takes up the
+/// posted stage, round by round, while the calling thread copies each slot, advances to the last stage and retires each
+/// first copy.
+///
+/// Each loop that waits takes at most 1,000,000 turns. All threads are joined. Want of memory, or of a thread, is the
+/// only error.
+pub fn run(rt: &impl Threads, alloc: Global, sizes: Sizes) -> Result<Outcome, AllocError>
+    ensures kept { IfOk result (λ outcome. outcome.kept ≡ sizes.rounds * place_count sizes) }
+    ensures retired { IfOk result (λ outcome. outcome.finished ≡ true → outcome.retired ≡ place_count sizes) }
+    ensures few { IfOk result (λ outcome. outcome.retired ≤ place_count sizes) }
+{
+    let owners = owners(alloc, sizes)?;
+    let (flip, copier, writers) = Flip::new(
+        alloc,
+        sizes.objects,
+        sizes.slots,
+        owners.as_slice(),
+        sizes.seats,
+    )?;
+    let flip = Arc::new(alloc, flip)?;
+    let threads = start_all(rt, alloc, &flip, writers, sizes)?;
+    let copied = run_copier(&flip, copier, sizes);
+    let seats = join_all(rt, threads);
+    Ok(Outcome {
+        kept: seats.kept,
+        retired: copied.retired,
+        finished: seats.reclaims && copied.finished,
+    })
+}

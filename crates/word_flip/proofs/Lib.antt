@@ -1,0 +1,2 @@
+pub mod ObjectWords
+pub mod Opening

@@ -1,0 +1,21 @@
+-- What a word names.
+use Rattle.std.proofs.Common.{◌≡◌, ℕ, zero, suc, ◌+◌, ◌<◌, Option, Some, None, IfSome, List, map, set, ap, ◌∙◌, arith}
+use Rattle.std.proofs.lemmas.List.{map-set}
+use Rattle.word_flip.specs.Objects.{object_of}
+
+-- a word that is not 0 names the object one below it
+pub named : (word object : ℕ) → word ≡ object + 1 → object_of word ≡ Some object
+named zero object e = absurd (omega arith)
+named (suc n) object e = ap Some (let same : n ≡ object = omega arith in same)
+
+pub null : (word : ℕ) → word ≡ 0 → object_of word ≡ None
+null word e = ap object_of e
+
+-- a word below the limit names null, or an object below the number of objects
+pub named_below : (word objects : ℕ) → word < objects + 1 → IfSome (object_of word) (λ object. object < objects)
+named_below zero objects l = tt
+named_below (suc n) objects l = omega arith
+
+-- what the words name, once an object was written
+pub written_to : (words : List ℕ) (place word : ℕ) (object : Option ℕ) → object_of word ≡ object → map object_of (set words place word) ≡ set (map object_of words) place object
+written_to words place word object e = map-set object_of words place word ∙ ap (λ (o : Option ℕ). set (map object_of words) place o) e

@@ -1,0 +1,26 @@
+-- The writers of a new flip.
+use Rattle.std.proofs.Common.{◌≡◌, ℕ, zero, suc, All, Option, None, List, [], ◌∷◌, map, length, replicate, refl, ap}
+use Rattle.std.proofs.lemmas.List.{length-replicate}
+use Rattle.std.proofs.lemmas.List.Elements.{All-map}
+use Rattle.std.specs.List.{range_with_len}
+use Rattle.atomic_table.specs.Seated.{TableId}
+use Rattle.flip_table.specs.Tokens as Table
+use Rattle.flip_table.specs.declared.slot_table.PlanView.{PlanView}
+use Rattle.word_flip.specs.Objects.{object_of}
+use Rattle.word_flip.specs.Tokens.{writer_value, opening_writer, opening_writers}
+
+map_twice : {X Y Z : Type 0} (g : Y → Z) (f : X → Y) (h : X → Z) → ((x : X) → g (f x) ≡ h x) → (xs : List X) → map g (map f xs) ≡ map h xs
+map_twice g f h same [] = refl
+map_twice g f h same (x ∷ xs) = λ k. same x k ∷ map_twice g f h same xs k
+
+nulls : (count : ℕ) → map object_of (replicate {A = ℕ} count 0) ≡ replicate count None
+nulls zero = refl
+nulls (suc count) = λ k. None ∷ nulls count k
+
+pub opened : (table : TableId) (plan : PlanView) → map writer_value (Table.opening_writers table plan) ≡ opening_writers table plan
+opened table plan = map_twice writer_value (Table.opening_seat table plan) (opening_writer table plan)
+    (λ seat. ap (λ (written : List (Option ℕ)). record { table = table; plan = plan; seat = seat; stage = 0; written = written }) (nulls (length plan.owners))) (range_with_len 0 plan.seats)
+
+pub opened_idle : (table : TableId) (plan : PlanView) → All (λ token. (token.knows.pending ≡ None) × (length token.knows.written ≡ length token.knows.plan.owners)) (Table.opening_writers table plan)
+opened_idle table plan = All-map (λ (token : Table.WriterValue). (token.knows.pending ≡ None) × (length token.knows.written ≡ length token.knows.plan.owners)) (Table.opening_seat table plan) (range_with_len 0 plan.seats)
+    (λ k d l. (refl, length-replicate {A = ℕ} (length plan.owners) 0))

@@ -1,0 +1,81 @@
+-- What callers see of the flip, its writers and its copier (this profile).
+use Rattle.std.specs.Prelude.{◌≡◌, ℕ, ◌+◌, ◌*◌, ◌<◌, Bool, false, Option, None, List, map, length, replicate, slice_index}
+use Rattle.std.specs.List.{range_with_len}
+use Rattle.atomic_table.specs.Seated.{TableId}
+use Rattle.flip_table.specs.Rule.{IsMarked}
+use Rattle.flip_table.specs.Tokens as Table
+use Rattle.flip_table.specs.declared.slot_table.PlanView.{PlanView}
+use Rattle.word_flip.specs.Objects.{object_of}
+
+-- `table` says of which flip something is: no two have the same. `plan` has the owner of each place and the number of seats.
+pub record FlipValue : Type 0 where
+  pub table : TableId
+  pub plan : PlanView
+  pub objects : ℕ
+  pub slots : ℕ
+
+-- `stage` is the stage that the seat has taken up. `written` has for each place what this seat last wrote there, or null.
+pub record WriterValue : Type 0 where
+  pub table : TableId
+  pub plan : PlanView
+  pub seat : ℕ
+  pub stage : ℕ
+  pub written : List (Option ℕ)
+
+-- what callers see of a writer of the table
+abbrev pub writer_value : Table.WriterValue → WriterValue
+writer_value token = record { table = token.table; plan = token.knows.plan; seat = token.knows.index; stage = token.knows.taken_up; written = map object_of token.knows.written }
+
+-- `found` has for each seat the stage that it was last found to have taken up. `first_load` and `second_load` are the words that the last copying loaded, before and after its store. `copied` and `retired` say it of each place.
+pub record CopierValue : Type 0 where
+  pub table : TableId
+  pub plan : PlanView
+  pub stage : ℕ
+  pub found : List ℕ
+  pub first_load : ℕ
+  pub second_load : ℕ
+  pub copied : List Bool
+  pub retired : List Bool
+
+abbrev pub IsWriterOf : FlipValue → WriterValue → Type 0
+IsWriterOf flip writer = (writer.table ≡ flip.table) × (writer.plan ≡ flip.plan)
+
+abbrev pub IsCopierOf : FlipValue → CopierValue → Type 0
+IsCopierOf flip copier = (copier.table ≡ flip.table) × (copier.plan ≡ flip.plan)
+
+-- There is this slot of this object.
+abbrev pub HasSlot : FlipValue → ℕ → ℕ → Type 0
+HasSlot flip object slot = (object < flip.objects) × (slot < flip.slots)
+
+-- the place of a slot among all slots
+abbrev pub place_of : FlipValue → ℕ → ℕ → ℕ
+place_of flip object slot = object * flip.slots + slot
+
+-- This writer alone writes to the slot.
+abbrev pub IsOwn : FlipValue → WriterValue → ℕ → ℕ → Type 0
+IsOwn flip writer object slot = slice_index flip.plan.owners (place_of flip object slot) ≡ writer.seat
+
+-- Some place is not copied.
+abbrev pub SomeUncopied : List Bool → Type 0
+SomeUncopied copied = (place : ℕ) × (place < length copied) × ¬ IsMarked copied place
+
+-- the writer of a seat before any call
+abbrev pub opening_writer : TableId → PlanView → ℕ → WriterValue
+opening_writer table plan seat = record { table = table; plan = plan; seat = seat; stage = 0; written = replicate (length plan.owners) None }
+
+-- the writers of the seats 0, 1, .. before any call
+abbrev pub opening_writers : TableId → PlanView → List WriterValue
+opening_writers table plan = map (opening_writer table plan) (range_with_len 0 plan.seats)
+
+-- the copier before any call
+abbrev pub opening_copier : TableId → PlanView → CopierValue
+opening_copier table plan = record {
+  table = table;
+  plan = plan;
+  stage = 0;
+  found = replicate plan.seats 0;
+  first_load = 0;
+  second_load = 0;
+  copied = replicate (length plan.owners) false;
+  retired = replicate (length plan.owners) false;
+}
