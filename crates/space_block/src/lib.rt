@@ -3,6 +3,8 @@
 
 ghost use Rattle.std.specs.Prelude.{◌≡◌, ◌<◌, ◌≤◌, ◌-◌, ◌++◌, replicate, take, drop, length, slice_index, slice_set, IfOk};
 
+mod words;
+
 use cil_model::memory::NoMemory;
 use std::alloc::Global;
 use std::marker::Model;

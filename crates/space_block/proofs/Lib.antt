@@ -1,0 +1,4 @@
+pub mod Sharing
+pub mod Places
+pub mod Values
+pub mod Walks
