@@ -1,19 +1,19 @@
 -- Places side by side: one is taken out of the row, put back or seen, and room for words is a row of places.
 use Prim.Native.Nat.{ℕ, zero, suc, ◌+◌, ◌*◌, ◌<◌, ◌≤◌}
 use native.Mathlib.Omega.{arith}
-use mathlib.Core.Path.{◌≡◌, refl, sym, ap, subst, ◌∙◌}
+use mathlib.Core.Path.{◌≡◌, refl, sym, ap, ◌∙◌}
 use mathlib.Core.List.{List, [], ◌∷◌, ◌++◌}
 use lib.ListN.{length, take, drop, set, get_or, replicate, take-append-drop, length-take}
 use lib.Seq.{drop-cons, set_split}
 use seplogic.Ra.Ura.{Ura}
 use base.Fraction.{full_share}
-use base.Fml.{Fml, Lft, ftrue, fsep, fat, froom}
+use base.Fml.{Fml, Lft, ftrue, fsep, froom}
 use base.Logic.{ent, sep, via, snd∗, id⊢}
 use mir.Syntax.{w64, ty_int, ty_array}
 use mir.Val.{vint}
 use types.Logic.{Logic, sem}
 use types.Kit.{‵, ◌⊛◌, ◌$◌, ◌∵◌, !, qed, by, move, keep, drop as skip, use1, use2, split, frame, fsplit, fjoin, rewrite, done}
-use denote.Plain.{uint_in, uint_out}
+use denote.Plain.{uint_out}
 use denote.Steps.{nothing}
 use Rattle.std.specs.Prelude.{Option, Some, None}
 use Rattle.space_block.specs.Memory.{place, places, place_lent, places_lent}

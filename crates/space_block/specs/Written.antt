@@ -1,5 +1,5 @@
 -- The words that places hold.
-use Rattle.std.specs.Prelude.{◌≡◌, ℕ, List, [], ◌∷◌, map, get_or, Option, Some, None}
+use Rattle.std.specs.Prelude.{◌≡◌, ℕ, List, [], ◌∷◌, get_or, Option, Some, None}
 
 -- the words of the places that hold one
 abbrev pub written : List (Option ℕ) → List ℕ

@@ -1,6 +1,6 @@
 // Words behind a pointer. No function but the four of this file follows one.
 
-ghost use Rattle.std.specs.Prelude.{◌≡◌, ◌<◌, ℕ, List, Option, Some, None, length, replicate, get_or, slice_set, IfOk};
+ghost use Rattle.std.specs.Prelude.{◌≡◌, ◌-◌, ◌<◌, ◌≤◌, ◌++◌, ℕ, List, Option, Some, None, length, take, drop, replicate, get_or, slice_set, IfOk};
 ghost use denote.RawPtr.{Ptr};
 ghost use Rattle.space_block.specs.Memory.{FitsBlock, words_owned, words_lent};
 ghost use Rattle.space_block.specs.Written.{IsWritten};
@@ -83,11 +83,7 @@ pub(crate) fn take<A: Allocator>(
             let front = Front {
                 start: block as *mut u64,
             };
-            Ok((
-                front,
-                Words {},
-                Lease { mark: PhantomData },
-            ))
+            Ok((front, Words {}, Lease { mark: PhantomData }))
         }
         Err(error) => Err(error),
     }
@@ -129,5 +125,15 @@ impl Words {
         ensures { (self.new.at ≡ self.old.at) × (self.new.places ≡ slice_set self.old.places place (Some word)) }
     {
         unsafe { *front.start.add(place) = word };
+    }
+
+    /// Stores 0 in each place from `from` on and below `to`.
+    pub(crate) fn clear(&mut self, front: Front, from: usize, to: usize)
+        requires { (front.start ≡ self.old.at) × (from ≤ to) × (to ≤ length self.old.places) }
+        ensures { (self.new.at ≡ self.old.at) × (self.new.places ≡ take from self.old.places ++ replicate (to - from) (Some 0) ++ drop to self.old.places) }
+    {
+        for place in from..to {
+            self.write(front, place, 0);
+        }
     }
 }

@@ -1,11 +1,10 @@
 -- The places are room again, and go back to the allocator with the right to free them.
-use Rattle.std.proofs.Common.{◌≡◌, ℕ, ◌*◌, ◌^◌, ◌<◌, List, [], ◌∷◌, ◌++◌, length, T, sym, refl, ap, subst, ◌∙◌, arith, lit<, w64}
-use Rattle.std.specs.Prelude.{Option}
+use Rattle.std.proofs.Common.{◌≡◌, ℕ, ◌*◌, ◌^◌, ◌<◌, List, [], ◌∷◌, length, T, sym, refl, ap, subst, ◌∙◌, arith, lit<, w64}
 use Rattle.std.proofs.RcSteps.{word-Good}
-use Rattle.std.proofs.alloc.Calls.{Al, seen, Gives, at_gives, Gives-goes, Gives-Gives, Goes-blank}
+use Rattle.std.proofs.alloc.Calls.{Al, Gives, at_gives, Gives-goes, Gives-Gives, Goes-blank}
 use Rattle.std.proofs.raw_atomic.Walks.{proved_at, leaves}
 use Rattle.std.proofs.alloc.Shapes.{after}
-use base.Logic.{SProp, ent, emp, never, id⊢}
+use base.Logic.{SProp, ent, never, id⊢}
 use base.Fml.{ftrue, flft, froom}
 use mir.MapTy.{inst_fn}
 use mir.Raw.{raw as bare}

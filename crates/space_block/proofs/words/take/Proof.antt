@@ -1,29 +1,28 @@
 -- The allocator is asked for the words' bytes, and what it gives is cut into places.
-use Rattle.std.proofs.Common.{◌≡◌, ℕ, ◌*◌, ◌^◌, ◌<◌, true, false, List, [], ◌∷◌, ◌++◌, length, replicate, sym, refl, ap, subst, ◌∙◌, arith, lit<, w64}
-use Rattle.std.specs.Prelude.{Option, Some, None, Ok, Err, IfOk}
+use Rattle.std.proofs.Common.{◌≡◌, ◌*◌, ◌^◌, ◌<◌, true, false, List, [], ◌∷◌, length, replicate, sym, refl, ap, subst, ◌∙◌, arith, lit<, w64}
+use Rattle.std.specs.Prelude.{None, Ok, Err}
 use Rattle.std.proofs.lemmas.List.{length-replicate}
 use Rattle.std.proofs.RcSteps.{word-Good}
-use Rattle.std.proofs.RawLayout.{as_written}
 use Rattle.std.proofs.ResultValues.{ok_of, err_of}
-use Rattle.std.proofs.alloc.Calls.{Al, Takes, at_takes, Answered, Answer-typed, Takes-goes, Takes-gives, answers, seen}
+use Rattle.std.proofs.alloc.Calls.{Al, Takes, at_takes, Answered, Answer-typed, Takes-goes, Takes-gives, answers}
 use Rattle.std.proofs.raw_atomic.Walks.{proved_at, leaves}
 use Rattle.std.proofs.alloc.Shapes.{after, head, arm_body}
 use Rattle.std.specs.contracts.result.Result as result
 use Rattle.std.specs.contracts.alloc.AllocError as refusal
-use base.Logic.{SProp, ent, emp, id⊢}
+use base.Logic.{SProp, ent, emp}
 use base.Fml.{ftrue, flft}
 use mir.MapTy.{inst_fn}
 use mir.Raw.{raw as bare}
 use mir.Syntax.{Ty, Fn, Args, a_type, dcons, dnil, ty_int, ty_array}
-use mir.Val.{Val, vint, vptr, vstruct, vcons, vnil}
+use mir.Val.{Val, vint, vptr, vcons, vnil}
 use prog.Capped.{capped_is}
-use prog.Memory.{size, align, capped}
+use prog.Memory.{capped}
 use prog.RawLaws.{size-raw, align-raw}
 use prog.Wp.{Env, WpFn}
 use contract.BorrowLft.{◌⊑◌, ⊑_trans}
 use contract.Monad.{fact, fact_i}
 use contract.Running.{tables}
-use types.Kit.{‵, raw, ◌⊛◌, later, await, at_ret, ◌$◌, ◌∵◌, !, qed, by, move, keep, drop, use0, use1, use2, use3, split, join, fsplit, fjoin, flt_i}
+use types.Kit.{‵, raw, ◌⊛◌, later, await, at_ret, ◌$◌, ◌∵◌, !, qed, by, move, keep, use0, use1, use2, use3, split, join, fsplit, fjoin, flt_i}
 use types.Match.{live, vrt, in_variant}
 use types.Part.{whole, agg}
 use types.Run.{stop, fld, lit, of_opd, bin, no_more, and_then, first, switches_on, exec, returns, enter}
@@ -33,10 +32,9 @@ use denote.Param.{param, bounded}
 use denote.RattleType.{RattleType, owns}
 use denote.RawPtr.{Ptr, block_ptr}
 use denote.Signature.{plain, types_at}
-use denote.Steps.{nothing, heard, owned}
+use denote.Steps.{nothing, heard}
 use denote.Struct.Tuple.{Tuple}
 use denote.Triple.Call.{calls_at}
-use denote.Triple.Entry.{alive}
 use denote.Triple.Table.{framed}
 use denote.Triple.Walked.{Stays, stay_dropped, walk_of, Goes-dropped}
 use Rattle.space_block.specs.Memory.{FitsBlock, places}

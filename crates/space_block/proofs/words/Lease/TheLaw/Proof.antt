@@ -1,6 +1,5 @@
 -- A `&` to a lease holds nothing.
 use denote.RattleType.{RattleType}
-use denote.RawPtr.{RawPtr}
 use denote.Param.Laws.{Laws}
 use denote.Param.Shared.{copy_shared}
 use denote.SharingLaws.{nothing_shr_laws}

@@ -1,5 +1,5 @@
 -- A word is read through a `&` to its owner.
-use Rattle.std.proofs.Common.{◌≡◌, ℕ, ◌+◌, ◌*◌, ◌^◌, ◌<◌, List, [], ◌∷◌, ◌++◌, length, get_or, sym, refl, ap, subst, ◌∙◌, arith, w64}
+use Rattle.std.proofs.Common.{◌≡◌, ℕ, ◌+◌, ◌*◌, ◌^◌, ◌<◌, List, [], ◌∷◌, get_or, sym, refl, subst, ◌∙◌, arith, w64}
 use Rattle.std.specs.Prelude.{Option, Some, None}
 use Rattle.std.proofs.RcSteps.{word-Good}
 use Rattle.std.proofs.Words.{word_in, word_out}

@@ -1,6 +1,6 @@
 -- A word is stored at its place.
-use Rattle.std.proofs.Common.{◌≡◌, ℕ, ◌+◌, ◌*◌, ◌^◌, ◌<◌, List, [], ◌∷◌, ◌++◌, length, set, get_or, sym, refl, ap, subst, ◌∙◌, arith, length-set, w64}
-use Rattle.std.specs.Prelude.{Option, Some, None}
+use Rattle.std.proofs.Common.{◌≡◌, ◌+◌, ◌*◌, ◌^◌, ◌<◌, List, [], ◌∷◌, length, set, get_or, sym, refl, subst, ◌∙◌, arith, length-set, w64}
+use Rattle.std.specs.Prelude.{Some, None}
 use Rattle.std.proofs.RcSteps.{word-Good}
 use Rattle.std.proofs.raw_atomic.Walks.{proved_at, leaves}
 use Rattle.std.proofs.VecSteps.Shapes.{after}
