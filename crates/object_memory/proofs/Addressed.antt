@@ -27,7 +27,8 @@ kept at (x ∷ xs) c d a e = kept_from (a == at) (kept (at + size x) xs c d a) e
     kept_from false rest e = rest e
 
 module _ (h : Cells) (k : Kind) (n : ℕ) where
-  abbrev answer : Bool → Cells × Option Addr
+  -- what a birth answers, by whether there is room
+  abbrev pub answer : Bool → Cells × Option Addr
   answer b = if b then (record h { cells = h.cells ++ new_cell k n ∷ [] }, Some (next_address h)) else (h, None)
 
   at_answer : (b : Bool) (a : Addr) → (answer b).1 ≡ Some a → cell_at (answer b).0 a ≡ Some (new_cell k n)

@@ -61,6 +61,14 @@ cell_at h a = cell_from first h.cells a.number
 abbrev pub change_at : (Cell → Cell) → Cells → Addr → Cells
 change_at f h a = record h { cells = change_from f first h.cells a.number }
 
+-- the addresses of the cells, in the order of their births
+abbrev pub addresses_from : ℕ → List Cell → List Addr
+addresses_from at [] = []
+addresses_from at (c ∷ cs) = record { number = at } ∷ addresses_from (at + size c) cs
+
+abbrev pub addresses : Cells → List Addr
+addresses h = addresses_from first h.cells
+
 -- the words of the slots of the cell at an address
 abbrev pub slots_at : Cells → Addr → List ℕ
 slots_at h a = unwrap_or (option_map (λ (c : Cell). c.slots) (cell_at h a)) []

@@ -57,3 +57,20 @@ fn headers_tell_what_was_set(rt: HostRuntime) -> Result<(), Fail> {
     assert_eq!(rt; heap.monitor(address), held);
     Ok(())
 }
+
+#[test]
+#[tactic(auto, using(crate::proofs::Addressed::birth_at, crate::proofs::Addressed::birth_keeps))]
+fn a_walk_meets_each_object_in_the_order_of_births(rt: HostRuntime) -> Result<(), Fail> {
+    let mut heap = Heap::new(Block::new(rt.alloc(), 12)?);
+    assert_eq!(rt; heap.first(), None);
+    let first = heap.birth(Kind::Instance(0), 2).expect(&rt, "room");
+    assert_eq!(rt; heap.first(), Some(first));
+    assert_eq!(rt; heap.next(first), None);
+    let second = heap.birth(Kind::Instance(1), 0).expect(&rt, "room");
+    let third = heap.birth(Kind::Instance(2), 1).expect(&rt, "room");
+    assert_eq!(rt; heap.first(), Some(first));
+    assert_eq!(rt; heap.next(first), Some(second));
+    assert_eq!(rt; heap.next(second), Some(third));
+    assert_eq!(rt; heap.next(third), None);
+    Ok(())
+}
