@@ -74,3 +74,20 @@ fn a_walk_meets_each_object_in_the_order_of_births(rt: HostRuntime) -> Result<()
     assert_eq!(rt; heap.next(third), None);
     Ok(())
 }
+
+#[test]
+#[tactic(auto, using(crate::proofs::Addressed::birth_at))]
+fn an_array_may_take_the_whole_room(rt: HostRuntime) -> Result<(), Fail> {
+    let mut heap = Heap::new(Block::new(rt.alloc(), 12)?);
+    let kind = Kind::Array(ArrayElement {
+        element: ElementType::Class(u16::MAX),
+        brackets: u8::MAX,
+    });
+    assert!(rt; heap.birth(kind, 10).is_none());
+    let array = heap.birth(kind, 9).expect(&rt, "room");
+    assert_eq!(rt; heap.kind(array), kind);
+    assert_eq!(rt; heap.slots(array), 9);
+    assert_eq!(rt; heap.slot(array, 8), 0);
+    assert_eq!(rt; heap.free_words(), 0);
+    Ok(())
+}
