@@ -1,11 +1,11 @@
 -- Which cell lies where after a birth or a store: for those above, who need nothing of sizes and places.
-use Rattle.std.proofs.Common.{◌≡◌, ◌≢◌, ℕ, ◌+◌, Bool, true, false, List, [], ◌∷◌, ◌++◌, refl, ap, subst, arith}
-use Rattle.std.specs.Prelude.{◌==◌, nat_le, if◌then◌else◌, Option, Some, None}
+use Rattle.std.proofs.Common.{◌≡◌, ◌≢◌, ℕ, ◌+◌, Bool, true, false, List, [], ◌∷◌, ◌++◌, length, refl, ap, subst, arith}
+use Rattle.std.specs.Prelude.{◌==◌, nat_le, if◌then◌else◌, Option, Some, None, option_map, unwrap_or}
 use Rattle.std.proofs.lemmas.List.Sums.{sum_by-cons}
 use Rattle.std.proofs.lemmas.Bool.Decides.{nat_tests}
 use Rattle.object_memory.specs.declared.addresses.Addr.{Addr}
 use Rattle.object_memory.specs.declared.kinds.Kind.{Kind}
-use Rattle.object_memory.specs.Cells.{Cell, Cells, size, used_words, cell_from, change_from, first, cell_at, change_at, next_address, free_words, new_cell, birth}
+use Rattle.object_memory.specs.Cells.{Cell, Cells, size, used_words, cell_from, change_from, first, cell_at, slots_at, change_at, next_address, free_words, new_cell, birth}
 
 -- ---- a birth
 
@@ -80,3 +80,24 @@ module _ (f : Cell → Cell) where
 
   pub change_at_other : ((c : Cell) → size (f c) ≡ size c) → (h : Cells) (a b : Addr) → a.number ≢ b.number → cell_at (change_at f h a) b ≡ cell_at h b
   change_at_other keeps h a b ne = others keeps first h.cells a.number b.number ne
+
+-- ---- the number of slots
+
+abbrev slots_of : Option Cell → List ℕ
+slots_of o = unwrap_or (option_map (λ (c : Cell). c.slots) o) []
+
+module _ (f : Cell → Cell) (keeps : (c : Cell) → length (f c).slots ≡ length c.slots) where
+  counted : (at : ℕ) (cs : List Cell) (a b : ℕ) → length (slots_of (cell_from at (change_from f at cs a) b)) ≡ length (slots_of (cell_from at cs b))
+  counted at [] a b = refl
+  counted at (x ∷ xs) a b = counted_by (a == at) (b == at) refl (counted (at + size x) xs a b)
+    where
+      counted_by : (s t : Bool) → (b == at) ≡ t
+          → length (slots_of (cell_from (at + size x) (change_from f (at + size x) xs a) b)) ≡ length (slots_of (cell_from (at + size x) xs b))
+          → length (slots_of (cell_from at (if s then f x ∷ xs else x ∷ change_from f (at + size x) xs a) b)) ≡ length (slots_of (cell_from at (x ∷ xs) b))
+      counted_by true true test rest = rw test (keeps x)
+      counted_by true false test rest = rw (test, keeps x) refl
+      counted_by false true test rest = rw test refl
+      counted_by false false test rest = rw test rest
+
+  pub change_at_count : (h : Cells) (a b : Addr) → length (slots_at (change_at f h a) b) ≡ length (slots_at h b)
+  change_at_count h a b = counted first h.cells a.number b.number

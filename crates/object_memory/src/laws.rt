@@ -1,10 +1,10 @@
 // What lies where after a birth or a store. Each function has an empty body, and its contract is the law.
 
-ghost use Rattle.std.specs.Prelude.{◌≡◌, ◌≢◌, ℕ, ◌++◌, [], ◌∷◌, Bool, Option, Some, slice_get};
+ghost use Rattle.std.specs.Prelude.{◌≡◌, ◌≢◌, ℕ, ◌++◌, [], ◌∷◌, length, Bool, Option, Some, slice_get};
 ghost use Rattle.object_memory.specs.declared.addresses.Addr.{Addr};
 ghost use Rattle.object_memory.specs.declared.kinds.Kind.{Kind};
 ghost use Rattle.object_memory.specs.declared.monitors.Monitor.{Monitor};
-ghost use Rattle.object_memory.specs.Cells.{Cell, Cells, addresses, cell_at, change_at, birth, new_cell, store_slot, store_monitor, store_copies};
+ghost use Rattle.object_memory.specs.Cells.{Cell, Cells, addresses, cell_at, slots_at, change_at, birth, new_cell, store_slot, store_monitor, store_copies};
 
 /// A birth's address is that of a new object. All other objects stay where they are, as they are.
 #[tactic(auto, using(crate::proofs::Addressed::birth_at, crate::proofs::Addressed::birth_keeps))]
@@ -27,6 +27,14 @@ pub fn stores_keep_others()
     ensures slot { (h : Cells) (a b : Addr) (i w : ℕ) → a.number ≢ b.number → cell_at (change_at (store_slot i w) h a) b ≡ cell_at h b }
     ensures monitor { (h : Cells) (a b : Addr) (m : Monitor) → a.number ≢ b.number → cell_at (change_at (store_monitor m) h a) b ≡ cell_at h b }
     ensures copies { (h : Cells) (a b : Addr) (marked : Bool) (o : Option Addr) → a.number ≢ b.number → cell_at (change_at (store_copies marked o) h a) b ≡ cell_at h b }
+{}
+
+/// No store changes how many slots there are.
+#[tactic(auto, using(crate::proofs::Addressed::change_at_count))]
+pub fn stores_keep_counts()
+    ensures slot { (h : Cells) (a b : Addr) (i w : ℕ) → length (slots_at (change_at (store_slot i w) h a) b) ≡ length (slots_at h b) }
+    ensures monitor { (h : Cells) (a b : Addr) (m : Monitor) → length (slots_at (change_at (store_monitor m) h a) b) ≡ length (slots_at h b) }
+    ensures copies { (h : Cells) (a b : Addr) (marked : Bool) (o : Option Addr) → length (slots_at (change_at (store_copies marked o) h a) b) ≡ length (slots_at h b) }
 {}
 
 /// A walk meets all objects, each in the place that it has in the order of births.
