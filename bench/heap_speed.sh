@@ -18,7 +18,7 @@ done
 cp "$top/HANDLES" "$work"
 cd "$work"
 echo 'cil_model:
-space_block: cil_model
+space_block:
 object_memory: cil_model space_block' > crates.txt
 rt new crates/heap_speed start_io > made.txt
 echo 'heap_speed: cil_model space_block object_memory' >> crates.txt

@@ -6,8 +6,7 @@ ghost use Rattle.std.specs.Prelude.{◌≡◌, ◌<◌, ◌≤◌, ◌-◌, ◌+
 mod words;
 
 use crate::words::{Front, Lease, Words, give_back, take};
-use cil_model::memory::NoMemory;
-use std::alloc::Global;
+use std::alloc::{AllocError, Global};
 use std::marker::Model;
 
 /// No block has more words, since their bytes fit an `isize`.
@@ -49,12 +48,12 @@ impl Drop for Block {
 }
 
 impl Block {
-    /// Takes a block of that many words, all zero. `NoMemory` where there is no room for it; nothing is taken then.
-    pub fn new(alloc: Global, words: usize) -> Result<Block, NoMemory>
+    /// Takes a block of that many words, all zero. `AllocError` where there is no memory for it; nothing is taken then.
+    pub fn new(alloc: Global, words: usize) -> Result<Block, AllocError>
         ensures { IfOk result (λ b. b ≡ replicate words 0) }
     {
         if words > MOST_WORDS {
-            return Err(NoMemory);
+            return Err(AllocError);
         }
         let (front, mut held, lease) = take(&alloc, words)?;
         held.clear(front, 0, words);

@@ -10,30 +10,17 @@ use std::marker::{Model, PhantomData, Send, Sync};
 use std::mem::{align_of, size_of};
 
 /// Where words begin. It owns nothing.
-pub struct Front {
+#[derive(Clone, Copy)]
+pub(crate) struct Front {
     start: *mut u64,
 }
-
-impl Clone for Front {
-    ghost use Rattle.std.specs.Prelude.{⊤};
-
-    ghost is_clone = { λ x y. y ≡ x };
-
-    ghost is_infallible = { λ _. ⊤ };
-
-    fn clone(&self) -> Result<Front, AllocError> {
-        Ok(*self)
-    }
-}
-
-impl Copy for Front {}
 
 unsafe impl Send for Front {}
 
 unsafe impl Sync for Front {}
 
 /// The owner of the words behind a front. It takes no space.
-pub struct Words {
+pub(crate) struct Words {
     ghost at: { Ptr },
     ghost places: { List (Option ℕ) },
 }
@@ -49,7 +36,7 @@ unsafe impl Send for Words {}
 unsafe impl Sync for Words {}
 
 /// The right to give the words behind a front back to the allocator that they are from. It takes no space.
-pub struct Lease<A: Allocator> {
+pub(crate) struct Lease<A: Allocator> {
     mark: PhantomData<A>,
     ghost at: { Ptr },
     ghost count: { ℕ },
