@@ -14,7 +14,7 @@ use Rattle.object_memory.proofs.Tiles.{born, used_words_held, Lies, lies, Lays, 
 
 -- the cells that contracts see
 abbrev pub shown : List ℕ → ℕ → Cells
-shown block used = record { cells = cells_of (take used block); words = length block }
+shown block used = record { start = first; cells = cells_of (take used block); words = length block }
 
 some_cell : (o : Option Cell) → IsSome o → (c : Cell) × (o ≡ Some c)
 some_cell None h = absurd cc

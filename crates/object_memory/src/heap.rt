@@ -28,13 +28,13 @@ pub struct Heap {
 
 impl Model for Heap {
     ghost use Rattle.std.specs.Prelude.{◌≤◌, length, take};
-    ghost use Rattle.object_memory.specs.Cells.{Cells};
+    ghost use Rattle.object_memory.specs.Cells.{Cells, first};
     ghost use Rattle.object_memory.specs.Words.{cells_of, IsLaid};
     ghost use Rattle.cil_model.specs.declared.limits.TheConstants.{MOST_WORDS};
 
     ghost Value = { Cells };
 
-    ghost view = { λ h. record { cells = cells_of (take h.used h.block); words = length h.block } };
+    ghost view = { λ h. record { start = first; cells = cells_of (take h.used h.block); words = length h.block } };
 
     ghost invariant = { λ h. (length h.block ≤ MOST_WORDS) × IsLaid h.block h.used };
 }
