@@ -1,4 +1,4 @@
-//! A block of memory: words of 64 bits in a row.
+//! A block of raw memory: words of 64 bits in a row.
 #![tactic(auto)]
 
 ghost use Rattle.std.specs.Prelude.{◌≡◌, ◌<◌, ◌≤◌, ◌-◌, ◌++◌, replicate, take, drop, length, slice_index, slice_set, IfOk};

@@ -15,6 +15,7 @@ pub(crate) struct Front {
     start: *mut u64,
 }
 
+// It owns nothing, and leads to no word without the words' owner.
 unsafe impl Send for Front {}
 
 unsafe impl Sync for Front {}
@@ -31,6 +32,7 @@ impl Model for Words {
     ghost also_shares = { λ w _ κ. words_lent w.at w.places κ };
 }
 
+// The words go where their owner goes.
 unsafe impl Send for Words {}
 
 unsafe impl Sync for Words {}
