@@ -1,19 +1,20 @@
 -- What the heap's methods read and write, in the terms of their contracts.
-use Rattle.std.proofs.Common.{◌≡◌, ℕ, suc, ◌+◌, ◌-◌, ◌<◌, ◌≤◌, Bool, true, false, List, [], ◌∷◌, ◌++◌, length, take, set, get_or, refl, sym, ap, subst, ◌∙◌, arith}
-use Rattle.std.specs.Prelude.{nat_le, Option, Some, None, IsSome, option_map}
+use Rattle.std.proofs.Common.{◌≡◌, ◌≢◌, ℕ, suc, ◌+◌, ◌-◌, ◌<◌, ◌≤◌, Bool, true, false, List, [], ◌∷◌, ◌++◌, length, take, set, get_or, refl, sym, ap, subst, ◌∙◌, arith}
+use Rattle.std.specs.Prelude.{nat_le, nat_lt, slice_get, Option, Some, None, IsSome, option_map}
 use Rattle.std.proofs.lemmas.List.{length-replicate}
 use Rattle.std.proofs.lemmas.Bool.Decides.{nat_tests}
 use Rattle.std.proofs.Math.ListN.{length-set}
 use Rattle.object_memory.specs.declared.addresses.Addr.{Addr}
 use Rattle.object_memory.specs.declared.kinds.Kind.{Kind}
 use Rattle.object_memory.specs.declared.monitors.Monitor.{Monitor}
-use Rattle.object_memory.specs.Cells.{Cell, Cells, size, used_words, free_words, first, new_cell, birth, cell_at, slots_at, change_at, store_slot, store_monitor, store_copies}
+use Rattle.object_memory.specs.Cells.{Cell, Cells, size, used_words, free_words, first, new_cell, birth, addresses, cell_at, slots_at, change_at, store_slot, store_monitor, store_copies}
 use Rattle.object_memory.specs.Words.{words_of, cells_of, IsTold, IsLaid, header_word, copies_word, is_marked_in, other_in, kind_in, slots_in, monitor_in, monitor_word}
+use Rattle.object_memory.proofs.Walks.{cell_here, behind, next_from}
 use Rattle.object_memory.proofs.Tiles.{born, used_words_held, Lies, lies, Lays, word_read, word_written}
 
 -- the cells that contracts see
 abbrev pub shown : List ℕ → ℕ → Cells
-shown block used = record { cells = cells_of (take used block); words = length block }
+shown block used = record { start = first; cells = cells_of (take used block); words = length block }
 
 some_cell : (o : Option Cell) → IsSome o → (c : Cell) × (o ≡ Some c)
 some_cell None h = absurd cc
@@ -106,6 +107,42 @@ module _ (block : List ℕ) (used : ℕ) (laid : IsLaid block used) (a : Addr) w
 
   pub other_read : IsSome (cell_at h a) → option_map (λ (c : Cell). c.other) (cell_at h a) ≡ Some (other_in (get_or block (place + 1) 0))
   other_read some = let c = held some in rw (c.at, copies_read c, c.lies.told.other) refl
+
+  -- ---- the walk
+
+  pub cell_inside : IsSome (cell_at h a) → (0 < a.number) × (place + 3 + length (slots_at h a) ≤ used)
+  cell_inside some =
+      let c = held some in
+      (omega (arith, c.lies.place), rw c.at (omega (arith, c.lies.place, c.lies.below)))
+
+  pub next_here : IsSome (cell_at h a) → (n : ℕ) → slice_get (addresses h) n ≡ Some a → slice_get (addresses h) (n + 1) ≡ behind (first + used) a.number (3 + length (slots_at h a))
+  next_here some n e =
+      let c = held some in
+      let cell : slice_get h.cells n ≡ Some c.cell = sym (cell_here first h.cells n a e) ∙ c.at in
+      let one : n + 1 ≡ suc n = omega arith in
+      let end : first + used_words h.cells ≡ first + used = ap (λ k. first + k) (used_words_held block used laid) in
+      let long : size c.cell ≡ 3 + length (slots_at h a) = rw c.at refl in
+      ap (slice_get (addresses h)) one ∙ next_from first h.cells n a c.cell e cell
+      ∙ ap (λ k. behind k a.number (size c.cell)) end ∙ ap (behind (first + used) a.number) long
+
+  module _ (some : IsSome (cell_at h a)) (p s : ℕ) (p_is : p ≡ place) (s_is : s ≡ length (slots_at h a)) where
+    -- where the cell ends
+    pub end_inside : p + 3 + s ≤ used
+    end_inside = omega (arith, p_is, s_is, (cell_inside some).1)
+
+    -- the walk ends at a cell that ends where the words in use do
+    pub next_none : p + 3 + s ≡ used → (n : ℕ) → slice_get (addresses h) n ≡ Some a → None ≡ slice_get (addresses h) (n + 1)
+    next_none last n e =
+        let inside = cell_inside some in
+        let test : nat_lt (a.number + (3 + length (slots_at h a))) (first + used) ≡ false = grind (arith, nat_tests) in
+        sym (next_here some n e ∙ rw test refl)
+
+    pub next_some : p + 3 + s ≢ used → (n : ℕ) → slice_get (addresses h) n ≡ Some a → Some (record { number = p + 3 + s + 1 }) ≡ slice_get (addresses h) (n + 1)
+    next_some more n e =
+        let inside = cell_inside some in
+        let test : nat_lt (a.number + (3 + length (slots_at h a))) (first + used) ≡ true = grind (arith, nat_tests) in
+        let there : a.number + (3 + length (slots_at h a)) ≡ p + 3 + s + 1 = omega (arith, inside, p_is, s_is) in
+        sym (next_here some n e ∙ rw test (ap (λ (k : ℕ). Some (record { number = k })) there))
 
   -- ---- the slots
 

@@ -1,3 +1,4 @@
 pub mod Tiles
 pub mod Heaps
 pub mod Addressed
+pub mod Walks

@@ -1,6 +1,6 @@
 // Objects in a block.
 
-ghost use Rattle.std.specs.Prelude.{◌≡◌, ◌<◌, ◌≤◌, length, replicate, slice_index, Some, None, IfSome, IsSome, option_map};
+ghost use Rattle.std.specs.Prelude.{◌≡◌, ℕ, ◌+◌, ◌<◌, ◌≤◌, length, replicate, slice_index, slice_get, Some, None, IfSome, IsSome, option_map};
 
 use crate::addresses::Addr;
 use crate::copies::Copies;
@@ -28,19 +28,19 @@ pub struct Heap {
 
 impl Model for Heap {
     ghost use Rattle.std.specs.Prelude.{◌≤◌, length, take};
-    ghost use Rattle.object_memory.specs.Cells.{Cells};
+    ghost use Rattle.object_memory.specs.Cells.{Cells, first};
     ghost use Rattle.object_memory.specs.Words.{cells_of, IsLaid};
     ghost use Rattle.cil_model.specs.declared.limits.TheConstants.{MOST_WORDS};
 
     ghost Value = { Cells };
 
-    ghost view = { λ h. record { cells = cells_of (take h.used h.block); words = length h.block } };
+    ghost view = { λ h. record { start = first; cells = cells_of (take h.used h.block); words = length h.block } };
 
     ghost invariant = { λ h. (length h.block ≤ MOST_WORDS) × IsLaid h.block h.used };
 }
 
 impl Heap {
-    ghost use Rattle.object_memory.specs.Cells.{Cells, no_cells, free_words, literal_number, cell_at, slots_at, change_at, birth, store_slot, store_monitor, store_copies};
+    ghost use Rattle.object_memory.specs.Cells.{Cells, no_cells, free_words, literal_number, addresses, cell_at, slots_at, change_at, birth, store_slot, store_monitor, store_copies};
 
     /// A heap without objects, in a block that holds zeros alone. Takes no memory.
     pub fn new(block: Block) -> Heap
@@ -73,6 +73,32 @@ impl Heap {
         self.used = place + size;
         Some(Addr {
             number: place as u32 + 1,
+        })
+    }
+
+    /// The object that was born first, where a walk over all objects begins. None where there is no object.
+    pub fn first(&self) -> Option<Addr>
+        ensures { result ≡ slice_get (addresses self.now) 0 }
+    {
+        if self.used == 0 {
+            return None;
+        }
+        Some(Addr { number: 1 })
+    }
+
+    /// The object that was born next after this one, where a walk goes on. None where this one was born last. It takes
+    /// as long for each object.
+    pub fn next(&self, address: Addr) -> Option<Addr>
+        requires { IsSome (cell_at self.now address) }
+        ensures { (n : ℕ) → slice_get (addresses self.now) n ≡ Some address → result ≡ slice_get (addresses self.now) (n + 1) }
+    {
+        let used = self.used;
+        let end = address.place() + HEADER_WORDS + self.slots(address) as usize;
+        if end == used {
+            return None;
+        }
+        Some(Addr {
+            number: end as u32 + 1,
         })
     }
 

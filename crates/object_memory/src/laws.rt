@@ -1,10 +1,10 @@
 // What lies where after a birth or a store. Each function has an empty body, and its contract is the law.
 
-ghost use Rattle.std.specs.Prelude.{◌≡◌, ◌≢◌, ℕ, Bool, Option, Some};
+ghost use Rattle.std.specs.Prelude.{◌≡◌, ◌≢◌, ℕ, ◌++◌, [], ◌∷◌, length, Bool, Option, Some, slice_get};
 ghost use Rattle.object_memory.specs.declared.addresses.Addr.{Addr};
 ghost use Rattle.object_memory.specs.declared.kinds.Kind.{Kind};
 ghost use Rattle.object_memory.specs.declared.monitors.Monitor.{Monitor};
-ghost use Rattle.object_memory.specs.Cells.{Cell, Cells, cell_at, change_at, birth, new_cell, store_slot, store_monitor, store_copies};
+ghost use Rattle.object_memory.specs.Cells.{Cell, Cells, addresses, cell_at, slots_at, change_at, birth, new_cell, store_slot, store_monitor, store_copies};
 
 /// A birth's address is that of a new object. All other objects stay where they are, as they are.
 #[tactic(auto, using(crate::proofs::Addressed::birth_at, crate::proofs::Addressed::birth_keeps))]
@@ -27,4 +27,28 @@ pub fn stores_keep_others()
     ensures slot { (h : Cells) (a b : Addr) (i w : ℕ) → a.number ≢ b.number → cell_at (change_at (store_slot i w) h a) b ≡ cell_at h b }
     ensures monitor { (h : Cells) (a b : Addr) (m : Monitor) → a.number ≢ b.number → cell_at (change_at (store_monitor m) h a) b ≡ cell_at h b }
     ensures copies { (h : Cells) (a b : Addr) (marked : Bool) (o : Option Addr) → a.number ≢ b.number → cell_at (change_at (store_copies marked o) h a) b ≡ cell_at h b }
+{}
+
+/// No store changes how many slots there are.
+#[tactic(auto, using(crate::proofs::Addressed::change_at_count))]
+pub fn stores_keep_counts()
+    ensures slot { (h : Cells) (a b : Addr) (i w : ℕ) → length (slots_at (change_at (store_slot i w) h a) b) ≡ length (slots_at h b) }
+    ensures monitor { (h : Cells) (a b : Addr) (m : Monitor) → length (slots_at (change_at (store_monitor m) h a) b) ≡ length (slots_at h b) }
+    ensures copies { (h : Cells) (a b : Addr) (marked : Bool) (o : Option Addr) → length (slots_at (change_at (store_copies marked o) h a) b) ≡ length (slots_at h b) }
+{}
+
+/// A walk meets all objects, each in the place that it has in the order of births.
+#[tactic(auto, using(crate::proofs::Walks::cell_here, crate::proofs::Walks::on_the_walk))]
+pub fn walks_meet_objects()
+    ensures met { (h : Cells) (n : ℕ) (a : Addr) → slice_get (addresses h) n ≡ Some a → cell_at h a ≡ slice_get h.cells n }
+    ensures all { (h : Cells) (a : Addr) (c : Cell) → cell_at h a ≡ Some c → (n : ℕ) × (slice_get (addresses h) n ≡ Some a) × (slice_get h.cells n ≡ Some c) }
+{}
+
+/// A birth lengthens the walk by the new object, and a store leaves it as it is.
+#[tactic(auto, using(crate::proofs::Walks::birth_walk, crate::proofs::Walks::change_at_walk))]
+pub fn walks_grow_by_births()
+    ensures birth { (h : Cells) (k : Kind) (n : ℕ) (a : Addr) → (birth h k n).1 ≡ Some a → addresses (birth h k n).0 ≡ addresses h ++ a ∷ [] }
+    ensures slot { (h : Cells) (a : Addr) (i w : ℕ) → addresses (change_at (store_slot i w) h a) ≡ addresses h }
+    ensures monitor { (h : Cells) (a : Addr) (m : Monitor) → addresses (change_at (store_monitor m) h a) ≡ addresses h }
+    ensures copies { (h : Cells) (a : Addr) (b : Bool) (o : Option Addr) → addresses (change_at (store_copies b o) h a) ≡ addresses h }
 {}

@@ -1,40 +1,76 @@
-//! A block of memory: words of 64 bits in a row.
+//! A block of raw memory: words of 64 bits in a row.
 #![tactic(auto)]
 
 ghost use Rattle.std.specs.Prelude.{◌≡◌, ◌<◌, ◌≤◌, ◌-◌, ◌++◌, replicate, take, drop, length, slice_index, slice_set, IfOk};
 
-use cil_model::memory::NoMemory;
-use std::alloc::Global;
+mod words;
+
+use crate::words::{Front, Lease, Words, give_back, take};
+use std::alloc::{AllocError, Global};
 use std::marker::Model;
 
+/// No block has more words, since their bytes fit an `isize`.
+const MOST_WORDS: usize = 1_152_921_504_606_846_975;
+
 /// Words that are held until the block is dropped. Contracts see the list of them, and their number never changes.
-#[derive(Drop)]
 pub struct Block {
-    words: Vec<u64>,
+    front: Front,
+    count: usize,
+    words: Words,
+    lease: Lease<Global>,
+    alloc: Global,
 }
 
 impl Model for Block {
-    ghost use Rattle.std.specs.Prelude.{ℕ, List};
+    ghost use Rattle.std.specs.Prelude.{ℕ, List, ◌≡◌, length, map, Some};
+    ghost use Rattle.space_block.specs.Written.{written};
 
     ghost Value = { List ℕ };
 
-    ghost view = { λ b. b.words.items };
+    ghost view = { λ b. written b.words.places };
+
+    ghost invariant = { λ b. (b.words.at ≡ b.front.start) × (b.words.places ≡ map Some (written b.words.places)) × (b.count ≡ length b.words.places)
+        × (b.lease.at ≡ b.front.start) × (b.lease.count ≡ b.count) × (b.lease.alloc ≡ b.alloc) };
+}
+
+/// Gives the memory back.
+impl Drop for Block {
+    fn drop(self) {
+        let Block {
+            front,
+            count,
+            words,
+            lease,
+            alloc,
+        } = self;
+        give_back(&alloc, front, count, words, lease);
+    }
 }
 
 impl Block {
-    /// Takes a block of that many words, all zero. `NoMemory` where there is no room for it; nothing is taken then.
-    pub fn new(alloc: Global, words: usize) -> Result<Block, NoMemory>
+    /// Takes a block of that many words, all zero. `AllocError` where there is no memory for it; nothing is taken then.
+    pub fn new(alloc: Global, words: usize) -> Result<Block, AllocError>
         ensures { IfOk result (λ b. b ≡ replicate words 0) }
     {
-        let words = vec![in alloc; 0u64; words]?;
-        Ok(Block { words })
+        if words > MOST_WORDS {
+            return Err(AllocError);
+        }
+        let (front, mut held, lease) = take(&alloc, words)?;
+        held.clear(front, 0, words);
+        Ok(Block {
+            front,
+            count: words,
+            words: held,
+            lease,
+            alloc,
+        })
     }
 
     /// How many words it has.
     pub fn len(&self) -> usize
         ensures { result ≡ length self.now }
     {
-        self.words.len()
+        self.count
     }
 
     /// The word at a place. Places count from 0.
@@ -42,7 +78,7 @@ impl Block {
         requires { place < length self.now }
         ensures { result ≡ slice_index self.now place }
     {
-        self.words[place]
+        self.words.read(self.front, place)
     }
 
     /// Stores a word at a place. All other words stay.
@@ -50,7 +86,7 @@ impl Block {
         requires { place < length self.old }
         ensures { self.new ≡ slice_set self.old place word }
     {
-        self.words[place] = word;
+        self.words.write(self.front, place, word);
     }
 
     /// Stores 0 in each place from `from` on and below `to`. All other words stay.
@@ -59,13 +95,13 @@ impl Block {
         requires inside { to ≤ length self.old }
         ensures { self.new ≡ take from self.old ++ replicate (to - from) 0 ++ drop to self.old }
     {
-        self.words[from..to].fill(0);
+        self.words.clear(self.front, from, to);
     }
 }
 
 #[cfg(test)]
 mod tests {
-    use super::Block;
+    use super::{Block, MOST_WORDS};
     use std::test::Fail;
 
     #[test]
@@ -108,5 +144,25 @@ mod tests {
     #[test]
     fn a_block_that_no_memory_has_is_refused(rt: HostRuntime) {
         assert!(rt; Block::new(rt.alloc(), usize::MAX).is_err());
+        assert!(rt; Block::new(rt.alloc(), MOST_WORDS).is_err());
+    }
+
+    #[test]
+    fn a_block_may_have_no_words(rt: HostRuntime) -> Result<(), Fail> {
+        let mut block = Block::new(rt.alloc(), 0)?;
+        block.zero(0, 0);
+        assert_eq!(rt; block.len(), 0);
+        Ok(())
+    }
+
+    fn may_cross_threads<T: Send + Sync>(_value: &T) -> bool {
+        true
+    }
+
+    #[test]
+    fn a_block_may_go_to_another_thread(rt: HostRuntime) -> Result<(), Fail> {
+        let block = Block::new(rt.alloc(), 1)?;
+        assert!(rt; may_cross_threads(&block));
+        Ok(())
     }
 }

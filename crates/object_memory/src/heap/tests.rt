@@ -57,3 +57,37 @@ fn headers_tell_what_was_set(rt: HostRuntime) -> Result<(), Fail> {
     assert_eq!(rt; heap.monitor(address), held);
     Ok(())
 }
+
+#[test]
+#[tactic(auto, using(crate::proofs::Addressed::birth_at, crate::proofs::Addressed::birth_keeps))]
+fn a_walk_meets_each_object_in_the_order_of_births(rt: HostRuntime) -> Result<(), Fail> {
+    let mut heap = Heap::new(Block::new(rt.alloc(), 12)?);
+    assert_eq!(rt; heap.first(), None);
+    let first = heap.birth(Kind::Instance(0), 2).expect(&rt, "room");
+    assert_eq!(rt; heap.first(), Some(first));
+    assert_eq!(rt; heap.next(first), None);
+    let second = heap.birth(Kind::Instance(1), 0).expect(&rt, "room");
+    let third = heap.birth(Kind::Instance(2), 1).expect(&rt, "room");
+    assert_eq!(rt; heap.first(), Some(first));
+    assert_eq!(rt; heap.next(first), Some(second));
+    assert_eq!(rt; heap.next(second), Some(third));
+    assert_eq!(rt; heap.next(third), None);
+    Ok(())
+}
+
+#[test]
+#[tactic(auto, using(crate::proofs::Addressed::birth_at))]
+fn an_array_may_take_the_whole_room(rt: HostRuntime) -> Result<(), Fail> {
+    let mut heap = Heap::new(Block::new(rt.alloc(), 12)?);
+    let kind = Kind::Array(ArrayElement {
+        element: ElementType::Class(u16::MAX),
+        brackets: u8::MAX,
+    });
+    assert!(rt; heap.birth(kind, 10).is_none());
+    let array = heap.birth(kind, 9).expect(&rt, "room");
+    assert_eq!(rt; heap.kind(array), kind);
+    assert_eq!(rt; heap.slots(array), 9);
+    assert_eq!(rt; heap.slot(array, 8), 0);
+    assert_eq!(rt; heap.free_words(), 0);
+    Ok(())
+}

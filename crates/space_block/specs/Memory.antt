@@ -1,0 +1,53 @@
+-- What the owner of a block's words has of the memory, and what it lends.
+use Rattle.std.specs.Prelude.{ℕ, ◌+◌, ◌*◌, ◌^◌, ◌<◌, List, [], ◌∷◌, length, Option, Some, None}
+use base.Fraction.{full_share}
+use base.Fml.{Lft, Fml, ftrue, ffalse, fsep, flt, froom}
+use mir.Syntax.{Ty, w64, ty_int, ty_array}
+use mir.Raw.{raw}
+use denote.Builtin.{u64}
+use denote.Memory.{part_at, shared_of}
+use denote.Sharing.{nothing, said, beside}
+use denote.RawPtr.{Ptr, block_ptr, null_ptr}
+
+-- the bytes of a word
+abbrev pub word_size : ℕ
+word_size = 8
+
+-- so many words take fewer than 2 ^ 63 bytes, as a block must
+abbrev pub FitsBlock : ℕ → Type 0
+FitsBlock n = n * word_size < 2 ^ 63
+
+-- a word's place, o bytes into the block b: it holds a word, or is room for one
+abbrev pub place : ℕ → ℕ → Option ℕ → Fml
+place b o (Some w) = part_at u64 full_share w b o
+place b o None = froom (ty_int w64) b o
+
+-- places side by side
+abbrev pub places : ℕ → ℕ → List (Option ℕ) → Fml
+places b o [] = ftrue
+places b o (c ∷ cs) = fsep (place b o c) (places b (o + word_size) cs)
+
+abbrev pub place_lent : ℕ → ℕ → Option ℕ → Lft → Fml
+place_lent b o (Some w) = shared_of u64 w b o
+place_lent b o None = nothing
+
+abbrev pub places_lent : ℕ → ℕ → List (Option ℕ) → Lft → Fml
+places_lent b o [] = nothing
+places_lent b o (c ∷ cs) = beside (place_lent b o c) (places_lent b (o + word_size) cs)
+
+abbrev pub fit : List (Option ℕ) → Fml
+fit cs = flt (length cs * word_size) (2 ^ 63)
+
+-- the places from a pointer on
+abbrev pub words_owned : Ptr → List (Option ℕ) → Fml
+words_owned (block_ptr b o) cs = fsep (fit cs) (places b o cs)
+words_owned null_ptr cs = ffalse
+
+-- what a `&` to their owner has
+abbrev pub words_lent : Ptr → List (Option ℕ) → Lft → Fml
+words_lent (block_ptr b o) cs = beside (said (fit cs)) (places_lent b o cs)
+words_lent null_ptr cs = said ffalse
+
+-- the right to give a block of n words back, by the allocator's token
+abbrev pub lease_owned : (Ty → Ptr → Fml) → Ptr → ℕ → Fml
+lease_owned token p n = token (raw (ty_array (ty_int w64) n)) p
