@@ -76,6 +76,22 @@ quoted_token bs = do
   characters ← quoted_from false bs
   Some (Quoted characters.0, characters.1)
 
+unfoldable pub escaped_at : List ℕ → Option (Option ℕ × List ℕ)
+escaped_at [] = None
+escaped_at (c ∷ cs) = do
+  character ← escaped c
+  Some (Some character, cs)
+
+-- a character of a literal, or no character for the quote that ends it, and what is behind
+unfoldable pub character_at : List ℕ → Option (Option ℕ × List ℕ)
+character_at [] = None
+character_at (c ∷ cs) = if c == 34 then Some (None, cs) else (if c == 92 then escaped_at cs else (if is_plain c then Some (Some c, cs) else None))
+
+-- what is behind the quote
+unfoldable pub behind_quote : Option (List ℕ × List ℕ) → Option (List ℕ)
+behind_quote None = None
+behind_quote (Some characters) = Some characters.1
+
 unfoldable pub colon_token : List ℕ → Option (Token × List ℕ)
 colon_token [] = Some (Symbol OneColon, [])
 colon_token (c ∷ cs) = if c == 58 then Some (Symbol DoubleColon, cs) else Some (Symbol OneColon, c ∷ cs)
