@@ -95,7 +95,7 @@ pub fn read(alloc: Global, source: &[u8]) -> Result<Tree, ReadError>
     match tree(alloc, tokens.as_slice()) {
         Ok(tree) => Ok(tree),
         Err(Failure::Refused { left }) => {
-            match token_offset(alloc, source, tokens.as_slice().len().saturating_sub(left)) {
+            match token_offset(source, tokens.as_slice().len().saturating_sub(left)) {
                 Ok(offset) => Err(ReadError::NoTree { offset }),
                 Err(_) => Err(ReadError::OutOfMemory),
             }
