@@ -16,6 +16,9 @@ use ilasm_tokens::failure::Failure;
 use ilasm_tokens::source_tokens::Tokens;
 use std::alloc::Global;
 
+/// How many members, classes or assemblies memory is taken for at first.
+const FEW: usize = 4;
+
 /// A field.
 #[tactic(auto, unfolding(crate::specs::Parsing::field_at, ilasm_tokens::specs::Steps::bind))]
 fn field(alloc: Global, tokens: Tokens<'_>) -> Result<(Field, Tokens<'_>), Failure>
@@ -101,7 +104,7 @@ fn block<P: Starts>(
 ) -> Result<(Sequence<P::Tree>, Tokens<'_>), Failure>
     ensures { Gives (λ x. (x.0, x.1.now)) result (block_at P.starts_at P.parsed_at tokens.now) }
 {
-    let (members, rest) = many::<P>(alloc, expect_symbol(tokens, Symbol::OpenBrace)?)?;
+    let (members, rest) = many::<P>(alloc, expect_symbol(tokens, Symbol::OpenBrace)?, FEW)?;
     Ok((members, expect_symbol(rest, Symbol::CloseBrace)?))
 }
 
@@ -256,9 +259,9 @@ fn assembly(alloc: Global, tokens: Tokens<'_>) -> Result<(Option<Text>, Tokens<'
 pub fn tree(alloc: Global, tokens: Tokens<'_>) -> Result<Tree, Failure>
     ensures { Gives (λ tree. tree) result (tree_at tokens.now) }
 {
-    let (externs, rest) = many::<Extern>(alloc, tokens)?;
+    let (externs, rest) = many::<Extern>(alloc, tokens, FEW)?;
     let (assembly, rest) = assembly(alloc, rest)?;
-    let (classes, rest) = many::<AnyClass>(alloc, rest)?;
+    let (classes, rest) = many::<AnyClass>(alloc, rest, FEW)?;
     if !rest.is_empty() {
         return Err(Failure::Refused { left: rest.len() });
     }

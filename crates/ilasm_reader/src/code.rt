@@ -1,5 +1,6 @@
 //! The code of methods.
 
+ghost use Rattle.std.specs.Prelude.{◌≤◌, length};
 ghost use Rattle.ilasm_tokens.specs.Steps.{Gives};
 ghost use Rattle.ilasm_reader.specs.Parsing.{code_at, in_block, label_at, line_at, locals_at, max_stack_at, starts_label};
 
@@ -56,7 +57,7 @@ impl Parse for CodeLine {
 
     #[tactic(auto, unfolding(crate::specs::Parsing::line_at, ilasm_tokens::specs::Steps::bind))]
     fn parse(alloc: Global, tokens: Tokens<'_>) -> Result<(Line, Tokens<'_>), Failure> {
-        let (labels, rest) = many::<Label>(alloc, tokens)?;
+        let (labels, rest) = many::<Label>(alloc, tokens, 1)?;
         let (instruction, rest) = instruction(alloc, rest)?;
         Ok((
             Line {
@@ -103,6 +104,17 @@ fn max_stack(tokens: Tokens<'_>) -> Result<(i64, Tokens<'_>), Failure>
     integer(expect_word(tokens, b".maxstack")?)
 }
 
+/// How many reserved words stand before the end of a block. No more lines do, since each has the name of an instruction.
+fn words_ahead(tokens: Tokens<'_>) -> usize
+    ensures { result ≤ length tokens.now }
+{
+    tokens
+        .iter()
+        .take_while(|token| !matches!(token.symbol(), Some(Symbol::CloseBrace)))
+        .filter(|token| token.reserved().is_some())
+        .count()
+}
+
 /// The code of a method, in braces.
 #[tactic(auto, unfolding(crate::specs::Parsing::code_at, ilasm_tokens::specs::Steps::bind))]
 pub fn code(alloc: Global, tokens: Tokens<'_>) -> Result<(Code, Tokens<'_>), Failure>
@@ -112,7 +124,7 @@ pub fn code(alloc: Global, tokens: Tokens<'_>) -> Result<(Code, Tokens<'_>), Fai
     let (is_entry_point, rest) = flag(block, b".entrypoint");
     let (max_stack, rest) = max_stack(rest)?;
     let (locals, rest) = locals(alloc, rest)?;
-    let (lines, rest) = many::<CodeLine>(alloc, rest)?;
+    let (lines, rest) = many::<CodeLine>(alloc, rest, words_ahead(rest))?;
     let rest = expect_symbol(rest, Symbol::CloseBrace)?;
     Ok((
         Code {

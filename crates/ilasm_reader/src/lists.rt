@@ -1,6 +1,6 @@
 //! Lists of parts.
 
-ghost use Rattle.std.specs.Prelude.{◌≡◌, List, Bool, true};
+ghost use Rattle.std.specs.Prelude.{◌≡◌, ◌≤◌, List, Bool, true, length};
 ghost use Rattle.ilasm_tokens.specs.Steps.{Gives, Consumes, many};
 ghost use Rattle.ilasm_reader.specs.Parsing.{Parser, starts_comma, after_comma, commas_at, parentheses_at, in_block};
 
@@ -39,16 +39,17 @@ pub trait Starts: Parse {
         ensures { result ≡ starts_at tokens.now };
 }
 
-/// As many as stand here, one after the other, of which the first starts here.
+/// As many as stand here, one after the other, of which the first starts here. Memory for `expected` is taken at once.
 fn some<P: Starts>(
     alloc: Global,
     tokens: Tokens<'_>,
+    expected: usize,
 ) -> Result<(Sequence<P::Tree>, Tokens<'_>), Failure>
     requires { P.starts_at tokens.now ≡ true }
     ensures { Gives (λ x. (x.0, x.1.now)) result (many P.starts_at P.parsed_at tokens.now) }
 {
     let (first, mut rest) = P::parse(alloc, tokens)?;
-    let mut items = Vec::new(alloc);
+    let mut items = Vec::with_capacity(alloc, expected)?;
     items.push(first)?;
     while P::starts(rest) {
         let (item, after) = P::parse(alloc, rest)?;
@@ -58,16 +59,16 @@ fn some<P: Starts>(
     Ok((Sequence::new(items), rest))
 }
 
-/// As many as stand here, one after the other.
-
+/// As many as stand here, one after the other. If there are some, memory for `expected` is taken at once.
 pub fn many<P: Starts>(
     alloc: Global,
     tokens: Tokens<'_>,
+    expected: usize,
 ) -> Result<(Sequence<P::Tree>, Tokens<'_>), Failure>
     ensures { Gives (λ x. (x.0, x.1.now)) result (many P.starts_at P.parsed_at tokens.now) }
 {
     if P::starts(tokens) {
-        some::<P>(alloc, tokens)
+        some::<P>(alloc, tokens, expected)
     } else {
         Ok((Sequence::new(Vec::new(alloc)), tokens))
     }
@@ -91,6 +92,22 @@ fn after_comma<P: Parse>(
     P::parse(alloc, expect_symbol(tokens, Symbol::Comma)?)
 }
 
+/// How many commas stand before the end of a list, which is a parenthesis or a brace.
+fn commas_ahead(tokens: Tokens<'_>) -> usize
+    ensures { result ≤ length tokens.now }
+{
+    tokens
+        .iter()
+        .take_while(|token| {
+            !matches!(
+                token.symbol(),
+                Some(Symbol::CloseParenthesis | Symbol::OpenBrace | Symbol::CloseBrace)
+            )
+        })
+        .filter(|token| matches!(token.symbol(), Some(Symbol::Comma)))
+        .count()
+}
+
 /// One or more, with commas between.
 #[tactic(auto, unfolding(crate::specs::Parsing::commas_at, ilasm_tokens::specs::Steps::bind))]
 pub fn commas<P: Parse>(
@@ -100,7 +117,7 @@ pub fn commas<P: Parse>(
     ensures { Gives (λ x. (x.0, x.1.now)) result (commas_at P.parsed_at tokens.now) }
 {
     let (first, mut rest) = P::parse(alloc, tokens)?;
-    let mut items = Vec::new(alloc);
+    let mut items = Vec::with_capacity(alloc, commas_ahead(rest).saturating_add(1))?;
     items.push(first)?;
     while starts_comma(rest) {
         let (item, after) = after_comma::<P>(alloc, rest)?;

@@ -10,7 +10,7 @@ returns-in_err-first g c =
 
 pub loop-alloc-init : goal.loop-alloc-init
 loop-alloc-init g c =
-    rw (c.in_ok-push.ensures.items, c.new-items.ensures.items) (turns g.P.Starts.starts_at g.P.Parse.parsed_at _ [] c.args.tokens.now c.in_ok-first.first c.in_ok-first.rest.now g.met.P.Parse.consumes (begins g.P.Starts.starts_at g.P.Parse.parsed_at c.args.tokens.now) c.requires c.in_ok-first.ensures)
+    rw (c.in_ok-push.ensures.items, c.in_ok-items.ensures.items) (turns g.P.Starts.starts_at g.P.Parse.parsed_at _ [] c.args.tokens.now c.in_ok-first.first c.in_ok-first.rest.now g.met.P.Parse.consumes (begins g.P.Starts.starts_at g.P.Parse.parsed_at c.args.tokens.now) c.requires c.in_ok-first.ensures)
 
 pub returns-in_err-item : goal.returns-in_err-item
 returns-in_err-item g c =
