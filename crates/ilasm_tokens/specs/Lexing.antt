@@ -1,5 +1,5 @@
 -- Reading tokens from left to right.
-use Rattle.std.specs.Prelude.{◌==◌, ◌^◌, ◌-◌, ℕ, ℤ, List, [], ◌∷◌, take, drop, Option, Some, None, Bool, true, false, is_some, nat_le, ◌||◌, if◌then◌else◌}
+use Rattle.std.specs.Prelude.{◌==◌, ◌^◌, ◌-◌, ℕ, zero, suc, ℤ, List, [], ◌∷◌, length, take, drop, Option, Some, None, Bool, true, false, is_some, nat_le, ◌||◌, if◌then◌else◌}
 use Rattle.std.specs.List.{prefix_len, list_all}
 use Rattle.cil_model.specs.declared.tokens.Symbol.TheVariants.{OpenBrace, CloseBrace, OpenParenthesis, CloseParenthesis, OpenBracket, CloseBracket, Comma, Colon as OneColon, DoubleColon}
 use Rattle.cil_model.specs.declared.tokens.Token.{Token}
@@ -115,6 +115,20 @@ spaced_lexeme_at bs = do
   token ← lexeme_at bs
   rest ← behind between token.1
   Some (token.0, rest)
+
+-- what is left behind so many tokens
+unfoldable pub behind_tokens : ℕ → List ℕ → Option (List ℕ)
+behind_tokens zero bs = Some bs
+behind_tokens (suc n) bs = do
+  token ← spaced_lexeme_at bs
+  behind_tokens n token.1
+
+-- where a token begins, counted in bytes, if it has tokens before it
+unfoldable pub offset_of : ℕ → List ℕ → Option ℕ
+offset_of number source = do
+  start ← behind between source
+  rest ← behind_tokens number start
+  Some (length source - length rest)
 
 unfoldable pub not_empty : {A : Type 0} → List A → Bool
 not_empty [] = false

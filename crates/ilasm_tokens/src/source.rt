@@ -1,9 +1,8 @@
 //! The tokens of a whole source.
 
-ghost use Rattle.std.specs.Prelude.{◌≤◌, length, IfOk};
 ghost use Rattle.ilasm_tokens.specs.Steps.{Gives};
 ghost use Rattle.ilasm_tokens.specs.Answers.{IsTokenAnswer};
-ghost use Rattle.ilasm_tokens.specs.Lexing.{spaced_lexeme_at};
+ghost use Rattle.ilasm_tokens.specs.Lexing.{offset_of, spaced_lexeme_at};
 
 use crate::failure::Failure;
 use crate::lexemes::lexeme;
@@ -39,16 +38,14 @@ pub fn tokens(alloc: Global, source: &[u8]) -> Result<Sequence<SourceToken<'_>>,
     Ok(Sequence::new(tokens))
 }
 
-/// Where a token of a source begins, counted in bytes; for messages. The end of the source, if it has no token of that number.
-#[tactic(auto, using(crate::proofs::Reading::gap_shorter, crate::proofs::Reading::spaced_consumes))]
+/// Where the token of this number begins, counted in bytes, or the end of the source behind its last token. Tokens are
+/// counted from 0. It is refused where the source has no such place, since too few tokens can be read.
+#[tactic(auto, using(crate::proofs::Reading::gap_shorter, crate::proofs::Reading::spaced_consumes, crate::proofs::Places::one_more, crate::proofs::Places::no_more), unfolding(crate::specs::Lexing::offset_of, crate::specs::Steps::bind))]
 pub fn token_offset(source: &[u8], number: usize) -> Result<usize, Failure>
-    ensures { IfOk result (λ offset. offset ≤ length source.now) }
+    ensures { Gives (λ offset. offset) result (offset_of number source.now) }
 {
     let mut rest = after_spaces(source)?;
     for _ in 0..number {
-        if rest.is_empty() {
-            break;
-        }
         let (_token, after) = spaced_lexeme(rest)?;
         rest = after;
     }

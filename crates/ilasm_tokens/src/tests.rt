@@ -124,7 +124,8 @@ fn finds_the_place_of_a_token(rt: HostRuntime) -> Result<(), Fail> {
     assert_eq!(rt; token_offset(source, 0), Ok(1));
     assert_eq!(rt; token_offset(source, 1), Ok(16));
     assert_eq!(rt; token_offset(source, 2), Ok(18));
-    assert_eq!(rt; token_offset(source, 9), Ok(19));
+    assert_eq!(rt; token_offset(source, 3), Ok(19));
+    assert_eq!(rt; token_offset(source, 4), Err(Failure::Refused { left: 0 }));
     Ok(())
 }
 
@@ -140,4 +141,26 @@ fn knows_the_reserved_words(rt: HostRuntime) -> Result<(), Fail> {
     assert!(rt; use_of(b"mscorlib").is_none());
     assert!(rt; use_of(b"").is_none());
     Ok(())
+}
+
+#[test]
+fn answers_as_usual_or_has_no_memory(rt: HostRuntime) {
+    match tokens(rt.alloc(), br#"a .class "b\n" 7 :: {"#) {
+        Ok(tokens) => {
+            assert_eq!(rt; tokens.as_slice().len(), 6);
+            for token in tokens.as_slice() {
+                if let Ok(Some(name)) = token.name(rt.alloc()) {
+                    assert_eq!(rt; name.as_str(), "a");
+                }
+                if let Ok(Some(characters)) = token.quoted(rt.alloc()) {
+                    assert_eq!(rt; characters.as_str(), "b\n");
+                }
+            }
+        }
+        Err(failure) => assert_eq!(rt; failure, Failure::OutOfMemory),
+    }
+    match tokens(rt.alloc(), b"four words stand #") {
+        Err(Failure::OutOfMemory) => {}
+        found => assert_eq!(rt; found.err(), Some(Failure::Refused { left: 1 })),
+    }
 }

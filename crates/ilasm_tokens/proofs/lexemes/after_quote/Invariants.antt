@@ -1,4 +1,4 @@
-use Rattle.std.proofs.Common.{◌≡◌, ◌<◌, false, length}
+use Rattle.std.proofs.Common.{◌≡◌, false, length}
 use Rattle.ilasm_tokens.specs.Lexing.{quoted_from, behind_quote}
 use Rattle.ilasm_tokens.proofs.lexemes.after_quote.Given as goal
 
