@@ -188,7 +188,7 @@ fn after_quote(bytes: &[u8]) -> Option<&[u8]>
     None
 }
 
-/// The characters of a literal up to its quote; `None` where it has no end.
+/// The characters of a literal up to its quote, and what is left behind that. It is refused where it has no end.
 #[tactic(auto, using(crate::proofs::Text::takes, crate::proofs::Text::at_end, crate::proofs::Text::at_fault), unfolding(crate::specs::Steps::with_front))]
 fn characters(alloc: Global, bytes: &[u8]) -> Result<(Vec<u8>, &[u8]), Failure>
     ensures ascii { IfOk result (λ x. All (λ b. b < 128) x.0.items) }
@@ -206,7 +206,7 @@ fn characters(alloc: Global, bytes: &[u8]) -> Result<(Vec<u8>, &[u8]), Failure>
     Err(Failure::Refused { left: bytes.len() })
 }
 
-/// The characters of a literal up to its quote; none where it has no end.
+/// The text of the characters of a literal up to its quote; an empty one where it has no end.
 #[tactic(auto, using(crate::proofs::Text::ascii_is_utf8), unfolding(crate::specs::Parts::characters_of, crate::specs::Steps::choice))]
 pub fn text_of_literal(alloc: Global, bytes: &[u8]) -> Result<Text, AllocError>
     ensures { IfOk result (λ text. text ≡ characters_of bytes.now) }
