@@ -105,14 +105,16 @@ fn main(rt: HostRuntime) -> io::Result<()> {
     let mut small = Timing::new(rt.alloc(), 660)?;
     let mut middle = Timing::new(rt.alloc(), 2640)?;
     let mut large = Timing::new(rt.alloc(), 10700)?;
-    for _ in 0..100 {
-        for _ in 0..16 {
+    for _ in 0..4 {
+        for _ in 0..640 {
             small.read(&rt)?;
         }
-        for _ in 0..4 {
+        for _ in 0..160 {
             middle.read(&rt)?;
         }
-        large.read(&rt)?;
+        for _ in 0..40 {
+            large.read(&rt)?;
+        }
     }
     small.print(&rt)?;
     middle.print(&rt)?;
