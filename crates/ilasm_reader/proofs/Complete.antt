@@ -50,7 +50,7 @@ same_bytes : (w : List ℕ) → bytes_eq w w ≡ true
 same_bytes w = (bytes_eq-Decides w w).1 refl
 
 pub word_complete : (w : List ℕ) {ts rest : List Token} → word w ts rest → word_at w ts ≡ Some rest
-unfolding word_at
+unfolding word_at choice
 word_complete w e = rw (e, same_bytes w) refl
 
 symbol_is : (s : symbols.Symbol) → (number_of s == number_of s) ≡ true
@@ -65,65 +65,65 @@ symbol_is Colon = refl
 symbol_is DoubleColon = refl
 
 pub sign_complete : (s : symbols.Symbol) {ts rest : List Token} → sign s ts rest → sign_at s ts ≡ Some rest
-unfolding sign_at
+unfolding sign_at choice
 sign_complete s e = rw (e, symbol_is s) refl
 
 any_word_complete : (w : List ℕ) {ts rest : List Token} → word w ts rest → any_word_at ts ≡ Some (w, rest)
-unfolding any_word_at
+unfolding any_word_at choice
 any_word_complete w e = rw e refl
 
 pub name_complete : (n : List ℕ) {ts rest : List Token} → name n ts rest → name_at ts ≡ Some (n, rest)
-unfolding name_at
+unfolding name_at choice
 name_complete n e = rw e refl
 
 pub integer_complete : (z : ℤ) {ts rest : List Token} → item (Integer z) ts rest → integer_at ts ≡ Some (z, rest)
-unfolding integer_at
+unfolding integer_at choice
 integer_complete z e = rw e refl
 
 quoted_complete : (t : List ℕ) {ts rest : List Token} → item (Quoted t) ts rest → quoted_at ts ≡ Some (t, rest)
-unfolding quoted_at
+unfolding quoted_at choice
 quoted_complete t e = rw e refl
 
 -- ---- what a token is not
 
 pub name_no_sign : (s : symbols.Symbol) (n : List ℕ) {ts rest : List Token} → name n ts rest → sign_at s ts ≡ None
-unfolding sign_at
+unfolding sign_at choice
 name_no_sign s n e = rw e refl
 
 pub word_no_sign : (s : symbols.Symbol) (w : List ℕ) {ts rest : List Token} → word w ts rest → sign_at s ts ≡ None
-unfolding sign_at
+unfolding sign_at choice
 word_no_sign s w e = rw e refl
 
 pub sign_no_sign : (s found : symbols.Symbol) {ts rest : List Token} → (number_of found == number_of s) ≡ false → sign found ts rest → sign_at s ts ≡ None
-unfolding sign_at
+unfolding sign_at choice
 sign_no_sign s found h e = rw (e, h) refl
 
 pub name_no_word : (w : List ℕ) (n : List ℕ) {ts rest : List Token} → name n ts rest → word_at w ts ≡ None
-unfolding word_at
+unfolding word_at choice
 name_no_word w n e = rw e refl
 
 pub sign_no_word : (w : List ℕ) (s : symbols.Symbol) {ts rest : List Token} → sign s ts rest → word_at w ts ≡ None
-unfolding word_at
+unfolding word_at choice
 sign_no_word w s e = rw e refl
 
 integer_no_word : (w : List ℕ) (z : ℤ) {ts rest : List Token} → item (Integer z) ts rest → word_at w ts ≡ None
-unfolding word_at
+unfolding word_at choice
 integer_no_word w z e = rw e refl
 
 pub word_no_word : (w v : List ℕ) {ts rest : List Token} → bytes_eq v w ≡ false → word v ts rest → word_at w ts ≡ None
-unfolding word_at
+unfolding word_at choice
 word_no_word w v h e = rw (e, h) refl
 
 pub end_no_word : (w : List ℕ) → word_at w [] ≡ None
-unfolding word_at
+unfolding word_at choice
 end_no_word w = refl
 
 sign_no_name : (s : symbols.Symbol) {ts rest : List Token} → sign s ts rest → name_at ts ≡ None
-unfolding name_at
+unfolding name_at choice
 sign_no_name s e = rw e refl
 
 word_no_name : (w : List ℕ) {ts rest : List Token} → word w ts rest → name_at ts ≡ None
-unfolding name_at
+unfolding name_at choice
 word_no_name w e = rw e refl
 
 pub no_brackets : (ts : List Token) → sign_at OpenBracket ts ≡ None → brackets_at ts ≡ None
@@ -158,11 +158,11 @@ sign_ends s h e = (sign_no_name s e, no_brackets _ (sign_no_sign OpenBracket s h
 -- ---- lists
 
 comma_starts : {ts rest : List Token} → sign Comma ts rest → starts_comma ts ≡ true
-unfolding starts_comma
+unfolding starts_comma sign_at choice
 comma_starts e = rw e refl
 
 pub sign_no_comma : (s : symbols.Symbol) {ts rest : List Token} → (number_of s == number_of Comma) ≡ false → sign s ts rest → starts_comma ts ≡ false
-unfolding starts_comma
+unfolding starts_comma sign_at choice
 sign_no_comma OpenBrace h e = rw e refl
 sign_no_comma CloseBrace h e = rw e refl
 sign_no_comma OpenParenthesis h e = rw e refl
@@ -197,11 +197,11 @@ module _ {A : Type 0} (parses : Parser A) (R : A → Span) (sound : Sound parses
       (bind_at _ (commas_complete (x ∷ xs) a b (sign_ends CloseParenthesis refl r) (sign_no_comma CloseParenthesis refl r) q) (bind_at _ (sign_complete CloseParenthesis r) refl)))
 
 pub end_closes : {ts rest : List Token} → sign CloseBrace ts rest → in_block ts ≡ false
-unfolding in_block
+unfolding in_block sign_at choice
 end_closes e = rw e refl
 
 pub nothing_left : in_block [] ≡ false
-unfolding in_block
+unfolding in_block sign_at choice
 nothing_left = refl
 
 -- ---- names and types

@@ -24,7 +24,7 @@ use Rattle.ilasm_tokens.specs.Steps.{choice, bind_at, choice_at, choice_past, So
 use Rattle.ilasm_tokens.proofs.Many.{CompleteBefore, Complete, ends, many_complete}
 use Rattle.ilasm_reader.specs.declared.methods.Beginning.{Beginning}
 use Rattle.ilasm_reader.specs.declared.methods.Beginning.TheVariants.{Static, Instance, Virtual, Abstract, Constructor}
-use Rattle.ilasm_reader.specs.Parsing.{Parser, word_at, in_block, class_name_at, parameter_at, label_at, starts_label, line_at, locals_at, max_stack_at, code_at, virtual_words_at, constructor_words_at, first_words_at, named_head_at, head_at, code_body_at, body_at, method_at, field_at, interface_member_at, member_at, block_at, implements_at, interface_at, plain_class_at, class_at, starts_extern, extern_at, assembly_at, tree_at}
+use Rattle.ilasm_reader.specs.Parsing.{Parser, word_at, sign_at, name_at, in_block, class_name_at, parameter_at, label_at, starts_label, line_at, locals_at, max_stack_at, code_at, virtual_words_at, constructor_words_at, first_words_at, named_head_at, head_at, code_body_at, body_at, method_at, field_at, interface_member_at, member_at, block_at, implements_at, interface_at, plain_class_at, class_at, starts_extern, extern_at, assembly_at, tree_at}
 use Rattle.ilasm_reader.specs.Sound.{parameter_sound, class_name_sound, label_sound, line_sound, beginning, block, interface_member_sound, member_sound, class_sound, extern_sound, tree_sound}
 use Rattle.ilasm_reader.proofs.Complete.{word_complete, sign_complete, name_complete, integer_complete, name_no_sign, word_no_sign, sign_no_sign, name_no_word, sign_no_word, word_no_word, end_no_word, no_brackets, flag_complete, skip_complete, EndsItem, EndsType, sign_ends, sign_no_comma, commas_complete, parentheses_complete, end_closes, nothing_left, class_name_complete, type_complete, parameter_complete, element_no_word, parameter_open, return_type_complete, spelled, instruction_complete, form_apart, no_form}
 
@@ -35,11 +35,11 @@ unfolding label_at
 label_complete x ts rest (a, p, q) = bind_at _ (name_complete x p) (bind_at _ (sign_complete Colon q) refl)
 
 instruction_no_label : (x : Instruction) (ts rest : List Token) → instr x ts rest → starts_label ts ≡ false
-unfolding starts_label
+unfolding starts_label name_at choice
 instruction_no_label x ts rest p = rw (spelled x ts rest p).first refl
 
 label_first : (x : List ℕ) (ts rest : List Token) → (name x ▸ sign Colon) ts rest → (starts_label ts ≡ true) × Unit {0}
-unfolding starts_label
+unfolding starts_label name_at choice
 label_first x ts rest (a, p, q) = (rw p refl, tt)
 
 line_complete : CompleteBefore EndsType line_at line
@@ -53,7 +53,7 @@ abbrev EndsLine : List Token → Type 0
 EndsLine ts = (word_at (codes ".locals") ts ≡ None) × EndsType ts
 
 line_starts : (labels : List (List ℕ)) (x : Instruction) (ts mid rest : List Token) → each (λ l. name l ▸ sign Colon) labels ts mid → instr x mid rest → (in_block ts ≡ true) × EndsLine ts
-unfolding in_block
+unfolding in_block sign_at choice
 line_starts [] x ts mid rest p q =
     let s = spelled x mid rest q in
     let here : word s.word_is ts s.mid = p ∙ s.first in
@@ -206,12 +206,12 @@ member_complete (FieldMember f) ts rest p = choice_at _ _ (word_complete (codes 
 member_complete (MethodMember m) ts rest p = choice_past _ (word_no_word (codes ".field") (codes ".method") refl p.1) (interface_member_complete (MethodMember m) ts rest p)
 
 interface_member_first : (x : Member) (ts rest : List Token) → interface_member x ts rest → (in_block ts ≡ true) × Unit {0}
-unfolding in_block
+unfolding in_block sign_at choice
 interface_member_first (FieldMember f) ts rest p = absurd p
 interface_member_first (MethodMember m) ts rest (a, p, q) = (rw p refl, tt)
 
 member_first : (x : Member) (ts rest : List Token) → member x ts rest → (in_block ts ≡ true) × Unit {0}
-unfolding in_block
+unfolding in_block sign_at choice
 member_first (FieldMember f) ts rest (a, p, q) = (rw p refl, tt)
 member_first (MethodMember m) ts rest (a, p, q) = (rw p refl, tt)
 
@@ -258,7 +258,7 @@ unfolding class_at
 class_complete x ts rest (a, p, q) = bind_at _ (word_complete (codes ".class") p) (class_by x.name x.members x.kind a rest q)
 
 class_first : (x : Class) (ts rest : List Token) → class_of x ts rest → (in_block ts ≡ true) × Unit {0}
-unfolding in_block
+unfolding in_block sign_at choice
 class_first x ts rest (a, p, q) = (rw p refl, tt)
 
 -- ---- a whole source

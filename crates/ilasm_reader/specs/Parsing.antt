@@ -1,9 +1,8 @@
 -- Reading the parts of a source from its tokens, from left to right.
-use Rattle.std.specs.Prelude.{◌==◌, ℕ, ℤ, List, [], ◌∷◌, length, Option, Some, None, Bool, true, false, is_some, if◌then◌else◌, codes, bytes_eq, unwrap_or, nat_le, pos, negsuc}
+use Rattle.std.specs.Prelude.{◌==◌, ℕ, ℤ, List, [], ◌∷◌, length, Option, Some, None, Bool, true, false, is_some, is_none, if◌then◌else◌, codes, bytes_eq, unwrap_or, nat_le, pos, negsuc}
 use Rattle.cil_model.specs.declared.tokens.Symbol as symbols
 use Rattle.cil_model.specs.declared.tokens.Symbol.TheVariants.{OpenBrace, CloseBrace, OpenParenthesis, CloseParenthesis, OpenBracket, CloseBracket, Comma, Colon, DoubleColon}
 use Rattle.cil_model.specs.declared.tokens.Token.{Token}
-use Rattle.cil_model.specs.declared.tokens.Token.TheVariants.{Reserved, Name, Integer, Quoted, Symbol}
 use Rattle.cil_model.specs.declared.types.ClassName.{ClassName}
 use Rattle.cil_model.specs.declared.types.Element.{Element}
 use Rattle.cil_model.specs.declared.types.Element.TheVariants.{Int32, Int64, Object, String, Class as ClassElement}
@@ -42,6 +41,7 @@ use Rattle.ilasm_tokens.specs.declared.words.TypeTest.{TypeTest}
 use Rattle.ilasm_tokens.specs.declared.words.TypeTest.TheVariants as tests
 use Rattle.ilasm_tokens.specs.Steps.{◌>>=◌, choice, ParserOf, with_front, many}
 use Rattle.ilasm_tokens.specs.Vocabulary.{use_of}
+use Rattle.ilasm_tokens.specs.Parts.{reserved_in, name_in, integer_in, quoted_in, symbol_in}
 use Rattle.ilasm_reader.specs.declared.methods.Beginning.{Beginning}
 use Rattle.ilasm_reader.specs.declared.methods.Beginning.TheVariants.{Static, Instance, Virtual, Abstract, Constructor}
 
@@ -52,8 +52,7 @@ Parser A = ParserOf Token A
 
 unfoldable pub word_at : List ℕ → List Token → Option (List Token)
 word_at w [] = None
-word_at w (Reserved found ∷ rest) = if bytes_eq found w then Some rest else None
-word_at w (_ ∷ rest) = None
+word_at w (t ∷ rest) = choice (reserved_in t) (λ found. if bytes_eq found w then Some rest else None) None
 
 abbrev pub number_of : symbols.Symbol → ℕ
 number_of OpenBrace = 0
@@ -68,24 +67,23 @@ number_of DoubleColon = 8
 
 unfoldable pub sign_at : symbols.Symbol → List Token → Option (List Token)
 sign_at s [] = None
-sign_at s (Symbol found ∷ rest) = if number_of found == number_of s then Some rest else None
-sign_at s (_ ∷ rest) = None
+sign_at s (t ∷ rest) = choice (symbol_in t) (λ found. if number_of found == number_of s then Some rest else None) None
 
 unfoldable pub any_word_at : Parser (List ℕ)
-any_word_at (Reserved found ∷ rest) = Some (found, rest)
-any_word_at _ = None
+any_word_at [] = None
+any_word_at (t ∷ rest) = choice (reserved_in t) (λ found. Some (found, rest)) None
 
 unfoldable pub name_at : Parser (List ℕ)
-name_at (Name found ∷ rest) = Some (found, rest)
-name_at _ = None
+name_at [] = None
+name_at (t ∷ rest) = choice (name_in t) (λ found. Some (found, rest)) None
 
 unfoldable pub integer_at : Parser ℤ
-integer_at (Integer found ∷ rest) = Some (found, rest)
-integer_at _ = None
+integer_at [] = None
+integer_at (t ∷ rest) = choice (integer_in t) (λ found. Some (found, rest)) None
 
 unfoldable pub quoted_at : Parser (List ℕ)
-quoted_at (Quoted found ∷ rest) = Some (found, rest)
-quoted_at _ = None
+quoted_at [] = None
+quoted_at (t ∷ rest) = choice (quoted_in t) (λ found. Some (found, rest)) None
 
 -- whether a word stands here, and what is behind it
 unfoldable pub flag_at : List ℕ → List Token → Bool × List Token
@@ -94,8 +92,7 @@ flag_at w ts = choice (word_at w ts) (λ rest. (true, rest)) (false, ts)
 -- ---- lists
 
 unfoldable pub starts_comma : List Token → Bool
-starts_comma (Symbol Comma ∷ rest) = true
-starts_comma _ = false
+starts_comma ts = is_some (sign_at Comma ts)
 
 unfoldable pub after_comma : {A : Type 0} → Parser A → Parser A
 after_comma parses ts = do
@@ -118,8 +115,7 @@ parentheses_at parses ts = do
 -- whether a block goes on
 unfoldable pub in_block : List Token → Bool
 in_block [] = false
-in_block (Symbol CloseBrace ∷ rest) = false
-in_block _ = true
+in_block (t ∷ rest) = is_none (sign_at CloseBrace (t ∷ rest))
 
 -- ---- names and types
 
@@ -309,8 +305,7 @@ label_at ts = do
   Some (name.0, rest)
 
 unfoldable pub starts_label : List Token → Bool
-starts_label (Name found ∷ rest) = true
-starts_label _ = false
+starts_label ts = is_some (name_at ts)
 
 unfoldable pub line_at : Parser Line
 line_at ts = do

@@ -34,7 +34,7 @@ use Rattle.ilasm_reader.specs.Forms.{operands, instr_from, has_form}
 -- ---- single tokens
 
 word_sound : (w : List ℕ) (ts : List Token) → Yields (word_at w ts) (λ rest. word w ts rest × (length rest < length ts))
-unfolding word_at
+unfolding word_at choice
 word_sound w [] = yields_none
 word_sound w (Reserved found ∷ rest) = yields_if (bytes_eq found w) (λ e. yields_some (ap (λ (x : List ℕ). Reserved x ∷ rest) ((bytes_eq-Decides found w).0 e), omega arith))
 word_sound w (Name n ∷ rest) = yields_none
@@ -55,7 +55,7 @@ same_symbol DoubleColon DoubleColon e = refl
 same_symbol _ _ e = absurd cc
 
 pub sign_sound : (s : symbols.Symbol) (ts : List Token) → Yields (sign_at s ts) (λ rest. sign s ts rest × (length rest < length ts))
-unfolding sign_at
+unfolding sign_at choice
 sign_sound s [] = yields_none
 sign_sound s (Symbol found ∷ rest) = yields_if (number_of found == number_of s) (λ e. yields_some (ap (λ (x : symbols.Symbol). Symbol x ∷ rest) (same_symbol found s e), omega arith))
 sign_sound s (Reserved n ∷ rest) = yields_none
@@ -64,25 +64,25 @@ sign_sound s (Integer n ∷ rest) = yields_none
 sign_sound s (Quoted n ∷ rest) = yields_none
 
 any_word_sound : Sound any_word_at word
-unfolding any_word_at
+unfolding any_word_at choice
 any_word_sound [] = yields_none
 any_word_sound (Reserved found ∷ rest) = yields_some (refl, omega arith)
 any_word_sound (_ ∷ rest) = yields_none
 
 pub name_sound : Sound name_at name
-unfolding name_at
+unfolding name_at choice
 name_sound [] = yields_none
 name_sound (Name found ∷ rest) = yields_some (refl, omega arith)
 name_sound (_ ∷ rest) = yields_none
 
 integer_sound : Sound integer_at (λ z. item (Integer z))
-unfolding integer_at
+unfolding integer_at choice
 integer_sound [] = yields_none
 integer_sound (Integer found ∷ rest) = yields_some (refl, omega arith)
 integer_sound (_ ∷ rest) = yields_none
 
 quoted_sound : Sound quoted_at (λ t. item (Quoted t))
-unfolding quoted_at
+unfolding quoted_at choice
 quoted_sound [] = yields_none
 quoted_sound (Quoted found ∷ rest) = yields_some (refl, omega arith)
 quoted_sound (_ ∷ rest) = yields_none

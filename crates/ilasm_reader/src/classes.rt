@@ -9,15 +9,19 @@ use crate::single::{after_word, expect_symbol, expect_word, flag, name};
 use crate::types::{AnyType, ClassReference};
 use cil_model::sequences::Sequence;
 use cil_model::texts::Text;
-use cil_model::tokens::{Symbol, Token};
+use cil_model::tokens::Symbol;
 use cil_model::trees::{Class, ClassKind, Field, Member, Tree};
 use cil_model::types::ClassName;
 use ilasm_tokens::failure::Failure;
+use ilasm_tokens::source_tokens::Tokens;
 use std::alloc::Global;
+
+/// How many members, classes or assemblies memory is taken for at first.
+const FEW: usize = 4;
 
 /// A field.
 #[tactic(auto, unfolding(crate::specs::Parsing::field_at, ilasm_tokens::specs::Steps::bind))]
-fn field(alloc: Global, tokens: &[Token]) -> Result<(Field, &[Token]), Failure>
+fn field(alloc: Global, tokens: Tokens<'_>) -> Result<(Field, Tokens<'_>), Failure>
     ensures { Gives (λ x. (x.0, x.1.now)) result (field_at tokens.now) }
 {
     let rest = expect_word(tokens, b".field")?;
@@ -46,7 +50,7 @@ impl Parse for InterfaceMember {
     ghost parsed_at = { interface_member_at };
 
     #[tactic(auto, unfolding(crate::specs::Parsing::interface_member_at, ilasm_tokens::specs::Steps::bind))]
-    fn parse(alloc: Global, tokens: &[Token]) -> Result<(Member, &[Token]), Failure> {
+    fn parse(alloc: Global, tokens: Tokens<'_>) -> Result<(Member, Tokens<'_>), Failure> {
         let (method, rest) = method(alloc, tokens)?;
         Ok((Member::Method(method), rest))
     }
@@ -57,7 +61,7 @@ impl Parse for InterfaceMember {
 impl Starts for InterfaceMember {
     ghost starts_at = { in_block };
 
-    fn starts(tokens: &[Token]) -> bool {
+    fn starts(tokens: Tokens<'_>) -> bool {
         in_block(tokens)
     }
 }
@@ -73,7 +77,7 @@ impl Parse for AnyMember {
     ghost parsed_at = { member_at };
 
     #[tactic(auto, unfolding(crate::specs::Parsing::member_at, ilasm_tokens::specs::Steps::bind, ilasm_tokens::specs::Steps::choice))]
-    fn parse(alloc: Global, tokens: &[Token]) -> Result<(Member, &[Token]), Failure> {
+    fn parse(alloc: Global, tokens: Tokens<'_>) -> Result<(Member, Tokens<'_>), Failure> {
         if after_word(tokens, b".field").is_some() {
             let (field, rest) = field(alloc, tokens)?;
             return Ok((Member::Field(field), rest));
@@ -87,7 +91,7 @@ impl Parse for AnyMember {
 impl Starts for AnyMember {
     ghost starts_at = { in_block };
 
-    fn starts(tokens: &[Token]) -> bool {
+    fn starts(tokens: Tokens<'_>) -> bool {
         in_block(tokens)
     }
 }
@@ -96,17 +100,20 @@ impl Starts for AnyMember {
 #[tactic(auto, unfolding(crate::specs::Parsing::block_at, ilasm_tokens::specs::Steps::bind))]
 fn block<P: Starts>(
     alloc: Global,
-    tokens: &[Token],
-) -> Result<(Sequence<P::Tree>, &[Token]), Failure>
+    tokens: Tokens<'_>,
+) -> Result<(Sequence<P::Tree>, Tokens<'_>), Failure>
     ensures { Gives (λ x. (x.0, x.1.now)) result (block_at P.starts_at P.parsed_at tokens.now) }
 {
-    let (members, rest) = many::<P>(alloc, expect_symbol(tokens, Symbol::OpenBrace)?)?;
+    let (members, rest) = many::<P>(alloc, expect_symbol(tokens, Symbol::OpenBrace)?, FEW)?;
     Ok((members, expect_symbol(rest, Symbol::CloseBrace)?))
 }
 
 /// The interfaces that a class lists; none where they are left out.
 #[tactic(auto, unfolding(crate::specs::Parsing::implements_at, ilasm_tokens::specs::Steps::choice))]
-fn implements(alloc: Global, tokens: &[Token]) -> Result<(Sequence<ClassName>, &[Token]), Failure>
+fn implements(
+    alloc: Global,
+    tokens: Tokens<'_>,
+) -> Result<(Sequence<ClassName>, Tokens<'_>), Failure>
     ensures { Gives (λ x. (x.0, x.1.now)) result (implements_at tokens.now) }
 {
     match after_word(tokens, b"implements") {
@@ -117,7 +124,7 @@ fn implements(alloc: Global, tokens: &[Token]) -> Result<(Sequence<ClassName>, &
 
 /// An interface, behind the word `.class`.
 #[tactic(auto, unfolding(crate::specs::Parsing::interface_at, ilasm_tokens::specs::Steps::bind))]
-fn interface(alloc: Global, tokens: &[Token]) -> Result<(Class, &[Token]), Failure>
+fn interface(alloc: Global, tokens: Tokens<'_>) -> Result<(Class, Tokens<'_>), Failure>
     ensures { Gives (λ x. (x.0, x.1.now)) result (interface_at tokens.now) }
 {
     let rest = expect_word(tokens, b"interface")?;
@@ -140,7 +147,7 @@ fn interface(alloc: Global, tokens: &[Token]) -> Result<(Class, &[Token]), Failu
 
 /// A class that is no interface, behind the word `.class`.
 #[tactic(auto, unfolding(crate::specs::Parsing::plain_class_at, ilasm_tokens::specs::Steps::bind))]
-fn plain_class(alloc: Global, tokens: &[Token]) -> Result<(Class, &[Token]), Failure>
+fn plain_class(alloc: Global, tokens: Tokens<'_>) -> Result<(Class, Tokens<'_>), Failure>
     ensures { Gives (λ x. (x.0, x.1.now)) result (plain_class_at tokens.now) }
 {
     let rest = expect_word(tokens, b"public")?;
@@ -178,7 +185,7 @@ impl Parse for AnyClass {
     ghost parsed_at = { class_at };
 
     #[tactic(auto, unfolding(crate::specs::Parsing::class_at, ilasm_tokens::specs::Steps::bind, ilasm_tokens::specs::Steps::choice))]
-    fn parse(alloc: Global, tokens: &[Token]) -> Result<(Class, &[Token]), Failure> {
+    fn parse(alloc: Global, tokens: Tokens<'_>) -> Result<(Class, Tokens<'_>), Failure> {
         let rest = expect_word(tokens, b".class")?;
         if after_word(rest, b"interface").is_some() {
             interface(alloc, rest)
@@ -193,7 +200,7 @@ impl Parse for AnyClass {
 impl Starts for AnyClass {
     ghost starts_at = { in_block };
 
-    fn starts(tokens: &[Token]) -> bool {
+    fn starts(tokens: Tokens<'_>) -> bool {
         in_block(tokens)
     }
 }
@@ -209,7 +216,7 @@ impl Parse for Extern {
     ghost parsed_at = { extern_at };
 
     #[tactic(auto, unfolding(crate::specs::Parsing::extern_at, ilasm_tokens::specs::Steps::bind))]
-    fn parse(alloc: Global, tokens: &[Token]) -> Result<(Text, &[Token]), Failure> {
+    fn parse(alloc: Global, tokens: Tokens<'_>) -> Result<(Text, Tokens<'_>), Failure> {
         let rest = expect_word(tokens, b".assembly")?;
         let rest = expect_word(rest, b"extern")?;
         let (name, rest) = name(alloc, rest)?;
@@ -225,7 +232,7 @@ impl Starts for Extern {
     ghost starts_at = { starts_extern };
 
     #[tactic(auto, unfolding(crate::specs::Parsing::starts_extern, ilasm_tokens::specs::Steps::choice))]
-    fn starts(tokens: &[Token]) -> bool {
+    fn starts(tokens: Tokens<'_>) -> bool {
         match after_word(tokens, b".assembly") {
             Some(rest) => after_word(rest, b"extern").is_some(),
             None => false,
@@ -235,7 +242,7 @@ impl Starts for Extern {
 
 /// The source's own assembly, if it is named.
 #[tactic(auto, unfolding(crate::specs::Parsing::assembly_at, ilasm_tokens::specs::Steps::bind, ilasm_tokens::specs::Steps::choice))]
-fn assembly(alloc: Global, tokens: &[Token]) -> Result<(Option<Text>, &[Token]), Failure>
+fn assembly(alloc: Global, tokens: Tokens<'_>) -> Result<(Option<Text>, Tokens<'_>), Failure>
     ensures { Gives (λ x. (x.0, x.1.now)) result (assembly_at tokens.now) }
 {
     let Some(rest) = after_word(tokens, b".assembly") else {
@@ -249,12 +256,12 @@ fn assembly(alloc: Global, tokens: &[Token]) -> Result<(Option<Text>, &[Token]),
 
 /// The tree of all of the tokens.
 #[tactic(auto, unfolding(crate::specs::Parsing::tree_at, ilasm_tokens::specs::Steps::bind))]
-pub fn tree(alloc: Global, tokens: &[Token]) -> Result<Tree, Failure>
+pub fn tree(alloc: Global, tokens: Tokens<'_>) -> Result<Tree, Failure>
     ensures { Gives (λ tree. tree) result (tree_at tokens.now) }
 {
-    let (externs, rest) = many::<Extern>(alloc, tokens)?;
+    let (externs, rest) = many::<Extern>(alloc, tokens, FEW)?;
     let (assembly, rest) = assembly(alloc, rest)?;
-    let (classes, rest) = many::<AnyClass>(alloc, rest)?;
+    let (classes, rest) = many::<AnyClass>(alloc, rest, FEW)?;
     if !rest.is_empty() {
         return Err(Failure::Refused { left: rest.len() });
     }

@@ -1,18 +1,20 @@
 //! The code of methods.
 
+ghost use Rattle.std.specs.Prelude.{◌≤◌, length};
 ghost use Rattle.ilasm_tokens.specs.Steps.{Gives};
 ghost use Rattle.ilasm_reader.specs.Parsing.{code_at, in_block, label_at, line_at, locals_at, max_stack_at, starts_label};
 
 use crate::instructions::instruction;
 use crate::lists::{Parse, Starts, commas, in_block, many};
-use crate::single::{after_word, expect_symbol, expect_word, flag, integer, name};
+use crate::single::{after_name, after_word, expect_symbol, expect_word, flag, integer, name};
 use crate::types::Parameter;
 use cil_model::sequences::Sequence;
 use cil_model::texts::Text;
-use cil_model::tokens::{Symbol, Token};
+use cil_model::tokens::Symbol;
 use cil_model::trees::{Code, Line};
 use cil_model::types::DeclaredType;
 use ilasm_tokens::failure::Failure;
+use ilasm_tokens::source_tokens::Tokens;
 use std::alloc::Global;
 
 /// A label before an instruction.
@@ -26,7 +28,7 @@ impl Parse for Label {
     ghost parsed_at = { label_at };
 
     #[tactic(auto, unfolding(crate::specs::Parsing::label_at, ilasm_tokens::specs::Steps::bind))]
-    fn parse(alloc: Global, tokens: &[Token]) -> Result<(Text, &[Token]), Failure> {
+    fn parse(alloc: Global, tokens: Tokens<'_>) -> Result<(Text, Tokens<'_>), Failure> {
         let (name, rest) = name(alloc, tokens)?;
         Ok((name, expect_symbol(rest, Symbol::Colon)?))
     }
@@ -38,8 +40,8 @@ impl Starts for Label {
     ghost starts_at = { starts_label };
 
     #[tactic(auto, unfolding(crate::specs::Parsing::starts_label))]
-    fn starts(tokens: &[Token]) -> bool {
-        matches!(tokens, [Token::Name(_), ..])
+    fn starts(tokens: Tokens<'_>) -> bool {
+        after_name(tokens).is_some()
     }
 }
 
@@ -54,8 +56,8 @@ impl Parse for CodeLine {
     ghost parsed_at = { line_at };
 
     #[tactic(auto, unfolding(crate::specs::Parsing::line_at, ilasm_tokens::specs::Steps::bind))]
-    fn parse(alloc: Global, tokens: &[Token]) -> Result<(Line, &[Token]), Failure> {
-        let (labels, rest) = many::<Label>(alloc, tokens)?;
+    fn parse(alloc: Global, tokens: Tokens<'_>) -> Result<(Line, Tokens<'_>), Failure> {
+        let (labels, rest) = many::<Label>(alloc, tokens, 1)?;
         let (instruction, rest) = instruction(alloc, rest)?;
         Ok((
             Line {
@@ -72,14 +74,17 @@ impl Parse for CodeLine {
 impl Starts for CodeLine {
     ghost starts_at = { in_block };
 
-    fn starts(tokens: &[Token]) -> bool {
+    fn starts(tokens: Tokens<'_>) -> bool {
         in_block(tokens)
     }
 }
 
 /// The types of the locals; none where they are left out.
 #[tactic(auto, unfolding(crate::specs::Parsing::locals_at, ilasm_tokens::specs::Steps::bind, ilasm_tokens::specs::Steps::choice))]
-fn locals(alloc: Global, tokens: &[Token]) -> Result<(Sequence<DeclaredType>, &[Token]), Failure>
+fn locals(
+    alloc: Global,
+    tokens: Tokens<'_>,
+) -> Result<(Sequence<DeclaredType>, Tokens<'_>), Failure>
     ensures { Gives (λ x. (x.0, x.1.now)) result (locals_at tokens.now) }
 {
     let Some(rest) = after_word(tokens, b".locals") else {
@@ -93,22 +98,33 @@ fn locals(alloc: Global, tokens: &[Token]) -> Result<(Sequence<DeclaredType>, &[
 
 /// How high the stack may be.
 #[tactic(auto, unfolding(crate::specs::Parsing::max_stack_at, ilasm_tokens::specs::Steps::bind))]
-fn max_stack(tokens: &[Token]) -> Result<(i64, &[Token]), Failure>
+fn max_stack(tokens: Tokens<'_>) -> Result<(i64, Tokens<'_>), Failure>
     ensures { Gives (λ x. (x.0, x.1.now)) result (max_stack_at tokens.now) }
 {
     integer(expect_word(tokens, b".maxstack")?)
 }
 
+/// How many reserved words stand before the end of a block. No more lines do, since each has the name of an instruction.
+fn words_ahead(tokens: Tokens<'_>) -> usize
+    ensures { result ≤ length tokens.now }
+{
+    tokens
+        .iter()
+        .take_while(|token| !matches!(token.symbol(), Some(Symbol::CloseBrace)))
+        .filter(|token| token.reserved().is_some())
+        .count()
+}
+
 /// The code of a method, in braces.
 #[tactic(auto, unfolding(crate::specs::Parsing::code_at, ilasm_tokens::specs::Steps::bind))]
-pub fn code(alloc: Global, tokens: &[Token]) -> Result<(Code, &[Token]), Failure>
+pub fn code(alloc: Global, tokens: Tokens<'_>) -> Result<(Code, Tokens<'_>), Failure>
     ensures { Gives (λ x. (x.0, x.1.now)) result (code_at tokens.now) }
 {
     let block = expect_symbol(tokens, Symbol::OpenBrace)?;
     let (is_entry_point, rest) = flag(block, b".entrypoint");
     let (max_stack, rest) = max_stack(rest)?;
     let (locals, rest) = locals(alloc, rest)?;
-    let (lines, rest) = many::<CodeLine>(alloc, rest)?;
+    let (lines, rest) = many::<CodeLine>(alloc, rest, words_ahead(rest))?;
     let rest = expect_symbol(rest, Symbol::CloseBrace)?;
     Ok((
         Code {

@@ -7,13 +7,13 @@ ghost use Rattle.ilasm_reader.specs.Parsing.{bare, with_integer, jump, with_fiel
 
 use crate::lists::{Parse, parentheses};
 use crate::operands::{Target, field_reference, method_reference};
-use crate::single::{after_word, expect_word, integer, name, quoted};
+use crate::single::{after_word, any_word, expect_word, integer, name, quoted};
 use crate::types::{AnyType, element};
 use cil_model::instructions::{FieldReference, Instruction, MethodName, MethodReference};
 use cil_model::texts::Text;
-use cil_model::tokens::Token;
 use cil_model::types::DeclaredType;
 use ilasm_tokens::failure::Failure;
+use ilasm_tokens::source_tokens::Tokens;
 use ilasm_tokens::words::{Bare, FieldAccess, Form, Jump, TypeTest, WithInteger, WordUse, use_of};
 use std::alloc::Global;
 
@@ -91,7 +91,7 @@ fn with_type(which: TypeTest, its_type: DeclaredType) -> Instruction
 
 /// The instruction `ldc.i4`, behind its name.
 #[tactic(auto, unfolding(crate::specs::Parsing::operands_at, crate::specs::Parsing::has_32_bits, ilasm_tokens::specs::Steps::bind))]
-fn load_int32(tokens: &[Token]) -> Result<(Instruction, &[Token]), Failure>
+fn load_int32(tokens: Tokens<'_>) -> Result<(Instruction, Tokens<'_>), Failure>
     ensures { Gives (λ x. (x.0, x.1.now)) result (operands_at Int32 tokens.now) }
 {
     let (value, rest) = integer(tokens)?;
@@ -103,7 +103,7 @@ fn load_int32(tokens: &[Token]) -> Result<(Instruction, &[Token]), Failure>
 
 /// The instruction `call`, behind its name.
 #[tactic(auto, unfolding(crate::specs::Parsing::operands_at, crate::specs::Parsing::flag_at, ilasm_tokens::specs::Steps::bind, ilasm_tokens::specs::Steps::choice))]
-fn call(alloc: Global, tokens: &[Token]) -> Result<(Instruction, &[Token]), Failure>
+fn call(alloc: Global, tokens: Tokens<'_>) -> Result<(Instruction, Tokens<'_>), Failure>
     ensures { Gives (λ x. (x.0, x.1.now)) result (operands_at Call tokens.now) }
 {
     if let Some(rest) = after_word(tokens, b"instance") {
@@ -130,7 +130,7 @@ fn call(alloc: Global, tokens: &[Token]) -> Result<(Instruction, &[Token]), Fail
 
 /// The instruction `callvirt`, behind its name.
 #[tactic(auto, unfolding(crate::specs::Parsing::operands_at, crate::specs::Parsing::virtual_call, ilasm_tokens::specs::Steps::bind))]
-fn call_virtual(alloc: Global, tokens: &[Token]) -> Result<(Instruction, &[Token]), Failure>
+fn call_virtual(alloc: Global, tokens: Tokens<'_>) -> Result<(Instruction, Tokens<'_>), Failure>
     ensures { Gives (λ x. (x.0, x.1.now)) result (operands_at CallVirtual tokens.now) }
 {
     let (method, rest) = method_reference(alloc, expect_word(tokens, b"instance")?)?;
@@ -154,7 +154,7 @@ fn call_virtual(alloc: Global, tokens: &[Token]) -> Result<(Instruction, &[Token
 
 /// The instruction `newobj`, behind its name.
 #[tactic(auto, unfolding(crate::specs::Parsing::operands_at, crate::specs::Parsing::creation, ilasm_tokens::specs::Steps::bind))]
-fn new_object(alloc: Global, tokens: &[Token]) -> Result<(Instruction, &[Token]), Failure>
+fn new_object(alloc: Global, tokens: Tokens<'_>) -> Result<(Instruction, Tokens<'_>), Failure>
     ensures { Gives (λ x. (x.0, x.1.now)) result (operands_at NewObject tokens.now) }
 {
     let (method, rest) = method_reference(alloc, expect_word(tokens, b"instance")?)?;
@@ -176,8 +176,8 @@ fn new_object(alloc: Global, tokens: &[Token]) -> Result<(Instruction, &[Token])
 fn instruction_of(
     alloc: Global,
     form: Form,
-    tokens: &[Token],
-) -> Result<(Instruction, &[Token]), Failure>
+    tokens: Tokens<'_>,
+) -> Result<(Instruction, Tokens<'_>), Failure>
     ensures { Gives (λ x. (x.0, x.1.now)) result (operands_at form tokens.now) }
 {
     match form {
@@ -222,14 +222,12 @@ fn instruction_of(
 }
 
 /// An instruction.
-#[tactic(auto, unfolding(crate::specs::Parsing::instruction_at, crate::specs::Parsing::any_word_at, crate::specs::Parsing::form_of, ilasm_tokens::specs::Steps::bind))]
-pub fn instruction(alloc: Global, tokens: &[Token]) -> Result<(Instruction, &[Token]), Failure>
+#[tactic(auto, unfolding(crate::specs::Parsing::instruction_at, crate::specs::Parsing::form_of, ilasm_tokens::specs::Steps::bind))]
+pub fn instruction(alloc: Global, tokens: Tokens<'_>) -> Result<(Instruction, Tokens<'_>), Failure>
     ensures { Gives (λ x. (x.0, x.1.now)) result (instruction_at tokens.now) }
 {
-    let [Token::Reserved(word), rest @ ..] = tokens else {
-        return Err(Failure::Refused { left: tokens.len() });
-    };
-    match use_of(word.as_str().as_bytes()) {
+    let (word, rest) = any_word(tokens)?;
+    match use_of(word) {
         Some(WordUse::Instruction(form)) => instruction_of(alloc, form, rest),
         _ => Err(Failure::Refused { left: tokens.len() }),
     }

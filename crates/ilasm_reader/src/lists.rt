@@ -1,13 +1,14 @@
 //! Lists of parts.
 
-ghost use Rattle.std.specs.Prelude.{◌≡◌, List, Bool};
+ghost use Rattle.std.specs.Prelude.{◌≡◌, ◌≤◌, List, Bool, true, length};
 ghost use Rattle.ilasm_tokens.specs.Steps.{Gives, Consumes, many};
 ghost use Rattle.ilasm_reader.specs.Parsing.{Parser, starts_comma, after_comma, commas_at, parentheses_at, in_block};
 
 use crate::single::{after_symbol, expect_symbol};
 use cil_model::sequences::Sequence;
-use cil_model::tokens::{Symbol, Token};
+use cil_model::tokens::Symbol;
 use ilasm_tokens::failure::Failure;
+use ilasm_tokens::source_tokens::Tokens;
 use std::alloc::Global;
 
 /// A part of the grammar that stands in lists.
@@ -20,7 +21,7 @@ pub trait Parse {
     ghost parsed_at: { Parser Self.Tree };
 
     /// What the tree keeps of the part that the tokens begin with, and the tokens behind it.
-    fn parse(alloc: Global, tokens: &[Token]) -> Result<(Self::Tree, &[Token]), Failure>
+    fn parse(alloc: Global, tokens: Tokens<'_>) -> Result<(Self::Tree, Tokens<'_>), Failure>
         ensures { Gives (λ x. (x.0, x.1.now)) result (parsed_at tokens.now) };
 
     // Something is taken.
@@ -34,19 +35,22 @@ pub trait Starts: Parse {
     ghost starts_at: { List Token → Bool };
 
     /// Whether one more stands here.
-    fn starts(tokens: &[Token]) -> bool
+    fn starts(tokens: Tokens<'_>) -> bool
         ensures { result ≡ starts_at tokens.now };
 }
 
-/// As many as stand here, one after the other.
-pub fn many<P: Starts>(
+/// As many as stand here, one after the other, of which the first starts here. Memory for `expected` is taken at once.
+fn some<P: Starts>(
     alloc: Global,
-    tokens: &[Token],
-) -> Result<(Sequence<P::Tree>, &[Token]), Failure>
+    tokens: Tokens<'_>,
+    expected: usize,
+) -> Result<(Sequence<P::Tree>, Tokens<'_>), Failure>
+    requires { P.starts_at tokens.now ≡ true }
     ensures { Gives (λ x. (x.0, x.1.now)) result (many P.starts_at P.parsed_at tokens.now) }
 {
-    let mut items = Vec::new(alloc);
-    let mut rest = tokens;
+    let (first, mut rest) = P::parse(alloc, tokens)?;
+    let mut items = Vec::with_capacity(alloc, expected)?;
+    items.push(first)?;
     while P::starts(rest) {
         let (item, after) = P::parse(alloc, rest)?;
         items.push(item)?;
@@ -55,31 +59,65 @@ pub fn many<P: Starts>(
     Ok((Sequence::new(items), rest))
 }
 
+/// As many as stand here, one after the other. If there are some, memory for `expected` is taken at once.
+pub fn many<P: Starts>(
+    alloc: Global,
+    tokens: Tokens<'_>,
+    expected: usize,
+) -> Result<(Sequence<P::Tree>, Tokens<'_>), Failure>
+    ensures { Gives (λ x. (x.0, x.1.now)) result (many P.starts_at P.parsed_at tokens.now) }
+{
+    if P::starts(tokens) {
+        some::<P>(alloc, tokens, expected)
+    } else {
+        Ok((Sequence::new(Vec::new(alloc)), tokens))
+    }
+}
+
 #[tactic(auto, unfolding(crate::specs::Parsing::starts_comma))]
-fn starts_comma(tokens: &[Token]) -> bool
+fn starts_comma(tokens: Tokens<'_>) -> bool
     ensures { result ≡ starts_comma tokens.now }
 {
-    matches!(tokens, [Token::Symbol(Symbol::Comma), ..])
+    after_symbol(tokens, Symbol::Comma).is_some()
 }
 
 /// The part behind a comma.
 #[tactic(auto, unfolding(crate::specs::Parsing::after_comma, ilasm_tokens::specs::Steps::bind))]
-fn after_comma<P: Parse>(alloc: Global, tokens: &[Token]) -> Result<(P::Tree, &[Token]), Failure>
+fn after_comma<P: Parse>(
+    alloc: Global,
+    tokens: Tokens<'_>,
+) -> Result<(P::Tree, Tokens<'_>), Failure>
     ensures { Gives (λ x. (x.0, x.1.now)) result (after_comma P.parsed_at tokens.now) }
 {
     P::parse(alloc, expect_symbol(tokens, Symbol::Comma)?)
+}
+
+/// How many commas stand before the end of a list, which is a parenthesis or a brace.
+fn commas_ahead(tokens: Tokens<'_>) -> usize
+    ensures { result ≤ length tokens.now }
+{
+    tokens
+        .iter()
+        .take_while(|token| {
+            !matches!(
+                token.symbol(),
+                Some(Symbol::CloseParenthesis | Symbol::OpenBrace | Symbol::CloseBrace)
+            )
+        })
+        .filter(|token| matches!(token.symbol(), Some(Symbol::Comma)))
+        .count()
 }
 
 /// One or more, with commas between.
 #[tactic(auto, unfolding(crate::specs::Parsing::commas_at, ilasm_tokens::specs::Steps::bind))]
 pub fn commas<P: Parse>(
     alloc: Global,
-    tokens: &[Token],
-) -> Result<(Sequence<P::Tree>, &[Token]), Failure>
+    tokens: Tokens<'_>,
+) -> Result<(Sequence<P::Tree>, Tokens<'_>), Failure>
     ensures { Gives (λ x. (x.0, x.1.now)) result (commas_at P.parsed_at tokens.now) }
 {
     let (first, mut rest) = P::parse(alloc, tokens)?;
-    let mut items = Vec::new(alloc);
+    let mut items = Vec::with_capacity(alloc, commas_ahead(rest).saturating_add(1))?;
     items.push(first)?;
     while starts_comma(rest) {
         let (item, after) = after_comma::<P>(alloc, rest)?;
@@ -93,8 +131,8 @@ pub fn commas<P: Parse>(
 #[tactic(auto, unfolding(crate::specs::Parsing::parentheses_at, ilasm_tokens::specs::Steps::bind, ilasm_tokens::specs::Steps::choice))]
 pub fn parentheses<P: Parse>(
     alloc: Global,
-    tokens: &[Token],
-) -> Result<(Sequence<P::Tree>, &[Token]), Failure>
+    tokens: Tokens<'_>,
+) -> Result<(Sequence<P::Tree>, Tokens<'_>), Failure>
     ensures { Gives (λ x. (x.0, x.1.now)) result (parentheses_at P.parsed_at tokens.now) }
 {
     let inside = expect_symbol(tokens, Symbol::OpenParenthesis)?;
@@ -107,8 +145,8 @@ pub fn parentheses<P: Parse>(
 
 /// Whether a block goes on: its end is neither here nor missing.
 #[tactic(auto, unfolding(crate::specs::Parsing::in_block))]
-pub fn in_block(tokens: &[Token]) -> bool
+pub fn in_block(tokens: Tokens<'_>) -> bool
     ensures { result ≡ in_block tokens.now }
 {
-    !matches!(tokens, [] | [Token::Symbol(Symbol::CloseBrace), ..])
+    !tokens.is_empty() && after_symbol(tokens, Symbol::CloseBrace).is_none()
 }

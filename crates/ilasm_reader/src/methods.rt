@@ -8,10 +8,11 @@ use crate::lists::parentheses;
 use crate::single::{after_word, expect_symbol, expect_word, flag, name};
 use crate::types::{Parameter, return_type};
 use cil_model::instructions::MethodName;
-use cil_model::tokens::{Symbol, Token};
+use cil_model::tokens::Symbol;
 use cil_model::trees::{Method, MethodKind};
 use cil_model::types::{DeclaredType, Signature};
 use ilasm_tokens::failure::Failure;
+use ilasm_tokens::source_tokens::Tokens;
 use std::alloc::Global;
 
 /// What the words before a method's return type say of it.
@@ -26,7 +27,7 @@ pub enum Beginning {
 
 /// The words of a virtual method or of an abstract one.
 #[tactic(auto, unfolding(crate::specs::Parsing::virtual_words_at, ilasm_tokens::specs::Steps::bind))]
-fn virtual_words(tokens: &[Token]) -> Result<(Beginning, &[Token]), Failure>
+fn virtual_words(tokens: Tokens<'_>) -> Result<(Beginning, Tokens<'_>), Failure>
     ensures { Gives (λ x. (x.0, x.1.now)) result (virtual_words_at tokens.now) }
 {
     let (is_new_slot, rest) = flag(tokens, b"newslot");
@@ -43,7 +44,7 @@ fn virtual_words(tokens: &[Token]) -> Result<(Beginning, &[Token]), Failure>
 
 /// The words of a constructor, behind the first.
 #[tactic(auto, unfolding(crate::specs::Parsing::constructor_words_at, ilasm_tokens::specs::Steps::bind))]
-fn constructor_words(tokens: &[Token]) -> Result<&[Token], Failure>
+fn constructor_words(tokens: Tokens<'_>) -> Result<Tokens<'_>, Failure>
     ensures { Gives (λ r. r.now) result (constructor_words_at tokens.now) }
 {
     expect_word(expect_word(tokens, b"rtspecialname")?, b"instance")
@@ -51,7 +52,7 @@ fn constructor_words(tokens: &[Token]) -> Result<&[Token], Failure>
 
 /// The words before a method's return type.
 #[tactic(auto, unfolding(crate::specs::Parsing::first_words_at, ilasm_tokens::specs::Steps::bind, ilasm_tokens::specs::Steps::choice))]
-fn first_words(tokens: &[Token]) -> Result<(Beginning, &[Token]), Failure>
+fn first_words(tokens: Tokens<'_>) -> Result<(Beginning, Tokens<'_>), Failure>
     ensures { Gives (λ x. (x.0, x.1.now)) result (first_words_at tokens.now) }
 {
     if let Some(rest) = after_word(tokens, b"static") {
@@ -71,8 +72,8 @@ fn first_words(tokens: &[Token]) -> Result<(Beginning, &[Token]), Failure>
 fn head(
     alloc: Global,
     beginning: Beginning,
-    tokens: &[Token],
-) -> Result<((Option<DeclaredType>, MethodName), &[Token]), Failure>
+    tokens: Tokens<'_>,
+) -> Result<((Option<DeclaredType>, MethodName), Tokens<'_>), Failure>
     ensures { Gives (λ x. (x.0, x.1.now)) result (head_at beginning tokens.now) }
 {
     if let Beginning::Constructor = beginning {
@@ -90,8 +91,8 @@ fn head(
 fn body(
     alloc: Global,
     beginning: Beginning,
-    tokens: &[Token],
-) -> Result<(MethodKind, &[Token]), Failure>
+    tokens: Tokens<'_>,
+) -> Result<(MethodKind, Tokens<'_>), Failure>
     ensures { Gives (λ x. (x.0, x.1.now)) result (body_at beginning tokens.now) }
 {
     if let Beginning::Abstract { is_new_slot } = beginning {
@@ -110,7 +111,7 @@ fn body(
 
 /// A method.
 #[tactic(auto, unfolding(crate::specs::Parsing::method_at, ilasm_tokens::specs::Steps::bind))]
-pub fn method(alloc: Global, tokens: &[Token]) -> Result<(Method, &[Token]), Failure>
+pub fn method(alloc: Global, tokens: Tokens<'_>) -> Result<(Method, Tokens<'_>), Failure>
     ensures { Gives (λ x. (x.0, x.1.now)) result (method_at tokens.now) }
 {
     let rest = expect_word(tokens, b".method")?;

@@ -8,9 +8,10 @@ use crate::single::{after_word, expect_symbol, expect_word, name};
 use crate::types::{AnyType, ClassReference, return_type};
 use cil_model::instructions::{FieldReference, MethodName, MethodReference};
 use cil_model::texts::Text;
-use cil_model::tokens::{Symbol, Token};
+use cil_model::tokens::Symbol;
 use cil_model::types::Signature;
 use ilasm_tokens::failure::Failure;
+use ilasm_tokens::source_tokens::Tokens;
 use std::alloc::Global;
 
 /// A label that an instruction goes to.
@@ -23,7 +24,7 @@ impl Parse for Target {
 
     ghost parsed_at = { name_at };
 
-    fn parse(alloc: Global, tokens: &[Token]) -> Result<(Text, &[Token]), Failure> {
+    fn parse(alloc: Global, tokens: Tokens<'_>) -> Result<(Text, Tokens<'_>), Failure> {
         name(alloc, tokens)
     }
 
@@ -34,8 +35,8 @@ impl Parse for Target {
 #[tactic(auto, unfolding(crate::specs::Parsing::field_reference_at, ilasm_tokens::specs::Steps::bind))]
 pub fn field_reference(
     alloc: Global,
-    tokens: &[Token],
-) -> Result<(FieldReference, &[Token]), Failure>
+    tokens: Tokens<'_>,
+) -> Result<(FieldReference, Tokens<'_>), Failure>
     ensures { Gives (λ x. (x.0, x.1.now)) result (field_reference_at tokens.now) }
 {
     let (field_type, rest) = AnyType::parse(alloc, tokens)?;
@@ -54,7 +55,7 @@ pub fn field_reference(
 
 /// A name, or `.ctor`.
 #[tactic(auto, unfolding(crate::specs::Parsing::method_name_at, ilasm_tokens::specs::Steps::bind, ilasm_tokens::specs::Steps::choice))]
-fn method_name(alloc: Global, tokens: &[Token]) -> Result<(MethodName, &[Token]), Failure>
+fn method_name(alloc: Global, tokens: Tokens<'_>) -> Result<(MethodName, Tokens<'_>), Failure>
     ensures { Gives (λ x. (x.0, x.1.now)) result (method_name_at tokens.now) }
 {
     if let Some(rest) = after_word(tokens, b".ctor") {
@@ -68,8 +69,8 @@ fn method_name(alloc: Global, tokens: &[Token]) -> Result<(MethodName, &[Token])
 #[tactic(auto, unfolding(crate::specs::Parsing::method_reference_at, ilasm_tokens::specs::Steps::bind))]
 pub fn method_reference(
     alloc: Global,
-    tokens: &[Token],
-) -> Result<(MethodReference, &[Token]), Failure>
+    tokens: Tokens<'_>,
+) -> Result<(MethodReference, Tokens<'_>), Failure>
     ensures { Gives (λ x. (x.0, x.1.now)) result (method_reference_at tokens.now) }
 {
     let (return_type, rest) = return_type(alloc, tokens)?;

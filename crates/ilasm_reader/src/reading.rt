@@ -95,10 +95,9 @@ pub fn read(alloc: Global, source: &[u8]) -> Result<Tree, ReadError>
     match tree(alloc, tokens.as_slice()) {
         Ok(tree) => Ok(tree),
         Err(Failure::Refused { left }) => {
-            match token_offset(alloc, source, tokens.as_slice().len().saturating_sub(left)) {
-                Ok(offset) => Err(ReadError::NoTree { offset }),
-                Err(_) => Err(ReadError::OutOfMemory),
-            }
+            let number = tokens.as_slice().len().saturating_sub(left);
+            let offset = token_offset(source, number).unwrap_or(source.len());
+            Err(ReadError::NoTree { offset })
         }
         Err(Failure::OutOfMemory) => Err(ReadError::OutOfMemory),
     }

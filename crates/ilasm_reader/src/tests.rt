@@ -36,8 +36,9 @@ const FORMS: &str = r#".assembly extern mscorlib {} .assembly extern cilvm {} .a
 "#;
 
 /// Each instruction, with its operands.
-const BODY: &str =
-    r#"nop ldc.i4 -5 ldc.i8 5 ldnull ldstr "s" ldarg 1 ldloc 2 starg 3 stloc 4 dup pop
+const INSTRUCTIONS: &str =
+    r#".class public auto ansi P extends Q { .method public static void M() cil managed { .maxstack 8
+nop ldc.i4 -5 ldc.i8 5 ldnull ldstr "s" ldarg 1 ldloc 2 starg 3 stloc 4 dup pop
 add sub mul add.ovf sub.ovf mul.ovf div rem and or xor neg not shl shr shr.un ceq cgt clt conv.i4 conv.i8
 br l brtrue l brfalse l beq l bne.un l bge l bgt l ble l blt l switch () switch (l, m)
 ldfld int32 [mscorlib]System.Object::x stfld int32[] P::x ldsfld string P::x stsfld class Q[] P::x
@@ -46,7 +47,7 @@ castclass class P[] isinst string call void P::f() call instance int32 P::.ctor(
 callvirt instance void [a]P::f(class P[]) newobj instance void P::.ctor(int32) ret
 ldc.i4.m1 ldc.i4.0 ldc.i4.1 ldc.i4.2 ldc.i4.3 ldc.i4.4 ldc.i4.5 ldc.i4.6 ldc.i4.7 ldc.i4.8
 ldarg.0 ldarg.1 ldarg.2 ldarg.3 ldloc.0 ldloc.1 ldloc.2 ldloc.3 stloc.0 stloc.1 stloc.2 stloc.3
-"#;
+} }"#;
 
 /// A source with one method, whose body is repeated.
 fn method_of(alloc: Global, body: &str, times: usize) -> Result<String, Fail> {
@@ -158,8 +159,7 @@ fn reads_every_class_and_member(rt: HostRuntime) -> Result<(), Fail> {
 
 #[test]
 fn reads_every_instruction(rt: HostRuntime) -> Result<(), Fail> {
-    let source = method_of(rt.alloc(), BODY, 1)?;
-    let tree = read(rt.alloc(), source.as_bytes())?;
+    let tree = read(rt.alloc(), INSTRUCTIONS.as_bytes())?;
     // There are 82 names, and `switch`, `newarr` and `call` stand twice.
     assert_eq!(rt; lines_of(&tree).len(), 85);
     Ok(())
@@ -189,11 +189,24 @@ fn tells_why_and_where(rt: HostRuntime) -> Result<(), Fail> {
     }
     assert_eq!(rt; ReadError::TooLong.number(), 104);
     assert_eq!(rt; ReadError::OutOfMemory.number(), 105);
-    let message = format!(in rt.alloc(); "{}", ReadError::NoTree { offset: 7 })?;
-    assert_eq!(rt;
-        message.as_str(),
-        "what begins at byte 7 is not expected there"
-    );
+    for (error, message) in [
+        (ReadError::TooLong, "the source has more than 1048576 bytes"),
+        (
+            ReadError::NotAscii { offset: 3 },
+            "the byte at 3 is above 127",
+        ),
+        (
+            ReadError::NoToken { offset: 1 },
+            "no token begins at byte 1",
+        ),
+        (
+            ReadError::NoTree { offset: 7 },
+            "what begins at byte 7 is not expected there",
+        ),
+        (ReadError::OutOfMemory, "out of memory"),
+    ] {
+        assert_eq!(rt; format!(in rt.alloc(); "{error}")?.as_str(), message);
+    }
     Ok(())
 }
 
@@ -300,16 +313,20 @@ fn reads_long_lists(rt: HostRuntime) -> Result<(), Fail> {
     Ok(())
 }
 
+/// Each rule is read to its end and each error is reached, from sources that take no memory of the test's own.
 #[test]
-fn answers_or_runs_out_of_memory(rt: HostRuntime) -> Result<(), Fail> {
-    match read(rt.alloc(), SUM.as_bytes()) {
-        Ok(tree) => assert_eq!(rt; lines_of(&tree).len(), 5),
-        Err(error) => assert_eq!(rt; error, ReadError::OutOfMemory),
+fn answers_as_usual_or_has_no_memory(rt: HostRuntime) {
+    for (source, usual) in [
+        (SUM, None),
+        (FORMS, None),
+        (INSTRUCTIONS, None),
+        (".class P", Some(ReadError::NoTree { offset: 7 })),
+        ("\"no end", Some(ReadError::NoToken { offset: 0 })),
+        ("caf\u{e9}", Some(ReadError::NotAscii { offset: 3 })),
+    ] {
+        match read(rt.alloc(), source.as_bytes()) {
+            Err(ReadError::OutOfMemory) => {}
+            found => assert_eq!(rt; found.err(), usual, "{source}"),
+        }
     }
-    match read(rt.alloc(), b".class P") {
-        Ok(_) => return Err("no tree".into()),
-        Err(ReadError::OutOfMemory) => {}
-        Err(error) => assert_eq!(rt; error, ReadError::NoTree { offset: 7 }),
-    }
-    Ok(())
 }

@@ -6,9 +6,10 @@ ghost use Rattle.ilasm_reader.specs.Parsing.{brackets_at, class_name_at, element
 
 use crate::lists::Parse;
 use crate::single::{after_name, after_symbol, after_word, expect_symbol, expect_word, name};
-use cil_model::tokens::{Symbol, Token};
+use cil_model::tokens::Symbol;
 use cil_model::types::{ClassName, DeclaredType, Element};
 use ilasm_tokens::failure::Failure;
+use ilasm_tokens::source_tokens::Tokens;
 use std::alloc::Global;
 
 /// A class by its name, perhaps behind the name of an assembly in brackets.
@@ -22,7 +23,7 @@ impl Parse for ClassReference {
     ghost parsed_at = { class_name_at };
 
     #[tactic(auto, unfolding(crate::specs::Parsing::class_name_at, ilasm_tokens::specs::Steps::bind, ilasm_tokens::specs::Steps::choice))]
-    fn parse(alloc: Global, tokens: &[Token]) -> Result<(ClassName, &[Token]), Failure> {
+    fn parse(alloc: Global, tokens: Tokens<'_>) -> Result<(ClassName, Tokens<'_>), Failure> {
         if let Some(inside) = after_symbol(tokens, Symbol::OpenBracket) {
             let (assembly, rest) = name(alloc, inside)?;
             let rest = expect_symbol(rest, Symbol::CloseBracket)?;
@@ -40,7 +41,7 @@ impl Parse for ClassReference {
 
 /// A type without brackets.
 #[tactic(auto, unfolding(crate::specs::Parsing::element_at, ilasm_tokens::specs::Steps::bind, ilasm_tokens::specs::Steps::choice))]
-pub fn element(alloc: Global, tokens: &[Token]) -> Result<(Element, &[Token]), Failure>
+pub fn element(alloc: Global, tokens: Tokens<'_>) -> Result<(Element, Tokens<'_>), Failure>
     ensures { Gives (λ x. (x.0, x.1.now)) result (element_at tokens.now) }
 {
     if let Some(rest) = after_word(tokens, b"int32") {
@@ -61,7 +62,7 @@ pub fn element(alloc: Global, tokens: &[Token]) -> Result<(Element, &[Token]), F
 
 /// The tokens behind a pair of brackets with nothing between, if it stands here.
 #[tactic(auto, unfolding(crate::specs::Parsing::brackets_at, ilasm_tokens::specs::Steps::bind))]
-fn after_brackets(tokens: &[Token]) -> Option<&[Token]>
+fn after_brackets(tokens: Tokens<'_>) -> Option<Tokens<'_>>
     ensures { option_map (λ r. r.now) result ≡ brackets_at tokens.now }
 {
     after_symbol(
@@ -81,7 +82,7 @@ impl Parse for AnyType {
     ghost parsed_at = { type_at };
 
     #[tactic(auto, unfolding(crate::specs::Parsing::type_at, ilasm_tokens::specs::Steps::bind, ilasm_tokens::specs::Steps::choice))]
-    fn parse(alloc: Global, tokens: &[Token]) -> Result<(DeclaredType, &[Token]), Failure> {
+    fn parse(alloc: Global, tokens: Tokens<'_>) -> Result<(DeclaredType, Tokens<'_>), Failure> {
         let (element, rest) = element(alloc, tokens)?;
         let (brackets, rest) = match after_brackets(rest) {
             Some(after) => (1, after),
@@ -104,7 +105,7 @@ impl Parse for Parameter {
     ghost parsed_at = { parameter_at };
 
     #[tactic(auto, unfolding(crate::specs::Parsing::parameter_at, crate::specs::Parsing::name_at, ilasm_tokens::specs::Steps::bind, ilasm_tokens::specs::Steps::choice))]
-    fn parse(alloc: Global, tokens: &[Token]) -> Result<(DeclaredType, &[Token]), Failure> {
+    fn parse(alloc: Global, tokens: Tokens<'_>) -> Result<(DeclaredType, Tokens<'_>), Failure> {
         let (its_type, rest) = AnyType::parse(alloc, tokens)?;
         Ok((its_type, after_name(rest).unwrap_or(rest)))
     }
@@ -116,8 +117,8 @@ impl Parse for Parameter {
 #[tactic(auto, unfolding(crate::specs::Parsing::return_type_at, ilasm_tokens::specs::Steps::bind, ilasm_tokens::specs::Steps::choice))]
 pub fn return_type(
     alloc: Global,
-    tokens: &[Token],
-) -> Result<(Option<DeclaredType>, &[Token]), Failure>
+    tokens: Tokens<'_>,
+) -> Result<(Option<DeclaredType>, Tokens<'_>), Failure>
     ensures { Gives (λ x. (x.0, x.1.now)) result (return_type_at tokens.now) }
 {
     if let Some(rest) = after_word(tokens, b"void") {

@@ -2,3 +2,4 @@ pub mod Many
 mod Text
 pub mod Reserved
 pub mod Reading
+mod Places

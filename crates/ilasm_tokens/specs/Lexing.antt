@@ -1,5 +1,5 @@
 -- Reading tokens from left to right.
-use Rattle.std.specs.Prelude.{◌==◌, ◌^◌, ◌-◌, ℕ, ℤ, List, [], ◌∷◌, take, drop, Option, Some, None, Bool, true, false, is_some, nat_le, ◌||◌, if◌then◌else◌}
+use Rattle.std.specs.Prelude.{◌==◌, ◌^◌, ◌-◌, ℕ, zero, suc, ℤ, List, [], ◌∷◌, length, take, drop, Option, Some, None, Bool, true, false, is_some, nat_le, ◌||◌, if◌then◌else◌}
 use Rattle.std.specs.List.{prefix_len, list_all}
 use Rattle.cil_model.specs.declared.tokens.Symbol.TheVariants.{OpenBrace, CloseBrace, OpenParenthesis, CloseParenthesis, OpenBracket, CloseBracket, Comma, Colon as OneColon, DoubleColon}
 use Rattle.cil_model.specs.declared.tokens.Token.{Token}
@@ -76,6 +76,22 @@ quoted_token bs = do
   characters ← quoted_from false bs
   Some (Quoted characters.0, characters.1)
 
+unfoldable pub escaped_at : List ℕ → Option (Option ℕ × List ℕ)
+escaped_at [] = None
+escaped_at (c ∷ cs) = do
+  character ← escaped c
+  Some (Some character, cs)
+
+-- a character of a literal, or no character for the quote that ends it, and what is behind
+unfoldable pub character_at : List ℕ → Option (Option ℕ × List ℕ)
+character_at [] = None
+character_at (c ∷ cs) = if c == 34 then Some (None, cs) else (if c == 92 then escaped_at cs else (if is_plain c then Some (Some c, cs) else None))
+
+-- what is behind the quote
+unfoldable pub behind_quote : Option (List ℕ × List ℕ) → Option (List ℕ)
+behind_quote None = None
+behind_quote (Some characters) = Some characters.1
+
 unfoldable pub colon_token : List ℕ → Option (Token × List ℕ)
 colon_token [] = Some (Symbol OneColon, [])
 colon_token (c ∷ cs) = if c == 58 then Some (Symbol DoubleColon, cs) else Some (Symbol OneColon, c ∷ cs)
@@ -99,6 +115,20 @@ spaced_lexeme_at bs = do
   token ← lexeme_at bs
   rest ← behind between token.1
   Some (token.0, rest)
+
+-- what is left behind so many tokens
+unfoldable pub behind_tokens : ℕ → List ℕ → Option (List ℕ)
+behind_tokens zero bs = Some bs
+behind_tokens (suc n) bs = do
+  token ← spaced_lexeme_at bs
+  behind_tokens n token.1
+
+-- where a token begins, counted in bytes, if it has tokens before it
+unfoldable pub offset_of : ℕ → List ℕ → Option ℕ
+offset_of number source = do
+  start ← behind between source
+  rest ← behind_tokens number start
+  Some (length source - length rest)
 
 unfoldable pub not_empty : {A : Type 0} → List A → Bool
 not_empty [] = false

@@ -1,4 +1,5 @@
 pub mod Steps
 pub mod Vocabulary
 pub mod Lexing
+pub mod Parts
 pub mod Answers

@@ -1,17 +1,19 @@
 //! Single tokens.
 
-ghost use Rattle.std.specs.Prelude.{◌≡◌, ◌<◌, ◌≤◌, ◌^◌, true, false, Some, None, length, All, IfOk, MatchOption, nat_le, if◌then◌else◌};
+ghost use Rattle.std.specs.Prelude.{◌≡◌, ◌<◌, ◌≤◌, ◌^◌, true, false, Some, None, length, All, IfOk, IfSome, MatchOption, option_map, nat_le, if◌then◌else◌};
 ghost use Rattle.std.specs.List.{prefix_len, list_all};
 ghost use Rattle.cil_model.specs.Words.{is_word_byte, is_digit, are_segments};
 ghost use Rattle.cil_model.specs.Lexemes.{value_from, signed};
 ghost use Rattle.ilasm_tokens.specs.Steps.{Gives};
-ghost use Rattle.ilasm_tokens.specs.Lexing.{run_at, word_token, limit, integer_of, integer_token, quoted_from, quoted_token, colon_token, lexeme_at};
+ghost use Rattle.ilasm_tokens.specs.Parts.{characters_of};
+ghost use Rattle.ilasm_tokens.specs.Lexing.{run_at, word_token, limit, integer_of, integer_token, quoted_from, character_at, behind_quote, quoted_token, colon_token, lexeme_at};
 
 use crate::bytes::{Kind, begins_segment, escaped, is_plain, is_word_byte, kind_of};
 use crate::failure::Failure;
+use crate::source_tokens::SourceToken;
 use crate::words::use_of;
 use cil_model::texts::Text;
-use cil_model::tokens::{Symbol, Token};
+use cil_model::tokens::Symbol;
 use std::alloc::{AllocError, Global};
 use std::str;
 
@@ -51,7 +53,7 @@ fn are_segments(word: &[u8]) -> bool
 
 /// The text of bytes below 128.
 #[tactic(auto, using(crate::proofs::Text::ascii_is_utf8))]
-fn text_of(alloc: Global, bytes: &[u8]) -> Result<Text, AllocError>
+pub fn text_of(alloc: Global, bytes: &[u8]) -> Result<Text, AllocError>
     requires { All (λ b. b < 128) bytes.now }
     ensures { IfOk result (λ text. text ≡ bytes.now) }
 {
@@ -61,14 +63,14 @@ fn text_of(alloc: Global, bytes: &[u8]) -> Result<Text, AllocError>
 
 /// A reserved word or a name.
 #[tactic(auto, unfolding(crate::specs::Lexing::word_token, crate::specs::Steps::bind))]
-fn word(alloc: Global, bytes: &[u8]) -> Result<(Token, &[u8]), Failure>
+fn word(bytes: &[u8]) -> Result<(SourceToken<'_>, &[u8]), Failure>
     ensures { Gives (λ x. (x.0, x.1.now)) result (word_token bytes.now) }
 {
     let (word, rest) = run(bytes);
     if use_of(word).is_some() {
-        Ok((Token::Reserved(text_of(alloc, word)?), rest))
+        Ok((SourceToken::of_reserved(word), rest))
     } else if are_segments(word) {
-        Ok((Token::Name(text_of(alloc, word)?), rest))
+        Ok((SourceToken::of_name(word), rest))
     } else {
         Err(Failure::Refused { left: bytes.len() })
     }
@@ -141,83 +143,118 @@ fn integer_of(is_negative: bool, digits: &[u8]) -> Option<i64>
 
 /// An integer, behind its sign. It began where `left` bytes were left.
 #[tactic(auto, unfolding(crate::specs::Lexing::integer_token, crate::specs::Lexing::run_at, crate::specs::Steps::bind))]
-fn integer(is_negative: bool, bytes: &[u8], left: usize) -> Result<(Token, &[u8]), Failure>
+fn integer(
+    is_negative: bool,
+    bytes: &[u8],
+    left: usize,
+) -> Result<(SourceToken<'_>, &[u8]), Failure>
     ensures { Gives (λ x. (x.0, x.1.now)) result (integer_token is_negative bytes.now) }
 {
     let (digits, rest) = run(bytes);
     let Some(value) = integer_of(is_negative, digits) else {
         return Err(Failure::Refused { left });
     };
-    Ok((Token::Integer(value), rest))
+    Ok((SourceToken::of_integer(value), rest))
 }
 
-/// The characters of a literal up to its quote, and what is left behind that. It began where `left` bytes were left.
-#[tactic(auto, using(crate::proofs::Text::join_front), unfolding(crate::specs::Lexing::quoted_from, crate::specs::Steps::with_front, crate::specs::Steps::bind))]
-fn characters(alloc: Global, bytes: &[u8], left: usize) -> Result<(Vec<u8>, &[u8]), Failure>
+/// A character of a literal, or `None` in its place for the quote that ends it, and what is left behind.
+#[tactic(auto, unfolding(crate::specs::Lexing::character_at, crate::specs::Lexing::escaped_at, crate::specs::Steps::bind))]
+fn character(bytes: &[u8]) -> Option<(Option<u8>, &[u8])>
+    ensures shorter { IfSome result (λ x. length x.1.now < length bytes.now) }
+    ensures ascii { IfSome result (λ x. IfSome x.0 (λ c. c < 128)) }
+    ensures value { option_map (λ x. (x.0, x.1.now)) result ≡ character_at bytes.now }
+{
+    match bytes {
+        [b'"', rest @ ..] => Some((None, rest)),
+        [b'\\', escape, rest @ ..] => Some((Some(escaped(*escape)?), rest)),
+        [first, rest @ ..] if is_plain(*first) => Some((Some(*first), rest)),
+        _ => None,
+    }
+}
+
+/// What is left behind the quote that ends a literal; `None` where none does, or where something stands before it that is
+/// no character.
+#[tactic(auto, using(crate::proofs::Text::passes, crate::proofs::Text::at_quote, crate::proofs::Text::no_character), unfolding(crate::specs::Lexing::behind_quote))]
+fn after_quote(bytes: &[u8]) -> Option<&[u8]>
+    ensures { option_map (λ r. r.now) result ≡ behind_quote (quoted_from false bytes.now) }
+{
+    let mut rest = bytes;
+    while let Some((found, after)) = character(rest) {
+        let Some(_) = found else {
+            return Some(after);
+        };
+        rest = after;
+    }
+    None
+}
+
+/// The characters of a literal up to its quote, and what is left behind that. It is refused where it has no end.
+#[tactic(auto, using(crate::proofs::Text::takes, crate::proofs::Text::at_end, crate::proofs::Text::at_fault), unfolding(crate::specs::Steps::with_front))]
+fn characters(alloc: Global, bytes: &[u8]) -> Result<(Vec<u8>, &[u8]), Failure>
     ensures ascii { IfOk result (λ x. All (λ b. b < 128) x.0.items) }
     ensures value { Gives (λ x. (x.0.items, x.1.now)) result (quoted_from false bytes.now) }
 {
     let mut text = Vec::new(alloc);
     let mut rest = bytes;
-    while let [first, after @ ..] = rest {
+    while let Some((found, after)) = character(rest) {
+        match found {
+            Some(byte) => text.push(byte)?,
+            None => return Ok((text, after)),
+        }
         rest = after;
-        if *first == b'"' {
-            return Ok((text, rest));
-        }
-        if *first == b'\\' {
-            let [escape, behind @ ..] = rest else {
-                return Err(Failure::Refused { left });
-            };
-            let Some(byte) = escaped(*escape) else {
-                return Err(Failure::Refused { left });
-            };
-            text.push(byte)?;
-            rest = behind;
-        } else if is_plain(*first) {
-            text.push(*first)?;
-        } else {
-            return Err(Failure::Refused { left });
-        }
     }
-    Err(Failure::Refused { left })
+    Err(Failure::Refused { left: bytes.len() })
+}
+
+/// The text of the characters of a literal up to its quote; an empty one where it has no end.
+#[tactic(auto, using(crate::proofs::Text::ascii_is_utf8), unfolding(crate::specs::Parts::characters_of, crate::specs::Steps::choice))]
+pub fn text_of_literal(alloc: Global, bytes: &[u8]) -> Result<Text, AllocError>
+    ensures { IfOk result (λ text. text ≡ characters_of bytes.now) }
+{
+    match characters(alloc, bytes) {
+        Ok((characters, _rest)) => Ok(Text::new(String::from_utf8(characters).unwrap())),
+        Err(Failure::Refused { .. }) => Ok(Text::new(String::new(alloc))),
+        Err(Failure::OutOfMemory) => Err(AllocError),
+    }
 }
 
 /// A string literal, behind its first quote, where `left` bytes were left.
-#[tactic(auto, using(crate::proofs::Text::ascii_is_utf8), unfolding(crate::specs::Lexing::quoted_token, crate::specs::Steps::bind))]
-fn quoted(alloc: Global, bytes: &[u8], left: usize) -> Result<(Token, &[u8]), Failure>
+#[tactic(auto, using(crate::proofs::Text::literal_before, crate::proofs::Text::no_literal))]
+fn quoted(bytes: &[u8], left: usize) -> Result<(SourceToken<'_>, &[u8]), Failure>
     ensures { Gives (λ x. (x.0, x.1.now)) result (quoted_token bytes.now) }
 {
-    let (characters, rest) = characters(alloc, bytes, left)?;
-    let text = String::from_utf8(characters).unwrap();
-    Ok((Token::Quoted(Text::new(text)), rest))
+    match after_quote(bytes) {
+        Some(rest) => Ok((SourceToken::of_literal(bytes), rest)),
+        None => Err(Failure::Refused { left }),
+    }
 }
 
 /// One colon or two, behind the first.
 #[tactic(auto, unfolding(crate::specs::Lexing::colon_token))]
-fn colon(bytes: &[u8]) -> (Token, &[u8])
+fn colon(bytes: &[u8]) -> (SourceToken<'_>, &[u8])
     ensures { colon_token bytes.now ≡ Some (result.0, result.1.now) }
 {
     match bytes {
-        [b':', rest @ ..] => (Token::Symbol(Symbol::DoubleColon), rest),
-        _ => (Token::Symbol(Symbol::Colon), bytes),
+        [b':', rest @ ..] => (SourceToken::of_symbol(Symbol::DoubleColon), rest),
+        _ => (SourceToken::of_symbol(Symbol::Colon), bytes),
     }
 }
 
 /// The longest token that the bytes begin with, and what is left behind it.
 #[tactic(auto, unfolding(crate::specs::Lexing::lexeme_at, crate::specs::Lexing::token_by))]
-pub fn lexeme(alloc: Global, bytes: &[u8]) -> Result<(Token, &[u8]), Failure>
+pub fn lexeme(bytes: &[u8]) -> Result<(SourceToken<'_>, &[u8]), Failure>
     ensures { Gives (λ x. (x.0, x.1.now)) result (lexeme_at bytes.now) }
 {
     let [first, rest @ ..] = bytes else {
         return Err(Failure::Refused { left: 0 });
     };
     match kind_of(*first) {
-        Kind::Word => word(alloc, bytes),
+        Kind::Word => word(bytes),
         Kind::Digit => integer(false, bytes, bytes.len()),
         Kind::Minus => integer(true, rest, bytes.len()),
-        Kind::Quote => quoted(alloc, rest, bytes.len()),
+        Kind::Quote => quoted(rest, bytes.len()),
         Kind::Colon => Ok(colon(rest)),
-        Kind::Single(symbol) => Ok((Token::Symbol(symbol), rest)),
+        Kind::Single(symbol) => Ok((SourceToken::of_symbol(symbol), rest)),
         Kind::Nothing => Err(Failure::Refused { left: bytes.len() }),
     }
 }

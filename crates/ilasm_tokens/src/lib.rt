@@ -6,6 +6,7 @@ pub mod failure;
 pub mod laws;
 mod lexemes;
 pub mod source;
+pub mod source_tokens;
 mod spaces;
 #[cfg(test)]
 mod tests;

@@ -1,52 +1,52 @@
 //! The tokens of a whole source.
 
-ghost use Rattle.std.specs.Prelude.{◌≤◌, length, IfOk};
 ghost use Rattle.ilasm_tokens.specs.Steps.{Gives};
 ghost use Rattle.ilasm_tokens.specs.Answers.{IsTokenAnswer};
-ghost use Rattle.ilasm_tokens.specs.Lexing.{spaced_lexeme_at};
+ghost use Rattle.ilasm_tokens.specs.Lexing.{offset_of, spaced_lexeme_at};
 
 use crate::failure::Failure;
 use crate::lexemes::lexeme;
+use crate::source_tokens::SourceToken;
 use crate::spaces::after_spaces;
 use cil_model::sequences::Sequence;
-use cil_model::tokens::Token;
 use std::alloc::Global;
+
+/// A token with the white space behind it seldom has fewer bytes, so memory for as many tokens is taken at once.
+const BYTES_A_TOKEN: usize = 4;
 
 /// A token, and what is left behind the white space and comments that follow it.
 #[tactic(auto, unfolding(crate::specs::Lexing::spaced_lexeme_at, crate::specs::Steps::bind))]
-fn spaced_lexeme(alloc: Global, bytes: &[u8]) -> Result<(Token, &[u8]), Failure>
+fn spaced_lexeme(bytes: &[u8]) -> Result<(SourceToken<'_>, &[u8]), Failure>
     ensures { Gives (λ x. (x.0, x.1.now)) result (spaced_lexeme_at bytes.now) }
 {
-    let (token, rest) = lexeme(alloc, bytes)?;
+    let (token, rest) = lexeme(bytes)?;
     Ok((token, after_spaces(rest)?))
 }
 
 /// The tokens of a source (ECMA-335 II.5.2). They are refused where no list of tokens is the source's;
 /// `left` is then how many bytes are left at the first place where none begins.
-pub fn tokens(alloc: Global, source: &[u8]) -> Result<Sequence<Token>, Failure>
+pub fn tokens(alloc: Global, source: &[u8]) -> Result<Sequence<SourceToken<'_>>, Failure>
     ensures { IsTokenAnswer source.now result }
 {
-    let mut tokens = Vec::new(alloc);
+    let mut tokens = Vec::with_capacity(alloc, source.len() / BYTES_A_TOKEN)?;
     let mut rest = after_spaces(source)?;
     while !rest.is_empty() {
-        let (token, after) = spaced_lexeme(alloc, rest)?;
+        let (token, after) = spaced_lexeme(rest)?;
         tokens.push(token)?;
         rest = after;
     }
     Ok(Sequence::new(tokens))
 }
 
-/// Where a token of a source begins, counted in bytes; for messages. The end of the source, if it has no token of that number.
-#[tactic(auto, using(crate::proofs::Reading::gap_shorter, crate::proofs::Reading::spaced_consumes))]
-pub fn token_offset(alloc: Global, source: &[u8], number: usize) -> Result<usize, Failure>
-    ensures { IfOk result (λ offset. offset ≤ length source.now) }
+/// Where the token of this number begins, counted in bytes, or the end of the source behind its last token. Tokens are
+/// counted from 0. It is refused where the source has no such place, since too few tokens can be read.
+#[tactic(auto, using(crate::proofs::Reading::gap_shorter, crate::proofs::Reading::spaced_consumes, crate::proofs::Places::one_more, crate::proofs::Places::no_more), unfolding(crate::specs::Lexing::offset_of, crate::specs::Steps::bind))]
+pub fn token_offset(source: &[u8], number: usize) -> Result<usize, Failure>
+    ensures { Gives (λ offset. offset) result (offset_of number source.now) }
 {
     let mut rest = after_spaces(source)?;
     for _ in 0..number {
-        if rest.is_empty() {
-            break;
-        }
-        let (_token, after) = spaced_lexeme(alloc, rest)?;
+        let (_token, after) = spaced_lexeme(rest)?;
         rest = after;
     }
     Ok(source.len() - rest.len())

@@ -1,8 +1,8 @@
 use crate::failure::Failure;
 use crate::source::{token_offset, tokens};
 use crate::words::{Form, WordUse, use_of};
-use cil_model::tokens::Token;
 use std::alloc::Global;
+use std::str;
 use std::string::String;
 use std::test::Fail;
 
@@ -11,12 +11,16 @@ fn shown(alloc: Global, source: &str) -> Result<String, Fail> {
     let mut out = String::new(alloc);
     let tokens = tokens(alloc, source.as_bytes()).map_err(|failure| format_failure(failure))?;
     for token in tokens.as_slice() {
-        match token {
-            Token::Reserved(word) => write!(out, "word {}\n", word.as_str())?,
-            Token::Name(name) => write!(out, "name {}\n", name.as_str())?,
-            Token::Integer(value) => write!(out, "integer {value}\n")?,
-            Token::Quoted(characters) => write!(out, "text {}\n", characters.as_str())?,
-            Token::Symbol(symbol) => write!(out, "{symbol:?}\n")?,
+        if let Some(word) = token.reserved() {
+            write!(out, "word {}\n", str::from_utf8(word)?)?;
+        } else if let Some(name) = token.name(alloc)? {
+            write!(out, "name {}\n", name.as_str())?;
+        } else if let Some(value) = token.integer() {
+            write!(out, "integer {value}\n")?;
+        } else if let Some(characters) = token.quoted(alloc)? {
+            write!(out, "text {}\n", characters.as_str())?;
+        } else if let Some(symbol) = token.symbol() {
+            write!(out, "{symbol:?}\n")?;
         }
     }
     Ok(out)
@@ -117,10 +121,11 @@ fn tells_where_no_token_begins(rt: HostRuntime) -> Result<(), Fail> {
 #[test]
 fn finds_the_place_of_a_token(rt: HostRuntime) -> Result<(), Fail> {
     let source = b" .class /* P */ P {";
-    assert_eq!(rt; token_offset(rt.alloc(), source, 0), Ok(1));
-    assert_eq!(rt; token_offset(rt.alloc(), source, 1), Ok(16));
-    assert_eq!(rt; token_offset(rt.alloc(), source, 2), Ok(18));
-    assert_eq!(rt; token_offset(rt.alloc(), source, 9), Ok(19));
+    assert_eq!(rt; token_offset(source, 0), Ok(1));
+    assert_eq!(rt; token_offset(source, 1), Ok(16));
+    assert_eq!(rt; token_offset(source, 2), Ok(18));
+    assert_eq!(rt; token_offset(source, 3), Ok(19));
+    assert_eq!(rt; token_offset(source, 4), Err(Failure::Refused { left: 0 }));
     Ok(())
 }
 
@@ -136,4 +141,26 @@ fn knows_the_reserved_words(rt: HostRuntime) -> Result<(), Fail> {
     assert!(rt; use_of(b"mscorlib").is_none());
     assert!(rt; use_of(b"").is_none());
     Ok(())
+}
+
+#[test]
+fn answers_as_usual_or_has_no_memory(rt: HostRuntime) {
+    match tokens(rt.alloc(), br#"a .class "b\n" 7 :: {"#) {
+        Ok(tokens) => {
+            assert_eq!(rt; tokens.as_slice().len(), 6);
+            for token in tokens.as_slice() {
+                if let Ok(Some(name)) = token.name(rt.alloc()) {
+                    assert_eq!(rt; name.as_str(), "a");
+                }
+                if let Ok(Some(characters)) = token.quoted(rt.alloc()) {
+                    assert_eq!(rt; characters.as_str(), "b\n");
+                }
+            }
+        }
+        Err(failure) => assert_eq!(rt; failure, Failure::OutOfMemory),
+    }
+    match tokens(rt.alloc(), b"four words stand #") {
+        Err(Failure::OutOfMemory) => {}
+        found => assert_eq!(rt; found.err(), Some(Failure::Refused { left: 1 })),
+    }
 }

@@ -6,7 +6,7 @@ use Rattle.ilasm_reader.proofs.Commas.{begins_commas, after_comma_consumes}
 use Rattle.ilasm_reader.proofs.lists.commas.Goals as goal
 
 pub loop-alloc-init : goal.loop-alloc-init
-loop-alloc-init g c = rw (c.in_ok-push.ensures.items, c.new-items.ensures.items) (begins_commas g.P.Parse.parsed_at c.in_ok-first.first c.args.tokens.now c.in_ok-first.rest.now c.in_ok-first.ensures)
+loop-alloc-init g c = rw (c.in_ok-push.ensures.items, c.in_ok-items.ensures.items) (begins_commas g.P.Parse.parsed_at c.in_ok-first.first c.args.tokens.now c.in_ok-first.rest.now c.in_ok-first.ensures)
 
 pub returns-in_err-item : goal.returns-in_err-item
 returns-in_err-item g c =

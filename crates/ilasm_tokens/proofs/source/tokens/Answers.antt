@@ -6,7 +6,7 @@ use Rattle.ilasm_tokens.proofs.Reading.{spaced_consumes, is_left, none_left, tok
 use Rattle.ilasm_tokens.proofs.source.tokens.Goals as goal
 
 pub loop-rest-init : goal.loop-rest-init
-loop-rest-init c = rw c.new-tokens.ensures.items (begins not_empty spaced_lexeme_at c.in_ok-rest.rest.now)
+loop-rest-init c = rw c.in_ok-tokens.ensures.items (begins not_empty spaced_lexeme_at c.in_ok-rest.rest.now)
 
 pub returns-in_err-token : goal.returns-in_err-token
 returns-in_err-token c =
