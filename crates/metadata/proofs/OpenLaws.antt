@@ -1,5 +1,5 @@
 -- Where no class of a chain declares an abstract method, none fills a slot.
-use Rattle.std.proofs.Common.{◌≡◌, ◌==◌, ℕ, Bool, true, false, cond, ◌&&◌, ◌||◌, List, [], ◌∷◌, Option, Some, None, option_and_then, slice_get, refl, sym, ap, ◌∙◌}
+use Rattle.std.proofs.Common.{◌≡◌, ◌==◌, ℕ, Bool, true, false, cond, ◌&&◌, List, [], ◌∷◌, Option, Some, None, option_and_then, slice_get, refl, ap, ◌∙◌}
 use Rattle.std.specs.Prelude.{find}
 use Rattle.std.specs.List.{list_any}
 use Rattle.std.specs.Option.{option_map_or}
@@ -11,7 +11,7 @@ use Rattle.cil_model.specs.Declarations.{Declaration}
 use Rattle.cil_model.specs.Chains.{is_virtual, is_abstract_method}
 use Rattle.name_tables.specs.Sameness.{MethodIdentity, same_identity, identity_of}
 use Rattle.name_tables.specs.Numbers.{declarations, chain_numbers, method_found}
-use Rattle.metadata.specs.Found.{slot_numbered, open_over, open_numbered, is_left_open, class_leaves_open, declares_abstract}
+use Rattle.metadata.specs.Found.{slot_numbered, open_numbered, is_left_open, class_leaves_open, declares_abstract}
 use Rattle.metadata.proofs.Tests.{and_false}
 
 abbrev is_abstract : Method → Bool
