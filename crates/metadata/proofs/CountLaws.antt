@@ -1,11 +1,11 @@
 -- How many fields there are, by the classes that declare them.
-use Rattle.std.proofs.Common.{◌≡◌, ◌≤◌, ◌+◌, ℕ, Bool, true, false, not, nat_le, List, [], ◌∷◌, ◌++◌, length, reverse, map, Option, Some, None, slice_get, refl, sym, ap, subst, ◌∙◌, arith}
-use Rattle.std.specs.Prelude.{flat_map, filter, filter_map, count_by}
+use Rattle.std.proofs.Common.{◌≡◌, ◌≤◌, ◌+◌, ℕ, Bool, true, false, not, nat_le, List, [], ◌∷◌, length, reverse, Option, Some, None, slice_get, refl, sym, ap, subst, ◌∙◌, arith}
+use Rattle.std.specs.Prelude.{filter, filter_map, count_by}
 use Rattle.std.specs.List.{sum_by, list_all, cons_option}
 use Rattle.std.specs.Option.{option_map_or}
 use Rattle.std.proofs.lemmas.List.{length-map}
 use Rattle.std.proofs.lemmas.List.Concat.{length-flat_map}
-use Rattle.std.proofs.lemmas.List.Sums.{length-filter, sum_by-cons, sum_by-append}
+use Rattle.std.proofs.lemmas.List.Sums.{length-filter, sum_by-cons}
 use Rattle.std.proofs.lemmas.List.Sorted.{sum_by-IsPermutation, IsPermutation-reverse}
 use Rattle.cil_model.specs.declared.types.ClassName.{ClassName}
 use Rattle.cil_model.specs.declared.types.DeclaredType.{DeclaredType}
@@ -15,7 +15,7 @@ use Rattle.cil_model.specs.declared.trees.Field.{Field}
 use Rattle.cil_model.specs.Same.{same_flag}
 use Rattle.cil_model.specs.Declarations.{Declaration, declaration_of, source_name}
 use Rattle.cil_model.specs.Chains.{chain_of, fields_in, listed_by}
-use Rattle.cil_model.specs.Fields.{FieldKey, own_fields, instance_fields, static_fields}
+use Rattle.cil_model.specs.Fields.{own_fields, instance_fields, static_fields}
 use Rattle.name_tables.specs.Numbers.{declarations, class_number, chain_numbers}
 use Rattle.name_tables.proofs.NumberLaws.{IsNumbered, numbered, declared_at_none}
 use Rattle.cil_model.specs.declared.limits.TheConstants.{MOST_CLASSES, MOST_METHODS, MOST_STATIC_FIELDS, MOST_BRACKETS}

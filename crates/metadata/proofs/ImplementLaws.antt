@@ -1,5 +1,5 @@
 -- The methods of listed interfaces, looked for by numbers.
-use Rattle.std.proofs.Common.{◌≡◌, Bool, List}
+use Rattle.std.proofs.Common.{◌≡◌, List}
 use Rattle.std.specs.List.{list_any, list_all}
 use Rattle.cil_model.specs.declared.types.ClassName.{ClassName}
 use Rattle.cil_model.specs.declared.trees.Tree.{Tree}

@@ -8,3 +8,4 @@ pub mod NumberedMethods
 pub mod ImplementLaws
 pub mod SlotLaws
 pub mod CountLaws
+pub mod OpenLaws

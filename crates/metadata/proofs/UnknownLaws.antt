@@ -1,7 +1,7 @@
 -- The parts of the rule on names that stand for nothing, as the code looks at them.
-use Rattle.std.proofs.Common.{◌≡◌, ℕ, Bool, true, false, cond, not, ◌&&◌, ◌||◌, List, [], ◌∷◌, ◌++◌, map, Option, Some, None, is_some, option_map, option_and_then, refl, sym, ap, ◌∙◌}
+use Rattle.std.proofs.Common.{◌≡◌, ℕ, Bool, true, false, cond, not, ◌&&◌, List, [], ◌∷◌, ◌++◌, Option, Some, None, is_some, option_map, refl, sym, ap, ◌∙◌}
 use Rattle.std.specs.Prelude.{flat_map, find}
-use Rattle.std.specs.List.{list_any, list_all, position_from}
+use Rattle.std.specs.List.{list_any, list_all}
 use Rattle.std.specs.Option.{option_map_or}
 use Rattle.std.proofs.lemmas.List.Folds.{list_all-append, list_all-map}
 use Rattle.cil_model.specs.declared.types.ClassName.{ClassName}
@@ -14,11 +14,11 @@ use Rattle.cil_model.specs.declared.trees.Method.{Method}
 use Rattle.cil_model.specs.Same.{same_text, same_class}
 use Rattle.cil_model.specs.Declarations.{Declaration, declaration_of, source_class, source_name, declared_as, fields_of, methods_of, is_interface_kind, interfaces_named}
 use Rattle.cil_model.specs.Bodies.{lines_of, labels_of, place_of}
-use Rattle.cil_model.specs.Mentions.{bases_named, class_of_element, owners_of_instruction, types_of_tree, class_types_of_tree, class_names_of_tree, methods_of_tree, instructions_of, instructions_of_tree}
+use Rattle.cil_model.specs.Mentions.{bases_named, class_of_element, owners_of_instruction, types_of_tree, class_types_of_tree, class_names_of_tree, methods_of_tree, instructions_of_tree}
 use Rattle.cil_model.specs.Legality.{labels_before, is_known_extern, is_resolved, is_source_interface, is_possible_base, is_possible_type, class_finds, finds_member, finds_labels, lacks_name}
 use Rattle.name_tables.proofs.Lists.{option_map_of_map}
 use Rattle.name_tables.proofs.FirstPlaces.{is_some-position_from}
-use Rattle.metadata.proofs.Tests.{first_fails, second_fails, third_fails, fourth_fails, last_decides, and_false, and_true, list_all_congr, list_all-flat_map, list_any-flat_map, list_all-filter_map, list_all_both}
+use Rattle.metadata.proofs.Tests.{first_fails, second_fails, third_fails, fourth_fails, last_decides, and_false, list_all_congr, list_all-flat_map, list_any-flat_map, list_all-filter_map, list_all_both}
 
 -- ---- classes of the source
 

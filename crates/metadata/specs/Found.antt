@@ -45,6 +45,10 @@ abbrev pub class_leaves_open : Tree → List ℕ → ℕ → Bool
 class_leaves_open tree chain n =
     option_map_or (λ (e : ClassName × Declaration). list_any (λ (m : Method). is_virtual m.kind && is_left_open tree (identity_of m) chain (chain_numbers tree e.0)) e.1.methods) (slice_get (declarations tree) n) false
 
+-- whether the class of a number declares an abstract method
+abbrev pub declares_abstract : Tree → ℕ → Bool
+declares_abstract tree n = option_map_or (λ (e : ClassName × Declaration). list_any (λ (m : Method). is_abstract_method m.kind) e.1.methods) (slice_get (declarations tree) n) false
+
 -- whether the nearest method of this name and signature along a chain is not virtual
 abbrev pub plain_numbered : Tree → MethodIdentity → List ℕ → Bool
 plain_numbered tree k [] = false

@@ -243,11 +243,11 @@ fn breaking_class(alloc: Global, names: &NameTables, rule: Rule) -> Result<Strin
             return copied(alloc, &class.name);
         }
     }
-    Ok(String::new(alloc))
+    Ok(String::from_str(alloc, "the source")?)
 }
 
-/// The extern, class, member or label at which a rule is broken first; empty where none is to be named, as for the entry point
-/// and for limits of the whole source. Fails for want of memory alone.
+/// The extern, class, member or label at which a rule is broken first; `the source` where none is to be named, as for the
+/// entry point and for limits of the whole source. Fails for want of memory alone.
 pub fn culprit(alloc: Global, names: &NameTables, rule: Rule) -> Result<String, NoMemory> {
     match rule {
         Rule::NamesStandOnce => doubled(alloc, names.classes.tree),

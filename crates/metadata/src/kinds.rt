@@ -6,7 +6,7 @@ ghost use Rattle.std.specs.Option.{option_map_or};
 ghost use Rattle.cil_model.specs.Chains.{base_of, chain_within, longest_chain, is_virtual, is_abstract_method};
 ghost use Rattle.cil_model.specs.Declarations.{source_name};
 ghost use Rattle.cil_model.specs.Legality.{is_interface_method, has_abstract_slot, overrides_no_virtual, kinds_fit, misfits_kind};
-ghost use Rattle.metadata.specs.Found.{slot_filled_at, slot_over, slot_numbered, open_over, open_numbered, is_left_open, class_leaves_open, plain_numbered};
+ghost use Rattle.metadata.specs.Found.{slot_filled_at, slot_over, slot_numbered, open_over, open_numbered, is_left_open, class_leaves_open, declares_abstract, plain_numbered};
 ghost use Rattle.name_tables.specs.Keys.{class_of_key, method_of_key};
 ghost use Rattle.name_tables.specs.Numbers.{class_number, declarations};
 ghost use Rattle.name_tables.specs.Sameness.{identity_of};
@@ -163,11 +163,36 @@ fn some_leaves_open(names: &NameTables, chain: &[usize], classes: &[usize]) -> b
     false
 }
 
-/// Whether an abstract method fills a slot of the class (ECMA-335 II.15.4.2).
+/// Whether the class of a number declares an abstract method.
+fn declares_abstract(names: &NameTables, class: usize) -> bool
+    ensures { result ≡ declares_abstract names.now.classes.tree.now class }
+{
+    match names.classes.class(class) {
+        None => false,
+        Some(declared) => has_abstract_method(declared.methods.as_slice()),
+    }
+}
+
+fn some_declares_abstract(names: &NameTables, chain: &[usize]) -> bool
+    ensures { result ≡ list_any (declares_abstract names.now.classes.tree.now) chain.now }
+{
+    for class in chain {
+        if declares_abstract(names, *class) {
+            return true;
+        }
+    }
+    false
+}
+
+/// Whether an abstract method fills a slot of the class (ECMA-335 II.15.4.2). Where no class of the chain declares one, none
+/// does, and no slot is looked at.
 fn has_abstract_slot(names: &NameTables, class: ClassKey) -> bool
     ensures { result ≡ has_abstract_slot names.now.classes.tree.now (class_of_key class.entry) }
 {
     let chain = names.chain(class);
+    if !some_declares_abstract(names, chain) {
+        return false;
+    }
     some_leaves_open(names, chain, chain)
 }
 

@@ -1,17 +1,18 @@
 // Which trees are legal programs.
 #![tactic(auto)]
 
-pub mod bodies;
+mod bodies;
 mod culprits;
-pub mod cycles;
-pub mod doubled;
-pub mod entry;
-pub mod implemented;
-pub mod kinds;
-pub mod limits;
-pub mod mentions;
-pub mod program;
-pub mod rules;
-#[cfg(test)]
-mod tests;
-pub mod unknown;
+mod cycles;
+mod doubled;
+mod entry;
+mod implemented;
+mod kinds;
+mod limits;
+mod mentions;
+mod program;
+mod rules;
+mod unknown;
+
+pub use program::{MetaError, Program, resolve};
+pub use rules::Rule;

@@ -1,5 +1,5 @@
 -- When fields and methods are the same they are equal, and the other way round.
-use Rattle.std.proofs.Common.{◌≡◌, Bool, IsTrue, Option}
+use Rattle.std.proofs.Common.{◌≡◌, Bool, IsTrue}
 use Rattle.std.proofs.lemmas.Bool.{and_from}
 use Rattle.std.specs.Cmp.{IsEquivalence}
 use Rattle.cil_model.specs.declared.trees.Field.{Field}

@@ -9,5 +9,3 @@ pub mod kinds;
 pub mod lookups;
 pub mod places;
 pub mod tables;
-#[cfg(test)]
-mod tests;

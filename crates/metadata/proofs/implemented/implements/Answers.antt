@@ -1,4 +1,4 @@
-use Rattle.std.proofs.Common.{◌≡◌, Option, Some, sym, ap, ◌∙◌, option_map, map, Bool, List}
+use Rattle.std.proofs.Common.{Option, sym, ap, ◌∙◌, option_map, map, Bool, List}
 use Rattle.std.specs.List.{list_any, list_all}
 use Rattle.cil_model.specs.declared.trees.Method.{Method}
 use Rattle.cil_model.specs.Declarations.{Declaration, declaration_of}

@@ -1,4 +1,4 @@
-use Rattle.std.proofs.Common.{◌≡◌, ap, ◌∙◌, Bool, List, ℕ}
+use Rattle.std.proofs.Common.{ap, ◌∙◌, Bool, List, ℕ}
 use Rattle.std.specs.List.{list_any, list_all}
 use Rattle.cil_model.specs.declared.types.ClassName.{ClassName}
 use Rattle.cil_model.specs.declared.trees.Method.{Method}

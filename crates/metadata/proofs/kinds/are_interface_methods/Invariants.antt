@@ -1,4 +1,4 @@
-use Rattle.std.proofs.Common.{◌≡◌, ◌&&◌, map, drop}
+use Rattle.std.proofs.Common.{◌≡◌, map, drop}
 use Rattle.std.specs.List.{list_all}
 use Rattle.cil_model.specs.Legality.{is_interface_method}
 use Rattle.metadata.proofs.kinds.are_interface_methods.Given as goal

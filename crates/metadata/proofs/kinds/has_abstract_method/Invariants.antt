@@ -1,4 +1,4 @@
-use Rattle.std.proofs.Common.{◌≡◌, ◌&&◌, map, drop}
+use Rattle.std.proofs.Common.{◌≡◌, map, drop}
 use Rattle.std.specs.List.{list_any}
 use Rattle.cil_model.specs.Chains.{is_abstract_method}
 use Rattle.metadata.proofs.kinds.has_abstract_method.Given as goal

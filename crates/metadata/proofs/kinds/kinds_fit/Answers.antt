@@ -1,4 +1,4 @@
-use Rattle.std.proofs.Common.{◌≡◌, Bool, List, cond, not, ◌&&◌, ◌||◌, map, sym, ap, ◌∙◌}
+use Rattle.std.proofs.Common.{Bool, List, cond, not, ◌&&◌, ◌||◌, map, sym, ap, ◌∙◌}
 use Rattle.std.specs.List.{list_any, list_all}
 use Rattle.cil_model.specs.declared.trees.ClassKind.{ClassKind}
 use Rattle.cil_model.specs.declared.trees.Method.{Method}

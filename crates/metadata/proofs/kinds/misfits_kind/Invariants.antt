@@ -1,4 +1,4 @@
-use Rattle.std.proofs.Common.{◌≡◌, ◌&&◌, map, drop}
+use Rattle.std.proofs.Common.{◌≡◌, drop}
 use Rattle.std.specs.List.{list_all}
 use Rattle.cil_model.specs.Legality.{kinds_fit}
 use Rattle.metadata.proofs.kinds.misfits_kind.Given as goal

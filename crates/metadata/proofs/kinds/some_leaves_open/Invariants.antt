@@ -1,4 +1,4 @@
-use Rattle.std.proofs.Common.{◌≡◌, ◌&&◌, map, drop}
+use Rattle.std.proofs.Common.{◌≡◌, drop}
 use Rattle.std.specs.List.{list_any}
 use Rattle.metadata.specs.Found.{class_leaves_open}
 use Rattle.metadata.proofs.kinds.some_leaves_open.Given as goal

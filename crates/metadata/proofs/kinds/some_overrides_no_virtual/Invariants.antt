@@ -1,4 +1,4 @@
-use Rattle.std.proofs.Common.{◌≡◌, ◌&&◌, map, drop}
+use Rattle.std.proofs.Common.{◌≡◌, map, drop}
 use Rattle.std.specs.List.{list_any}
 use Rattle.cil_model.specs.Declarations.{source_name}
 use Rattle.cil_model.specs.Legality.{overrides_no_virtual}

@@ -1,4 +1,4 @@
-use Rattle.std.proofs.Common.{◌≡◌, ◌≤◌, nat_le, length, List, arith, sym, ap, ◌∙◌}
+use Rattle.std.proofs.Common.{◌≤◌, nat_le, length, List, arith, sym, ap, ◌∙◌}
 use Rattle.std.specs.List.{sum_by}
 use Rattle.cil_model.specs.declared.trees.Class.{Class}
 use Rattle.cil_model.specs.declared.limits.TheConstants.{MOST_CLASSES, MOST_STATIC_FIELDS}

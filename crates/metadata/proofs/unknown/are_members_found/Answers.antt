@@ -1,4 +1,4 @@
-use Rattle.std.proofs.Common.{◌≡◌, sym, ap, ◌∙◌, map}
+use Rattle.std.proofs.Common.{ap, ◌∙◌, map}
 use Rattle.std.specs.List.{list_all}
 use Rattle.cil_model.specs.Mentions.{instructions_of_tree}
 use Rattle.metadata.proofs.UnknownLaws.{is_instruction, instructions_known}

@@ -1,4 +1,4 @@
-use Rattle.std.proofs.Common.{◌≡◌, sym, ap, ◌∙◌, map}
+use Rattle.std.proofs.Common.{ap, ◌∙◌, map}
 use Rattle.std.specs.List.{list_all}
 use Rattle.metadata.proofs.UnknownLaws.{is_type, types_known}
 use Rattle.metadata.proofs.unknown.are_types_known.Goals as goal

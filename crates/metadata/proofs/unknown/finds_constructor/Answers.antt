@@ -1,5 +1,5 @@
 use Rattle.metadata.proofs.Tests.{found_alike}
-use Rattle.std.proofs.Common.{◌≡◌, ◌∙◌, Some}
+use Rattle.std.proofs.Common.{◌∙◌, Some}
 use Rattle.metadata.proofs.unknown.finds_constructor.Goals as goal
 
 pub returns : goal.returns

@@ -1,4 +1,4 @@
-use Rattle.std.proofs.Common.{◌≡◌, ◌&&◌, ◌++◌, sym, ap, ◌∙◌}
+use Rattle.std.proofs.Common.{◌&&◌, ◌++◌, sym, ap, ◌∙◌}
 use Rattle.std.specs.List.{list_all}
 use Rattle.cil_model.specs.declared.trees.ClassKind.{ClassKind}
 use Rattle.cil_model.specs.Declarations.{interfaces_named}

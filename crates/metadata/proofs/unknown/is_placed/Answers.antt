@@ -1,4 +1,4 @@
-use Rattle.std.proofs.Common.{◌≡◌, sym, ap, ◌∙◌, is_some}
+use Rattle.std.proofs.Common.{sym, ap, ◌∙◌, is_some}
 use Rattle.cil_model.specs.Same.{same_text}
 use Rattle.name_tables.specs.declared.keys.TextKey.{TextKey}
 use Rattle.name_tables.specs.Keys.{text_of_key}

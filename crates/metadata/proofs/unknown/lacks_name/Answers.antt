@@ -1,4 +1,4 @@
-use Rattle.std.proofs.Common.{◌≡◌, sym, ap, ◌∙◌}
+use Rattle.std.proofs.Common.{sym, ap, ◌∙◌}
 use Rattle.std.specs.List.{list_all}
 use Rattle.cil_model.specs.Legality.{is_known_extern}
 use Rattle.metadata.proofs.UnknownLaws.{externs_fail, classes_fail, types_fail, labels_fail, instructions_decide}

@@ -1,6 +1,5 @@
-use Rattle.std.proofs.Common.{◌≡◌, ℕ, not, List, [], sym, ap, ◌∙◌, option_map, Option}
+use Rattle.std.proofs.Common.{◌≡◌, ℕ, not, List, sym, ap, ◌∙◌, option_map, Option}
 use Rattle.std.specs.Prelude.{filter_map}
-use Rattle.cil_model.specs.declared.instructions.MethodName.{MethodName}
 use Rattle.cil_model.specs.Chains.{classes_searched}
 use Rattle.name_tables.specs.declared.lookups.MemberNumber.{MemberNumber}
 use Rattle.name_tables.specs.Keys.{class_of_key, method_of_key, method_name_of, reference_of_keys}

@@ -1,4 +1,4 @@
-use Rattle.std.proofs.Common.{◌≡◌, ap, ◌∙◌, option_map, Some}
+use Rattle.std.proofs.Common.{ap, ◌∙◌, option_map, Some}
 use Rattle.cil_model.specs.declared.types.ClassName.{ClassName}
 use Rattle.cil_model.specs.Chains.{find_method}
 use Rattle.name_tables.specs.Sameness.{MethodIdentity}
