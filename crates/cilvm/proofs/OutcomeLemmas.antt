@@ -1,7 +1,7 @@
 -- What an error that a `?` hands on is.
 use Rattle.std.proofs.Common.{◌≡◌, ◌↔◌, ◌+◌, ℕ, Bool, true, false, List, [], drop, length, map, Option, Some, Result, Ok, Err, refl, ap, sym, ◌∙◌, subst, arith, inl, inr}
 use Rattle.std.specs.List.{zip}
-use Rattle.std.specs.Prelude.{IfErr, IsErrAnd}
+use Rattle.std.specs.Prelude.{IfErr, IfOk, IsErrAnd}
 use Rattle.cil_model.proofs.StandsLaws.{ends_stand, printed_stands, stands_after}
 use Rattle.cil_model.specs.Legality.{IsLegal}
 use Rattle.cil_model.specs.MachineContents.{Content, Thread}
@@ -28,6 +28,10 @@ use Rattle.cilvm.specs.Threads.{ends_of}
 pub handed_on : {T E : Type 0} {P gives : E → Type 0} (r : Result T E) → IsErrAnd r gives → ((e : E) → gives e → P e) → IfErr r P
 handed_on (Ok x) h f = tt
 handed_on (Err e) h f = f e h
+
+pub if_ok : {T E : Type 0} {P Q : T → Type 0} (r : Result T E) → IfOk r P → ((x : T) → P x → Q x) → IfOk r Q
+if_ok (Ok x) h f = f x h
+if_ok (Err e) h f = tt
 
 -- limits that a machine was made with are in range
 pub made_in_range : {M : Type 0} (limits : Limits) (m : M) → (Ok m ≡ Err BadLimits) ↔ (are_in_range limits ≡ false) → are_in_range limits ≡ true
@@ -78,4 +82,4 @@ accepted_source source tree program verified read same legal kept typed =
 pub untyped_source : {T : Type 0} (source : List ℕ) (tree program : Tree) (error : VerifyError) (failure : Failure) → IsAnswer source (HasTree tree) → program ≡ tree → IsLegal tree
     → ((method : ℕ) → ◌≡◌ {A = Result T VerifyError} (Err error) (Err (NoTyping method)) → first_refused program ≡ Some method) → failure ≡ failure_of_verifying error → IsNotAccepted source failure
 untyped_source source tree program error failure read same legal refused told =
-    inr (tree, read, inr (inl (legal, error, λ method e. ap first_refused (sym same) ∙ refused method (ap Err e), told)))
+    inr (tree, read, inr (inl (legal, (error, (λ method e. ap first_refused (sym same) ∙ refused method (ap Err e)), told))))

@@ -1,5 +1,5 @@
 //! Does what an order asks for.
-ghost use Rattle.std.specs.Prelude.{◌≡◌, ◌≢◌, map, IfErr, IfOk, OnOk, true, ◌+◌, ◌⊎◌};
+ghost use Rattle.std.specs.Prelude.{◌≡◌, ◌≢◌, ◌++◌, ◌∷◌, [], codes, map, IfErr, IfOk, OnOk, true, ◌+◌, ◌⊎◌};
 ghost use Rattle.std.specs.List.{list_all, list_any};
 ghost use Rattle.std.specs.Io.KnownBytes.{Appends};
 ghost use Rattle.cilvm.specs.Failures.{IsFailureOfDevice, IsStatusOf, failure_of_making};
@@ -213,8 +213,17 @@ fn check<W: Write>(alloc: Global, source: &[u8], out: &mut W) -> Result<u8, Fail
         → W.contents out.new ≡ W.contents out.old) }
 {
     accept(alloc, source)?;
-    writeln!(out, "accepted")?;
+    say_accepted(out)?;
     Ok(0)
+}
+
+/// Writes the one line of a check.
+fn say_accepted<W: Write>(out: &mut W) -> Result<(), Failure>
+    ensures said { OnOk result (Appends (W.contents out.old) (W.contents out.new) (codes "accepted" ++ 10 ∷ [])) }
+    ensures failed { IfErr result IsOfWriting }
+{
+    writeln!(out, "accepted")?;
+    Ok(())
 }
 
 /// Runs a source by the events of a text, prints what the run leaves, and answers its status.
