@@ -1,12 +1,12 @@
 -- A text has one answer.
-use Rattle.std.proofs.Common.{◌≡◌, ◌≢◌, ◌+◌, ◌<◌, ◌≤◌, ◌⊎◌, ◌&&◌, inl, inr, ℕ, Bool, true, false, true≢false, IsTrue, List, ◌∷◌, [], ◌++◌, length, replicate, arith, refl, sym, ◌∙◌, ap, ap₂, subst, zero, suc, append_assoc, length-append}
-use Rattle.std.specs.List.{flat_map, list_all}
+use Rattle.std.proofs.Common.{◌≡◌, ◌≢◌, ◌+◌, ◌<◌, ◌≤◌, ◌⊎◌, ◌&&◌, inl, inr, ℕ, Bool, true, false, true≢false, IsTrue, List, ◌∷◌, [], ◌++◌, length, replicate, arith, refl, sym, ◌∙◌, ap, ap₂, subst, zero, suc, length-append}
+use Rattle.std.specs.List.{list_all}
 use Rattle.std.proofs.lemmas.Grind.{flat_map-append}
 use Rattle.std.proofs.lemmas.List.{length-replicate}
 use Rattle.std.proofs.lemmas.List.Folds.{list_all-append}
 use Rattle.cil_model.specs.declared.events.Event.{Event}
 use Rattle.schedule_text.specs.Items.{AreItems, IsItem, events_of, is_numbered}
-use Rattle.schedule_text.specs.Readings.{AreRead, IsFaultOf, IsFaulty, IsFirstFault}
+use Rattle.schedule_text.specs.Readings.{AreRead, IsFaulty, IsFirstFault}
 use Rattle.schedule_text.specs.declared.errors.ScheduleError.{ScheduleError}
 use Rattle.schedule_text.specs.declared.errors.ScheduleError.TheVariants.{NoItem, NoThread, TooLong, OutOfMemory}
 use Rattle.schedule_text.specs.declared.errors.TheConstants.{MOST_EVENTS}

@@ -1,5 +1,5 @@
 -- A word is one item at most: the item's name ends where the first star of the word stands.
-use Rattle.std.proofs.Common.{◌≡◌, ◌==◌, ◌+◌, ◌-◌, ◌<◌, ◌≤◌, ◌⊎◌, ◌&&◌, inl, inr, ℕ, Bool, true, false, cond, nat_lt, IsTrue, All, List, ◌∷◌, [], ◌++◌, length, take, drop, get_or, Option, Some, None, if◌then◌else◌, min, arith, rules, tests, refl, sym, ◌∙◌, ap, ap₂, subst, lit<, length-append}
+use Rattle.std.proofs.Common.{◌≡◌, ◌==◌, ◌+◌, ◌<◌, ◌≤◌, ◌&&◌, inl, inr, ℕ, Bool, true, false, nat_lt, All, List, ◌∷◌, [], ◌++◌, length, take, drop, get_or, Option, Some, None, if◌then◌else◌, arith, rules, tests, refl, sym, ◌∙◌, ap, ap₂, subst, lit<, length-append}
 use Rattle.std.specs.Char.{is_ascii_digit}
 use Rattle.std.specs.List.{list_all, position, position_or_len, before_first, after_first}
 use Rattle.std.specs.Str.Parse.{digits_value}
@@ -11,7 +11,7 @@ use Rattle.std.proofs.lemmas.List.Elements.{All-weaker, All-cons, All-get_or, Al
 use Rattle.std.proofs.lemmas.List.Sums.{AllPass-from_list_all, position_or_len_is, split_at_first, passes_at_first}
 use Rattle.cil_model.specs.declared.events.Event.{Event}
 use Rattle.cil_model.specs.declared.events.Event.TheVariants.{Step, Ack, Gc}
-use Rattle.schedule_text.specs.Items.{IsItem, IsNumber, Names, capped_event, is_number, is_star}
+use Rattle.schedule_text.specs.Items.{IsItem, IsNumber, Names, is_number, is_star}
 use Rattle.schedule_text.specs.declared.items.Item.{Item}
 
 -- ---- what a test lets through

@@ -1,5 +1,5 @@
 -- Decimal digits, and a number that is read digit by digit and stays at a greatest one.
-use Rattle.std.proofs.Common.{◌≡◌, ◌+◌, ◌-◌, ◌*◌, ◌<◌, ◌≤◌, ◌^◌, ℕ, IsTrue, min, List, ◌∷◌, [], ◌++◌, length, take, get_or, arith, rules, tests, sym, ◌∙◌, ap, true, add-one}
+use Rattle.std.proofs.Common.{◌≡◌, ◌+◌, ◌-◌, ◌*◌, ◌<◌, ℕ, min, List, ◌∷◌, [], ◌++◌, length, take, get_or, arith, rules, true, add-one}
 use Rattle.std.specs.Char.{is_ascii_digit, digit_value}
 use Rattle.std.specs.List.{list_all}
 use Rattle.std.specs.Str.Parse.{digits_value}

@@ -1,9 +1,9 @@
 -- Words that are read one after another.
-use Rattle.std.proofs.Common.{◌≡◌, ◌≢◌, ◌+◌, ◌-◌, ◌*◌, ◌<◌, ◌≤◌, ◌^◌, ◌⊎◌, ◌&&◌, inl, inr, ℕ, Bool, true, false, true≢false, nat_lt, IsTrue, List, ◌∷◌, [], ◌++◌, length, take, drop, get_or, min, replicate, arith, rules, refl, sym, ◌∙◌, ap, ap₂, subst, suc, le-ltb, map, Option, Some, None, Result, Ok, Err, OnOk, IfErr, IsErrAnd, MatchResult, append_assoc, length-append}
-use Rattle.std.specs.List.{flat_map, list_all}
+use Rattle.std.proofs.Common.{◌≡◌, ◌+◌, ◌-◌, ◌<◌, ◌≤◌, ◌^◌, ℕ, Bool, true, false, nat_lt, List, ◌∷◌, [], ◌++◌, length, take, drop, get_or, min, replicate, arith, refl, sym, ◌∙◌, ap, ap₂, subst, suc, le-ltb, map, Option, Some, None, Result, Ok, Err, OnOk, IfErr, IsErrAnd, MatchResult, length-append}
+use Rattle.std.specs.List.{list_all}
 use Rattle.std.proofs.Math.Seq.{drop-cons}
 use Rattle.std.specs.Iterator.{Yields}
-use Rattle.std.proofs.lemmas.Bool.{ltb-true, lt-ltb}
+use Rattle.std.proofs.lemmas.Bool.{ltb-true}
 use Rattle.std.proofs.lemmas.Iterator.{YieldsList}
 use Rattle.std.proofs.lemmas.Iterator.Consumers.{YieldsList-end, YieldsList-so_far, YieldsList-turn}
 use Rattle.std.proofs.lemmas.Grind.{flat_map-append}

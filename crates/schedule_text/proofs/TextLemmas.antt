@@ -1,8 +1,7 @@
 -- The text of a list is read as the list.
-use Rattle.std.proofs.Common.{◌≡◌, ◌==◌, ◌+◌, ◌-◌, ◌^◌, ◌<◌, ◌≤◌, ◌⊎◌, inl, inr, ℕ, Bool, true, false, not, IsTrue, All, List, ◌∷◌, [], ◌++◌, length, map, get_or, replicate, decimal, codes, if◌then◌else◌, arith, rules, tests, refl, sym, ◌∙◌, ap, subst, zero, suc, append_assoc, length-append, lit<}
+use Rattle.std.proofs.Common.{◌≡◌, ◌==◌, ◌^◌, ◌<◌, ◌≤◌, ◌⊎◌, inl, inr, ℕ, Bool, true, false, not, IsTrue, All, List, ◌∷◌, [], ◌++◌, length, map, get_or, replicate, decimal, codes, if◌then◌else◌, arith, rules, tests, refl, sym, ◌∙◌, ap, subst, zero, suc, append_assoc, length-append, lit<}
 use Rattle.std.specs.Char.{is_ascii_digit}
 use Rattle.std.specs.List.{filter, join_with_byte, list_all, slice_split}
-use Rattle.std.specs.Str.Parse.{digits_value}
 use Rattle.std.proofs.lemmas.Bool.{ltb-true}
 use Rattle.std.proofs.lemmas.Fmt.{decimal_digit, digits_decimal, digits_value-decimal, first_decimal}
 use Rattle.std.proofs.lemmas.List.{length-replicate}

@@ -1,5 +1,5 @@
 -- Runs of equal events, written one after another.
-use Rattle.std.proofs.Common.{◌≡◌, ◌≢◌, ◌+◌, ◌-◌, ◌<◌, ◌≤◌, ◌⊎◌, inl, inr, ℕ, Bool, true, false, true≢false, IsTrue, All, List, ◌∷◌, [], ◌++◌, length, map, take, drop, get_or, replicate, arith, rules, refl, sym, ◌∙◌, ap, ap₂, subst, zero, suc, add-one, append_assoc, length-append, decimal, codes, ◌==◌, if◌then◌else◌}
+use Rattle.std.proofs.Common.{◌≡◌, ◌≢◌, ◌+◌, ◌-◌, ◌<◌, ℕ, Bool, true, false, true≢false, List, ◌∷◌, [], ◌++◌, length, map, get_or, replicate, arith, refl, sym, ◌∙◌, ap, ap₂, subst, zero, suc, add-one, append_assoc, length-append, decimal, codes, ◌==◌, if◌then◌else◌}
 use Rattle.std.specs.List.{AllAdjacentBelow, IsChunkByPrefix, flat_map, join_with_byte}
 use Rattle.std.proofs.lemmas.List.{append-nil, get_or_append_left, get_or-replicate}
 use Rattle.std.proofs.Math.Seq.{get_or-append_seam}

@@ -1,5 +1,5 @@
 -- The items of a schedule's text: an event, and how many times over it stands (this profile).
-use Rattle.std.specs.Prelude.{◌≡◌, ◌==◌, ◌<◌, ◌⊎◌, ◌++◌, ◌^◌, ◌-◌, ◌&&◌, ◌||◌, not, ℕ, Bool, true, false, IsTrue, List, [], ◌∷◌, length, min, nat_lt, if◌then◌else◌, codes, decimal, filter, replicate}
+use Rattle.std.specs.Prelude.{◌≡◌, ◌==◌, ◌<◌, ◌⊎◌, ◌++◌, ◌^◌, ◌-◌, ◌||◌, not, ℕ, Bool, true, false, IsTrue, List, [], ◌∷◌, length, min, nat_lt, if◌then◌else◌, codes, decimal, filter, replicate}
 use Rattle.std.specs.Char.{is_ascii_digit}
 use Rattle.std.specs.List.{flat_map, list_all, slice_split}
 use Rattle.std.specs.Str.Parse.{digits_value}

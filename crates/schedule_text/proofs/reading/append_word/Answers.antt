@@ -1,6 +1,4 @@
-use Rattle.std.proofs.Common.{vec_len, subst}
-use Rattle.schedule_text.specs.Readings.{IsAdded}
-use Rattle.schedule_text.specs.declared.items.Item.{Item}
+use Rattle.std.proofs.Common.{vec_len}
 use Rattle.schedule_text.proofs.ReadingLemmas.{fault_of, if_err, on_ok, uncapped_added}
 use Rattle.schedule_text.proofs.reading.append_word.Goals as goal
 

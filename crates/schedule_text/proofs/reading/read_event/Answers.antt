@@ -1,4 +1,4 @@
-use Rattle.std.proofs.Common.{rules, ◌≡◌, refl, ◌∷◌, ◌∙◌, ap, min}
+use Rattle.std.proofs.Common.{refl, ◌∷◌, ◌∙◌, ap, min}
 use Rattle.std.specs.Str.Parse.{digits_value}
 use Rattle.cil_model.specs.declared.events.Event.TheVariants.{Step, Ack}
 use Rattle.schedule_text.specs.Items.{is_number}

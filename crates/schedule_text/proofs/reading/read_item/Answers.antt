@@ -1,4 +1,4 @@
-use Rattle.std.proofs.Common.{◌≡◌, ◌==◌, ◌+◌, ◌-◌, ◌^◌, ◌&&◌, true≢false, nat_lt, inl, inr, refl, sym, ◌∙◌, ap, min, take, drop}
+use Rattle.std.proofs.Common.{◌+◌, ◌-◌, ◌^◌, ◌&&◌, true≢false, nat_lt, inl, inr, refl, sym, ◌∙◌, min, take, drop}
 use Rattle.std.specs.Str.Parse.{digits_value}
 use Rattle.std.proofs.lemmas.List.{take_rest}
 use Rattle.schedule_text.specs.Items.{capped_item, is_number}

@@ -1,5 +1,4 @@
-use Rattle.std.proofs.Common.{◌≡◌, ◌+◌, ◌-◌, ◌*◌, ◌<◌, ◌≤◌, ◌^◌, ℕ, min, take, get_or, length, arith, sym, ◌∙◌, ap}
-use Rattle.std.specs.Str.Parse.{digits_value}
+use Rattle.std.proofs.Common.{◌-◌, get_or, arith}
 use Rattle.schedule_text.proofs.NumberLemmas.{value_next, capped_next}
 use Rattle.schedule_text.proofs.reading.value_of.Goals as goal
 

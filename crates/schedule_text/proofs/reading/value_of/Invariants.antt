@@ -1,6 +1,4 @@
-use Rattle.std.proofs.Common.{◌≡◌, ◌-◌, ◌^◌, IsTrue, min, take, ◌≤◌, length}
-use Rattle.std.specs.Char.{is_ascii_digit}
-use Rattle.std.specs.List.{list_all}
+use Rattle.std.proofs.Common.{◌≡◌, ◌-◌, ◌^◌, min, take, ◌≤◌, length}
 use Rattle.std.specs.Str.Parse.{digits_value}
 use Rattle.schedule_text.proofs.reading.value_of.Given as goal
 

@@ -1,4 +1,4 @@
-use Rattle.std.proofs.Common.{◌≡◌, [], rules, tests, refl, sym, ◌∙◌, subst, ap, string_bytes}
+use Rattle.std.proofs.Common.{[], rules, sym, subst, string_bytes}
 use Rattle.std.proofs.lemmas.List.Sorted.{answers_always}
 use Rattle.schedule_text.specs.Items.{same_event}
 use Rattle.schedule_text.specs.Writings.{AreRuns, IsTextOf}
