@@ -19,7 +19,7 @@ use cil_model::memory::NoMemory;
 use cil_model::reports::End;
 use ilasm_reader::ReadError;
 use interleaving_core::{Machine, Refused};
-use metadata::program::MetaError;
+use metadata::MetaError;
 use schedule_text::{ScheduleError, read_schedule};
 use std::alloc::{AllocError, Global};
 use std::io;

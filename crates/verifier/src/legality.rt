@@ -12,7 +12,7 @@ ghost use Rattle.verifier.specs.Resolved.{method_body, methods_of_source, bodies
 use crate::program::{Body, Program};
 use cil_model::memory::NoMemory;
 use cil_model::trees::{Class, Code, Member, Method, MethodKind, Tree};
-use metadata::program::MetaError;
+use metadata::MetaError;
 use std::alloc::{AllocError, Global};
 
 /// The program of a legal tree, with the operands of its code resolved.
@@ -23,7 +23,7 @@ pub fn resolve(alloc: Global, tree: Tree) -> Result<Program, MetaError>
     ensures legal { IfOk result (λ program. (program ≡ tree) × IsLegal tree) }
     ensures broken { IfErr result (λ error. error ≢ OutOfMemory → least_broken tree ≡ Some (number_of error)) }
 {
-    let tree = metadata::program::resolve(alloc, tree)?.into_tree();
+    let tree = metadata::resolve(alloc, tree)?.into_tree();
     let (bodies, entry_point) = resolved_code(alloc, &tree)?;
     Ok(Program::new(tree, bodies, entry_point))
 }
