@@ -16,7 +16,7 @@ use Rattle.cil_model.specs.declared.limits.Limits.{Limits}
 use Rattle.cil_model.specs.declared.limits.TheConstants.{LEAST_WORDS, MOST_WORDS}
 use Rattle.cil_model.specs.declared.limits.TheConstants.{MOST_BUDGET, MOST_DEPTH}
 use Rattle.cilvm.specs.declared.orders.Order.{Order}
-use Rattle.cilvm.specs.declared.orders.Order.TheVariants.{Check, Run}
+use Rattle.cilvm.specs.declared.orders.Order.TheVariants.{Check, Run, Replay}
 use Rattle.cilvm.specs.declared.line.LineFault.{LineFault}
 use Rattle.cilvm.specs.declared.line.LineFault.TheVariants.{Help, Bad, Memory}
 
@@ -54,13 +54,17 @@ abbrev pub run_app : App
 run_app = with_limits (with_rule (with_rule (new_app (codes "run")) (file_rule (codes "file")))
     (needed (text_rule (codes "schedule"))))
 
+abbrev pub replay_app : App
+replay_app = with_limits (with_rule (with_rule (new_app (codes "replay"))
+    (file_rule (codes "file"))) (file_rule (codes "schedule")))
+
 abbrev pub with_required_subcommand : App → App
 with_required_subcommand a =
     record a { top = record a.top { subcommand_required = true; arg_required_else_help = true } }
 
 abbrev pub cilvm_app : App
-cilvm_app = with_subcommand (with_subcommand (with_required_subcommand (new_app (codes "cilvm")))
-    check_app.top) run_app.top
+cilvm_app = with_subcommand (with_subcommand (with_subcommand
+    (with_required_subcommand (new_app (codes "cilvm"))) check_app.top) run_app.top) replay_app.top
 
 -- ---- what the words ask for
 
@@ -68,10 +72,12 @@ cilvm_app = with_subcommand (with_subcommand (with_required_subcommand (new_app 
 pub data Wanted : Type 0 where
   check : Text → Wanted
   run : Text → Text → Limits → Wanted
+  replay : Text → Text → Limits → Wanted
 
 abbrev pub wanted_of : Order → Wanted
 wanted_of (Check file) = check file.now
 wanted_of (Run file schedule limits) = run file.now schedule.now limits
+wanted_of (Replay file schedule limits) = replay file.now schedule.now limits
 
 -- the number that the text writes in decimal digits, where it lies in the range
 abbrev pub number_in : ℕ → ℕ → Text → Option ℕ
@@ -97,11 +103,17 @@ abbrev pub run_in : List Row → Option Wanted
 run_in rows = option_and_then (λ file. option_and_then (λ schedule. option_map (run file schedule)
     (limits_in rows)) (first_of (codes "schedule") rows)) (first_of (codes "file") rows)
 
+abbrev pub replay_in : List Row → Option Wanted
+replay_in rows = option_and_then (λ file. option_and_then (λ schedule. option_map
+    (replay file schedule) (limits_in rows)) (first_of (codes "schedule") rows))
+    (first_of (codes "file") rows)
+
 -- what a subcommand's name and its matches ask for
 abbrev pub named_in : Text → List Row → Option Wanted
 named_in name rows =
     if bytes_eq name (codes "check") then check_in rows
-    else (if bytes_eq name (codes "run") then run_in rows else None)
+    else (if bytes_eq name (codes "run") then run_in rows
+    else (if bytes_eq name (codes "replay") then replay_in rows else None))
 
 abbrev pub wanted_in : Option (Text × List Row) → Option Wanted
 wanted_in = option_and_then (λ p. named_in p.0 p.1)
@@ -140,3 +152,4 @@ Answers words (Err fault) = Refuses words fault
 abbrev pub IsInRange : Order → Type 0
 IsInRange (Check file) = ⊤
 IsInRange (Run file schedule limits) = are_in_range limits ≡ true
+IsInRange (Replay file schedule limits) = are_in_range limits ≡ true

@@ -1,16 +1,55 @@
 -- Why an order is not carried out, and what is told of it (this profile).
 use Rattle.std.specs.Fmt.{decimal}
-use Rattle.std.specs.Io.KnownBytes.{Appends}
 use Rattle.std.specs.IoError.{error_kind}
-use Rattle.std.specs.Prelude.{◌≡◌, ◌≢◌, ◌⊎◌, ◌++◌, ◌∷◌, [], ℕ, Bool, true, false, List, Option, codes}
+use Rattle.std.specs.Prelude.{◌≡◌, ◌≢◌, ◌⊎◌, ◌++◌, ◌∷◌, [], ℕ, Bool, true, false, List, codes}
 use Rattle.std.specs.declared.io.Error.{Error}
 use Rattle.std.specs.declared.io.ErrorKind.TheVariants.{OutOfMemory}
+use Rattle.ilasm_reader.specs.Answers.{numbered as reading_number_of}
+use Rattle.ilasm_reader.specs.declared.reading.ReadError.{ReadError}
+use Rattle.ilasm_reader.specs.declared.reading.ReadError.TheVariants.{OutOfMemory as UnreadForMemory}
+use Rattle.verifier.specs.Numbers.{typing_number_of, number_of as legality_number_of}
+use Rattle.verifier.specs.declared.legality.MetaError.{MetaError}
+use Rattle.verifier.specs.declared.legality.MetaError.TheVariants.{OutOfMemory as UnresolvedForMemory}
+use Rattle.verifier.specs.declared.typing.VerifyError.{VerifyError}
+use Rattle.verifier.specs.declared.typing.VerifyError.TheVariants.{OutOfMemory as UnverifiedForMemory}
+use Rattle.interleaving_core.specs.Refusals.{number_of as making_number_of}
+use Rattle.interleaving_core.specs.declared.machine.Refused.{Refused as NotMade}
+use Rattle.interleaving_core.specs.declared.machine.Refused.TheVariants.{OutOfMemory as NotMadeForMemory}
+use Rattle.schedule_text.specs.Errors.{number_of as schedule_number_of}
+use Rattle.schedule_text.specs.declared.errors.ScheduleError.{ScheduleError}
+use Rattle.schedule_text.specs.declared.errors.ScheduleError.TheVariants.{OutOfMemory as UnscheduledForMemory}
 use Rattle.cilvm.specs.declared.drive.Failure.{Failure}
 use Rattle.cilvm.specs.declared.drive.Failure.TheVariants.{Refused, OutOfRange, Memory, Device}
 
-abbrev pub is_out_of_range : Failure → Bool
-is_out_of_range (OutOfRange number) = true
-is_out_of_range _ = false
+-- ---- what the error of a layer becomes: its number, but for want of memory
+
+abbrev pub failure_of_reading : ReadError → Failure
+failure_of_reading UnreadForMemory = Memory
+failure_of_reading error = Refused (reading_number_of error)
+
+abbrev pub failure_of_resolving : MetaError → Failure
+failure_of_resolving UnresolvedForMemory = Memory
+failure_of_resolving error = Refused (legality_number_of error)
+
+abbrev pub failure_of_verifying : VerifyError → Failure
+failure_of_verifying UnverifiedForMemory = Memory
+failure_of_verifying error = Refused (typing_number_of error)
+
+-- limits belong to the command line
+abbrev pub failure_of_making : NotMade → Failure
+failure_of_making NotMadeForMemory = Memory
+failure_of_making error = OutOfRange (making_number_of error)
+
+abbrev pub failure_of_schedule : ScheduleError → Failure
+failure_of_schedule UnscheduledForMemory = Memory
+failure_of_schedule error = Refused (schedule_number_of error)
+
+-- what a failed read or write becomes: want of memory may come by a reader or a writer too
+abbrev pub IsFailureOfDevice : Error → Failure → Type 0
+IsFailureOfDevice error failure = (error_kind error ≡ OutOfMemory → failure ≡ Memory)
+    × (error_kind error ≢ OutOfMemory → failure ≡ Device)
+
+-- ---- what is told of a failure
 
 -- of the source, the limits or the schedule
 abbrev pub is_refusal : Failure → Bool
@@ -28,24 +67,9 @@ status_of_failure Device = 5
 abbrev pub IsStatusOf : Failure → ℕ → Type 0
 IsStatusOf failure n = (n ≡ status_of_failure failure) ⊎ (n ≡ 5)
 
--- the line that a failure is printed as, without its end
+-- the line that a failure is printed as
 abbrev pub message_of : Failure → List ℕ
-message_of (Refused number) = codes "error " ++ decimal number
-message_of (OutOfRange number) = codes "error " ++ decimal number
-message_of Memory = codes "memory"
-message_of Device = codes "device"
-
--- one line was written that gives an error's number
-abbrev pub PrintsError : Option (List ℕ) → Option (List ℕ) → Type 0
-PrintsError old new =
-    (number : ℕ) × Appends old new (codes "error " ++ decimal number ++ 10 ∷ [])
-
--- a refusal with this number, unless memory ran out
-abbrev pub IsRefusalUnless : Type 0 → ℕ → Failure → Type 0
-IsRefusalUnless WantsMemory number failure = (WantsMemory → failure ≡ Memory)
-    × ((WantsMemory → ⊥) → failure ≡ Refused number)
-
--- what a failed read or write becomes: want of memory may come by a reader or a writer too
-abbrev pub IsFailureOfDevice : Error → Failure → Type 0
-IsFailureOfDevice error failure = (error_kind error ≡ OutOfMemory → failure ≡ Memory)
-    × (error_kind error ≢ OutOfMemory → failure ≡ Device)
+message_of (Refused number) = codes "error " ++ decimal number ++ 10 ∷ []
+message_of (OutOfRange number) = codes "error " ++ decimal number ++ 10 ∷ []
+message_of Memory = codes "memory" ++ 10 ∷ []
+message_of Device = codes "device" ++ 10 ∷ []

@@ -1,4 +1,5 @@
 pub mod CommandLine
 pub mod Failures
-pub mod Schedules
-pub mod Statuses
+pub mod Orders
+pub mod Outcomes
+pub mod Threads

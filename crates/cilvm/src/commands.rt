@@ -4,7 +4,8 @@ ghost use Rattle.std.specs.Prelude.{codes, ◌≤◌, ◌^◌, ◌<◌};
 ghost use Rattle.clap.specs.Words.{app_of, new_app, rule_of};
 ghost use Rattle.clap.specs.declared.builder.command.Command.TheViews.{out-Command};
 ghost use Rattle.cilvm.specs.CommandLine.{check_app, cilvm_app, file_rule, number_rule, run_app};
-ghost use Rattle.cilvm.specs.CommandLine.{text_rule, with_limits, with_required_subcommand};
+ghost use Rattle.cilvm.specs.CommandLine.{replay_app, text_rule, with_limits};
+ghost use Rattle.cilvm.specs.CommandLine.{with_required_subcommand};
 
 use cil_model::limits::{LEAST_WORDS, MOST_BUDGET, MOST_DEPTH, MOST_WORDS};
 use clap::{Arg, Command, value_parser};
@@ -90,13 +91,29 @@ fn run_command<'a>(alloc: Global) -> Result<Command<'a>, AllocError>
         alloc,
         "schedule",
         "EVENTS",
-        "The events in their order, as 's0*5'",
+        "The events in their order, as 's0*5 g a0'",
     )
     .required(true);
     let command = Command::new(alloc, "run")
         .about("Runs a source by a schedule given on the command line")
         .after_help(
-            "Events, with spaces between them:\n  s0    a step of thread 0: one instruction\n  s0*5  five steps of it\nThe threads have the numbers 0 to 15, and a schedule has at most 1000000 events.\n\nExample, which prints 5:\n  cilvm run examples/add.il --schedule 's0*5'",
+            "Events, with spaces between them:\n  s0    a step of thread 0: one instruction\n  a0    its acknowledgement to the collector\n  g     an event of the collector\n  s0*5  five steps; '*' and a count may follow each event\nThe threads have the numbers 0 to 15, and a schedule has at most 1000000 events.\n\nExample, which prints 5:\n  cilvm run examples/add.il --schedule 's0*5'",
+        )
+        .arg(file)?
+        .arg(schedule)?;
+    with_limits(alloc, command)
+}
+
+fn replay_command<'a>(alloc: Global) -> Result<Command<'a>, AllocError>
+    ensures app { IfOk result (λ c. app_of c ≡ replay_app) }
+    ensures local { IfOk result (λ c. (out-Command c).has_globals ≡ false) }
+{
+    let file = file_argument(alloc, "file", "FILE", "The source, in ilasm text");
+    let schedule = file_argument(alloc, "schedule", "SCHEDULE", "The file with the events");
+    let command = Command::new(alloc, "replay")
+        .about("Runs a source by a schedule that a file holds")
+        .after_help(
+            "The file has the events in the form that 'cilvm run --help' tells, on as many lines as you like.\n\nExample, which prints 5:\n  cilvm replay examples/add.il examples/add.schedule",
         )
         .arg(file)?
         .arg(schedule)?;
@@ -121,5 +138,9 @@ pub fn cilvm_command<'a>(alloc: Global) -> Result<Command<'a>, AllocError>
 {
     let check = check_command(alloc)?;
     let run = run_command(alloc)?;
-    program(alloc).subcommand(check)?.subcommand(run)
+    let replay = replay_command(alloc)?;
+    program(alloc)
+        .subcommand(check)?
+        .subcommand(run)?
+        .subcommand(replay)
 }

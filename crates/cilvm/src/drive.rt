@@ -1,28 +1,26 @@
 //! Does what an order asks for.
-ghost use Rattle.std.specs.Prelude.{◌≡◌, ◌≢◌, ◌⊎◌, ◌++◌, ◌∷◌, [], IfErr, IfOk, OnOk, codes, true, false, ℕ};
+ghost use Rattle.std.specs.Prelude.{◌≡◌, ◌≢◌, IfErr, IfOk, OnOk, true, ◌+◌, ◌⊎◌};
 ghost use Rattle.std.specs.List.{list_all, list_any};
 ghost use Rattle.std.specs.Io.KnownBytes.{Appends};
-ghost use Rattle.cil_model.specs.Ranges.{are_in_range};
 ghost use Rattle.cil_model.specs.Sources.{HasTree, IsAnswer};
-ghost use Rattle.ilasm_reader.specs.Answers.{numbered};
-ghost use Rattle.ilasm_reader.specs.declared.reading.ReadError.TheVariants as reading;
-ghost use Rattle.verifier.specs.Numbers.{typing_number_of, number_of as legality_number_of};
-ghost use Rattle.verifier.specs.declared.legality.MetaError.TheVariants as resolving;
-ghost use Rattle.verifier.specs.declared.typing.VerifyError.TheVariants as verifying;
-ghost use Rattle.cilvm.specs.Failures.{IsFailureOfDevice, IsRefusalUnless, IsStatusOf, PrintsError};
-ghost use Rattle.cilvm.specs.Failures.{is_out_of_range, is_refusal, message_of};
-ghost use Rattle.cilvm.specs.Schedules.{number_of};
-ghost use Rattle.cilvm.specs.Statuses.{IsStatus, is_check, is_done, is_live, status_of};
+ghost use Rattle.cilvm.specs.Failures.{IsFailureOfDevice, IsStatusOf, failure_of_making};
+ghost use Rattle.cilvm.specs.Failures.{failure_of_reading, failure_of_resolving};
+ghost use Rattle.cilvm.specs.Failures.{failure_of_schedule, failure_of_verifying};
+ghost use Rattle.cilvm.specs.Failures.{is_refusal, message_of, status_of_failure};
+ghost use Rattle.cilvm.specs.Outcomes.{HasNotRun, HasRun, IsChecked, IsDone, IsNotAccepted};
+ghost use Rattle.cilvm.specs.Outcomes.{IsNotChecked, IsNotDone, IsNotRunBy, IsOfWriting};
+ghost use Rattle.cilvm.specs.Outcomes.{IsOutcome, IsRunBy, IsShown};
+ghost use Rattle.cilvm.specs.Threads.{ends_of, is_done, is_live, line_of, lines_from};
+ghost use Rattle.cilvm.specs.Threads.{status_of};
 ghost use Rattle.cilvm.specs.declared.drive.Failure.TheVariants.{Memory};
-ghost use Rattle.cilvm.specs.declared.schedule.ScheduleError.TheVariants.{OutOfMemory};
 
 use crate::orders::Order;
-use crate::schedule::{ScheduleError, read_schedule};
 use cil_model::limits::Limits;
 use cil_model::memory::NoMemory;
 use cil_model::reports::End;
 use ilasm_reader::ReadError;
 use interleaving_core::{Machine, Refused};
+use schedule_text::{ScheduleError, read_schedule};
 use std::alloc::{AllocError, Global};
 use std::io;
 use std::io::{ErrorKind, Write};
@@ -70,8 +68,7 @@ impl From<io::Error> for Failure {
 }
 
 impl From<ReadError> for Failure {
-    ghost from_gives = { λ error failure.
-        IsRefusalUnless (error ≡ reading.OutOfMemory) (numbered error) failure };
+    ghost from_gives = { λ error failure. failure ≡ failure_of_reading error };
 
     fn from(error: ReadError) -> Failure {
         match error {
@@ -82,8 +79,7 @@ impl From<ReadError> for Failure {
 }
 
 impl From<MetaError> for Failure {
-    ghost from_gives = { λ error failure.
-        IsRefusalUnless (error ≡ resolving.OutOfMemory) (legality_number_of error) failure };
+    ghost from_gives = { λ error failure. failure ≡ failure_of_resolving error };
 
     fn from(error: MetaError) -> Failure {
         match error {
@@ -94,8 +90,7 @@ impl From<MetaError> for Failure {
 }
 
 impl From<VerifyError> for Failure {
-    ghost from_gives = { λ error failure.
-        IsRefusalUnless (error ≡ verifying.OutOfMemory) (typing_number_of error) failure };
+    ghost from_gives = { λ error failure. failure ≡ failure_of_verifying error };
 
     fn from(error: VerifyError) -> Failure {
         match error {
@@ -105,9 +100,19 @@ impl From<VerifyError> for Failure {
     }
 }
 
+impl From<Refused> for Failure {
+    ghost from_gives = { λ error failure. failure ≡ failure_of_making error };
+
+    fn from(error: Refused) -> Failure {
+        match error {
+            Refused::OutOfMemory => Failure::Memory,
+            _ => Failure::OutOfRange(error.number()),
+        }
+    }
+}
+
 impl From<ScheduleError> for Failure {
-    ghost from_gives = { λ error failure.
-        IsRefusalUnless (error ≡ OutOfMemory) (number_of error) failure };
+    ghost from_gives = { λ error failure. failure ≡ failure_of_schedule error };
 
     fn from(error: ScheduleError) -> Failure {
         match error {
@@ -117,8 +122,13 @@ impl From<ScheduleError> for Failure {
     }
 }
 
-/// Does a command on the bytes of its files, and answers the status. Its faults are looked for in
-/// this order: the source, the limits, the schedule, the run.
+/// Does a command on the bytes of its files, and answers the status: a replay takes its schedule from
+/// `schedule`, which the others pass over. Faults are looked for in this order: the source, the limits,
+/// the schedule, the run.
+///
+/// What a run prints goes to `out` and how its threads stand to `err`, once the run has ended. A refusal
+/// prints `error` and its number to `err`, want of memory `memory`, a failed write `device`. No command
+/// has a record yet, so `record` stays as it was.
 pub fn drive<W: Write, E: Write>(
     alloc: Global,
     order: &Order<'_>,
@@ -128,71 +138,109 @@ pub fn drive<W: Write, E: Write>(
     err: &mut E,
     record: &mut Vec<u8>,
 ) -> u8
-    ensures status { IsStatus order.now result }
-    ensures accepted { is_check order.now ≡ true → result ≡ 0
-        → Appends (W.contents out.old) (W.contents out.new) (codes "accepted" ++ 10 ∷ []) }
-    ensures refused { (result ≡ 1) ⊎ (result ≡ 2) → (W.contents out.new ≡ W.contents out.old)
-        × PrintsError (E.contents err.old) (E.contents err.new) }
+    ensures outcome { IsOutcome order.now source.now schedule.now (W.contents out.old) (W.contents out.new)
+        (E.contents err.old) (E.contents err.new) result }
     ensures kept { «record».new ≡ «record».old }
 {
-    match perform(alloc, order, source, out, err) {
+    match perform(alloc, order, source, schedule, out, err) {
         Ok(status) => status,
         Err(failure) => report(failure, err),
     }
 }
 
-/// Writes a failure to the standard error, and answers its status.
+/// Writes a failure to the standard error, and answers its status, or 5 where it can't be written.
 pub fn report<E: Write>(failure: Failure, err: &mut E) -> u8
     ensures status { IsStatusOf failure result }
-    ensures written { result ≢ 5
-        → Appends (E.contents err.old) (E.contents err.new) (message_of failure ++ 10 ∷ []) }
+    ensures written { result ≢ 5 → Appends (E.contents err.old) (E.contents err.new) (message_of failure) }
 {
-    let (status, written) = match failure {
-        Failure::Refused(number) => (1, writeln!(err, "error {number}")),
-        Failure::OutOfRange(number) => (2, writeln!(err, "error {number}")),
-        Failure::Memory => (5, writeln!(err, "memory")),
-        Failure::Device => (5, writeln!(err, "device")),
-    };
-    if written.is_err() { 5 } else { status }
+    match tell(failure, err) {
+        Ok(()) => status_of_failure(failure),
+        Err(_) => 5,
+    }
+}
+
+/// Writes the line of a failure.
+fn tell<E: Write>(failure: Failure, err: &mut E) -> io::Result<()>
+    ensures { OnOk result (Appends (E.contents err.old) (E.contents err.new) (message_of failure)) }
+{
+    match failure {
+        Failure::Refused(number) | Failure::OutOfRange(number) => writeln!(err, "error {number}"),
+        Failure::Memory => writeln!(err, "memory"),
+        Failure::Device => writeln!(err, "device"),
+    }
+}
+
+fn status_of_failure(failure: Failure) -> u8
+    ensures { result ≡ status_of_failure failure }
+{
+    match failure {
+        Failure::Refused(_) => 1,
+        Failure::OutOfRange(_) => 2,
+        Failure::Memory | Failure::Device => 5,
+    }
 }
 
 fn perform<W: Write, E: Write>(
     alloc: Global,
     order: &Order<'_>,
     source: &[u8],
+    schedule: &[u8],
     out: &mut W,
     err: &mut E,
 ) -> Result<u8, Failure>
-    ensures status { IfOk result (λ status. IsStatus order.now status
-        × (status ≢ 1) × (status ≢ 2)) }
-    ensures failure { IfErr result (λ failure. (n : ℕ) → IsStatusOf failure n → IsStatus order.now n) }
+    ensures done { IfOk result (IsDone order.now source.now schedule.now (W.contents out.old)
+        (W.contents out.new) (E.contents err.old) (E.contents err.new)) }
+    ensures failed { IfErr result (IsNotDone order.now source.now schedule.now) }
     ensures untouched { IfErr result (λ failure. is_refusal failure ≡ true
         → (W.contents out.new ≡ W.contents out.old) × (E.contents err.new ≡ E.contents err.old)) }
-    ensures accepted { is_check order.now ≡ true → OnOk result
-        (Appends (W.contents out.old) (W.contents out.new) (codes "accepted" ++ 10 ∷ [])) }
 {
-    let verified = accept(alloc, source)?;
     match *order {
-        Order::Check { .. } => {
-            writeln!(out, "accepted")?;
-            Ok(0)
-        }
+        Order::Check { .. } => check(alloc, source, out),
         Order::Run {
-            schedule,
+            schedule: text,
             limits,
             ..
-        } => {
-            let machine = run(alloc, verified, limits, schedule.as_bytes())?;
-            let ends = ends(alloc, &machine)?;
-            show(machine.console(), ends.as_slice(), out, err)
-        }
+        } => show_run(alloc, source, limits, text.as_bytes(), out, err),
+        Order::Replay { limits, .. } => show_run(alloc, source, limits, schedule, out, err),
     }
+}
+
+/// Says that a source is accepted, and answers the status.
+fn check<W: Write>(alloc: Global, source: &[u8], out: &mut W) -> Result<u8, Failure>
+    ensures done { IfOk result (IsChecked source.now (W.contents out.old) (W.contents out.new)) }
+    ensures failed { IfErr result (IsNotChecked source.now) }
+    ensures untouched { IfErr result (λ failure. is_refusal failure ≡ true
+        → W.contents out.new ≡ W.contents out.old) }
+{
+    accept(alloc, source)?;
+    writeln!(out, "accepted")?;
+    Ok(0)
+}
+
+/// Runs a source by the events of a text, prints what the run leaves, and answers its status.
+fn show_run<W: Write, E: Write>(
+    alloc: Global,
+    source: &[u8],
+    limits: Limits,
+    text: &[u8],
+    out: &mut W,
+    err: &mut E,
+) -> Result<u8, Failure>
+    ensures done { IfOk result (HasRun source.now limits text.now (W.contents out.old)
+        (W.contents out.new) (E.contents err.old) (E.contents err.new)) }
+    ensures failed { IfErr result (HasNotRun source.now limits text.now) }
+    ensures untouched { IfErr result (λ failure. is_refusal failure ≡ true
+        → (W.contents out.new ≡ W.contents out.old) × (E.contents err.new ≡ E.contents err.old)) }
+{
+    let verified = accept(alloc, source)?;
+    let machine = run(alloc, verified, limits, text)?;
+    show(alloc, &machine, out, err)
 }
 
 /// The verified program of a source, whose tree is the one that the bytes have.
 fn accept(alloc: Global, source: &[u8]) -> Result<Verified, Failure>
     ensures tree { IfOk result (λ verified. IsAnswer source.now (HasTree verified)) }
-    ensures refused { IfErr result (λ failure. is_out_of_range failure ≡ false) }
+    ensures refused { IfErr result (IsNotAccepted source.now) }
 {
     let tree = ilasm_reader::read(alloc, source)?;
     let program = verifier::resolve(alloc, tree)?;
@@ -200,62 +248,66 @@ fn accept(alloc: Global, source: &[u8]) -> Result<Verified, Failure>
     Ok(verifier::verify(alloc, program, layout)?)
 }
 
-/// The machine at the start of a program.
-fn machine(alloc: Global, verified: Verified, limits: Limits) -> Result<Machine, Failure>
-    ensures { IfErr result (λ failure. is_out_of_range failure ≡ true → are_in_range limits ≡ false) }
-{
-    match Machine::new(alloc, verified, limits) {
-        Ok(machine) => Ok(machine),
-        Err(Refused::OutOfMemory) => Err(Failure::Memory),
-        Err(refused) => Err(Failure::OutOfRange(refused.number())),
-    }
-}
-
 /// The machine of a program after the events of a schedule.
-fn run(
-    alloc: Global,
-    verified: Verified,
-    limits: Limits,
-    schedule: &[u8],
-) -> Result<Machine, Failure>
-    ensures { IfErr result (λ failure. is_out_of_range failure ≡ true → are_in_range limits ≡ false) }
+fn run(alloc: Global, verified: Verified, limits: Limits, text: &[u8]) -> Result<Machine, Failure>
+    ensures ran { OnOk result (IsRunBy limits text.now) }
+    ensures refused { IfErr result (IsNotRunBy limits text.now) }
 {
-    let mut machine = machine(alloc, verified, limits)?;
-    let events = read_schedule(alloc, schedule)?;
+    let mut machine = Machine::new(alloc, verified, limits)?;
+    let events = read_schedule(alloc, text)?;
     let mut reports = Vec::new(alloc);
     machine.run(events.as_slice(), &mut reports)?;
     Ok(machine)
 }
 
-/// How each thread that was started has ended, in the order of their numbers.
-fn ends(alloc: Global, machine: &Machine) -> Result<Vec<Option<End>>, AllocError> {
-    (0..=u8::MAX)
-        .take(machine.started())
-        .map(|thread| machine.end_of(thread))
-        .collect(alloc)
+/// Prints what a run leaves, and answers its status.
+fn show<W: Write, E: Write>(
+    alloc: Global,
+    machine: &Machine,
+    out: &mut W,
+    err: &mut E,
+) -> Result<u8, Failure>
+    ensures shown { IfOk result (IsShown machine.now (W.contents out.old) (W.contents out.new)
+        (E.contents err.old) (E.contents err.new)) }
+    ensures failed { IfErr result IsOfWriting }
+{
+    let ends = ends(alloc, machine)?;
+    out.write_all(machine.console())?;
+    show_ends(ends.as_slice(), err)?;
+    Ok(status_of(ends.as_slice()))
 }
 
-/// Prints what a run leaves, and answers its status.
-fn show<W: Write>(
-    console: &[u8],
-    ends: &[Option<End>],
-    out: &mut W,
-    err: &mut impl Write,
-) -> Result<u8, Failure>
-    ensures status { IfOk result (λ status. status ≡ status_of ends.now) }
-    ensures console { OnOk result (Appends (W.contents out.old) (W.contents out.new) console.now) }
-    ensures failure { IfErr result (λ failure. is_refusal failure ≡ false) }
+/// How each thread that was started has ended, in the order of their numbers.
+fn ends(alloc: Global, machine: &Machine) -> Result<Vec<Option<End>>, AllocError>
+    ensures { IfOk result (λ ends. ends.items ≡ ends_of machine.now) }
 {
-    out.write_all(console)?;
-    for (thread, end) in ends.iter().enumerate() {
-        match end {
-            None => writeln!(err, "thread {thread}: live")?,
-            Some(End::Done) => writeln!(err, "thread {thread}: done")?,
-            Some(End::Budget) => writeln!(err, "thread {thread}: budget")?,
-            Some(End::Fault(fault)) => writeln!(err, "thread {thread}: {fault}")?,
-        }
+    let mut ends = Vec::new(alloc);
+    for thread in 0..machine.started() {
+        ends.push(machine.end_of(thread as u8))?;
     }
-    Ok(status_of(ends))
+    Ok(ends)
+}
+
+/// Writes a line for each thread, in the order of their numbers.
+fn show_ends<E: Write>(ends: &[Option<End>], err: &mut E) -> io::Result<()>
+    ensures { OnOk result (Appends (E.contents err.old) (E.contents err.new) (lines_from 0 ends.now)) }
+{
+    for (thread, end) in ends.iter().enumerate() {
+        show_end(thread, *end, err)?;
+    }
+    Ok(())
+}
+
+/// Writes how one thread stands.
+fn show_end<E: Write>(thread: usize, end: Option<End>, err: &mut E) -> io::Result<()>
+    ensures { OnOk result (Appends (E.contents err.old) (E.contents err.new) (line_of thread end)) }
+{
+    match end {
+        None => writeln!(err, "thread {thread}: live"),
+        Some(End::Done) => writeln!(err, "thread {thread}: done"),
+        Some(End::Budget) => writeln!(err, "thread {thread}: budget"),
+        Some(End::Fault(fault)) => writeln!(err, "thread {thread}: {fault}"),
+    }
 }
 
 /// The status of a run whose threads stand so.

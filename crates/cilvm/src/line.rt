@@ -2,7 +2,8 @@
 ghost use Rattle.std.specs.Prelude.{◌≡◌, IfOk, IfSome, codes, map, option_map, IfErr, is_some, true, ◌≤◌};
 ghost use Rattle.clap.specs.Words.{found_of, first_of, kind_of, rows_of, subcommand_rows_of};
 ghost use Rattle.cilvm.specs.CommandLine.{Answers, FaultIs, IsInRange, check_in, limits_in};
-ghost use Rattle.cilvm.specs.CommandLine.{number_at, number_in, run_in, wanted_in, wanted_of};
+ghost use Rattle.cilvm.specs.CommandLine.{number_at, number_in, replay_in, run_in, wanted_in};
+ghost use Rattle.cilvm.specs.CommandLine.{wanted_of};
 ghost use Rattle.cil_model.specs.Ranges.{are_in_range};
 ghost use Rattle.cilvm.specs.declared.line.LineFault.TheVariants.{Memory};
 
@@ -72,6 +73,7 @@ fn wanted<'a>(matches: &ArgMatches<'a>) -> Option<Order<'a>>
     match name {
         "check" => wanted_check(found),
         "run" => wanted_run(found),
+        "replay" => wanted_replay(found),
         _ => None,
     }
 }
@@ -92,6 +94,20 @@ fn wanted_run<'a>(found: &ArgMatches<'a>) -> Option<Order<'a>>
     let schedule = text(found, "schedule")?;
     let limits = limits(found)?;
     Some(Order::Run {
+        file,
+        schedule,
+        limits,
+    })
+}
+
+fn wanted_replay<'a>(found: &ArgMatches<'a>) -> Option<Order<'a>>
+    ensures value { option_map wanted_of result ≡ replay_in (rows_of (found_of found.now)) }
+    ensures range { IfSome result IsInRange }
+{
+    let file = text(found, "file")?;
+    let schedule = text(found, "schedule")?;
+    let limits = limits(found)?;
+    Some(Order::Replay {
         file,
         schedule,
         limits,

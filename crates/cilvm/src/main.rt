@@ -1,23 +1,17 @@
 //! The program `cilvm`.
 #![tactic(auto)]
 
-ghost use Rattle.std.specs.Prelude.{◌<◌, ◌^◌};
-
 mod commands;
 mod drive;
+mod files;
 mod line;
 mod orders;
-mod schedule;
 
-use cil_model::limits::MOST_SOURCE_BYTES;
 use drive::Failure;
 use line::LineFault;
 use orders::Order;
-use std::alloc::Global;
 use std::fs::File;
-use std::io::Read;
 use std::process::ExitCode;
-use std::rt::Files;
 use std::{env, io};
 
 fn main(rt: HostRuntime) -> ExitCode {
@@ -57,11 +51,11 @@ fn program(rt: &HostRuntime) -> Result<u8, Failure> {
 
 fn carry_out(rt: &HostRuntime, order: &Order<'_>) -> Result<u8, Failure> {
     let alloc = rt.alloc();
-    let file = match *order {
-        Order::Check { file } | Order::Run { file, .. } => file,
+    let source = files::source(alloc, File::open(rt, order.file())?)?;
+    let schedule = match order.schedule_file() {
+        Some(file) => files::text(alloc, File::open(rt, file)?)?,
+        None => Vec::new(alloc),
     };
-    // a longer source is refused, so no more of it is read than shows that it is longer
-    let source = contents(rt, alloc, file, MOST_SOURCE_BYTES as u64)?;
     let errors = rt.stderr();
     let mut out = io::writer(rt);
     let mut err = io::writer(&errors);
@@ -70,7 +64,7 @@ fn carry_out(rt: &HostRuntime, order: &Order<'_>) -> Result<u8, Failure> {
         alloc,
         order,
         source.as_slice(),
-        &[],
+        schedule.as_slice(),
         &mut out,
         &mut err,
         &mut record,
@@ -78,13 +72,5 @@ fn carry_out(rt: &HostRuntime, order: &Order<'_>) -> Result<u8, Failure> {
     Ok(status)
 }
 
-/// The file's bytes, but no more than `most` and one.
-fn contents(rt: &impl Files, alloc: Global, file: &str, most: u64) -> io::Result<Vec<u8>>
-    requires { most < 2 ^ 63 }
-{
-    let mut bytes = Vec::new(alloc);
-    File::open(rt, file)?
-        .take(most + 1)
-        .read_to_end(&mut bytes)?;
-    Ok(bytes)
-}
+#[cfg(test)]
+mod tests;

@@ -1,4 +1,6 @@
 //! What a command line asks for.
+ghost use Rattle.std.specs.Prelude.{◌≡◌, option_map};
+ghost use Rattle.cilvm.specs.Orders.{file_of, schedule_file_of};
 
 use cil_model::limits::Limits;
 
@@ -15,4 +17,31 @@ pub enum Order<'a> {
         schedule: &'a str,
         limits: Limits,
     },
+    /// Runs the source of this file by the events of the schedule text that another file holds.
+    Replay {
+        file: &'a str,
+        schedule: &'a str,
+        limits: Limits,
+    },
+}
+
+impl<'a> Order<'a> {
+    /// The file that holds the source.
+    pub fn file(&self) -> &'a str
+        ensures { result.now ≡ file_of self.now }
+    {
+        match *self {
+            Order::Check { file } | Order::Run { file, .. } | Order::Replay { file, .. } => file,
+        }
+    }
+
+    /// The file that holds the schedule's text, where one does.
+    pub fn schedule_file(&self) -> Option<&'a str>
+        ensures { option_map (λ file. file.now) result ≡ schedule_file_of self.now }
+    {
+        match *self {
+            Order::Replay { schedule, .. } => Some(schedule),
+            Order::Check { .. } | Order::Run { .. } => None,
+        }
+    }
 }

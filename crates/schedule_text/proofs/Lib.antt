@@ -4,3 +4,4 @@ pub mod NumberLemmas
 pub mod ReadingLemmas
 pub mod WritingLemmas
 pub mod TextLemmas
+pub mod RunLemmas

@@ -99,13 +99,13 @@ some_of : (n : ℕ) (event : Event) → 0 < n → (events : List Event) × (repl
 some_of zero event some = absurd (omega arith)
 some_of (suc n) event some = (replicate n event, refl)
 
-heads : {A : Type 0} {x y : A} {xs ys : List A} → x ∷ xs ≡ y ∷ ys → x ≡ y
+pub heads : {A : Type 0} {x y : A} {xs ys : List A} → x ∷ xs ≡ y ∷ ys → x ≡ y
 heads e = cc
 
-tails : {A : Type 0} {x y : A} {xs ys : List A} → x ∷ xs ≡ y ∷ ys → xs ≡ ys
+pub tails : {A : Type 0} {x y : A} {xs ys : List A} → x ∷ xs ≡ y ∷ ys → xs ≡ ys
 tails e = cc
 
-first_of_runs : (rest : List Event) (item : Item) (items : List Item) → AreRuns rest (item ∷ items) → (more : List Event) × (rest ≡ item.event ∷ more)
+pub first_of_runs : (rest : List Event) (item : Item) (items : List Item) → AreRuns rest (item ∷ items) → (more : List Event) × (rest ≡ item.event ∷ more)
 first_of_runs rest item items runs =
     let some = some_of item.count item.event (All-head (λ i. 0 < i.count) item items runs.filled) in
     (some.0 ++ events_of items, runs.together ∙ ap (λ es. es ++ events_of items) some.1)

@@ -12,6 +12,11 @@ pub fn written_text_is_read()
     ensures { (events : List Event) (text : List ℕ) → IsWritten events text → AreRead (words text) events }
 {}
 
+/// A list is written as one text.
+pub fn one_text()
+    ensures { (events : List Event) (text other : List ℕ) → IsWritten events text → IsWritten events other → text ≡ other }
+{}
+
 /// A text is read as one list, or it has one first fault, and not both; want of memory apart, which
 /// is a fault that a good item may have.
 pub fn one_answer()

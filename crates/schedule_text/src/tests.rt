@@ -154,19 +154,31 @@ fn does_not_write_bad_lists(rt: HostRuntime) -> Result<(), Fail> {
     Ok(())
 }
 
+/// Asserts that a canonical text is read and written again, or that memory ran out.
+fn assert_kept_or_memory(rt: &(impl Abort + AllocGlobal), text: &str) {
+    let written = read_schedule(rt.alloc(), text.as_bytes()).and_then(|events| write_schedule(
+        rt.alloc(),
+        events.as_slice(),
+    ));
+    match written {
+        Ok(written) => assert!(rt; written.as_str() == text, "{written}"),
+        Err(error) => assert!(rt; error == ScheduleError::OutOfMemory, "{text}"),
+    }
+}
+
 /// A run in which some allocation fails shows that no other answer comes, and that none is made for
 /// a count that is refused.
 #[test]
 fn answers_as_usual_or_has_no_memory(rt: HostRuntime) {
-    let events = [Event::Step(0), Event::Step(0), Event::Gc, Event::Ack(0)];
-    match read_schedule(rt.alloc(), b"s0*2 g a0") {
-        Ok(read) => assert!(rt; read.as_slice() == events.as_slice()),
-        Err(error) => assert!(rt; error == ScheduleError::OutOfMemory),
-    }
-    match write_schedule(rt.alloc(), &events) {
-        Ok(text) => assert!(rt; text.as_str() == "s0*2 g a0"),
-        Err(error) => assert!(rt; error == ScheduleError::OutOfMemory),
-    }
+    assert_kept_or_memory(&rt, "s0*2 g a0");
+    assert_kept_or_memory(
+        &rt,
+        "s0*20 g*300 a15*4000 s15 a1 s2 a3 s4 a5 s6 a7 s8 a9 s10 a11*50000 s12 a13",
+    );
+    let refused = read_schedule(rt.alloc(), b"s0*2 g s0*999998").err();
+    assert!(rt;
+        refused == Some(ScheduleError::TooLong) || refused == Some(ScheduleError::OutOfMemory)
+    );
     assert_refused(&rt, "s0*1000001", 503);
     assert_refused(&rt, "s16*1000000", 502);
     assert_refused(&rt, "s0*0", 501);

@@ -1,5 +1,5 @@
 use super::{accept, drive};
-use crate::line::order;
+use crate::line::{LineFault, order};
 use crate::orders::Order;
 use cil_model::events::Event;
 use cil_model::limits::Limits;
@@ -7,7 +7,7 @@ use cil_model::reports::{End, Report};
 use interleaving_core::{Machine, Refused};
 use std::alloc::Global;
 use std::io;
-use std::io::Write;
+use std::io::{Cursor, Write};
 use std::process::Abort;
 
 /// Adds 2 and 3, and prints the sum.
@@ -26,19 +26,33 @@ fn driven<'a>(
     rt: &(impl Abort + AllocGlobal),
     words: &'a [&'a str],
     source: &[u8],
+    schedule: &[u8],
 ) -> (u8, Vec<u8>, Vec<u8>) {
     let alloc = rt.alloc();
     match order(alloc, words) {
-        Ok(order) => driven_order(alloc, &order, source),
+        Ok(order) => driven_order(alloc, &order, source, schedule),
         Err(_) => panic!(rt; "{words:?} hold no order"),
     }
 }
 
-fn driven_order(alloc: Global, order: &Order<'_>, source: &[u8]) -> (u8, Vec<u8>, Vec<u8>) {
+fn driven_order(
+    alloc: Global,
+    order: &Order<'_>,
+    source: &[u8],
+    schedule: &[u8],
+) -> (u8, Vec<u8>, Vec<u8>) {
     let mut out = Vec::new(alloc);
     let mut err = Vec::new(alloc);
     let mut record = Vec::new(alloc);
-    let status = drive(alloc, order, source, &[], &mut out, &mut err, &mut record);
+    let status = drive(
+        alloc,
+        order,
+        source,
+        schedule,
+        &mut out,
+        &mut err,
+        &mut record,
+    );
     (status, out, err)
 }
 
@@ -59,7 +73,18 @@ fn assert_driven<'a>(
     source: &[u8],
     wanted: (u8, &str, &str),
 ) {
-    let (status, out, err) = driven(rt, words, source);
+    assert_driven_by(rt, words, source, b"x", wanted);
+}
+
+/// Asserts what a command line leaves with a file that holds this schedule.
+fn assert_driven_by<'a>(
+    rt: &(impl Abort + AllocGlobal),
+    words: &'a [&'a str],
+    source: &[u8],
+    schedule: &[u8],
+    wanted: (u8, &str, &str),
+) {
+    let (status, out, err) = driven(rt, words, source, schedule);
     assert!(rt; status == wanted.0, "{status} at {words:?}");
     assert!(rt;
         out.as_slice() == wanted.1.as_bytes(),
@@ -87,6 +112,52 @@ fn passes_over_threads_that_are_absent(rt: HostRuntime) {
     let source = SUM.as_bytes();
     assert_run(&rt, source, "s7", (4, "", "thread 0: live\n"));
     assert_run(&rt, source, "s7*9 s0*5 s15", (0, "5\n", "thread 0: done\n"));
+}
+
+#[test]
+fn passes_over_events_of_a_collector(rt: HostRuntime) {
+    let source = SUM.as_bytes();
+    assert_run(
+        &rt,
+        source,
+        "g*3 a0 s0*4 a1 g a15*2 s0 a0 g",
+        (0, "5\n", "thread 0: done\n"),
+    );
+    assert_run(
+        &rt,
+        source,
+        "g*1000 a0*1000 s0*4 g",
+        (4, "5\n", "thread 0: live\n"),
+    );
+}
+
+/// Asserts what a replay leaves by a file that holds this schedule.
+fn assert_replay(
+    rt: &(impl Abort + AllocGlobal),
+    source: &[u8],
+    schedule: &str,
+    wanted: (u8, &str, &str),
+) {
+    let words = ["cilvm", "replay", "add.il", "add.schedule", "--budget=9"];
+    assert_driven_by(rt, words.as_slice(), source, schedule.as_bytes(), wanted);
+}
+
+#[test]
+fn replays_the_schedule_of_a_file(rt: HostRuntime) {
+    let source = SUM.as_bytes();
+    assert_replay(&rt, source, "", (4, "", "thread 0: live\n"));
+    assert_replay(&rt, source, "s0*5", (0, "5\n", "thread 0: done\n"));
+    assert_replay(
+        &rt,
+        source,
+        "\ts0*2\r\n g a0\ns0*3\n",
+        (0, "5\n", "thread 0: done\n"),
+    );
+    assert_replay(&rt, source, "s7", (4, "", "thread 0: live\n"));
+    assert_replay(&rt, source, "s16", (1, "", "error 502\n"));
+    assert_replay(&rt, source, "s0*5 add.schedule", (1, "", "error 501\n"));
+    assert_replay(&rt, source, "s0*1000001", (1, "", "error 503\n"));
+    assert_replay(&rt, b"}", "s16", (1, "", "error 103\n"));
 }
 
 #[test]
@@ -137,7 +208,8 @@ fn refuses_bad_schedules(rt: HostRuntime) {
     let source = SUM.as_bytes();
     assert_run(&rt, source, "s16", (1, "", "error 502\n"));
     assert_run(&rt, source, "s0*0", (1, "", "error 501\n"));
-    assert_run(&rt, source, "g", (1, "", "error 501\n"));
+    assert_run(&rt, source, "g0", (1, "", "error 501\n"));
+    assert_run(&rt, source, "a16", (1, "", "error 502\n"));
     assert_run(&rt, source, "s0*1000001", (1, "", "error 503\n"));
     assert_run(&rt, source, "s0*5 s0*0", (1, "", "error 501\n"));
 }
@@ -200,10 +272,10 @@ fn looks_at_the_limits_after_the_source(rt: HostRuntime) {
         schedule: "x",
         limits,
     };
-    let (status, out, err) = driven_order(rt.alloc(), &order, SUM.as_bytes());
+    let (status, out, err) = driven_order(rt.alloc(), &order, SUM.as_bytes(), &[]);
     assert!(rt; status == 2 && out.is_empty());
     assert!(rt; err.as_slice() == b"error 401\n".as_slice());
-    let (status, _, err) = driven_order(rt.alloc(), &order, b"{");
+    let (status, _, err) = driven_order(rt.alloc(), &order, b"{", &[]);
     assert!(rt; status == 1);
     assert!(rt; err.as_slice() == b"error 103\n".as_slice());
 }
@@ -272,24 +344,50 @@ fn refuses_limits_out_of_range(rt: HostRuntime) {
     }
 }
 
-/// Asserts that a command is answered as usual, or that memory ran out. A test run in which some
-/// allocation fails shows that no other answer comes.
+/// What was written to an output that holds its bytes itself, and so never wants memory.
+fn written(page: &Cursor<[u8; 64]>) -> Option<&[u8]> {
+    page.get_ref().as_slice().get(..page.position() as usize)
+}
+
+/// Asserts that a command is answered as usual, or that it tells that memory ran out and nothing else.
+/// A test run in which some allocation fails shows that no other answer comes.
 fn assert_usual_or_memory<'a>(
     rt: &(impl Abort + AllocGlobal),
     words: &'a [&'a str],
     source: &[u8],
+    schedule: &[u8],
     usual: (u8, &str, &str),
 ) {
     let alloc = rt.alloc();
-    let Ok(order) = order(alloc, words) else {
-        return;
+    let order = match order(alloc, words) {
+        Ok(order) => order,
+        Err(fault) => {
+            assert!(rt;
+                matches!(&fault, LineFault::Memory),
+                "{fault:?} at {words:?}"
+            );
+            return;
+        }
     };
-    let (status, out, err) = driven_order(alloc, &order, source);
+    let mut out = Cursor::new([0; 64]);
+    let mut err = Cursor::new([0; 64]);
+    let mut record = Vec::new(alloc);
+    let status = drive(
+        alloc,
+        &order,
+        source,
+        schedule,
+        &mut out,
+        &mut err,
+        &mut record,
+    );
     let is_usual = status == usual.0
-        && out.as_slice() == usual.1.as_bytes()
-        && err.as_slice() == usual.2.as_bytes();
-    let is_told = err.is_empty() || err.as_slice() == b"memory\n".as_slice();
-    assert!(rt; is_usual || status == 5 && is_told, "{status} at {words:?}");
+        && written(&out) == Some(usual.1.as_bytes())
+        && written(&err) == Some(usual.2.as_bytes());
+    let is_told = status == 5
+        && written(&out) == Some(b"".as_slice())
+        && written(&err) == Some(b"memory\n".as_slice());
+    assert!(rt; is_usual || is_told, "{status} at {words:?}");
 }
 
 #[test]
@@ -297,10 +395,17 @@ fn answers_as_usual_or_has_no_memory(rt: HostRuntime) {
     let source = SUM.as_bytes();
     let run = ["cilvm", "run", "add.il", "--schedule", "s0*5"];
     let usual = (0, "5\n", "thread 0: done\n");
-    assert_usual_or_memory(&rt, run.as_slice(), source, usual);
+    assert_usual_or_memory(&rt, run.as_slice(), source, &[], usual);
+    let replay = ["cilvm", "replay", "add.il", "add.schedule"];
+    assert_usual_or_memory(&rt, replay.as_slice(), source, b"s0*2 g s0*3", usual);
+    let bad = (1, "", "error 502\n");
+    assert_usual_or_memory(&rt, replay.as_slice(), source, b"s0*5 s16", bad);
+    let short = ["cilvm", "run", "add.il", "--schedule=g s0*9", "--budget=3"];
+    let spent = (3, "", "thread 0: budget\n");
+    assert_usual_or_memory(&rt, short.as_slice(), source, &[], spent);
     let check = ["cilvm", "check", "add.il"];
-    assert_usual_or_memory(&rt, check.as_slice(), source, (0, "accepted\n", ""));
-    assert_usual_or_memory(&rt, check.as_slice(), b"}", (1, "", "error 103\n"));
+    assert_usual_or_memory(&rt, check.as_slice(), source, &[], (0, "accepted\n", ""));
+    assert_usual_or_memory(&rt, check.as_slice(), b"}", &[], (1, "", "error 103\n"));
 }
 
 /// An output that takes nothing.

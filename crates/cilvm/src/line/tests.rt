@@ -51,6 +51,29 @@ fn reads_each_command(rt: HostRuntime) -> Result<(), Fail> {
             limits
         })
     );
+
+    let words = [
+        "cilvm",
+        "replay",
+        "p.il",
+        "--words=64",
+        "p.schedule",
+        "--budget=3",
+    ];
+    let replay = order(alloc, words.as_slice()).ok();
+    let limits = Limits {
+        words: 64,
+        budget: 3,
+        depth: 64,
+    };
+    assert!(rt;
+        replay
+            == Some(Order::Replay {
+                file: "p.il",
+                schedule: "p.schedule",
+                limits
+            })
+    );
     Ok(())
 }
 
@@ -78,10 +101,17 @@ fn refuses_wrong_words(rt: HostRuntime) {
         &["cilvm", "run", "a", "--schedule"],
         "a value is required",
     );
+    assert_bad(&rt, &["cilvm", "replay", "a"], "  <SCHEDULE>");
+    assert_bad(&rt, &["cilvm", "replay"], "  <FILE>");
     assert_bad(
         &rt,
-        &["cilvm", "replay", "a", "b"],
-        "unrecognized subcommand",
+        &["cilvm", "replay", "a", "b", "--schedule", "s0"],
+        "unexpected argument '--schedule'",
+    );
+    assert_bad(
+        &rt,
+        &["cilvm", "threads", "a"],
+        "unrecognized subcommand 'threads'",
     );
     let run = ["cilvm", "run", "a", "--schedule", "s0"];
     for (option, number, part) in [
@@ -113,6 +143,38 @@ fn shows_help(rt: HostRuntime) {
         &["cilvm", "-h"],
         "cilvm run examples/add.il --schedule 's0*5'",
     );
-    assert_help(&rt, &["cilvm", "run", "-h"], "s0*5  five steps of it");
+    assert_help(&rt, &["cilvm", "run", "-h"], "s0*5  five steps");
+    assert_help(
+        &rt,
+        &["cilvm", "replay", "--help"],
+        "cilvm replay examples/add.il examples/add.schedule",
+    );
     assert_help(&rt, &["cilvm", "help", "check"], "Usage: cilvm check");
+}
+
+/// Asserts that an answer is the usual one, or that memory ran out. A test run in which some allocation
+/// fails shows that no other answer comes.
+fn assert_usual_or_memory(rt: &(impl Abort + AllocGlobal), words: &[&str], usual: &str) {
+    let is_usual = match order(rt.alloc(), words) {
+        Ok(order) => order.file() == usual,
+        Err(LineFault::Help(text) | LineFault::Bad(text)) => text.contains(usual),
+        Err(LineFault::Memory) => true,
+    };
+    assert!(rt; is_usual, "{words:?}");
+}
+
+#[test]
+fn answers_as_usual_or_has_no_memory(rt: HostRuntime) {
+    let run = ["cilvm", "run", "a.il", "--schedule", "s0", "--words=64"];
+    assert_usual_or_memory(&rt, &run, "a.il");
+    assert_usual_or_memory(&rt, &["cilvm", "replay", "b.il", "s"], "b.il");
+    assert_usual_or_memory(&rt, &["cilvm", "check", "c.il"], "c.il");
+    assert_usual_or_memory(&rt, &["cilvm"], "Usage: cilvm <COMMAND>");
+    assert_usual_or_memory(&rt, &["cilvm", "run", "--help"], "s0*5  five steps");
+    assert_usual_or_memory(&rt, &["cilvm", "chekc"], "unrecognized subcommand 'chekc'");
+    assert_usual_or_memory(
+        &rt,
+        &["cilvm", "run", "a", "--schedule"],
+        "a value is required",
+    );
 }

@@ -1,0 +1,21 @@
+-- What an order names (this profile).
+use Rattle.std.specs.Prelude.{◌≡◌, ◌⊎◌, ℕ, true, List, Option, Some, None}
+use Rattle.cil_model.specs.Sources.{is_too_long}
+use Rattle.cilvm.specs.declared.orders.Order.{Order}
+use Rattle.cilvm.specs.declared.orders.Order.TheVariants.{Check, Run, Replay}
+
+-- the name of the file that holds the source
+abbrev pub file_of : Order → List ℕ
+file_of (Check file) = file.now
+file_of (Run file schedule limits) = file.now
+file_of (Replay file schedule limits) = file.now
+
+-- the name of the file that holds the schedule's text, where one does
+abbrev pub schedule_file_of : Order → Option (List ℕ)
+schedule_file_of (Replay file schedule limits) = Some schedule.now
+schedule_file_of _ = None
+
+-- these bytes are the source that a file holds, or too long as that is too
+abbrev pub StandsFor : List ℕ → List ℕ → Type 0
+StandsFor bytes source =
+    (bytes ≡ source) ⊎ ((is_too_long bytes ≡ true) × (is_too_long source ≡ true))

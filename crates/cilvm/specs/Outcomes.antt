@@ -1,0 +1,117 @@
+-- What comes of an order: what is printed, and the status that the program ends with (this profile).
+use Rattle.std.specs.Io.KnownBytes.{Appends}
+use Rattle.std.specs.Prelude.{◌≡◌, ◌⊎◌, ◌++◌, ◌∷◌, [], ℕ, true, false, List, Option, Err, codes}
+use Rattle.cil_model.specs.Ranges.{are_in_range}
+use Rattle.cil_model.specs.Sources.{HasTree, IsAnswer}
+use Rattle.cil_model.specs.declared.events.Event.{Event}
+use Rattle.cil_model.specs.declared.limits.Limits.{Limits}
+use Rattle.cil_model.specs.declared.trees.Tree.{Tree}
+use Rattle.ilasm_reader.specs.Answers.{IsReadAnswer}
+use Rattle.ilasm_reader.specs.declared.reading.ReadError.{ReadError}
+use Rattle.verifier.specs.declared.legality.MetaError.{MetaError}
+use Rattle.verifier.specs.declared.typing.VerifyError.{VerifyError}
+use Rattle.interleaving_core.specs.Contents.{Content}
+use Rattle.interleaving_core.specs.declared.machine.Refused.TheVariants.{Limits as BadLimits}
+use Rattle.schedule_text.specs.Items.{words}
+use Rattle.schedule_text.specs.Readings.{AreRead, IsFirstFault}
+use Rattle.schedule_text.specs.declared.errors.ScheduleError.{ScheduleError}
+use Rattle.cilvm.specs.Failures.{failure_of_making, failure_of_reading, failure_of_resolving}
+use Rattle.cilvm.specs.Failures.{failure_of_schedule, failure_of_verifying, is_refusal, message_of}
+use Rattle.cilvm.specs.Failures.{IsStatusOf, status_of_failure}
+use Rattle.cilvm.specs.Threads.{ends_of, lines_from, status_of}
+use Rattle.cilvm.specs.declared.drive.Failure.{Failure}
+use Rattle.cilvm.specs.declared.drive.Failure.TheVariants.{Memory, Device}
+use Rattle.cilvm.specs.declared.orders.Order.{Order}
+use Rattle.cilvm.specs.declared.orders.Order.TheVariants.{Check, Run, Replay}
+
+-- ---- the source
+
+-- the bytes have a tree
+abbrev pub IsRead : List ℕ → Type 0
+IsRead source = (tree : Tree) × IsAnswer source (HasTree tree)
+
+-- the layers behind the reader refuse a tree, or want memory for it
+abbrev pub IsNotVerified : Failure → Type 0
+IsNotVerified failure = ((error : MetaError) × (failure ≡ failure_of_resolving error))
+    ⊎ (((error : VerifyError) × (failure ≡ failure_of_verifying error)) ⊎ (failure ≡ Memory))
+
+-- why a source is not accepted: its bytes have no tree, or the tree is not verified
+abbrev pub IsNotAccepted : List ℕ → Failure → Type 0
+IsNotAccepted source failure =
+    ((error : ReadError) × IsReadAnswer source (Err error) × (failure ≡ failure_of_reading error))
+    ⊎ (IsRead source × IsNotVerified failure)
+
+-- ---- the run
+
+-- a machine has its limits in range, and the events that the text of a schedule writes
+abbrev pub IsRunBy : Limits → List ℕ → Type 0
+IsRunBy limits text =
+    (are_in_range limits ≡ true) × ((events : List Event) × AreRead (words text) events)
+
+-- why a verified program is not run by a text: its limits come first, then the text
+abbrev pub IsNotRunBy : Limits → List ℕ → Failure → Type 0
+IsNotRunBy limits text failure =
+    ((are_in_range limits ≡ false) × (failure ≡ failure_of_making BadLimits))
+    ⊎ ((are_in_range limits ≡ true) × ((failure ≡ Memory)
+    ⊎ ((error : ScheduleError) × IsFirstFault (words text) error × (failure ≡ failure_of_schedule error))))
+
+-- what is printed of a machine on the two outputs, and the status
+abbrev pub IsShown : Content → Option (List ℕ) → Option (List ℕ) → Option (List ℕ) → Option (List ℕ) → ℕ → Type 0
+IsShown content out out' err err' status = Appends out out' content.printed
+    × Appends err err' (lines_from 0 (ends_of content)) × (status ≡ status_of (ends_of content))
+
+-- ---- an order
+
+-- an output fails, or memory for it
+abbrev pub IsOfWriting : Failure → Type 0
+IsOfWriting failure = (failure ≡ Memory) ⊎ (failure ≡ Device)
+
+-- a check is done: the one line that it prints
+abbrev pub IsChecked : List ℕ → Option (List ℕ) → Option (List ℕ) → ℕ → Type 0
+IsChecked source out out' status =
+    IsRead source × Appends out out' (codes "accepted" ++ 10 ∷ []) × (status ≡ 0)
+
+-- why a check is not done
+abbrev pub IsNotChecked : List ℕ → Failure → Type 0
+IsNotChecked source failure =
+    IsNotAccepted source failure ⊎ (IsRead source × IsOfWriting failure)
+
+-- a run is done: what is printed of the machine that it leaves
+abbrev pub HasRun : List ℕ → Limits → List ℕ → Option (List ℕ) → Option (List ℕ) → Option (List ℕ) → Option (List ℕ) → ℕ → Type 0
+HasRun source limits text out out' err err' status = IsRead source × IsRunBy limits text
+    × ((content : Content) × IsShown content out out' err err' status)
+
+-- why a run is not done
+abbrev pub HasNotRun : List ℕ → Limits → List ℕ → Failure → Type 0
+HasNotRun source limits text failure = IsNotAccepted source failure
+    ⊎ (IsRead source × (IsNotRunBy limits text failure ⊎ (IsRunBy limits text × IsOfWriting failure)))
+
+-- an order is carried out: a run takes its schedule from the command line, a replay from the file
+abbrev pub IsDone : Order → List ℕ → List ℕ → Option (List ℕ) → Option (List ℕ) → Option (List ℕ) → Option (List ℕ) → ℕ → Type 0
+IsDone (Check file) source schedule out out' err err' status =
+    IsChecked source out out' status × (err' ≡ err)
+IsDone (Run file text limits) source schedule out out' err err' status =
+    HasRun source limits text.now out out' err err' status
+IsDone (Replay file name limits) source schedule out out' err err' status =
+    HasRun source limits schedule out out' err err' status
+
+-- why an order is not carried out
+abbrev pub IsNotDone : Order → List ℕ → List ℕ → Failure → Type 0
+IsNotDone (Check file) source schedule failure = IsNotChecked source failure
+IsNotDone (Run file text limits) source schedule failure =
+    HasNotRun source limits text.now failure
+IsNotDone (Replay file name limits) source schedule failure =
+    HasNotRun source limits schedule failure
+
+-- what is told of a failure: of a refusal its line alone
+abbrev pub IsTold : Failure → Option (List ℕ) → Option (List ℕ) → Option (List ℕ) → Option (List ℕ) → ℕ → Type 0
+IsTold failure out out' err err' status = IsStatusOf failure status
+    × (is_refusal failure ≡ true → (out' ≡ out)
+    × (status ≡ status_of_failure failure → Appends err err' (message_of failure)))
+
+-- the order is carried out, or it is told why it is not
+abbrev pub IsOutcome : Order → List ℕ → List ℕ → Option (List ℕ) → Option (List ℕ) → Option (List ℕ) → Option (List ℕ) → ℕ → Type 0
+IsOutcome order source schedule out out' err err' status =
+    IsDone order source schedule out out' err err' status
+    ⊎ ((failure : Failure) × IsNotDone order source schedule failure
+    × IsTold failure out out' err err' status)
