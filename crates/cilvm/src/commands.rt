@@ -132,7 +132,13 @@ fn flip_command<'a>(alloc: Global) -> Result<Command<'a>, AllocError>
     ensures app { IfOk result (λ c. app_of c ≡ flip_app) }
     ensures local { IfOk result (λ c. (out-Command c).has_globals ≡ false) }
 {
-    let seats = needed_number(alloc, "seats", 1, 16, "Threads that store and load, 1 to 16");
+    let seats = needed_number(
+        alloc,
+        "seats",
+        1,
+        16,
+        "Threads that store and load, 1 to 16",
+    );
     let objects = needed_number(alloc, "objects", 1, 256, "Objects, 1 to 256");
     let slots = needed_number(alloc, "slots", 1, 16, "Slots of each object, 1 to 16");
     let rounds = needed_number(

@@ -124,12 +124,7 @@ fn wanted_flip<'a>(found: &ArgMatches<'a>) -> Option<Order<'a>>
     let objects = number(found, "objects", 1, 256)?;
     let slots = number(found, "slots", 1, 16)?;
     let rounds = number(found, "rounds", 0, 10_000)?;
-    Some(Order::Flip(Sizes::new(
-        seats as u8,
-        objects as u16,
-        slots as u8,
-        rounds as u16,
-    )))
+    Some(Order::Flip(Sizes::new(seats as u8, objects as u16, slots as u8, rounds as u16)))
 }
 
 fn limits(found: &ArgMatches<'_>) -> Option<Limits>

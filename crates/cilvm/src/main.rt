@@ -50,11 +50,7 @@ fn program(rt: &HostRuntime, threads: &impl Threads) -> Result<u8, Failure> {
     }
 }
 
-fn carry_out(
-    rt: &HostRuntime,
-    threads: &impl Threads,
-    order: &Order<'_>,
-) -> Result<u8, Failure> {
+fn carry_out(rt: &HostRuntime, threads: &impl Threads, order: &Order<'_>) -> Result<u8, Failure> {
     let alloc = rt.alloc();
     let source = match order.file() {
         Some(file) => files::source(alloc, File::open(rt, file)?)?,

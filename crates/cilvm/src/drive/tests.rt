@@ -100,6 +100,33 @@ fn assert_driven_by<'a>(
 }
 
 #[test]
+fn tries_the_flip(rt: HostRuntime) {
+    let alone = [
+        "cilvm",
+        "flip",
+        "--seats=1",
+        "--objects=2",
+        "--slots=3",
+        "--rounds=4",
+    ];
+    assert_driven(&rt, alone.as_slice(), &[], (0, "kept 24\nretired 6\n", ""));
+    let four = [
+        "cilvm",
+        "flip",
+        "--seats=4",
+        "--objects=8",
+        "--slots=4",
+        "--rounds=100",
+    ];
+    assert_driven(
+        &rt,
+        four.as_slice(),
+        &[],
+        (0, "kept 3200\nretired 32\n", ""),
+    );
+}
+
+#[test]
 fn runs_a_sum(rt: HostRuntime) {
     let source = SUM.as_bytes();
     assert_run(&rt, source, "s0*5", (0, "5\n", "thread 0: done\n"));
@@ -284,7 +311,11 @@ fn looks_at_the_limits_after_the_source(rt: HostRuntime) {
 }
 
 /// The machine of the sum with this budget and this many words.
-fn machine(rt: &(impl Abort + AllocGlobal + Threads), words: u32, budget: u32) -> Result<Machine, Refused> {
+fn machine(
+    rt: &(impl Abort + AllocGlobal + Threads),
+    words: u32,
+    budget: u32,
+) -> Result<Machine, Refused> {
     let alloc = rt.alloc();
     let limits = Limits {
         words,
@@ -445,6 +476,15 @@ fn tells_of_outputs_that_fail(rt: HostRuntime) {
     );
     assert!(rt; status == 5);
     assert!(rt; err.as_slice() == b"device\n".as_slice());
-    let status = drive(&rt, alloc, &order, b"{", &[], &mut err, &mut Closed, &mut record);
+    let status = drive(
+        &rt,
+        alloc,
+        &order,
+        b"{",
+        &[],
+        &mut err,
+        &mut Closed,
+        &mut record,
+    );
     assert!(rt; status == 5);
 }
