@@ -182,7 +182,7 @@ fn shows_help(rt: HostRuntime) {
 /// fails shows that no other answer comes.
 fn assert_usual_or_memory(rt: &(impl Abort + AllocGlobal), words: &[&str], usual: &str) {
     let is_usual = match order(rt.alloc(), words) {
-        Ok(order) => order.file() == Some(usual),
+        Ok(order) => order.file().is_some_and(|file| file == usual),
         Err(LineFault::Help(text) | LineFault::Bad(text)) => text.contains(usual),
         Err(LineFault::Memory) => true,
     };
