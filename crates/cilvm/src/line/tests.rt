@@ -180,7 +180,7 @@ fn shows_help(rt: HostRuntime) {
 
 /// Asserts that an answer is the usual one, or that memory ran out. A test run in which some allocation
 /// fails shows that no other answer comes.
-fn assert_usual_or_memory(rt: &(impl Abort + AllocGlobal), words: &[&str], usual: &str) {
+fn assert_usual_or_memory<'a>(rt: &(impl Abort + AllocGlobal), words: &'a [&'a str], usual: &str) {
     let is_usual = match order(rt.alloc(), words) {
         Ok(order) => order.file().is_some_and(|file| file == usual),
         Err(LineFault::Help(text) | LineFault::Bad(text)) => text.contains(usual),
@@ -192,15 +192,17 @@ fn assert_usual_or_memory(rt: &(impl Abort + AllocGlobal), words: &[&str], usual
 #[test]
 fn answers_as_usual_or_has_no_memory(rt: HostRuntime) {
     let run = ["cilvm", "run", "a.il", "--schedule", "s0", "--words=64"];
-    assert_usual_or_memory(&rt, &run, "a.il");
-    assert_usual_or_memory(&rt, &["cilvm", "replay", "b.il", "s"], "b.il");
-    assert_usual_or_memory(&rt, &["cilvm", "check", "c.il"], "c.il");
-    assert_usual_or_memory(&rt, &["cilvm"], "Usage: cilvm <COMMAND>");
-    assert_usual_or_memory(&rt, &["cilvm", "run", "--help"], "s0*5  five steps");
-    assert_usual_or_memory(&rt, &["cilvm", "chekc"], "unrecognized subcommand 'chekc'");
-    assert_usual_or_memory(
-        &rt,
-        &["cilvm", "run", "a", "--schedule"],
-        "a value is required",
-    );
+    assert_usual_or_memory(&rt, run.as_slice(), "a.il");
+    let replay = ["cilvm", "replay", "b.il", "s"];
+    assert_usual_or_memory(&rt, replay.as_slice(), "b.il");
+    let check = ["cilvm", "check", "c.il"];
+    assert_usual_or_memory(&rt, check.as_slice(), "c.il");
+    let alone = ["cilvm"];
+    assert_usual_or_memory(&rt, alone.as_slice(), "Usage: cilvm <COMMAND>");
+    let help = ["cilvm", "run", "--help"];
+    assert_usual_or_memory(&rt, help.as_slice(), "s0*5  five steps");
+    let unknown = ["cilvm", "chekc"];
+    assert_usual_or_memory(&rt, unknown.as_slice(), "unrecognized subcommand 'chekc'");
+    let lacking = ["cilvm", "run", "a", "--schedule"];
+    assert_usual_or_memory(&rt, lacking.as_slice(), "a value is required");
 }
