@@ -1,5 +1,5 @@
 -- Each slot is one seat's own.
-use Rattle.std.proofs.Common.{◌≡◌, ℕ, zero, suc, ◌+◌, ◌*◌, ◌%◌, ◌^◌, ◌<◌, ◌≤◌, ◌≢◌, All, Bool, true, false, cond, nat_eq, List, [], ◌∷◌, ◌++◌, length, count_by, map, sum_by, refl, sym, ap, ◌∙◌, eq-eqb, ne_eqb, arith}
+use Rattle.std.proofs.Common.{◌≡◌, ℕ, zero, suc, ◌+◌, ◌*◌, ◌%◌, ◌^◌, ◌<◌, ◌≤◌, All, cond, nat_eq, List, [], ◌∷◌, ◌++◌, length, count_by, map, sum_by, refl, sym, ap, ◌∙◌, eq-eqb, ne_eqb, arith}
 use Rattle.std.proofs.lemmas.List.Elements.{All-map}
 use Rattle.std.proofs.lemmas.List.Sums.{sum_by_push, sum_by-cons}
 use Rattle.std.proofs.lemmas.List.{get_or_default}
@@ -8,8 +8,6 @@ use mathlib.Core.Logic.{dite}
 use native.Mathlib.Decide.{ℕ_discrete}
 use Rattle.std.specs.List.{range_with_len}
 use Rattle.std.specs.declared.thread.PromisedHandle.{PromisedHandle}
-use Rattle.atomic_table.specs.Seated.{TableId}
-use Rattle.flip_table.specs.declared.slot_table.PlanView.{PlanView}
 use Rattle.word_flip.specs.Tokens.{FlipValue, WriterValue, opening_writer, opening_writers, IsWriterOf}
 use Rattle.flip_trial.specs.Promised.{promised_by}
 use Rattle.flip_trial.specs.Trial.{own_count, place_count, IsFlipOf}
