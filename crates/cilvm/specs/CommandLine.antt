@@ -16,7 +16,7 @@ use Rattle.cil_model.specs.declared.limits.Limits.{Limits}
 use Rattle.cil_model.specs.declared.limits.TheConstants.{LEAST_WORDS, MOST_WORDS}
 use Rattle.cil_model.specs.declared.limits.TheConstants.{MOST_BUDGET, MOST_DEPTH}
 use Rattle.cilvm.specs.declared.orders.Order.{Order}
-use Rattle.cilvm.specs.declared.orders.Order.TheVariants.{Check, Run, Replay}
+use Rattle.cilvm.specs.declared.orders.Order.TheVariants.{Check, Run, Replay, Flip}
 use Rattle.cilvm.specs.declared.line.LineFault.{LineFault}
 use Rattle.cilvm.specs.declared.line.LineFault.TheVariants.{Help, Bad, Memory}
 
@@ -58,13 +58,20 @@ abbrev pub replay_app : App
 replay_app = with_limits (with_rule (with_rule (new_app (codes "replay"))
     (file_rule (codes "file"))) (file_rule (codes "schedule")))
 
+-- all four numbers have to be given
+abbrev pub flip_app : App
+flip_app = with_rule (with_rule (with_rule (with_rule (new_app (codes "flip"))
+    (needed (number_rule (codes "seats") 1 16))) (needed (number_rule (codes "objects") 1 256)))
+    (needed (number_rule (codes "slots") 1 16))) (needed (number_rule (codes "rounds") 0 10000))
+
 abbrev pub with_required_subcommand : App → App
 with_required_subcommand a =
     record a { top = record a.top { subcommand_required = true; arg_required_else_help = true } }
 
 abbrev pub cilvm_app : App
-cilvm_app = with_subcommand (with_subcommand (with_subcommand
-    (with_required_subcommand (new_app (codes "cilvm"))) check_app.top) run_app.top) replay_app.top
+cilvm_app = with_subcommand (with_subcommand (with_subcommand (with_subcommand
+    (with_required_subcommand (new_app (codes "cilvm"))) check_app.top) run_app.top) replay_app.top)
+    flip_app.top
 
 -- ---- what the words ask for
 
@@ -73,11 +80,13 @@ pub data Wanted : Type 0 where
   check : Text → Wanted
   run : Text → Text → Limits → Wanted
   replay : Text → Text → Limits → Wanted
+  flip : ℕ → ℕ → ℕ → ℕ → Wanted
 
 abbrev pub wanted_of : Order → Wanted
 wanted_of (Check file) = check file.now
 wanted_of (Run file schedule limits) = run file.now schedule.now limits
 wanted_of (Replay file schedule limits) = replay file.now schedule.now limits
+wanted_of (Flip sizes) = flip sizes.seats sizes.objects sizes.slots sizes.rounds
 
 -- the number that the text writes in decimal digits, where it lies in the range
 abbrev pub number_in : ℕ → ℕ → Text → Option ℕ
@@ -108,12 +117,19 @@ replay_in rows = option_and_then (λ file. option_and_then (λ schedule. option_
     (replay file schedule) (limits_in rows)) (first_of (codes "schedule") rows))
     (first_of (codes "file") rows)
 
+abbrev pub flip_in : List Row → Option Wanted
+flip_in rows = option_and_then (λ seats. option_and_then (λ objects. option_and_then (λ slots.
+    option_map (flip seats objects slots) (number_at 0 10000 (codes "rounds") rows))
+    (number_at 1 16 (codes "slots") rows)) (number_at 1 256 (codes "objects") rows))
+    (number_at 1 16 (codes "seats") rows)
+
 -- what a subcommand's name and its matches ask for
 abbrev pub named_in : Text → List Row → Option Wanted
 named_in name rows =
     if bytes_eq name (codes "check") then check_in rows
     else (if bytes_eq name (codes "run") then run_in rows
-    else (if bytes_eq name (codes "replay") then replay_in rows else None))
+    else (if bytes_eq name (codes "replay") then replay_in rows
+    else (if bytes_eq name (codes "flip") then flip_in rows else None)))
 
 abbrev pub wanted_in : Option (Text × List Row) → Option Wanted
 wanted_in = option_and_then (λ p. named_in p.0 p.1)
@@ -153,3 +169,4 @@ abbrev pub IsInRange : Order → Type 0
 IsInRange (Check file) = ⊤
 IsInRange (Run file schedule limits) = are_in_range limits ≡ true
 IsInRange (Replay file schedule limits) = are_in_range limits ≡ true
+IsInRange (Flip sizes) = ⊤

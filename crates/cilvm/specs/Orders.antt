@@ -2,13 +2,14 @@
 use Rattle.std.specs.Prelude.{◌≡◌, ◌⊎◌, ℕ, true, List, Option, Some, None}
 use Rattle.cil_model.specs.Sources.{is_too_long}
 use Rattle.cilvm.specs.declared.orders.Order.{Order}
-use Rattle.cilvm.specs.declared.orders.Order.TheVariants.{Check, Run, Replay}
+use Rattle.cilvm.specs.declared.orders.Order.TheVariants.{Check, Run, Replay, Flip}
 
--- the name of the file that holds the source
-abbrev pub file_of : Order → List ℕ
-file_of (Check file) = file.now
-file_of (Run file schedule limits) = file.now
-file_of (Replay file schedule limits) = file.now
+-- the name of the file that holds the source, where one does
+abbrev pub file_of : Order → Option (List ℕ)
+file_of (Check file) = Some file.now
+file_of (Run file schedule limits) = Some file.now
+file_of (Replay file schedule limits) = Some file.now
+file_of (Flip sizes) = None
 
 -- the name of the file that holds the schedule's text, where one does
 abbrev pub schedule_file_of : Order → Option (List ℕ)

@@ -1,7 +1,10 @@
 -- What comes of an order: what is printed, and the status that the program ends with (this profile).
 use Rattle.std.specs.Io.KnownBytes.{Appends}
-use Rattle.std.specs.Prelude.{◌≡◌, ◌≢◌, ◌⊎◌, ◌++◌, ◌∷◌, [], ℕ, true, false, List, Option, Some, Err, codes}
+use Rattle.std.specs.Fmt.{decimal}
+use Rattle.std.specs.Prelude.{◌≡◌, ◌≢◌, ◌⊎◌, ◌*◌, ◌++◌, ◌∷◌, [], ℕ, true, false, List, Option, Some, Err, codes}
 use Rattle.cil_model.specs.Ranges.{are_in_range}
+use Rattle.flip_trial.specs.Trial.{place_count}
+use Rattle.flip_trial.specs.declared.sizes.Sizes.{Sizes}
 use Rattle.cil_model.specs.Sources.{HasTree, IsAnswer}
 use Rattle.cil_model.specs.declared.events.Event.{Event}
 use Rattle.cil_model.specs.declared.limits.Limits.{Limits}
@@ -31,7 +34,7 @@ use Rattle.cilvm.specs.Threads.{ends_of, lines_from, status_of}
 use Rattle.cilvm.specs.declared.drive.Failure.{Failure}
 use Rattle.cilvm.specs.declared.drive.Failure.TheVariants.{Memory, Device}
 use Rattle.cilvm.specs.declared.orders.Order.{Order}
-use Rattle.cilvm.specs.declared.orders.Order.TheVariants.{Check, Run, Replay}
+use Rattle.cilvm.specs.declared.orders.Order.TheVariants.{Check, Run, Replay, Flip}
 
 -- ---- the source
 
@@ -78,6 +81,17 @@ pub record IsShown (printed : List ℕ) (ends : List (Option End)) (out out' err
   pub errors : Appends err err' (lines_from 0 ends)
   pub status_is : status ≡ status_of ends
 
+-- ---- a trial of the flip
+
+-- the two lines of a trial
+abbrev pub trial_text : ℕ → ℕ → List ℕ
+trial_text kept retired = codes "kept " ++ decimal kept ++ 10 ∷ codes "retired " ++ decimal retired ++ 10 ∷ []
+
+-- a trial is done: every load gave what was stored, and with the status 0 each first copy is retired
+abbrev pub IsTried : Sizes → Option (List ℕ) → Option (List ℕ) → ℕ → Type 0
+IsTried sizes out out' status = (retired : ℕ) × Appends out out' (trial_text (sizes.rounds * place_count sizes) retired)
+    × ((status ≡ 3) ⊎ ((status ≡ 0) × (retired ≡ place_count sizes)))
+
 -- ---- an order
 
 -- an output fails, or memory for it
@@ -119,6 +133,8 @@ IsDone (Run file text limits) source schedule out out' err err' status =
     HasRun source limits text.now out out' err err' status
 IsDone (Replay file name limits) source schedule out out' err err' status =
     HasRun source limits schedule out out' err err' status
+IsDone (Flip sizes) source schedule out out' err err' status =
+    IsTried sizes out out' status × (err' ≡ err)
 
 -- why an order is not carried out
 abbrev pub IsNotDone : Order → List ℕ → List ℕ → Failure → Type 0
@@ -127,6 +143,7 @@ IsNotDone (Run file text limits) source schedule failure =
     HasNotRun source limits text.now failure
 IsNotDone (Replay file name limits) source schedule failure =
     HasNotRun source limits schedule failure
+IsNotDone (Flip sizes) source schedule failure = IsOfWriting failure
 
 -- what is told of a failure: of a refusal its line alone
 abbrev pub IsTold : Failure → Option (List ℕ) → Option (List ℕ) → Option (List ℕ) → Option (List ℕ) → ℕ → Type 0

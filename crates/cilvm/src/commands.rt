@@ -4,7 +4,7 @@ ghost use Rattle.std.specs.Prelude.{codes, ◌≤◌, ◌^◌, ◌<◌};
 ghost use Rattle.clap.specs.Words.{app_of, new_app, rule_of};
 ghost use Rattle.clap.specs.declared.builder.command.Command.TheViews.{out-Command};
 ghost use Rattle.cilvm.specs.CommandLine.{check_app, cilvm_app, file_rule, number_rule, run_app};
-ghost use Rattle.cilvm.specs.CommandLine.{replay_app, text_rule, with_limits};
+ghost use Rattle.cilvm.specs.CommandLine.{flip_app, needed, replay_app, text_rule, with_limits};
 ghost use Rattle.cilvm.specs.CommandLine.{with_required_subcommand};
 
 use cil_model::limits::{LEAST_WORDS, MOST_BUDGET, MOST_DEPTH, MOST_WORDS};
@@ -37,6 +37,14 @@ fn number_option<'a>(alloc: Global, id: &'a str, least: u32, most: u32, help: &'
         .value_name("N")
         .help(help)
         .value_parser(value_parser!(u32).range(i64::from(least)..=i64::from(most)))
+}
+
+/// An option that has to be given.
+fn needed_number<'a>(alloc: Global, id: &'a str, least: u32, most: u32, help: &'a str) -> Arg<'a>
+    ensures rule { rule_of result ≡ needed (number_rule id.entry.now least most) }
+    ensures local { result.global ≡ false }
+{
+    number_option(alloc, id, least, most, help).required(true)
 }
 
 fn with_limits<'a>(alloc: Global, command: Command<'a>) -> Result<Command<'a>, AllocError>
@@ -120,6 +128,37 @@ fn replay_command<'a>(alloc: Global) -> Result<Command<'a>, AllocError>
     with_limits(alloc, command)
 }
 
+fn flip_command<'a>(alloc: Global) -> Result<Command<'a>, AllocError>
+    ensures app { IfOk result (λ c. app_of c ≡ flip_app) }
+    ensures local { IfOk result (λ c. (out-Command c).has_globals ≡ false) }
+{
+    let seats = needed_number(
+        alloc,
+        "seats",
+        1,
+        16,
+        "Threads that store and load, 1 to 16",
+    );
+    let objects = needed_number(alloc, "objects", 1, 256, "Objects, 1 to 256");
+    let slots = needed_number(alloc, "slots", 1, 16, "Slots of each object, 1 to 16");
+    let rounds = needed_number(
+        alloc,
+        "rounds",
+        0,
+        10_000,
+        "Stores to each slot, 0 to 10000",
+    );
+    Command::new(alloc, "flip")
+        .about("Tries the copying of slots without a lock, by threads")
+        .after_help(
+            "Each seat is a thread. In each round it stores an object to each of its slots and loads it again, while another thread copies all slots, moves the seats to the copies and retires the first ones. 'kept' counts the loads that gave what was stored, 'retired' the slots whose first copy was retired.\n\nExample, which prints 'kept 24' and 'retired 6':\n  cilvm flip --seats 1 --objects 2 --slots 3 --rounds 4",
+        )
+        .arg(seats)?
+        .arg(objects)?
+        .arg(slots)?
+        .arg(rounds)
+}
+
 fn program<'a>(alloc: Global) -> Command<'a>
     ensures { app_of result ≡ with_required_subcommand (new_app (codes "cilvm")) }
 {
@@ -139,8 +178,10 @@ pub fn cilvm_command<'a>(alloc: Global) -> Result<Command<'a>, AllocError>
     let check = check_command(alloc)?;
     let run = run_command(alloc)?;
     let replay = replay_command(alloc)?;
+    let flip = flip_command(alloc)?;
     program(alloc)
         .subcommand(check)?
         .subcommand(run)?
-        .subcommand(replay)
+        .subcommand(replay)?
+        .subcommand(flip)
 }

@@ -8,7 +8,7 @@ ghost use Rattle.cilvm.specs.Failures.{failure_of_schedule, failure_of_verifying
 ghost use Rattle.cilvm.specs.Failures.{is_refusal, message_of, status_of_failure};
 ghost use Rattle.cilvm.specs.Outcomes.{HasNotRun, HasRun, IsAcceptedSource, IsChecked, IsDone, IsNotAccepted};
 ghost use Rattle.cilvm.specs.Outcomes.{IsNotChecked, IsNotDone, IsNotRunBy, IsOfWriting};
-ghost use Rattle.cilvm.specs.Outcomes.{IsOutcome, IsRunBy, IsShown};
+ghost use Rattle.cilvm.specs.Outcomes.{IsOutcome, IsRunBy, IsShown, IsTried, trial_text};
 ghost use Rattle.cilvm.specs.Threads.{is_done, is_live, line_of, lines_from};
 ghost use Rattle.cilvm.specs.Threads.{status_of};
 ghost use Rattle.cilvm.specs.declared.drive.Failure.TheVariants.{Memory};
@@ -17,6 +17,7 @@ use crate::orders::Order;
 use cil_model::limits::Limits;
 use cil_model::memory::NoMemory;
 use cil_model::reports::End;
+use flip_trial::{Outcome, Sizes};
 use ilasm_reader::ReadError;
 use interleaving_core::{Machine, Refused};
 use metadata::MetaError;
@@ -24,6 +25,7 @@ use schedule_text::{ScheduleError, read_schedule};
 use std::alloc::{AllocError, Global};
 use std::io;
 use std::io::{ErrorKind, Write};
+use std::thread::Threads;
 use verifier::{Verified, VerifyError};
 
 /// Why an order was not carried out.
@@ -130,6 +132,7 @@ impl From<ScheduleError> for Failure {
 /// prints `error` and its number to `err`, want of memory `memory`, a failed write `device`. No command
 /// has a record yet, so `record` stays as it was.
 pub fn drive<W: Write, E: Write>(
+    rt: &impl Threads,
     alloc: Global,
     order: &Order<'_>,
     source: &[u8],
@@ -142,7 +145,7 @@ pub fn drive<W: Write, E: Write>(
         (E.contents err.old) (E.contents err.new) result }
     ensures kept { «record».new ≡ «record».old }
 {
-    match perform(alloc, order, source, schedule, out, err) {
+    match perform(rt, alloc, order, source, schedule, out, err) {
         Ok(status) => status,
         Err(failure) => report(failure, err),
     }
@@ -181,6 +184,7 @@ fn status_of_failure(failure: Failure) -> u8
 }
 
 fn perform<W: Write, E: Write>(
+    rt: &impl Threads,
     alloc: Global,
     order: &Order<'_>,
     source: &[u8],
@@ -202,7 +206,30 @@ fn perform<W: Write, E: Write>(
             ..
         } => show_run(alloc, source, limits, text.as_bytes(), out, err),
         Order::Replay { limits, .. } => show_run(alloc, source, limits, schedule, out, err),
+        Order::Flip(sizes) => try_flip(rt, alloc, sizes, out),
     }
+}
+
+/// Tries the flip by threads, prints what came of it, and answers the status.
+fn try_flip<W: Write>(
+    rt: &impl Threads,
+    alloc: Global,
+    sizes: Sizes,
+    out: &mut W,
+) -> Result<u8, Failure>
+    ensures done { IfOk result (IsTried sizes (W.contents out.old) (W.contents out.new)) }
+    ensures failed { IfErr result IsOfWriting }
+{
+    let outcome = flip_trial::run(rt, alloc, sizes)?;
+    show_trial(outcome, out)?;
+    Ok(if outcome.finished { 0 } else { 3 })
+}
+
+/// Prints what came of a trial.
+fn show_trial<W: Write>(outcome: Outcome, out: &mut W) -> io::Result<()>
+    ensures { OnOk result (Appends (W.contents out.old) (W.contents out.new) (trial_text outcome.kept outcome.retired)) }
+{
+    writeln!(out, "kept {}\nretired {}", outcome.kept, outcome.retired)
 }
 
 /// Says that a source is accepted, and answers the status.

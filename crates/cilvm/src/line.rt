@@ -2,7 +2,7 @@
 ghost use Rattle.std.specs.Prelude.{◌≡◌, IfOk, IfSome, codes, map, option_map, IfErr, is_some, true, ◌≤◌};
 ghost use Rattle.clap.specs.Words.{found_of, first_of, kind_of, rows_of, subcommand_rows_of};
 ghost use Rattle.cilvm.specs.CommandLine.{Answers, FaultIs, IsInRange, check_in, limits_in};
-ghost use Rattle.cilvm.specs.CommandLine.{number_at, number_in, replay_in, run_in, wanted_in};
+ghost use Rattle.cilvm.specs.CommandLine.{number_at, number_in, flip_in, replay_in, run_in, wanted_in};
 ghost use Rattle.cilvm.specs.CommandLine.{wanted_of};
 ghost use Rattle.cil_model.specs.Ranges.{are_in_range};
 ghost use Rattle.cilvm.specs.declared.line.LineFault.TheVariants.{Memory};
@@ -12,6 +12,7 @@ use crate::orders::Order;
 use cil_model::limits::{LEAST_WORDS, Limits, MOST_BUDGET, MOST_DEPTH, MOST_WORDS};
 use clap::error::ErrorKind;
 use clap::{ArgMatches, Error};
+use flip_trial::Sizes;
 use std::alloc::{AllocError, Global};
 
 /// Why the words of a command line hold no order.
@@ -74,6 +75,7 @@ fn wanted<'a>(matches: &ArgMatches<'a>) -> Option<Order<'a>>
         "check" => wanted_check(found),
         "run" => wanted_run(found),
         "replay" => wanted_replay(found),
+        "flip" => wanted_flip(found),
         _ => None,
     }
 }
@@ -112,6 +114,17 @@ fn wanted_replay<'a>(found: &ArgMatches<'a>) -> Option<Order<'a>>
         schedule,
         limits,
     })
+}
+
+fn wanted_flip<'a>(found: &ArgMatches<'a>) -> Option<Order<'a>>
+    ensures value { option_map wanted_of result ≡ flip_in (rows_of (found_of found.now)) }
+    ensures range { IfSome result IsInRange }
+{
+    let seats = number(found, "seats", 1, 16)?;
+    let objects = number(found, "objects", 1, 256)?;
+    let slots = number(found, "slots", 1, 16)?;
+    let rounds = number(found, "rounds", 0, 10_000)?;
+    Some(Order::Flip(Sizes::new(seats as u8, objects as u16, slots as u8, rounds as u16)))
 }
 
 fn limits(found: &ArgMatches<'_>) -> Option<Limits>

@@ -12,19 +12,20 @@ use line::LineFault;
 use orders::Order;
 use std::fs::File;
 use std::process::ExitCode;
+use std::thread::Threads;
 use std::{env, io};
 
 fn main(rt: HostRuntime) -> ExitCode {
     let errors = rt.stderr();
     let mut err = io::writer(&errors);
-    let status = match program(&rt) {
+    let status = match program(&rt, &rt) {
         Ok(status) => status,
         Err(failure) => drive::report(failure, &mut err),
     };
     ExitCode::from(status)
 }
 
-fn program(rt: &HostRuntime) -> Result<u8, Failure> {
+fn program(rt: &HostRuntime, threads: &impl Threads) -> Result<u8, Failure> {
     let alloc = rt.alloc();
     let given: Vec<String> = match env::args(rt) {
         Ok(args) => args.collect(alloc)?,
@@ -36,7 +37,7 @@ fn program(rt: &HostRuntime) -> Result<u8, Failure> {
     };
     let words: Vec<&str> = given.iter().map(|word| word.as_str()).collect(alloc)?;
     match line::order(alloc, words.as_slice()) {
-        Ok(order) => carry_out(rt, &order),
+        Ok(order) => carry_out(rt, threads, &order),
         Err(LineFault::Help(text)) => {
             print!(rt; "{text}")?;
             Ok(0)
@@ -49,9 +50,12 @@ fn program(rt: &HostRuntime) -> Result<u8, Failure> {
     }
 }
 
-fn carry_out(rt: &HostRuntime, order: &Order<'_>) -> Result<u8, Failure> {
+fn carry_out(rt: &HostRuntime, threads: &impl Threads, order: &Order<'_>) -> Result<u8, Failure> {
     let alloc = rt.alloc();
-    let source = files::source(alloc, File::open(rt, order.file())?)?;
+    let source = match order.file() {
+        Some(file) => files::source(alloc, File::open(rt, file)?)?,
+        None => Vec::new(alloc),
+    };
     let schedule = match order.schedule_file() {
         Some(file) => files::text(alloc, File::open(rt, file)?)?,
         None => Vec::new(alloc),
@@ -61,6 +65,7 @@ fn carry_out(rt: &HostRuntime, order: &Order<'_>) -> Result<u8, Failure> {
     let mut err = io::writer(&errors);
     let mut record = Vec::new(alloc);
     let status = drive::drive(
+        threads,
         alloc,
         order,
         source.as_slice(),

@@ -3,6 +3,7 @@ ghost use Rattle.std.specs.Prelude.{◌≡◌, option_map};
 ghost use Rattle.cilvm.specs.Orders.{file_of, schedule_file_of};
 
 use cil_model::limits::Limits;
+use flip_trial::Sizes;
 
 /// A command with its files and options, each default filled in.
 #[derive(Clone, Copy, Debug, PartialEq, Eq)]
@@ -23,15 +24,20 @@ pub enum Order<'a> {
         schedule: &'a str,
         limits: Limits,
     },
+    /// Tries the flip without a lock, by threads.
+    Flip(Sizes),
 }
 
 impl<'a> Order<'a> {
-    /// The file that holds the source.
-    pub fn file(&self) -> &'a str
-        ensures { result.now ≡ file_of self.now }
+    /// The file that holds the source, where one does.
+    pub fn file(&self) -> Option<&'a str>
+        ensures { option_map (λ file. file.now) result ≡ file_of self.now }
     {
         match *self {
-            Order::Check { file } | Order::Run { file, .. } | Order::Replay { file, .. } => file,
+            Order::Check { file } | Order::Run { file, .. } | Order::Replay { file, .. } => {
+                Some(file)
+            }
+            Order::Flip(_) => None,
         }
     }
 
@@ -41,7 +47,7 @@ impl<'a> Order<'a> {
     {
         match *self {
             Order::Replay { schedule, .. } => Some(schedule),
-            Order::Check { .. } | Order::Run { .. } => None,
+            Order::Check { .. } | Order::Run { .. } | Order::Flip(_) => None,
         }
     }
 }

@@ -13,13 +13,13 @@ static LIMITS: Limits = Limits {
 fn tells_of_files_that_are_missing(rt: HostRuntime) {
     let missing = "no such folder/add.il";
     let check = Order::Check { file: missing };
-    assert!(rt; carry_out(&rt, &check) == Err(Failure::Device));
+    assert!(rt; carry_out(&rt, &rt, &check) == Err(Failure::Device));
     let run = Order::Run {
         file: missing,
         schedule: "x",
         limits: LIMITS,
     };
-    assert!(rt; carry_out(&rt, &run) == Err(Failure::Device));
+    assert!(rt; carry_out(&rt, &rt, &run) == Err(Failure::Device));
 }
 
 #[test]
@@ -29,5 +29,5 @@ fn reads_the_schedule_before_the_source_is_looked_at(rt: HostRuntime) {
         schedule: "no such folder/add.schedule",
         limits: LIMITS,
     };
-    assert!(rt; carry_out(&rt, &replay) == Err(Failure::Device));
+    assert!(rt; carry_out(&rt, &rt, &replay) == Err(Failure::Device));
 }

@@ -9,6 +9,7 @@ use std::alloc::Global;
 use std::io;
 use std::io::{Cursor, Write};
 use std::process::Abort;
+use std::thread::Threads;
 
 /// Adds 2 and 3, and prints the sum.
 static SUM: &str = ".assembly extern mscorlib {}
@@ -23,28 +24,30 @@ static SUM: &str = ".assembly extern mscorlib {}
 
 /// The status of a command line on a source, and what it writes to the two outputs.
 fn driven<'a>(
-    rt: &(impl Abort + AllocGlobal),
+    rt: &(impl Abort + AllocGlobal + Threads),
     words: &'a [&'a str],
     source: &[u8],
     schedule: &[u8],
 ) -> (u8, Vec<u8>, Vec<u8>) {
     let alloc = rt.alloc();
     match order(alloc, words) {
-        Ok(order) => driven_order(alloc, &order, source, schedule),
+        Ok(order) => driven_order(rt, &order, source, schedule),
         Err(_) => panic!(rt; "{words:?} hold no order"),
     }
 }
 
 fn driven_order(
-    alloc: Global,
+    rt: &(impl AllocGlobal + Threads),
     order: &Order<'_>,
     source: &[u8],
     schedule: &[u8],
 ) -> (u8, Vec<u8>, Vec<u8>) {
+    let alloc = rt.alloc();
     let mut out = Vec::new(alloc);
     let mut err = Vec::new(alloc);
     let mut record = Vec::new(alloc);
     let status = drive(
+        rt,
         alloc,
         order,
         source,
@@ -58,7 +61,7 @@ fn driven_order(
 
 /// Asserts what a run by this schedule leaves.
 fn assert_run(
-    rt: &(impl Abort + AllocGlobal),
+    rt: &(impl Abort + AllocGlobal + Threads),
     source: &[u8],
     schedule: &str,
     wanted: (u8, &str, &str),
@@ -68,7 +71,7 @@ fn assert_run(
 }
 
 fn assert_driven<'a>(
-    rt: &(impl Abort + AllocGlobal),
+    rt: &(impl Abort + AllocGlobal + Threads),
     words: &'a [&'a str],
     source: &[u8],
     wanted: (u8, &str, &str),
@@ -78,7 +81,7 @@ fn assert_driven<'a>(
 
 /// Asserts what a command line leaves with a file that holds this schedule.
 fn assert_driven_by<'a>(
-    rt: &(impl Abort + AllocGlobal),
+    rt: &(impl Abort + AllocGlobal + Threads),
     words: &'a [&'a str],
     source: &[u8],
     schedule: &[u8],
@@ -93,6 +96,33 @@ fn assert_driven_by<'a>(
     assert!(rt;
         err.as_slice() == wanted.2.as_bytes(),
         "errors at {words:?}"
+    );
+}
+
+#[test]
+fn tries_the_flip(rt: HostRuntime) {
+    let alone = [
+        "cilvm",
+        "flip",
+        "--seats=1",
+        "--objects=2",
+        "--slots=3",
+        "--rounds=4",
+    ];
+    assert_driven(&rt, alone.as_slice(), &[], (0, "kept 24\nretired 6\n", ""));
+    let four = [
+        "cilvm",
+        "flip",
+        "--seats=4",
+        "--objects=8",
+        "--slots=4",
+        "--rounds=100",
+    ];
+    assert_driven(
+        &rt,
+        four.as_slice(),
+        &[],
+        (0, "kept 3200\nretired 32\n", ""),
     );
 }
 
@@ -133,7 +163,7 @@ fn passes_over_events_of_a_collector(rt: HostRuntime) {
 
 /// Asserts what a replay leaves by a file that holds this schedule.
 fn assert_replay(
-    rt: &(impl Abort + AllocGlobal),
+    rt: &(impl Abort + AllocGlobal + Threads),
     source: &[u8],
     schedule: &str,
     wanted: (u8, &str, &str),
@@ -215,7 +245,7 @@ fn refuses_bad_schedules(rt: HostRuntime) {
 }
 
 /// Asserts that a run and a check of a source are refused, the run before its schedule is read.
-fn assert_refused(rt: &(impl Abort + AllocGlobal), source: &[u8], message: &str) {
+fn assert_refused(rt: &(impl Abort + AllocGlobal + Threads), source: &[u8], message: &str) {
     assert_run(rt, source, "s0*5", (1, "", message));
     assert_run(rt, source, "x", (1, "", message));
     let words = ["cilvm", "check", "add.il"];
@@ -272,16 +302,20 @@ fn looks_at_the_limits_after_the_source(rt: HostRuntime) {
         schedule: "x",
         limits,
     };
-    let (status, out, err) = driven_order(rt.alloc(), &order, SUM.as_bytes(), &[]);
+    let (status, out, err) = driven_order(&rt, &order, SUM.as_bytes(), &[]);
     assert!(rt; status == 2 && out.is_empty());
     assert!(rt; err.as_slice() == b"error 401\n".as_slice());
-    let (status, _, err) = driven_order(rt.alloc(), &order, b"{", &[]);
+    let (status, _, err) = driven_order(&rt, &order, b"{", &[]);
     assert!(rt; status == 1);
     assert!(rt; err.as_slice() == b"error 103\n".as_slice());
 }
 
 /// The machine of the sum with this budget and this many words.
-fn machine(rt: &(impl Abort + AllocGlobal), words: u32, budget: u32) -> Result<Machine, Refused> {
+fn machine(
+    rt: &(impl Abort + AllocGlobal + Threads),
+    words: u32,
+    budget: u32,
+) -> Result<Machine, Refused> {
     let alloc = rt.alloc();
     let limits = Limits {
         words,
@@ -352,7 +386,7 @@ fn written(page: &Cursor<[u8; 64]>) -> Option<&[u8]> {
 /// Asserts that a command is answered as usual, or that it tells that memory ran out and nothing else.
 /// A test run in which some allocation fails shows that no other answer comes.
 fn assert_usual_or_memory<'a>(
-    rt: &(impl Abort + AllocGlobal),
+    rt: &(impl Abort + AllocGlobal + Threads),
     words: &'a [&'a str],
     source: &[u8],
     schedule: &[u8],
@@ -373,6 +407,7 @@ fn assert_usual_or_memory<'a>(
     let mut err = Cursor::new([0; 64]);
     let mut record = Vec::new(alloc);
     let status = drive(
+        rt,
         alloc,
         &order,
         source,
@@ -430,6 +465,7 @@ fn tells_of_outputs_that_fail(rt: HostRuntime) {
     let mut err = Vec::new(alloc);
     let mut record = Vec::new(alloc);
     let status = drive(
+        &rt,
         alloc,
         &order,
         source,
@@ -440,6 +476,15 @@ fn tells_of_outputs_that_fail(rt: HostRuntime) {
     );
     assert!(rt; status == 5);
     assert!(rt; err.as_slice() == b"device\n".as_slice());
-    let status = drive(alloc, &order, b"{", &[], &mut err, &mut Closed, &mut record);
+    let status = drive(
+        &rt,
+        alloc,
+        &order,
+        b"{",
+        &[],
+        &mut err,
+        &mut Closed,
+        &mut record,
+    );
     assert!(rt; status == 5);
 }

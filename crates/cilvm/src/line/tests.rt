@@ -1,6 +1,7 @@
 use super::{LineFault, order};
 use crate::orders::Order;
 use cil_model::limits::Limits;
+use flip_trial::Sizes;
 use std::process::Abort;
 use std::test::Fail;
 
@@ -75,6 +76,31 @@ fn reads_each_command(rt: HostRuntime) -> Result<(), Fail> {
             })
     );
     Ok(())
+}
+
+#[test]
+fn reads_the_sizes_of_a_trial(rt: HostRuntime) {
+    let words = [
+        "cilvm",
+        "flip",
+        "--seats",
+        "16",
+        "--objects=256",
+        "--slots",
+        "3",
+        "--rounds=0",
+    ];
+    let flip = order(rt.alloc(), words.as_slice()).ok();
+    assert!(rt; flip == Some(Order::Flip(Sizes::new(16, 256, 3, 0))));
+    let [a, b, c, d, e, f, g, _] = words;
+    assert_bad(&rt, &[a, b, c, d, e, f, g], "  --rounds <N>");
+    for (rounds, part) in [
+        ("--rounds=10001", "10001 is not in 0..=10000"),
+        ("--rounds=1 p.il", "invalid digit found in string"),
+        ("--seats=1", "cannot be used multiple times"),
+    ] {
+        assert_bad(&rt, &[a, b, c, d, e, f, g, rounds], part);
+    }
 }
 
 /// Asserts that the words are refused with a text that has this part.
@@ -156,7 +182,7 @@ fn shows_help(rt: HostRuntime) {
 /// fails shows that no other answer comes.
 fn assert_usual_or_memory<'a>(rt: &(impl Abort + AllocGlobal), words: &'a [&'a str], usual: &str) {
     let is_usual = match order(rt.alloc(), words) {
-        Ok(order) => order.file() == usual,
+        Ok(order) => order.file().is_some_and(|file| file == usual),
         Err(LineFault::Help(text) | LineFault::Bad(text)) => text.contains(usual),
         Err(LineFault::Memory) => true,
     };
