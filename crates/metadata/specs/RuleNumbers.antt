@@ -5,7 +5,7 @@ use Rattle.metadata.specs.declared.program.MetaError.TheVariants.{Broken, OutOfM
 use Rattle.metadata.specs.declared.rules.Rule.{Rule}
 use Rattle.metadata.specs.declared.rules.Rule.TheVariants.{NamesStandOnce, NamesAreKnown, BasesEnd, InterfacesAreImplemented, KindsFit, OneEntryPoint, LimitsAreKept}
 
--- the number that is printed where the rule is broken
+-- the number that is printed where the rule is broken (this profile)
 abbrev pub rule_number : Rule → ℕ
 rule_number NamesStandOnce = 201
 rule_number NamesAreKnown = 202
@@ -15,7 +15,7 @@ rule_number KindsFit = 205
 rule_number OneEntryPoint = 206
 rule_number LimitsAreKept = 207
 
--- the number that is printed for a refusal
+-- the number that is printed for a refusal (this profile)
 abbrev pub number_of : MetaError → ℕ
 number_of (Broken rule culprit) = rule_number rule
 number_of OutOfMemory = 208

@@ -95,8 +95,8 @@ fn broken(alloc: Global, tree: &Tree) -> Result<Option<MetaError>, NoMemory>
     }
 }
 
-/// The program of a legal tree. Of another tree the error has the least number of a rule that is broken; want of memory may
-/// be answered in place of either.
+/// The program of a legal tree. Another tree is dropped, and the error has the least number of a rule that it breaks. Want of
+/// memory may be answered in place of either, and drops the tree too.
 pub fn resolve(alloc: Global, tree: Tree) -> Result<Program, MetaError>
     ensures legal { IfOk result (λ p. (p ≡ tree) × IsLegal tree) }
     ensures broken { IfErr result (λ e. e ≢ OutOfMemory → least_broken tree ≡ Some (number_of e)) }
