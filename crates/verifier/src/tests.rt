@@ -109,7 +109,8 @@ fn the_entry_point_has_its_code(rt: HostRuntime) -> Result<(), Fail> {
     assert!(rt; verified.entry_point().operations.as_slice() == expected.as_slice());
     assert_eq!(rt; verified.entry_point().max_stack, 2);
     assert_eq!(rt; verified.program().tree().classes.as_slice().len(), 1);
-    let body = verified.into_entry_point();
+    let (program, body) = verified.into_parts();
+    assert_eq!(rt; program.tree().classes.as_slice().len(), 1);
     assert!(rt; body.operations.as_slice() == expected.as_slice());
     Ok(())
 }
