@@ -24,7 +24,7 @@ use Rattle.verifier.specs.StraightLine.{is_typed}
 use Rattle.verifier.specs.Typed.{IsEntry}
 use Rattle.verifier.specs.Resolved.{instruction_of}
 use Rattle.interleaving_core.specs.declared.thread.Thread.{Thread}
-use Rattle.interleaving_core.specs.Contents.{report_of}
+use Rattle.interleaving_core.specs.Contents.{next_instruction, report_of, running}
 use Rattle.interleaving_core.specs.Threads.{end_after}
 use Rattle.interleaving_core.specs.Views.{shown, first_frame, frames_of, left_by, content}
 use Rattle.interleaving_core.proofs.Lists.{get_of_map, first_left}
@@ -50,6 +50,11 @@ module _ (tree : Tree) (limits : Limits) (body : TypedBody) (entry : IsEntry tre
       let lines : lines_of entry.method ≡ entry.code.lines = ap (λ o. option_map_or (λ (code : Code). code.lines) o []) entry.coded in
       ap (λ ls. option_map (λ (l : Line). l.instruction) (slice_get ls t.place)) lines ∙ sym (get_of_map (λ (l : Line). l.instruction) entry.code.lines t.place)
       ∙ ap (λ is. slice_get is t.place) entry.instructions ∙ get_of_map instruction_of body.operations.items t.place ∙ ap (option_map instruction_of) there
+
+  -- the next instruction of a live thread is that of the operation
+  pub next_is : (t : Thread) (printed : List ℕ) (op : Operation) → slice_get body.operations.items t.place ≡ Some op → t.end ≡ None → next_instruction (content tree limits t printed) 0 ≡ Some (instruction_of op)
+  next_is t printed op there live =
+      ap running (ap (λ e. frames_of e t.end t) entry_is ∙ ap (λ e. frames_of (Some (entry.owner, entry.method)) e t) live) ∙ instruction_is t op there
 
   module _ (t u v : Thread) (printed printed' : List ℕ) (op : Operation) (report : Report) (there : slice_get body.operations.items t.place ≡ Some op) (live : t.end ≡ None)
       (moves : execute (content tree limits t printed) (shown first t) [] (instruction_of op) ≡ Goes (left_by u.end first u) printed') (ends : (u.end ≡ None) ⊎ (u.end ≡ Some Done))

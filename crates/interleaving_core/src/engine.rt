@@ -1,10 +1,11 @@
 //! What a machine does on each event.
 
-ghost use Rattle.std.specs.Prelude.{◌≡◌, IfOk, OnErr, Some, None, slice_get};
+ghost use Rattle.std.specs.Prelude.{◌≡◌, IfOk, OnErr, Some, None};
 ghost use Rattle.cil_model.specs.MachineContents.{end_of, is_live};
 ghost use Rattle.cil_model.specs.declared.events.Event.TheVariants.{Step, Ack};
+ghost use Rattle.cil_model.specs.Examples.{write_line};
 ghost use Rattle.cil_model.specs.Turns.{turn};
-ghost use Rattle.verifier.specs.declared.program.Operation.TheVariants.{WriteInt32};
+ghost use Rattle.interleaving_core.specs.Contents.{next_instruction};
 ghost use Rattle.interleaving_core.specs.Threads.{IsReady};
 ghost use Rattle.interleaving_core.specs.Views.{content_of};
 
@@ -33,7 +34,7 @@ impl Engine {
         ensures ready { IsReady self.new }
         ensures turns { IfOk result (λ report. (content_of self.new, report) ≡ turn (content_of self.old) event) }
         ensures refused { OnErr result (content_of self.new ≡ content_of self.old) }
-        ensures prints { OnErr result (slice_get self.old.body.operations.items self.old.thread.place ≡ Some WriteInt32) }
+        ensures prints { OnErr result (next_instruction (content_of self.old) 0 ≡ Some write_line) }
     {
         match event {
             Event::Step(thread) if self.is_live(thread) => self.step_thread(),
@@ -51,7 +52,7 @@ impl Engine {
         ensures ready { IsReady self.new }
         ensures turns { IfOk result (λ report. (content_of self.new, report) ≡ turn (content_of self.old) (Step 0)) }
         ensures refused { OnErr result (content_of self.new ≡ content_of self.old) }
-        ensures prints { OnErr result (slice_get self.old.body.operations.items self.old.thread.place ≡ Some WriteInt32) }
+        ensures prints { OnErr result (next_instruction (content_of self.old) 0 ≡ Some write_line) }
     {
         self.thread.execute(&self.body, &mut self.console)?;
         Ok(self.thread.count_step())

@@ -10,6 +10,8 @@ ghost use Rattle.cil_model.specs.StandsFor.{FollowsReference, StandsFor};
 ghost use Rattle.cil_model.specs.States.{State};
 ghost use Rattle.cil_model.specs.Turns.{run_of, turn};
 ghost use Rattle.verifier.specs.Typed.{IsEntry};
+ghost use Rattle.cil_model.specs.Examples.{write_line};
+ghost use Rattle.interleaving_core.specs.Contents.{next_instruction};
 ghost use Rattle.interleaving_core.specs.Refusals.{number_of};
 ghost use Rattle.interleaving_core.specs.declared.machine.Refused.TheVariants.{Limits as BadLimits, OutOfMemory};
 
@@ -125,6 +127,7 @@ impl Machine {
     pub fn step(&mut self, event: Event) -> Result<Report, NoMemory>
         ensures turns { IfOk result (λ report. (self.new, report) ≡ turn self.old event) }
         ensures refused { OnErr result (self.new ≡ self.old) }
+        ensures prints { OnErr result (next_instruction self.old 0 ≡ Some write_line) }
     {
         self.engine.step(event)
     }
