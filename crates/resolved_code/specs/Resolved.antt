@@ -1,0 +1,156 @@
+-- What resolved classes, members and instructions stand for.
+use Rattle.std.specs.Prelude.{◌≡◌, ℕ, ℤ, Bool, true, false, List, [], ◌∷◌, map, Some, option_map, slice_get}
+use Rattle.cil_model.specs.declared.types.ClassName.{ClassName}
+use Rattle.cil_model.specs.declared.types.DeclaredType.{DeclaredType}
+use Rattle.cil_model.specs.declared.types.Signature.{Signature}
+use Rattle.cil_model.specs.declared.instructions.BinaryOperation.{BinaryOperation}
+use Rattle.cil_model.specs.declared.instructions.UnaryOperation.{UnaryOperation}
+use Rattle.cil_model.specs.declared.instructions.ShiftOperation.{ShiftOperation}
+use Rattle.cil_model.specs.declared.instructions.Comparison.{Comparison}
+use Rattle.cil_model.specs.declared.instructions.BranchComparison.{BranchComparison}
+use Rattle.cil_model.specs.declared.instructions.FieldReference.{FieldReference}
+use Rattle.cil_model.specs.declared.instructions.MethodReference.{MethodReference}
+use Rattle.cil_model.specs.declared.instructions.Instruction.{Instruction}
+use Rattle.cil_model.specs.declared.instructions.Instruction.TheVariants as Named
+use Rattle.cil_model.specs.declared.trees.Tree.{Tree}
+use Rattle.cil_model.specs.declared.trees.Field.{Field}
+use Rattle.cil_model.specs.declared.trees.Method.{Method}
+use Rattle.cil_model.specs.declared.trees.MethodKind.{MethodKind}
+use Rattle.cil_model.specs.declared.trees.MethodKind.TheVariants as NamedKind
+use Rattle.cil_model.specs.declared.trees.Code.{Code}
+use Rattle.cil_model.specs.declared.trees.Line.{Line}
+use Rattle.cil_model.specs.Declarations.{Declaration}
+use Rattle.cil_model.specs.Bodies.{place_of, virtual_reference, constructor_reference}
+use Rattle.cil_model.specs.Chains.{find_field, find_method}
+use Rattle.cil_model.specs.Mentions.{literals_of}
+use Rattle.name_tables.specs.declared.lookups.MemberNumber.{MemberNumber}
+use Rattle.name_tables.specs.Numbers.{declarations, field_at, method_at}
+use Rattle.resolved_code.specs.Numbered.{class_name, type_at, AreTypes}
+use Rattle.resolved_code.specs.declared.types.NumberedType.{NumberedType}
+use Rattle.resolved_code.specs.declared.operations.Operation.{Operation}
+use Rattle.resolved_code.specs.declared.operations.Operation.TheVariants as Resolved
+use Rattle.resolved_code.specs.declared.classes.ResolvedField.{ResolvedField}
+use Rattle.resolved_code.specs.declared.classes.ResolvedKind.{ResolvedKind}
+use Rattle.resolved_code.specs.declared.classes.ResolvedKind.TheVariants as KindOf
+use Rattle.resolved_code.specs.declared.classes.ResolvedMethod.{ResolvedMethod}
+use Rattle.resolved_code.specs.declared.classes.ResolvedClass.{ResolvedClass}
+use Rattle.resolved_code.specs.declared.classes.Body.{Body}
+
+-- the items of two lists stand in a relation, place by place
+abbrev pub AllAlike : {X Y : Type 0} → (X → Y → Type 0) → List X → List Y → Type 0
+AllAlike R [] [] = Unit {0}
+AllAlike R (x ∷ xs) (y ∷ ys) = R x y × AllAlike R xs ys
+AllAlike R [] (y ∷ ys) = ⊥
+AllAlike R (x ∷ xs) [] = ⊥
+
+-- ---- operands
+
+-- the owner that a text names, and the field that its reference finds (II.16)
+pub record IsField (tree : Tree) (is_static : Bool) (r : FieldReference) (field : MemberNumber) : Type 0 where
+  pub declared_in : ClassName
+  pub found : Field
+  pub finds : find_field tree is_static r ≡ Some (declared_in, found)
+  pub numbered : field_at tree (field.class, field.place) ≡ Some (declared_in, found)
+
+-- the method that a reference finds (II.15.1.3)
+pub record IsMethod (tree : Tree) (is_instance : Bool) (r : MethodReference) (method : MemberNumber) : Type 0 where
+  pub declared_in : ClassName
+  pub found : Method
+  pub finds : find_method tree is_instance r ≡ Some (declared_in, found)
+  pub numbered : method_at tree (method.class, method.place) ≡ Some (declared_in, found)
+
+-- an instruction of a method with these lines, and what runs for it
+pub data IsOperation (tree : Tree) (lines : List Line) : Instruction → Operation → Type 0 where
+  no_operation : IsOperation tree lines Named.NoOperation Resolved.NoOperation
+  load_int32 : (value : ℤ) → IsOperation tree lines (Named.LoadInt32 value) (Resolved.LoadInt32 value)
+  load_int64 : (value : ℤ) → IsOperation tree lines (Named.LoadInt64 value) (Resolved.LoadInt64 value)
+  load_null : IsOperation tree lines Named.LoadNull Resolved.LoadNull
+  -- a literal by its number among those of the source (III.4.16)
+  load_string : (characters : List ℕ) (number : ℕ) → slice_get (literals_of tree) number ≡ Some characters →
+      IsOperation tree lines (Named.LoadString characters) (Resolved.LoadString number)
+  load_argument : (n : ℤ) → IsOperation tree lines (Named.LoadArgument n) (Resolved.LoadArgument n)
+  store_argument : (n : ℤ) → IsOperation tree lines (Named.StoreArgument n) (Resolved.StoreArgument n)
+  load_local : (n : ℤ) → IsOperation tree lines (Named.LoadLocal n) (Resolved.LoadLocal n)
+  store_local : (n : ℤ) → IsOperation tree lines (Named.StoreLocal n) (Resolved.StoreLocal n)
+  duplicate : IsOperation tree lines Named.Duplicate Resolved.Duplicate
+  pop : IsOperation tree lines Named.Pop Resolved.Pop
+  binary : (op : BinaryOperation) → IsOperation tree lines (Named.Binary op) (Resolved.Binary op)
+  unary : (op : UnaryOperation) → IsOperation tree lines (Named.Unary op) (Resolved.Unary op)
+  shift : (op : ShiftOperation) → IsOperation tree lines (Named.Shift op) (Resolved.Shift op)
+  compare : (op : Comparison) → IsOperation tree lines (Named.Compare op) (Resolved.Compare op)
+  convert_int32 : IsOperation tree lines Named.ConvertInt32 Resolved.ConvertInt32
+  convert_int64 : IsOperation tree lines Named.ConvertInt64 Resolved.ConvertInt64
+  -- a label by the place that it stands before (II.5.4)
+  branch : (label : List ℕ) (place : ℕ) → place_of label lines ≡ Some place → IsOperation tree lines (Named.Branch label) (Resolved.Branch place)
+  branch_true : (label : List ℕ) (place : ℕ) → place_of label lines ≡ Some place → IsOperation tree lines (Named.BranchTrue label) (Resolved.BranchTrue place)
+  branch_false : (label : List ℕ) (place : ℕ) → place_of label lines ≡ Some place → IsOperation tree lines (Named.BranchFalse label) (Resolved.BranchFalse place)
+  branch_compare : (op : BranchComparison) (label : List ℕ) (place : ℕ) → place_of label lines ≡ Some place →
+      IsOperation tree lines (Named.BranchCompare op label) (Resolved.BranchCompare op place)
+  switch : (labels : List (List ℕ)) (places : List ℕ) → map (λ label. place_of label lines) labels ≡ map Some places →
+      IsOperation tree lines (Named.Switch labels) (Resolved.Switch places)
+  load_field : (r : FieldReference) (owner : ℕ) (field : MemberNumber) → class_name tree owner ≡ Some r.owner → IsField tree false r field →
+      IsOperation tree lines (Named.LoadField r) (Resolved.LoadField owner field)
+  store_field : (r : FieldReference) (owner : ℕ) (field : MemberNumber) → class_name tree owner ≡ Some r.owner → IsField tree false r field →
+      IsOperation tree lines (Named.StoreField r) (Resolved.StoreField owner field)
+  load_static_field : (r : FieldReference) (field : MemberNumber) → IsField tree true r field →
+      IsOperation tree lines (Named.LoadStaticField r) (Resolved.LoadStaticField field)
+  store_static_field : (r : FieldReference) (field : MemberNumber) → IsField tree true r field →
+      IsOperation tree lines (Named.StoreStaticField r) (Resolved.StoreStaticField field)
+  new_array : (t : DeclaredType) (n : NumberedType) → type_at tree n ≡ Some t → IsOperation tree lines (Named.NewArray t) (Resolved.NewArray n)
+  load_length : IsOperation tree lines Named.LoadLength Resolved.LoadLength
+  load_element_int32 : IsOperation tree lines Named.LoadElementInt32 Resolved.LoadElementInt32
+  load_element_int64 : IsOperation tree lines Named.LoadElementInt64 Resolved.LoadElementInt64
+  load_element_reference : IsOperation tree lines Named.LoadElementReference Resolved.LoadElementReference
+  store_element_int32 : IsOperation tree lines Named.StoreElementInt32 Resolved.StoreElementInt32
+  store_element_int64 : IsOperation tree lines Named.StoreElementInt64 Resolved.StoreElementInt64
+  store_element_reference : IsOperation tree lines Named.StoreElementReference Resolved.StoreElementReference
+  cast_class : (t : DeclaredType) (n : NumberedType) → type_at tree n ≡ Some t → IsOperation tree lines (Named.CastClass t) (Resolved.CastClass n)
+  is_instance : (t : DeclaredType) (n : NumberedType) → type_at tree n ≡ Some t → IsOperation tree lines (Named.IsInstance t) (Resolved.IsInstance n)
+  call : (is_instance : Bool) (r : MethodReference) (owner : ℕ) (method : MemberNumber) → class_name tree owner ≡ Some r.owner → IsMethod tree is_instance r method →
+      IsOperation tree lines (Named.Call is_instance r) (Resolved.Call is_instance owner method)
+  call_virtual : (c : ClassName) (name : List ℕ) (signature : Signature) (owner : ℕ) (method : MemberNumber) →
+      class_name tree owner ≡ Some c → IsMethod tree true (virtual_reference c name signature) method →
+      IsOperation tree lines (Named.CallVirtual c name signature) (Resolved.CallVirtual owner method)
+  new_object : (c : ClassName) (parameters : List DeclaredType) (constructor_number : MemberNumber) → IsMethod tree true (constructor_reference c parameters) constructor_number →
+      IsOperation tree lines (Named.NewObject c parameters) (Resolved.NewObject constructor_number)
+  return : IsOperation tree lines Named.Return Resolved.Return
+
+-- ---- members
+
+-- a field, its type by number (II.16)
+pub record IsResolvedField (tree : Tree) (named : Field) (resolved : ResolvedField) : Type 0 where
+  pub is_static : resolved.is_static ≡ named.is_static
+  pub field_type : type_at tree resolved.field_type ≡ Some named.field_type
+
+-- a body, with an operation for each of its lines (II.15.4)
+pub record IsBody (tree : Tree) (code : Code) (body : Body) : Type 0 where
+  pub max_stack : body.max_stack ≡ code.max_stack
+  pub locals : AreTypes tree body.locals code.locals
+  pub operations : AllAlike (λ (line : Line) operation. IsOperation tree code.lines line.instruction operation) code.lines body.operations
+
+-- what a method is (II.15.2)
+abbrev pub IsResolvedKind : Tree → MethodKind → ResolvedKind → Type 0
+IsResolvedKind tree (NamedKind.Static code) (KindOf.Static body) = IsBody tree code body
+IsResolvedKind tree (NamedKind.Instance code) (KindOf.Instance body) = IsBody tree code body
+IsResolvedKind tree (NamedKind.Virtual is_new_slot code) (KindOf.Virtual resolved_slot body) = (resolved_slot ≡ is_new_slot) × IsBody tree code body
+IsResolvedKind tree (NamedKind.Abstract is_new_slot) (KindOf.Abstract resolved_slot) = resolved_slot ≡ is_new_slot
+IsResolvedKind tree _ _ = ⊥
+
+-- a method (II.15)
+pub record IsResolvedMethod (tree : Tree) (named : Method) (resolved : ResolvedMethod) : Type 0 where
+  pub parameters : AreTypes tree resolved.parameters named.signature.parameters
+  pub return_type : option_map (type_at tree) resolved.return_type ≡ option_map Some named.signature.return_type
+  pub kind : IsResolvedKind tree named.kind resolved.kind
+
+-- a class or interface (II.10)
+pub record IsResolvedClass (tree : Tree) (named : Declaration) (resolved : ResolvedClass) : Type 0 where
+  pub is_interface : resolved.is_interface ≡ named.is_interface
+  pub is_abstract : resolved.is_abstract ≡ named.is_abstract
+  pub base : option_map (class_name tree) resolved.base ≡ option_map Some named.base
+  pub interfaces : map (class_name tree) resolved.interfaces ≡ map Some named.interfaces
+  pub fields : AllAlike (IsResolvedField tree) named.fields resolved.fields
+  pub methods : AllAlike (IsResolvedMethod tree) named.methods resolved.methods
+
+-- all classes that a name may stand for, by their numbers
+abbrev pub AreResolved : Tree → List ResolvedClass → Type 0
+AreResolved tree classes = AllAlike (λ (entry : ClassName × Declaration) resolved. IsResolvedClass tree entry.1 resolved) (declarations tree) classes

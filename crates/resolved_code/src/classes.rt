@@ -1,0 +1,48 @@
+// Classes with their members, the types of these by number (ECMA-335 II.10 to II.16).
+
+use crate::operations::Operation;
+use crate::types::NumberedType;
+use cil_model::sequences::Sequence;
+
+/// A field (ECMA-335 II.16).
+#[derive(Clone, Copy, PartialEq, Eq, Debug)]
+pub struct ResolvedField {
+    pub is_static: bool,
+    pub field_type: NumberedType,
+}
+
+/// A method's body (ECMA-335 II.15.4).
+#[derive(Debug, Drop)]
+pub struct Body {
+    pub max_stack: i64,
+    pub locals: Sequence<NumberedType>,
+    pub operations: Sequence<Operation>,
+}
+
+/// What a method is, with its code where it has some (ECMA-335 II.15.2 and II.15.4.2).
+#[derive(Debug, Drop)]
+pub enum ResolvedKind {
+    Static(Body),
+    Instance(Body),
+    Virtual { is_new_slot: bool, body: Body },
+    Abstract { is_new_slot: bool },
+}
+
+/// A method (ECMA-335 II.15). No return type is `void`.
+#[derive(Debug, Drop)]
+pub struct ResolvedMethod {
+    pub parameters: Sequence<NumberedType>,
+    pub return_type: Option<NumberedType>,
+    pub kind: ResolvedKind,
+}
+
+/// A class or an interface (ECMA-335 II.10): its base and interfaces by their numbers, its fields and methods in source order.
+#[derive(Debug, Drop)]
+pub struct ResolvedClass {
+    pub is_interface: bool,
+    pub is_abstract: bool,
+    pub base: Option<usize>,
+    pub interfaces: Sequence<usize>,
+    pub fields: Sequence<ResolvedField>,
+    pub methods: Sequence<ResolvedMethod>,
+}

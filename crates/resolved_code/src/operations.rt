@@ -1,0 +1,107 @@
+// Instructions with their operands resolved (ECMA-335 III.3 and III.4).
+
+use crate::types::NumberedType;
+use cil_model::instructions::{
+    BinaryOperation, BranchComparison, Comparison, ShiftOperation, UnaryOperation,
+};
+use cil_model::sequences::Sequence;
+use name_tables::lookups::MemberNumber;
+
+/// An instruction, with numbers in place of names: the classes, fields and methods that its operand finds, the places of its labels in
+/// the method, and the number of its literal among those of the source.
+#[derive(Debug, Drop)]
+pub enum Operation {
+    /// `nop`
+    NoOperation,
+    /// `ldc.i4`
+    LoadInt32(i32),
+    /// `ldc.i8`
+    LoadInt64(i64),
+    /// `ldnull`
+    LoadNull,
+    /// `ldstr`
+    LoadString(usize),
+    /// `ldarg`
+    LoadArgument(i64),
+    /// `starg`
+    StoreArgument(i64),
+    /// `ldloc`
+    LoadLocal(i64),
+    /// `stloc`
+    StoreLocal(i64),
+    /// `dup`
+    Duplicate,
+    /// `pop`
+    Pop,
+    /// `add`, `sub`, `mul`, `add.ovf`, `sub.ovf`, `mul.ovf`, `div`, `rem`, `and`, `or`, `xor`
+    Binary(BinaryOperation),
+    /// `neg`, `not`
+    Unary(UnaryOperation),
+    /// `shl`, `shr`, `shr.un`
+    Shift(ShiftOperation),
+    /// `ceq`, `cgt`, `clt`
+    Compare(Comparison),
+    /// `conv.i4`
+    ConvertInt32,
+    /// `conv.i8`
+    ConvertInt64,
+    /// `br`
+    Branch(usize),
+    /// `brtrue`
+    BranchTrue(usize),
+    /// `brfalse`
+    BranchFalse(usize),
+    /// `beq`, `bne.un`, `bge`, `bgt`, `ble`, `blt`
+    BranchCompare(BranchComparison, usize),
+    /// `switch`
+    Switch(Sequence<usize>),
+    /// `ldfld`: the class that the text names, and the field that is found
+    LoadField {
+        owner: usize,
+        field: MemberNumber,
+    },
+    /// `stfld`
+    StoreField {
+        owner: usize,
+        field: MemberNumber,
+    },
+    /// `ldsfld`
+    LoadStaticField(MemberNumber),
+    /// `stsfld`
+    StoreStaticField(MemberNumber),
+    /// `newarr`
+    NewArray(NumberedType),
+    /// `ldlen`
+    LoadLength,
+    /// `ldelem.i4`
+    LoadElementInt32,
+    /// `ldelem.i8`
+    LoadElementInt64,
+    /// `ldelem.ref`
+    LoadElementReference,
+    /// `stelem.i4`
+    StoreElementInt32,
+    /// `stelem.i8`
+    StoreElementInt64,
+    /// `stelem.ref`
+    StoreElementReference,
+    /// `castclass`
+    CastClass(NumberedType),
+    /// `isinst`
+    IsInstance(NumberedType),
+    /// `call`: with `instance` or without, the class that the text names, and the method that is found
+    Call {
+        is_instance: bool,
+        owner: usize,
+        method: MemberNumber,
+    },
+    /// `callvirt`
+    CallVirtual {
+        owner: usize,
+        method: MemberNumber,
+    },
+    /// `newobj`: the constructor, which its own class declares
+    NewObject(MemberNumber),
+    /// `ret`
+    Return,
+}
