@@ -5,7 +5,6 @@ use Rattle.std.specs.Option.{option_map_or}
 use Rattle.cil_model.specs.declared.trees.Code.{Code}
 use Rattle.cil_model.specs.declared.trees.Line.{Line}
 use Rattle.cil_model.specs.Bodies.{entry_points}
-use Rattle.cil_model.specs.declared.reports.End.{End}
 use Rattle.cil_model.specs.Budgets.{steps_left_of}
 use Rattle.cil_model.specs.MachineContents.{Frame, Thread as ThreadContent, Content, is_live}
 use Rattle.verifier.specs.StraightLine.{is_typed}
@@ -13,7 +12,7 @@ use Rattle.interleaving_core.specs.declared.engine.Engine.{Engine}
 use Rattle.interleaving_core.specs.Sound.{IsReady as IsReadyFrame, IsLiveReady, IsSound}
 use Rattle.interleaving_core.specs.Threads.{IsReady}
 use Rattle.interleaving_core.specs.Views.{shown, first_frame, frames_of, thread_of, content_of}
-use Rattle.interleaving_core.proofs.Turning.{entry_is, returns_nothing}
+use Rattle.interleaving_core.proofs.Turning.{entry_is, none_there, returns_nothing}
 
 pub sound_content : (e : Engine) → IsReady e → IsSound (content_of e)
 sound_content e ready = record { each = each_thread }
@@ -57,8 +56,4 @@ steps_left c sound t live = by_thread (slice_get c.threads t) refl live
     by_thread : (o : Option ThreadContent) → slice_get c.threads t ≡ o → unwrap_or (option_map (λ (thread : ThreadContent). is_none thread.ended) o) false ≡ true
         → 0 < option_map_or (λ (thread : ThreadContent). thread.steps_left) o c.limits.budget
     by_thread None there h = absurd (cc h)
-    by_thread (Some thread) there h = (sound.each t thread there (no_end thread.ended h)).steps
-
-    no_end : (o : Option End) → is_none o ≡ true → o ≡ None
-    no_end None h = refl
-    no_end (Some e) h = absurd (cc h)
+    by_thread (Some thread) there h = (sound.each t thread there (none_there thread.ended h)).steps
