@@ -8,6 +8,7 @@ use Rattle.cil_model.specs.States.{State, Frame as StateFrame, Thread as StateTh
 use Rattle.cil_model.specs.declared.events.Event.{Event}
 use Rattle.cil_model.specs.declared.reports.Report.{Report}
 use Rattle.cil_model.specs.Runs.{IsStateAfter, RunsTo, run, thread_part, step_reports}
+use Rattle.cil_model.specs.Budgets.{AreWithinBudget}
 use Rattle.cil_model.specs.MachineContents.{Word, Int32, Int64, Native, Null, Address, Frame, Thread, Content}
 
 -- which object lies at an address
@@ -79,8 +80,9 @@ pub record IsRunOf (tree : Tree) (limits : Limits) (events : List Event) (s : St
   pub each : length reports ≡ length events
   pub is_after : IsStateAfter tree limits (zip events reports) s
 
--- a machine stands for such a state
+-- a machine stands for such a state, to which each thread came within its budget
 pub record StandsAfter (tree : Tree) (limits : Limits) (events : List Event) (c : Content) : Type 0 where
   pub state : State
   pub is_run : IsRunOf tree limits events state
+  pub budgets : AreWithinBudget limits (zip events is_run.reports) state
   pub stands : StandsFor c state

@@ -1,10 +1,13 @@
 -- What an error that a `?` hands on is.
-use Rattle.std.proofs.Common.{◌≡◌, ◌↔◌, ◌+◌, ℕ, Bool, true, false, List, [], drop, length, map, Option, Some, Result, Ok, Err, refl, ap, sym, ◌∙◌, subst, arith, inl, inr}
+use Rattle.std.proofs.Common.{◌≡◌, ◌↔◌, ◌+◌, ◌<◌, nat_le, ℕ, Bool, true, false, List, [], drop, length, map, Option, Some, Result, Ok, Err, refl, ap, sym, ◌∙◌, subst, arith, inl, inr}
+use Rattle.std.proofs.lemmas.Bool.{and_parts}
+use Rattle.std.proofs.lemmas.Bool.Decides.{nat_tests}
 use Rattle.std.specs.List.{zip}
 use Rattle.std.specs.Prelude.{IfErr, IfOk, IsErrAnd}
 use Rattle.cil_model.proofs.StandsLaws.{ends_stand, printed_stands, stands_after}
 use Rattle.cil_model.specs.Legality.{IsLegal}
 use Rattle.cil_model.specs.MachineContents.{Content, Thread}
+use Rattle.cil_model.specs.Budgets.{KeepsBudgets}
 use Rattle.cil_model.specs.Ranges.{are_in_range}
 use Rattle.cil_model.specs.Runs.{opening}
 use Rattle.cil_model.specs.StandsFor.{FollowsReference, StandsAfter, StandsFor}
@@ -44,17 +47,24 @@ made_in_range limits m iff = by_test (are_in_range limits) (λ e. lost (iff.1 e)
     by_test true never = refl
     by_test false never = absurd (never refl)
 
+-- a budget in its range is not 0
+some_budget : (limits : Limits) → are_in_range limits ≡ true → 0 < limits.budget
+some_budget limits h =
+    let least : nat_le 1 limits.budget ≡ true = (and_parts _ _ (and_parts _ _ (and_parts _ _ h).0).1).0 in
+    grind (arith, nat_tests, least)
+
 nothing_more : (n : ℕ) → 0 + n ≡ n
 nothing_more n = omega arith
 
 -- a machine that was run from its beginning
 pub ran : (tree : Tree) (limits : Limits) (text : List ℕ) (m d : Content) (events es : List Event) (before reports : List Report) → are_in_range limits ≡ true → AreRead (words text) events → es ≡ events → before ≡ []
-    → (s : State) × (opening tree limits ≡ Some s) × StandsFor m s → m.tree ≡ tree → m.limits ≡ limits → length reports ≡ length before + length es → FollowsReference m d (zip es (drop (length before) reports))
+    → (s : State) × (opening tree limits ≡ Some s) × StandsFor m s → m.tree ≡ tree → m.limits ≡ limits → length reports ≡ length before + length es → FollowsReference m d (zip es (drop (length before) reports)) → KeepsBudgets m d (zip es (drop (length before) reports))
     → IsRunBy tree limits text d
-ran tree limits text m d events es before reports in_range are_read same_events none first same_tree same_limits each follows =
+ran tree limits text m d events es before reports in_range are_read same_events none first same_tree same_limits each follows kept =
     let each' : length reports ≡ length events = each ∙ ap (λ xs. length xs + length es) none ∙ nothing_more (length es) ∙ ap length same_events in
     let follows' : FollowsReference m d (zip events reports) = subst (λ xs. FollowsReference m d (zip xs reports)) same_events (subst (λ xs. FollowsReference m d (zip es (drop (length xs) reports))) none follows) in
-    (in_range, (events, are_read, stands_after tree limits m d events reports first.0 first.1 first.2 same_tree same_limits each' follows'))
+    let kept' : KeepsBudgets m d (zip events reports) = subst (λ xs. KeepsBudgets m d (zip xs reports)) same_events (subst (λ xs. KeepsBudgets m d (zip es (drop (length xs) reports))) none kept) in
+    (in_range, (events, are_read, stands_after tree limits m d events reports first.0 first.1 first.2 same_tree same_limits (some_budget limits in_range) each' follows' kept'))
 
 -- what the machine that was run shows
 pub has_run : (source : List ℕ) (tree : Tree) (limits : Limits) (text : List ℕ) (c : Content) (out out' err err' : Option (List ℕ)) (status : ℕ) → IsAcceptedSource source tree → IsRunBy tree limits text c
@@ -69,6 +79,7 @@ has_run source tree limits text c out out' err err' status accepted run shown =
       are_read = run.1.1;
       state = after.state;
       is_run = after.is_run;
+      budgets = after.budgets;
       shown = subst (λ p. IsShown p (ends_of after.state) out out' err err' status) (printed_stands c after.state after.stands)
           (subst (λ es. IsShown c.printed es out out' err err' status) (ends_stand c after.state after.stands) shown);
     }

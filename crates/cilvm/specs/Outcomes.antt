@@ -2,6 +2,8 @@
 use Rattle.std.specs.Io.KnownBytes.{Appends}
 use Rattle.std.specs.Fmt.{decimal}
 use Rattle.std.specs.Prelude.{◌≡◌, ◌≢◌, ◌⊎◌, ◌*◌, ◌++◌, ◌∷◌, [], ℕ, true, false, List, Option, Some, Err, codes}
+use Rattle.std.specs.List.{zip}
+use Rattle.cil_model.specs.Budgets.{AreWithinBudget}
 use Rattle.cil_model.specs.Ranges.{are_in_range}
 use Rattle.flip_trial.specs.Trial.{place_count}
 use Rattle.flip_trial.specs.declared.sizes.Sizes.{Sizes}
@@ -109,7 +111,8 @@ IsNotChecked source failure =
     IsNotAccepted source failure ⊎ (IsLetIn source × IsOfWriting failure)
 
 -- A run is done. The bytes have a tree that is an accepted program, the text writes events, and the reference machine's run
--- over their steps is never stuck: what it printed, and how its threads stand, is shown.
+-- over their steps is never stuck: what it printed, and how its threads stand, is shown. No thread made more steps than its
+-- budget has, and one that made as many has ended.
 pub record HasRun (source : List ℕ) (limits : Limits) (text : List ℕ) (out out' err err' : Option (List ℕ)) (status : ℕ) : Type 0 where
   pub tree : Tree
   pub is_accepted : IsAcceptedSource source tree
@@ -118,6 +121,7 @@ pub record HasRun (source : List ℕ) (limits : Limits) (text : List ℕ) (out o
   pub are_read : AreRead (words text) events
   pub state : State
   pub is_run : IsRunOf tree limits events state
+  pub budgets : AreWithinBudget limits (zip events is_run.reports) state
   pub shown : IsShown state.printed (ends_of state) out out' err err' status
 
 -- why a run is not done

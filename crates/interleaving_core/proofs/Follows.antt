@@ -19,7 +19,8 @@ use Rattle.verifier.specs.declared.program.Operation.{Operation}
 use Rattle.verifier.specs.declared.program.Returned.TheVariants.{Nothing}
 use Rattle.verifier.specs.StraightLine.{is_typed}
 use Rattle.interleaving_core.specs.Sound.{IsReady, IsLiveReady, IsSound}
-use Rattle.interleaving_core.proofs.Lists.{BothAt, agree_get, agree_set, same_numbers}
+use Rattle.cil_model.proofs.StandsLaws.{BothAt, agree_get, agree_set}
+use Rattle.interleaving_core.proofs.Lists.{same_numbers}
 use Rattle.interleaving_core.proofs.Moves.{AreReady, MovesAlike, Alike, by_operation}
 
 -- what holds of each element holds after one was set for which it holds

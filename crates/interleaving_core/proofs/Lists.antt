@@ -1,29 +1,8 @@
--- Lists that agree, and what is left of a list.
+-- Lists of numbers that agree, and what is left of a list.
 use Rattle.std.proofs.Common.{◌≡◌, ◌+◌, ℕ, zero, suc, ℤ, List, [], ◌∷◌, map, drop, Option, Some, None, slice_get, slice_set, option_map, refl, ap, ◌∙◌, arith}
 use Rattle.cil_model.specs.Values.{Value, Int32 as Int32Value}
 use Rattle.cil_model.specs.MachineContents.{Word, Int32}
 use Rattle.cil_model.specs.StandsFor.{Names, Agree, IsValue, int32, int64, native, null, reference}
-
--- both are there and agree, or neither is
-abbrev pub BothAt : {A B : Type 0} → (A → B → Type 0) → Option A → Option B → Type 0
-BothAt R None None = Unit {0}
-BothAt R (Some x) (Some y) = R x y
-BothAt R None (Some y) = ⊥
-BothAt R (Some x) None = ⊥
-
-pub agree_get : {A B : Type 0} (R : A → B → Type 0) (xs : List A) (ys : List B) → Agree R xs ys → (n : ℕ) → BothAt R (slice_get xs n) (slice_get ys n)
-agree_get R [] [] h n = tt
-agree_get R (x ∷ xs) (y ∷ ys) h zero = h.0
-agree_get R (x ∷ xs) (y ∷ ys) h (suc n) = agree_get R xs ys h.1 n
-agree_get R [] (y ∷ ys) h n = absurd h
-agree_get R (x ∷ xs) [] h n = absurd h
-
-pub agree_set : {A B : Type 0} (R : A → B → Type 0) (xs : List A) (ys : List B) → Agree R xs ys → (n : ℕ) (x : A) (y : B) → R x y → Agree R (slice_set xs n x) (slice_set ys n y)
-agree_set R [] [] h n x y r = tt
-agree_set R (a ∷ xs) (b ∷ ys) h zero x y r = (r, h.1)
-agree_set R (a ∷ xs) (b ∷ ys) h (suc n) x y r = (h.0, agree_set R xs ys h.1 n x y r)
-agree_set R [] (b ∷ ys) h n x y r = absurd h
-agree_set R (a ∷ xs) [] h n x y r = absurd h
 
 same_int32 : (y z : ℤ) → Int32 y ≡ Int32 z → y ≡ z
 same_int32 y z e = cc e

@@ -1,17 +1,18 @@
 -- An engine that is ready has a sound content.
-use Rattle.std.proofs.Common.{◌≡◌, ℕ, zero, suc, [], ◌∷◌, map, reverse, drop, length, Some, None, slice_get, vec_len, refl, sym, ap, ◌∙◌, subst}
+use Rattle.std.proofs.Common.{◌≡◌, ◌<◌, ℕ, zero, suc, true, false, is_none, [], ◌∷◌, map, reverse, drop, length, Option, Some, None, option_map, unwrap_or, slice_get, vec_len, refl, sym, ap, ◌∙◌, subst}
 use Rattle.std.proofs.lemmas.List.{length-reverse}
 use Rattle.std.specs.Option.{option_map_or}
 use Rattle.cil_model.specs.declared.trees.Code.{Code}
 use Rattle.cil_model.specs.declared.trees.Line.{Line}
 use Rattle.cil_model.specs.Bodies.{entry_points}
-use Rattle.cil_model.specs.MachineContents.{Frame, Thread as ThreadContent}
+use Rattle.cil_model.specs.Budgets.{steps_left_of}
+use Rattle.cil_model.specs.MachineContents.{Frame, Thread as ThreadContent, Content, is_live}
 use Rattle.verifier.specs.StraightLine.{is_typed}
 use Rattle.interleaving_core.specs.declared.engine.Engine.{Engine}
 use Rattle.interleaving_core.specs.Sound.{IsReady as IsReadyFrame, IsLiveReady, IsSound}
 use Rattle.interleaving_core.specs.Threads.{IsReady}
 use Rattle.interleaving_core.specs.Views.{shown, first_frame, frames_of, thread_of, content_of}
-use Rattle.interleaving_core.proofs.Turning.{entry_is, returns_nothing}
+use Rattle.interleaving_core.proofs.Turning.{entry_is, none_there, returns_nothing}
 
 pub sound_content : (e : Engine) → IsReady e → IsSound (content_of e)
 sound_content e ready = record { each = each_thread }
@@ -47,3 +48,12 @@ sound_content e ready = record { each = each_thread }
         by_thread : (x : ThreadContent) → thread_of (slice_get (entry_points e.program) 0) e.thread ≡ x → x.ended ≡ None → IsLiveReady x
         by_thread x is live' = subst IsLiveReady is (live_thread (ap (λ (y : ThreadContent). y.ended) is ∙ live'))
     each_thread (suc n) t there live = absurd (cc there)
+
+-- in a sound content each live thread has steps left
+pub steps_left : (c : Content) → IsSound c → (t : ℕ) → is_live c t ≡ true → 0 < steps_left_of c t
+steps_left c sound t live = by_thread (slice_get c.threads t) refl live
+  where
+    by_thread : (o : Option ThreadContent) → slice_get c.threads t ≡ o → unwrap_or (option_map (λ (thread : ThreadContent). is_none thread.ended) o) false ≡ true
+        → 0 < option_map_or (λ (thread : ThreadContent). thread.steps_left) o c.limits.budget
+    by_thread None there h = absurd (cc h)
+    by_thread (Some thread) there h = (sound.each t thread there (none_there thread.ended h)).steps

@@ -119,7 +119,7 @@ module _ (tree : Tree) (limits : Limits) (body : TypedBody) (entry : IsEntry tre
 
 -- ---- in the words of the engine
 
-none_there : {X : Type 0} (o : Option X) → is_none o ≡ true → o ≡ None
+pub none_there : {X : Type 0} (o : Option X) → is_none o ≡ true → o ≡ None
 none_there None e = refl
 none_there (Some x) e = absurd (cc e)
 

@@ -3,7 +3,7 @@ use Rattle.std.proofs.Common.{◌≡◌, ◌+◌, ◌<◌, ℕ, suc, List, [], �
 use Rattle.std.proofs.Math.Seq.{drop-append_seam}
 use Rattle.std.proofs.lemmas.List.{take_more, append_assoc, length-append}
 use Rattle.std.specs.List.{zip}
-use Rattle.std.specs.Prelude.{OnErr}
+use Rattle.std.specs.Prelude.{IfOk, OnErr}
 use Rattle.cil_model.specs.declared.events.Event.{Event}
 use Rattle.cil_model.specs.declared.events.Event.TheVariants.{Step, Ack, Gc}
 use Rattle.cil_model.specs.declared.reports.Report.{Report}
@@ -12,9 +12,12 @@ use Rattle.cil_model.specs.Steps.{Answers, step}
 use Rattle.cil_model.specs.Runs.{RunsTo, run, is_refusal, followed_by, thread_part, step_reports, preceded_by}
 use Rattle.cil_model.specs.MachineContents.{Content}
 use Rattle.cil_model.specs.Turns.{turn, run_of}
+use Rattle.cil_model.specs.Budgets.{KeepsBudgets}
 use Rattle.cil_model.specs.StandsFor.{StandsFor, RunsAlike, FollowsReference}
+use Rattle.cil_model.proofs.BudgetLaws.{run_keeps, turn_keeps}
 use Rattle.interleaving_core.specs.Sound.{IsSound}
 use Rattle.interleaving_core.proofs.Follows.{step_alike}
+use Rattle.interleaving_core.proofs.Readiness.{steps_left}
 
 -- a run of the rest, behind a step
 behind : (c : Content) (s s' : State) (t : ℕ) (r : Report) (after new : Content) (events : List (Event × Report))
@@ -68,6 +71,19 @@ pub run_follows : (c d : Content) (before reports : List Report) (es : List Even
 run_follows c d before reports es sound so_far s stands =
     let rest : drop (length before) reports ≡ (run_of c es).1 = ap (drop (length before)) so_far.1 ∙ drop-append_seam before (run_of c es).1 in
     subst (λ x. RunsAlike c x (zip es (drop (length before) reports)) s) (sym so_far.0) (subst (λ rs. RunsAlike c (run_of c es).0 (zip es rs) s) (sym rest) (run_alike es c s sound stands))
+
+-- ---- budgets
+
+pub run_budgets : (c d : Content) (before reports : List Report) (es : List Event) → IsSound c → RunSoFar c before es d reports → KeepsBudgets c d (zip es (drop (length before) reports))
+run_budgets c d before reports es sound so_far =
+    let rest : drop (length before) reports ≡ (run_of c es).1 = ap (drop (length before)) so_far.1 ∙ drop-append_seam before (run_of c es).1 in
+    subst (λ x. KeepsBudgets c x (zip es (drop (length before) reports))) (sym so_far.0) (subst (λ rs. KeepsBudgets c (run_of c es).0 (zip es rs)) (sym rest) (run_keeps c (steps_left c sound) es))
+
+pub step_budgets : {E : Type 0} (c d : Content) (e : Event) (result : Result Report E) → IsSound c → IfOk result (λ r. ◌≡◌ {A = Content × Report} (d, r) (turn c e)) → IfOk result (λ r. KeepsBudgets c d ((e, r) ∷ []))
+step_budgets c d e (Ok r) sound one = subst (λ (y : Content × Report). KeepsBudgets c y.0 ((e, y.1) ∷ [])) (sym one) (turn_keeps c (steps_left c sound) e)
+step_budgets c d e (Err x) sound one = tt
+
+-- ---- answers
 
 pub on_err : {T E : Type 0} (r : Result T E) (P : Type 0) → P → OnErr r P
 on_err (Ok x) P h = tt

@@ -1,11 +1,12 @@
 //! The machine and its events.
 
-ghost use Rattle.std.specs.Prelude.{◌≡◌, ◌↔◌, ◌++◌, ◌+◌, ◌<◌, ◌≤◌, Ok, Err, Some, None, IfOk, OnOk, OnErr, true, false, ℕ, length, take, drop, if◌then◌else◌};
+ghost use Rattle.std.specs.Prelude.{◌≡◌, ◌↔◌, ◌∷◌, [], ◌++◌, ◌+◌, ◌<◌, ◌≤◌, Ok, Err, Some, None, IfOk, OnOk, OnErr, true, false, ℕ, length, take, drop, if◌then◌else◌};
 ghost use Rattle.std.specs.List.{zip};
 ghost use Rattle.cil_model.specs.MachineContents.{end_of, is_live};
 ghost use Rattle.cil_model.specs.Ranges.{are_in_range, is_between};
 ghost use Rattle.cil_model.specs.declared.limits.TheConstants.{MOST_THREADS};
 ghost use Rattle.cil_model.specs.Runs.{opening};
+ghost use Rattle.cil_model.specs.Budgets.{KeepsBudgets};
 ghost use Rattle.cil_model.specs.StandsFor.{FollowsReference, StandsFor};
 ghost use Rattle.cil_model.specs.States.{State};
 ghost use Rattle.cil_model.specs.Turns.{run_of, turn};
@@ -126,6 +127,7 @@ impl Machine {
     /// Want of memory, which a print alone can meet, changes nothing and isn't counted.
     pub fn step(&mut self, event: Event) -> Result<Report, NoMemory>
         ensures turns { IfOk result (λ report. (self.new, report) ≡ turn self.old event) }
+        ensures budgets { IfOk result (λ report. KeepsBudgets self.old self.new ((event, report) ∷ [])) }
         ensures refused { OnErr result (self.new ≡ self.old) }
         ensures prints { OnErr result (next_instruction self.old 0 ≡ Some write_line) }
     {
@@ -139,6 +141,7 @@ impl Machine {
         ensures turns { OnOk result ((self.new ≡ (run_of self.old events.now).0) × (reports.new.items ≡ reports.old.items ++ (run_of self.old events.now).1)) }
         ensures each { OnOk result (length reports.new.items ≡ length reports.old.items + length events.now) }
         ensures follows { OnOk result (FollowsReference self.old self.new (zip events.now (drop (length reports.old.items) reports.new.items))) }
+        ensures budgets { OnOk result (KeepsBudgets self.old self.new (zip events.now (drop (length reports.old.items) reports.new.items))) }
         ensures stopped { OnErr result ((count : ℕ) × (count < length events.now) × (self.new ≡ (run_of self.old (take count events.now)).0)
             × (reports.new.items ≡ reports.old.items ++ (run_of self.old (take count events.now)).1)) }
     {

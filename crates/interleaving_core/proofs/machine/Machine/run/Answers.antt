@@ -2,7 +2,7 @@ use Rattle.std.proofs.Common.{◌≡◌, ◌++◌, ◌∷◌, [], refl, sym, ap,
 use Rattle.std.proofs.lemmas.List.{take_all, append-nil}
 use Rattle.interleaving_core.specs.Sound.{IsSound}
 use Rattle.interleaving_core.proofs.Readiness.{sound_content}
-use Rattle.interleaving_core.proofs.WholeRuns.{RunSoFar, all_reported, run_step, run_follows, on_err}
+use Rattle.interleaving_core.proofs.WholeRuns.{RunSoFar, all_reported, run_step, run_follows, run_budgets, on_err}
 use Rattle.interleaving_core.proofs.machine.Machine.run.Goals as goal
 
 pub loop-event-init : goal.loop-event-init
@@ -27,6 +27,11 @@ pub returns-clause-follows : goal.returns-clause-follows
 returns-clause-follows c =
     let sound : IsSound c.args.self.now = subst IsSound c.self.view_is (sound_content c.self.inside.engine c.self.invariant) in
     run_follows c.args.self.now c.loop-event.self c.args.reports.now.items c.loop-event.reports.items c.args.events.now sound (returns-clause-turns c)
+
+pub returns-clause-budgets : goal.returns-clause-budgets
+returns-clause-budgets c =
+    let sound : IsSound c.args.self.now = subst IsSound c.self.view_is (sound_content c.self.inside.engine c.self.invariant) in
+    run_budgets c.args.self.now c.loop-event.self c.args.reports.now.items c.loop-event.reports.items c.args.events.now sound (returns-clause-turns c)
 
 pub returns-clause-each : goal.returns-clause-each
 returns-clause-each c = all_reported c.args.self.now c.loop-event.self c.args.reports.now.items c.loop-event.reports.items c.args.events.now (returns-clause-turns c)
