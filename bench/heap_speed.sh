@@ -30,7 +30,8 @@ cat > crates/heap_speed/src/main.rt <<'PROGRAM'
 #![tactic(auto)]
 
 ghost use Rattle.std.specs.Prelude.{◌≡◌, ◌≤◌, length, IfSome};
-ghost use Rattle.object_memory.specs.Cells.{slots_at, no_cells};
+ghost use Rattle.object_memory.specs.Cells.{slots_at};
+ghost use Rattle.object_memory.specs.Objects.{no_objects};
 
 use cil_model::limits::MOST_WORDS;
 use object_memory::laws::{births_keep_objects, stores_keep_counts};
@@ -61,7 +62,7 @@ fn fill(heap: &mut Heap) -> u64 {
 
 /// Stores into slots in an order without a pattern. The answer depends on all of them, so that no store can be left out.
 fn store(heap: &mut Heap, address: Addr, stores: u64) -> u64
-    requires { 8 ≤ length (slots_at heap.old address) }
+    requires { 8 ≤ length (slots_at heap.old.block address) }
 {
     stores_keep_counts();
     for number in 0..stores {
@@ -78,10 +79,13 @@ fn store(heap: &mut Heap, address: Addr, stores: u64) -> u64
 /// A heap without objects. None where there was no memory for it.
 fn empty_heap(rt: &HostRuntime, words: usize) -> Option<Heap>
     requires { words ≤ MOST_WORDS }
-    ensures { IfSome result (λ h. h ≡ no_cells words) }
+    ensures { IfSome result (λ h. h ≡ no_objects words 0) }
 {
-    match Block::new(rt.alloc(), words) {
-        Ok(block) => Some(Heap::new(block)),
+    let Ok(block) = Block::new(rt.alloc(), words) else {
+        return None;
+    };
+    match Heap::new(rt.alloc(), block, 0) {
+        Ok(heap) => Some(heap),
         Err(_) => None,
     }
 }
@@ -132,10 +136,10 @@ use Rattle.object_memory.specs.Cells.{slots_at}
 use Rattle.heap_speed.proofs.store.Given as goal
 
 abbrev pub invariant-loop-number : goal.invariant-loop-number
-invariant-loop-number l = 8 ≤ length (slots_at l.heap l.address)
+invariant-loop-number l = 8 ≤ length (slots_at l.heap.block l.address)
 
 abbrev pub invariant-loop-index : goal.invariant-loop-index
-invariant-loop-index l = 8 ≤ length (slots_at l.heap l.address)
+invariant-loop-index l = 8 ≤ length (slots_at l.heap.block l.address)
 INVARIANTS
 cd crates/heap_speed
 rt run 2> log.txt || { cat log.txt; exit 1; }

@@ -4,10 +4,13 @@ use Rattle.std.specs.Prelude.{nat_le, nat_lt, slice_get, Option, Some, None, IsS
 use Rattle.std.proofs.lemmas.List.{length-replicate}
 use Rattle.std.proofs.lemmas.Bool.Decides.{nat_tests}
 use Rattle.std.proofs.Math.ListN.{length-set}
+use Rattle.cil_model.specs.declared.limits.TheConstants.{MOST_WORDS}
 use Rattle.object_memory.specs.declared.addresses.Addr.{Addr}
+use Rattle.object_memory.specs.declared.addresses.TheConstants.{FIRST_LITERAL}
 use Rattle.object_memory.specs.declared.kinds.Kind.{Kind}
 use Rattle.object_memory.specs.declared.monitors.Monitor.{Monitor}
-use Rattle.object_memory.specs.Cells.{Cell, Cells, size, used_words, free_words, first, new_cell, birth, addresses, cell_at, slots_at, change_at, store_slot, store_monitor, store_copies}
+use Rattle.object_memory.specs.Cells.{Cell, Cells, null, literal_number, size, used_words, free_words, first, new_cell, birth, addresses, cell_at, slots_at, change_at, store_slot, store_monitor, store_copies}
+use Rattle.object_memory.specs.Objects.{Objects}
 use Rattle.object_memory.specs.Words.{words_of, cells_of, IsTold, IsLaid, header_word, copies_word, is_marked_in, other_in, kind_in, slots_in, monitor_in, monitor_word}
 use Rattle.object_memory.proofs.Walks.{cell_here, behind, next_from}
 use Rattle.object_memory.proofs.Tiles.{born, used_words_held, Lies, lies, Lays, word_read, word_written}
@@ -15,6 +18,15 @@ use Rattle.object_memory.proofs.Tiles.{born, used_words_held, Lies, lies, Lays, 
 -- the cells that contracts see
 abbrev pub shown : List ℕ → ℕ → Cells
 shown block used = record { start = first; cells = cells_of (take used block); words = length block }
+
+-- what is the same of the cells is the same beside the literals
+module _ (literals : List Monitor) where
+  pub beside : {b c : Cells} → b ≡ c → ◌≡◌ {A = Objects} (record { block = b; literals = literals }) (record { block = c; literals = literals })
+  beside e = ap (λ x. record { block = x; literals = literals }) e
+
+  pub born_beside : {b c : Cells × Option Addr} → b ≡ c
+      → ◌≡◌ {A = Objects × Option Addr} (record { block = b.0; literals = literals }, b.1) (record { block = c.0; literals = literals }, c.1)
+  born_beside e = ap (λ x. (record { block = x.0; literals = literals }, x.1)) e
 
 some_cell : (o : Option Cell) → IsSome o → (c : Cell) × (o ≡ Some c)
 some_cell None h = absurd cc
@@ -58,6 +70,25 @@ module _ (block : List ℕ) (used : ℕ) (laid : IsLaid block used) where
         let test : nat_le (3 + n) (free_words (shown block used)) ≡ true = grind (arith, nat_tests) in
         let next : used + 1 ≡ first + used_words (cells_of (take used block)) = omega (arith, used_words_held block used laid) in
         rw (test, birth_lays.cells, length-set, next) refl
+
+-- ---- where no cell lies
+
+module _ (block : List ℕ) (used : ℕ) (laid : IsLaid block used) where
+  within : (a : Addr) → IsSome (cell_at (shown block used) a) → (0 < a.number) × (a.number ≤ used)
+  within a some =
+      let c = some_cell (cell_at (shown block used) a) some in
+      let l = lies block used laid a.number c.0 c.1 in
+      (omega (arith, l.place), omega (arith, l.below))
+
+  pub not_at_null : (a : Addr) → IsSome (cell_at (shown block used) a) → a ≢ null
+  not_at_null a some e = let number = ap (λ (x : Addr). x.number) e in absurd (omega (arith, number, (within a some).0))
+
+  pub not_at_literals : length block ≤ MOST_WORDS → (a : Addr) → IsSome (cell_at (shown block used) a) → literal_number a ≡ None
+  not_at_literals limit a some =
+      let inside = within a some in
+      let room = laid.inside in
+      let test : nat_lt a.number FIRST_LITERAL ≡ true = grind (arith, nat_tests) in
+      rw test refl
 
 module _ (block : List ℕ) (used : ℕ) (laid : IsLaid block used) (a : Addr) where
   abbrev h : Cells

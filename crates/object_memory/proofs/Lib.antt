@@ -2,3 +2,4 @@ pub mod Tiles
 pub mod Heaps
 pub mod Addressed
 pub mod Walks
+pub mod MonitorsAt

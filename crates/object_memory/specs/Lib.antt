@@ -1,3 +1,4 @@
 pub mod Cells
+pub mod Objects
 pub mod Words
 pub mod Values

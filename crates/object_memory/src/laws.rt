@@ -1,10 +1,11 @@
 // What lies where after a birth or a store. Each function has an empty body, and its contract is the law.
 
-ghost use Rattle.std.specs.Prelude.{◌≡◌, ◌≢◌, ℕ, ◌++◌, [], ◌∷◌, length, Bool, Option, Some, slice_get};
+ghost use Rattle.std.specs.Prelude.{◌≡◌, ◌≢◌, ℕ, ◌++◌, [], ◌∷◌, length, Bool, Option, Some, IsSome, slice_get};
 ghost use Rattle.object_memory.specs.declared.addresses.Addr.{Addr};
 ghost use Rattle.object_memory.specs.declared.kinds.Kind.{Kind};
 ghost use Rattle.object_memory.specs.declared.monitors.Monitor.{Monitor};
-ghost use Rattle.object_memory.specs.Cells.{Cell, Cells, addresses, cell_at, slots_at, change_at, birth, new_cell, store_slot, store_monitor, store_copies};
+ghost use Rattle.object_memory.specs.Cells.{Cell, Cells, addresses, cell_at, slots_at, change_at, birth, new_cell, store_slot, store_monitor, store_copies, null, literal, literal_number};
+ghost use Rattle.object_memory.specs.Objects.{Objects, with_birth, with_slot, with_copies, monitor_at, with_monitor};
 
 /// A birth's address is that of a new object. All other objects stay where they are, as they are.
 #[tactic(auto, using(crate::proofs::Addressed::birth_at, crate::proofs::Addressed::birth_keeps))]
@@ -51,4 +52,22 @@ pub fn walks_grow_by_births()
     ensures slot { (h : Cells) (a : Addr) (i w : ℕ) → addresses (change_at (store_slot i w) h a) ≡ addresses h }
     ensures monitor { (h : Cells) (a : Addr) (m : Monitor) → addresses (change_at (store_monitor m) h a) ≡ addresses h }
     ensures copies { (h : Cells) (a : Addr) (b : Bool) (o : Option Addr) → addresses (change_at (store_copies b o) h a) ≡ addresses h }
+{}
+
+/// Null and the literals have addresses of their own, each literal one, which tells its number.
+#[tactic(auto, using(crate::proofs::MonitorsAt::literal_number_of, crate::proofs::MonitorsAt::literal_same, crate::proofs::MonitorsAt::literal_not_null))]
+pub fn literals_are_told_apart()
+    ensures number { (n : ℕ) → literal_number (literal n) ≡ Some n }
+    ensures own { (n m : ℕ) → literal n ≡ literal m → n ≡ m }
+    ensures null { (n : ℕ) → literal n ≢ null }
+{}
+
+/// A monitor that was set is found at its object or literal, and that of each other one stays. No other store changes one, nor does a birth.
+#[tactic(auto, using(crate::proofs::MonitorsAt::monitor_found, crate::proofs::MonitorsAt::monitors_stay, crate::proofs::MonitorsAt::slot_keeps_monitors, crate::proofs::MonitorsAt::copies_keep_monitors, crate::proofs::MonitorsAt::birth_keeps_monitors))]
+pub fn monitors_stay_but_one()
+    ensures own { (o : Objects) (a : Addr) (m : Monitor) → IsSome (monitor_at o a) → monitor_at (with_monitor o a m) a ≡ Some m }
+    ensures others { (o : Objects) (a b : Addr) (m : Monitor) → a.number ≢ b.number → monitor_at (with_monitor o a m) b ≡ monitor_at o b }
+    ensures slot { (o : Objects) (a b : Addr) (i w : ℕ) → monitor_at (with_slot o a i w) b ≡ monitor_at o b }
+    ensures copies { (o : Objects) (a b : Addr) (marked : Bool) (other : Option Addr) → monitor_at (with_copies o a marked other) b ≡ monitor_at o b }
+    ensures birth { (o : Objects) (k : Kind) (n : ℕ) (a : Addr) (m : Monitor) → monitor_at o a ≡ Some m → monitor_at (with_birth o k n).0 a ≡ Some m }
 {}

@@ -1,4 +1,5 @@
 use super::Heap;
+use crate::addresses::Addr;
 use crate::kinds::{ArrayElement, ElementType, Kind};
 use crate::monitors::Monitor;
 use space_block::Block;
@@ -6,7 +7,7 @@ use std::test::Fail;
 
 #[test]
 fn births_go_to_the_front_until_the_room_is_used(rt: HostRuntime) -> Result<(), Fail> {
-    let mut heap = Heap::new(Block::new(rt.alloc(), 9)?);
+    let mut heap = Heap::new(rt.alloc(), Block::new(rt.alloc(), 9)?, 0)?;
     assert_eq!(rt; heap.free_words(), 9);
     let first = heap.birth(Kind::Instance(0), 2).expect(&rt, "room");
     assert_eq!(rt; heap.free_words(), 4);
@@ -23,7 +24,7 @@ fn births_go_to_the_front_until_the_room_is_used(rt: HostRuntime) -> Result<(), 
 #[test]
 #[tactic(auto, using(crate::proofs::Addressed::birth_at, crate::proofs::Addressed::change_at_own))]
 fn a_slot_is_read_as_it_was_stored(rt: HostRuntime) -> Result<(), Fail> {
-    let mut heap = Heap::new(Block::new(rt.alloc(), 9)?);
+    let mut heap = Heap::new(rt.alloc(), Block::new(rt.alloc(), 9)?, 0)?;
     let address = heap.birth(Kind::Instance(7), 2).expect(&rt, "room");
     assert_eq!(rt; heap.slot(address, 0), 0);
     heap.set_slot(address, 1, u64::MAX);
@@ -35,7 +36,7 @@ fn a_slot_is_read_as_it_was_stored(rt: HostRuntime) -> Result<(), Fail> {
 #[test]
 #[tactic(auto, using(crate::proofs::Addressed::birth_at, crate::proofs::Addressed::change_at_own))]
 fn headers_tell_what_was_set(rt: HostRuntime) -> Result<(), Fail> {
-    let mut heap = Heap::new(Block::new(rt.alloc(), 9)?);
+    let mut heap = Heap::new(rt.alloc(), Block::new(rt.alloc(), 9)?, 0)?;
     let kind = Kind::Array(ArrayElement {
         element: ElementType::Class(u16::MAX),
         brackets: 7,
@@ -61,7 +62,7 @@ fn headers_tell_what_was_set(rt: HostRuntime) -> Result<(), Fail> {
 #[test]
 #[tactic(auto, using(crate::proofs::Addressed::birth_at, crate::proofs::Addressed::birth_keeps))]
 fn a_walk_meets_each_object_in_the_order_of_births(rt: HostRuntime) -> Result<(), Fail> {
-    let mut heap = Heap::new(Block::new(rt.alloc(), 12)?);
+    let mut heap = Heap::new(rt.alloc(), Block::new(rt.alloc(), 12)?, 0)?;
     assert_eq!(rt; heap.first(), None);
     let first = heap.birth(Kind::Instance(0), 2).expect(&rt, "room");
     assert_eq!(rt; heap.first(), Some(first));
@@ -78,7 +79,7 @@ fn a_walk_meets_each_object_in_the_order_of_births(rt: HostRuntime) -> Result<()
 #[test]
 #[tactic(auto, using(crate::proofs::Addressed::birth_at))]
 fn an_array_may_take_the_whole_room(rt: HostRuntime) -> Result<(), Fail> {
-    let mut heap = Heap::new(Block::new(rt.alloc(), 12)?);
+    let mut heap = Heap::new(rt.alloc(), Block::new(rt.alloc(), 12)?, 0)?;
     let kind = Kind::Array(ArrayElement {
         element: ElementType::Class(u16::MAX),
         brackets: u8::MAX,
@@ -89,5 +90,26 @@ fn an_array_may_take_the_whole_room(rt: HostRuntime) -> Result<(), Fail> {
     assert_eq!(rt; heap.slots(array), 9);
     assert_eq!(rt; heap.slot(array, 8), 0);
     assert_eq!(rt; heap.free_words(), 0);
+    Ok(())
+}
+
+#[test]
+fn each_literal_and_each_object_has_its_monitor(rt: HostRuntime) -> Result<(), Fail> {
+    let mut heap = Heap::new(rt.alloc(), Block::new(rt.alloc(), 9)?, 2)?;
+    let object = heap.birth(Kind::Instance(0), 0).expect(&rt, "room");
+    let first = Addr::literal(0);
+    let second = Addr::literal(1);
+    assert!(rt; object != first && first != second);
+    let held = Monitor::Held { owner: 3, count: 2 };
+    heap.set_monitor(second, held);
+    assert_eq!(rt; heap.monitor(first), Monitor::Free);
+    assert_eq!(rt; heap.monitor(second), held);
+    assert_eq!(rt; heap.monitor(object), Monitor::Free);
+    heap.set_monitor(object, held);
+    heap.set_monitor(second, Monitor::Free);
+    assert_eq!(rt; heap.monitor(first), Monitor::Free);
+    assert_eq!(rt; heap.monitor(second), Monitor::Free);
+    assert_eq!(rt; heap.monitor(object), held);
+    assert_eq!(rt; heap.free_words(), 6);
     Ok(())
 }

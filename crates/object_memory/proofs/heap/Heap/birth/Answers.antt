@@ -2,7 +2,7 @@ use Rattle.std.proofs.Common.{◌≡◌, ◌≤◌, ◌<◌, ◌+◌, ◌-◌, l
 use Rattle.std.proofs.lemmas.Bool.Decides.{nat_tests}
 use Rattle.object_memory.specs.declared.addresses.TheConstants.{FIRST_LITERAL}
 use Rattle.std.proofs.Math.ListN.{length-set}
-use Rattle.object_memory.proofs.Heaps.{birth_refused, birth_lays, birth_done}
+use Rattle.object_memory.proofs.Heaps.{born_beside, birth_refused, birth_lays, birth_done}
 use Rattle.object_memory.proofs.heap.Heap.birth.Goals as goal
 
 pub returns-then-len-self : goal.returns-then-len-self
@@ -10,7 +10,7 @@ returns-then-len-self c =
     let inside = c.self.inside in
     let small : length inside.block - inside.used < 3 + c.args.slots = omega (arith, c.len.ensures, c.if-len-self.true) in
     record {
-      birth = rw (← c.self.view_is) (birth_refused inside.block inside.used c.self.invariant.1 c.args.kind c.args.slots small);
+      birth = rw (← c.self.view_is) (born_beside inside.literals.items (birth_refused inside.block inside.used c.self.invariant.1 c.args.kind c.args.slots small));
       no_literal = tt;
     }
 
@@ -32,6 +32,6 @@ returns c =
     record {
       birth =
           rw (← c.self.view_is, c.write.ensures)
-          (birth_done inside.block inside.used c.self.invariant.1 c.args.kind c.args.slots c.header.result told.word told.kind told.slots room);
+          (born_beside inside.literals.items (birth_done inside.block inside.used c.self.invariant.1 c.args.kind c.args.slots c.header.result told.word told.kind told.slots room));
       no_literal = rw below refl;
     }

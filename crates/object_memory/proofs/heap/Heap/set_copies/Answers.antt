@@ -1,5 +1,5 @@
 use Rattle.std.proofs.Common.{arith}
-use Rattle.object_memory.proofs.Heaps.{header_inside, copies_stored}
+use Rattle.object_memory.proofs.Heaps.{beside, header_inside, copies_stored}
 use Rattle.object_memory.proofs.heap.Heap.set_copies.Goals as goal
 
 pub place-requires : goal.place-requires
@@ -23,4 +23,4 @@ pub returns : goal.returns
 returns c =
     let given = rw (← c.self.view_is) at c.requires in
     let stored = copies_stored c.self.inside.block c.self.inside.used c.self.invariant.1 c.args.address c.args.marked c.args.other c.word.result c.word.ensures.word c.word.ensures.marked c.word.ensures.other given in
-    rw (← c.self.view_is, c.write.ensures, c.place.ensures) stored.view
+    rw (← c.self.view_is, c.write.ensures, c.place.ensures) (beside c.self.inside.literals.items stored.view)

@@ -1,5 +1,5 @@
 use Rattle.std.proofs.Common.{arith}
-use Rattle.object_memory.proofs.Heaps.{slot_inside, slot_stored}
+use Rattle.object_memory.proofs.Heaps.{beside, slot_inside, slot_stored}
 use Rattle.object_memory.proofs.heap.Heap.set_slot.Goals as goal
 
 pub place-requires : goal.place-requires
@@ -23,4 +23,4 @@ pub returns : goal.returns
 returns c =
     let given = rw (← c.self.view_is) at c.requires in
     let stored = slot_stored c.self.inside.block c.self.inside.used c.self.invariant.1 c.args.address c.args.index c.args.word given in
-    rw (← c.self.view_is, c.write.ensures, c.place.ensures) stored.view
+    rw (← c.self.view_is, c.write.ensures, c.place.ensures) (beside c.self.inside.literals.items stored.view)

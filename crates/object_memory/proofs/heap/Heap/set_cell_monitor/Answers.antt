@@ -1,6 +1,6 @@
 use Rattle.std.proofs.Common.{arith}
-use Rattle.object_memory.proofs.Heaps.{header_inside, monitor_stored}
-use Rattle.object_memory.proofs.heap.Heap.set_monitor.Goals as goal
+use Rattle.object_memory.proofs.Heaps.{beside, header_inside, monitor_stored}
+use Rattle.object_memory.proofs.heap.Heap.set_cell_monitor.Goals as goal
 
 pub place-requires : goal.place-requires
 place-requires c =
@@ -23,4 +23,4 @@ pub returns : goal.returns
 returns c =
     let given = rw (← c.self.view_is) at c.requires in
     let stored = monitor_stored c.self.inside.block c.self.inside.used c.self.invariant.1 c.args.address c.args.monitor c.word.result c.word.ensures.word c.word.ensures.inverse given in
-    rw (← c.self.view_is, c.write.ensures, c.place.ensures) stored.view
+    rw (← c.self.view_is, c.write.ensures, c.place.ensures) (beside c.self.inside.literals.items stored.view)

@@ -1,6 +1,6 @@
 use Rattle.std.proofs.Common.{arith}
 use Rattle.object_memory.proofs.Heaps.{header_inside, monitor_read}
-use Rattle.object_memory.proofs.heap.Heap.monitor.Goals as goal
+use Rattle.object_memory.proofs.heap.Heap.cell_monitor.Goals as goal
 
 pub place-requires : goal.place-requires
 place-requires c =

@@ -1,0 +1,255 @@
+-- The row of values: the frames in it are those that were laid there, and what each call of the memory makes of it.
+use Rattle.std.proofs.Common.{◌≡◌, ℕ, ◌+◌, ◌-◌, ◌*◌, ◌<◌, ◌≤◌, List, [], ◌∷◌, ◌++◌, length, take, drop, set, get_or, refl, sym, ap, subst, ◌∙◌, arith, length-append, append_assoc, append-nil}
+use Rattle.std.specs.Prelude.{reverse, map, slice_get, Option, Some}
+use Rattle.std.proofs.Math.ListN.{length-set, get_or-append}
+use Rattle.std.proofs.Math.Seq.{take-append_seam, drop-append_seam, drop-append-add}
+use Rattle.std.proofs.lemmas.List.{reverse-append, reverse-reverse, length-reverse, set-append_left, set-append_right, get_or-append-add, take-append-drop, length-take-le, length-map}
+use Rattle.std.proofs.lemmas.Nat.{mul-le}
+use Rattle.std.proofs.lemmas.Option.{slice_get-get_or}
+use Rattle.object_memory.specs.declared.addresses.Addr.{Addr}
+use Rattle.object_memory.specs.declared.values.Value.{Value}
+use Rattle.object_memory.specs.declared.values.ValueKind.{ValueKind}
+use Rattle.threads_monitors.specs.declared.frames.Activation.{Activation}
+use Rattle.threads_monitors.specs.Frames.{Frame, size, zero_value, new_frame}
+use Rattle.threads_monitors.specs.Activations.{own, row, activation, activations, frame_of, frames_of, Lays, Fit}
+
+-- ---- what lies in a row
+
+module _ (fs : List Frame) (f : Frame) where
+  base : ℕ
+  base = length (row fs)
+
+  there : (n : ℕ) → drop (length (row fs) + n) (row fs ++ own f) ≡ drop n (own f)
+  there n = drop-append-add (row fs) (own f) n
+
+  arguments_there : take (length (row fs) + length f.arguments - length (row fs)) (drop (length (row fs)) (row fs ++ own f)) ≡ f.arguments
+  arguments_there =
+      let many : length (row fs) + length f.arguments - length (row fs) ≡ length f.arguments = omega arith in
+      rw (drop-append_seam (row fs) (own f), many) (take-append_seam f.arguments (f.locals ++ reverse f.stack))
+
+  locals_there : take (length (row fs) + (length f.arguments + length f.locals) - (length (row fs) + length f.arguments)) (drop (length (row fs) + length f.arguments) (row fs ++ own f)) ≡ f.locals
+  locals_there =
+      let many : length (row fs) + (length f.arguments + length f.locals) - (length (row fs) + length f.arguments) ≡ length f.locals = omega arith in
+      rw (there (length f.arguments), many, drop-append_seam f.arguments (f.locals ++ reverse f.stack)) (take-append_seam f.locals (reverse f.stack))
+
+  stack_there : reverse (drop (length (row fs) + (length f.arguments + length f.locals)) (row fs ++ own f)) ≡ f.stack
+  stack_there =
+      rw (there (length f.arguments + length f.locals), drop-append-add f.arguments (f.locals ++ reverse f.stack) (length f.locals), drop-append_seam f.locals (reverse f.stack))
+      (reverse-reverse f.stack)
+
+  frame_there : frame_of (row fs ++ own f) (activation fs f) ≡ f
+  frame_there = rw (arguments_there, locals_there, stack_there) refl
+
+frames_there : (fs : List Frame) → frames_of (row fs) (activations fs) ≡ fs
+frames_there [] = refl
+frames_there (f ∷ fs) = rw (frame_there fs f, take-append_seam (row fs) (own f), frames_there fs) refl
+
+length-own : (f : Frame) → length (own f) ≡ size f
+length-own f =
+    let outer = length-append f.arguments (f.locals ++ reverse f.stack) in
+    let inner = length-append f.locals (reverse f.stack) in
+    let stack = length-reverse f.stack in
+    omega (arith, outer, inner, stack)
+
+length-row : (room : ℕ) (fs : List Frame) → Fit room fs → length (row fs) ≤ length fs * room
+length-row room [] fit = omega arith
+length-row room (f ∷ fs) fit =
+    let both = length-append (row fs) (own f) in
+    let own_size = length-own f in
+    let rest = length-row room fs fit.1 in
+    let first = fit.0 in
+    let more : length (f ∷ fs) * room ≡ room + length fs * room = omega arith in
+    omega (arith, both, own_size, rest, first, more)
+
+-- ---- the frames that a memory shows
+
+module _ (values : List Value) (running : Activation) (below : List Activation) (f : Frame) (fs : List Frame) (l : Lays values running below f fs) where
+  pub running_shown : frame_of values running ≡ f
+  running_shown = rw (l.values_are, l.running_is) (frame_there fs f)
+
+  pub below_shown : frames_of (take running.arguments values) below ≡ fs
+  below_shown = rw (l.values_are, l.running_is, l.below_are, take-append_seam (row fs) (own f)) (frames_there fs)
+
+  pub lays_shown : Lays values running below (frame_of values running) (frames_of (take running.arguments values) below)
+  lays_shown = rw (running_shown, below_shown) l
+
+  pub fit_shown : (room : ℕ) → Fit room (f ∷ fs) → Fit room (frame_of values running ∷ frames_of (take running.arguments values) below)
+  fit_shown room fit =
+      let both : frame_of values running ∷ frames_of (take running.arguments values) below ≡ f ∷ fs =
+      ap (λ x. x ∷ frames_of (take running.arguments values) below) running_shown ∙ ap (λ xs. f ∷ xs) below_shown in
+      subst (λ gs. Fit room gs) (sym both) fit
+
+  pub length_values : length values ≡ length (row fs) + size f
+  length_values = ap length l.values_are ∙ length-append (row fs) (own f) ∙ ap (λ n. length (row fs) + n) (length-own f)
+
+  -- ---- the running frame
+
+  pub pushed : (v : Value) → Lays (values ++ v ∷ []) running below (record f { stack = v ∷ f.stack }) fs
+  pushed v =
+      let stack : reverse (v ∷ f.stack) ≡ reverse f.stack ++ v ∷ [] = reverse-append (v ∷ []) f.stack in
+      let grown : own f ++ v ∷ [] ≡ own (record f { stack = v ∷ f.stack }) =
+      append_assoc f.arguments (f.locals ++ reverse f.stack) (v ∷ [])
+      ∙ ap (λ xs. f.arguments ++ xs) (append_assoc f.locals (reverse f.stack) (v ∷ []) ∙ ap (λ xs. f.locals ++ xs) (sym stack)) in
+      record {
+        values_are = ap (λ xs. xs ++ v ∷ []) l.values_are ∙ append_assoc (row fs) (own f) (v ∷ []) ∙ ap (λ xs. row fs ++ xs) grown;
+        running_is = l.running_is;
+        below_are = l.below_are;
+      }
+
+  -- what lies before the topmost value
+  pub record Topped (x : Value) (s : List Value) : Type 0 where
+    pub rest : List Value
+    pub split : values ≡ rest ++ x ∷ []
+    pub lays : Lays rest running below (record f { stack = s }) fs
+
+  pub topped : (x : Value) (s : List Value) → f.stack ≡ x ∷ s → Topped x s
+  topped x s e =
+      let stack : reverse f.stack ≡ reverse s ++ x ∷ [] = ap reverse e ∙ reverse-append (x ∷ []) s in
+      let without : List Value = f.arguments ++ (f.locals ++ reverse s) in
+      let grown : own f ≡ without ++ x ∷ [] =
+      ap (λ xs. f.arguments ++ (f.locals ++ xs)) stack
+      ∙ ap (λ xs. f.arguments ++ xs) (sym (append_assoc f.locals (reverse s) (x ∷ [])))
+      ∙ sym (append_assoc f.arguments (f.locals ++ reverse s) (x ∷ [])) in
+      record {
+        rest = row fs ++ without;
+        split = l.values_are ∙ ap (λ xs. row fs ++ xs) grown ∙ sym (append_assoc (row fs) without (x ∷ []));
+        lays = record { values_are = refl; running_is = l.running_is; below_are = l.below_are };
+      }
+
+  -- the topmost value leaves
+  pub left : (x : Value) (s : List Value) → f.stack ≡ x ∷ s → (new : List Value) → new ≡ take (length values - 1) values → Lays new running below (record f { stack = s }) fs
+  left x s e new rest =
+      let t = topped x s e in
+      let long : length values ≡ length t.rest + 1 = ap length t.split ∙ length-append t.rest (x ∷ []) in
+      let less : length values - 1 ≡ length t.rest = omega (arith, long) in
+      let front : new ≡ t.rest = rest ∙ ap (λ n. take n values) less ∙ ap (take (length t.rest)) t.split ∙ take-append_seam t.rest (x ∷ []) in
+      subst (λ xs. Lays xs running below (record f { stack = s }) fs) (sym front) t.lays
+
+  -- ---- arguments and locals
+
+  argument_place : (i : ℕ) → i < length f.arguments → running.arguments + i ≡ length (row fs) + i
+  argument_place i less = ap (λ (a : Activation). a.arguments + i) l.running_is
+
+  pub argument_read : (i : ℕ) (d : Value) → i < length f.arguments → slice_get f.arguments i ≡ Some (get_or values (running.arguments + i) d)
+  argument_read i d less =
+      slice_get-get_or f.arguments i d less
+      ∙ ap Some (sym (get_or-append f.arguments (f.locals ++ reverse f.stack) d i less)
+      ∙ sym (get_or-append-add (row fs) (own f) i d)
+      ∙ ap (λ xs. get_or xs (length (row fs) + i) d) (sym l.values_are)
+      ∙ ap (λ n. get_or values n d) (sym (argument_place i less)))
+
+  pub argument_inside : (i : ℕ) → i < length f.arguments → running.arguments + i < length values
+  argument_inside i less = omega (arith, argument_place i less, length_values)
+
+  pub argument_stored : (i : ℕ) (v : Value) → i < length f.arguments → Lays (set values (running.arguments + i) v) running below (record f { arguments = set f.arguments i v }) fs
+  argument_stored i v less =
+      let near : length (row fs) + i - length (row fs) ≡ i = omega arith in
+      record {
+        values_are =
+            ap (λ n. set values n v) (argument_place i less)
+            ∙ ap (λ xs. set xs (length (row fs) + i) v) l.values_are
+            ∙ set-append_right (row fs) (own f) (length (row fs)) (length (row fs) + i) v refl (omega arith)
+            ∙ ap (λ n. row fs ++ set (own f) n v) near
+            ∙ ap (λ xs. row fs ++ xs) (set-append_left f.arguments (f.locals ++ reverse f.stack) i v less);
+        running_is = l.running_is ∙ ap (λ n. record (activation fs f) { locals = length (row fs) + n; stack = length (row fs) + (n + length f.locals) }) (sym (length-set f.arguments i v));
+        below_are = l.below_are;
+      }
+
+  local_place : (i : ℕ) → running.locals + i ≡ length (row fs) + (length f.arguments + i)
+  local_place i = let locals = ap (λ (a : Activation). a.locals) l.running_is in omega (arith, locals)
+
+  pub local_read : (i : ℕ) (d : Value) → i < length f.locals → slice_get f.locals i ≡ Some (get_or values (running.locals + i) d)
+  local_read i d less =
+      slice_get-get_or f.locals i d less
+      ∙ ap Some (sym (get_or-append f.locals (reverse f.stack) d i less)
+      ∙ sym (get_or-append-add f.arguments (f.locals ++ reverse f.stack) i d)
+      ∙ sym (get_or-append-add (row fs) (own f) (length f.arguments + i) d)
+      ∙ ap (λ xs. get_or xs (length (row fs) + (length f.arguments + i)) d) (sym l.values_are)
+      ∙ ap (λ n. get_or values n d) (sym (local_place i)))
+
+  pub local_inside : (i : ℕ) → i < length f.locals → running.locals + i < length values
+  local_inside i less = omega (arith, local_place i, length_values)
+
+  pub local_stored : (i : ℕ) (v : Value) → i < length f.locals → Lays (set values (running.locals + i) v) running below (record f { locals = set f.locals i v }) fs
+  local_stored i v less =
+      let arguments = length f.arguments in
+      let near : length (row fs) + (arguments + i) - length (row fs) ≡ arguments + i = omega arith in
+      let nearer : arguments + i - arguments ≡ i = omega arith in
+      record {
+        values_are =
+            ap (λ n. set values n v) (local_place i)
+            ∙ ap (λ xs. set xs (length (row fs) + (arguments + i)) v) l.values_are
+            ∙ set-append_right (row fs) (own f) (length (row fs)) (length (row fs) + (arguments + i)) v refl (omega arith)
+            ∙ ap (λ n. row fs ++ set (own f) n v) near
+            ∙ ap (λ xs. row fs ++ xs) (set-append_right f.arguments (f.locals ++ reverse f.stack) arguments (arguments + i) v refl (omega arith)
+            ∙ ap (λ n. f.arguments ++ set (f.locals ++ reverse f.stack) n v) nearer
+            ∙ ap (λ xs. f.arguments ++ xs) (set-append_left f.locals (reverse f.stack) i v less));
+        running_is = l.running_is ∙ ap (λ n. record (activation fs f) { stack = length (row fs) + (arguments + n) }) (sym (length-set f.locals i v));
+        below_are = l.below_are;
+      }
+
+  -- ---- the room
+
+  pub room_above : (room depth capacity : ℕ) → Fit room (f ∷ fs) → length fs + 1 ≤ depth → depth * room ≤ capacity → (n : ℕ) → size f + n ≤ room → length values + n ≤ capacity
+  room_above room depth capacity fit few large n fits =
+      let rows = length-row room fs fit.1 in
+      let own_room : (length fs + 1) * room ≡ length fs * room + room = omega arith in
+      let all : (length fs + 1) * room ≤ depth * room = mul-le (length fs + 1) room depth room few (omega arith) in
+      omega (arith, length_values, rows, own_room, all, large, fits)
+
+  -- room for a further frame's locals, whatever its arguments
+  pub room_for_call : (room depth capacity : ℕ) → Fit room (f ∷ fs) → length fs + 1 < depth → depth * room ≤ capacity → (n : ℕ) → n ≤ room → length values + n ≤ capacity
+  room_for_call room depth capacity fit few large n fits =
+      let rows = length-row room (f ∷ fs) fit in
+      let same = ap length l.values_are in
+      let one : length (f ∷ fs) * room + room ≡ (length fs + 2) * room = omega arith in
+      let all : (length fs + 2) * room ≤ depth * room = mul-le (length fs + 2) room depth room (omega (arith, few)) (omega arith) in
+      omega (arith, rows, same, one, all, large, fits)
+
+  -- ---- calls
+
+  -- the new frame lies above what is left of the running one
+  pub called : (method n : ℕ) (kinds : List ValueKind) (object : Option Addr) → n ≤ length f.stack
+      → Lays (values ++ map zero_value kinds)
+      (record { method = method; place = 0; constructed = object; arguments = length values - n; locals = length values; stack = length values + length kinds })
+      (running ∷ below)
+      (new_frame method (reverse (take n f.stack)) kinds object)
+      (record f { stack = drop n f.stack } ∷ fs)
+  called method n kinds object less =
+      let caller : Frame = record f { stack = drop n f.stack } in
+      let arguments : List Value = reverse (take n f.stack) in
+      let zeros : List Value = map zero_value kinds in
+      let stack : reverse f.stack ≡ reverse (drop n f.stack) ++ arguments =
+      ap reverse (sym (take-append-drop n f.stack)) ∙ reverse-append (take n f.stack) (drop n f.stack) in
+      let own_split : own f ≡ own caller ++ arguments =
+      ap (λ xs. f.arguments ++ (f.locals ++ xs)) stack
+      ∙ ap (λ xs. f.arguments ++ xs) (sym (append_assoc f.locals (reverse (drop n f.stack)) arguments))
+      ∙ sym (append_assoc f.arguments (f.locals ++ reverse (drop n f.stack)) arguments) in
+      let split : values ≡ row (caller ∷ fs) ++ arguments =
+      l.values_are ∙ ap (λ xs. row fs ++ xs) own_split ∙ sym (append_assoc (row fs) (own caller) arguments) in
+      let many : length arguments ≡ n = length-reverse (take n f.stack) ∙ length-take-le n f.stack less in
+      let long : length values ≡ length (row (caller ∷ fs)) + length arguments = ap length split ∙ length-append (row (caller ∷ fs)) arguments in
+      let from : length values - n ≡ length (row (caller ∷ fs)) = omega (arith, long, many) in
+      let count : length (map zero_value kinds) ≡ length kinds = length-map kinds zero_value in
+      let top : length values + length kinds ≡ length (row (caller ∷ fs)) + (length arguments + length zeros) = omega (arith, long, count) in
+      record {
+        values_are =
+            ap (λ xs. xs ++ zeros) split
+            ∙ append_assoc (row (caller ∷ fs)) arguments zeros
+            ∙ ap (λ xs. row (caller ∷ fs) ++ (arguments ++ xs)) (sym (append-nil zeros));
+        running_is =
+            ap (λ (k : ℕ). record { method = method; place = 0; constructed = object; arguments = k; locals = length values; stack = length values + length kinds }) from
+            ∙ ap (λ (k : ℕ). record { method = method; place = 0; constructed = object; arguments = length (row (caller ∷ fs)); locals = k; stack = length values + length kinds }) long
+            ∙ ap (λ (k : ℕ). record { method = method; place = 0; constructed = object; arguments = length (row (caller ∷ fs)); locals = length (row (caller ∷ fs)) + length arguments; stack = k }) top;
+        below_are = rw (l.running_is, l.below_are) refl;
+      }
+
+-- the frame below runs again
+pub back : (values : List Value) (running next : Activation) (below : List Activation) (f g : Frame) (fs : List Frame)
+    → Lays values running (next ∷ below) f (g ∷ fs) → Lays (take running.arguments values) next below g fs
+back values running next below f g fs l =
+    let values_are : take running.arguments values ≡ row (g ∷ fs) =
+    ap (λ (a : Activation). take a.arguments values) l.running_is
+    ∙ ap (take (length (row (g ∷ fs)))) l.values_are
+    ∙ take-append_seam (row (g ∷ fs)) (own f) in
+    record { values_are = values_are; running_is = cc; below_are = cc }

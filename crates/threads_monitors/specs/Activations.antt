@@ -1,0 +1,73 @@
+-- How the frames of a thread lie in its memory: all their values in one row, the lowest frame's first. No caller reads this.
+use Rattle.std.specs.Prelude.{◌≡◌, ◌≤◌, ℕ, ◌+◌, ◌-◌, ◌*◌, List, [], ◌∷◌, ◌++◌, length, reverse, take, drop}
+use Rattle.object_memory.specs.declared.values.Value.{Value}
+use Rattle.threads_monitors.specs.declared.frames.Activation.{Activation}
+use Rattle.threads_monitors.specs.Frames.{Frame, Frames, size}
+
+-- a frame's values in the row
+abbrev pub own : Frame → List Value
+own f = f.arguments ++ (f.locals ++ reverse f.stack)
+
+-- those of all frames, the running one's last
+abbrev pub row : List Frame → List Value
+row [] = []
+row (f ∷ fs) = row fs ++ own f
+
+-- where a frame's values lie, above those of the frames below it
+abbrev pub activation : List Frame → Frame → Activation
+activation fs f = record {
+  method = f.method;
+  place = f.place;
+  constructed = f.constructed;
+  arguments = length (row fs);
+  locals = length (row fs) + length f.arguments;
+  stack = length (row fs) + (length f.arguments + length f.locals);
+}
+
+abbrev pub activations : List Frame → List Activation
+activations [] = []
+activations (f ∷ fs) = activation fs f ∷ activations fs
+
+-- the frame that lies there, with nothing above it
+abbrev pub frame_of : List Value → Activation → Frame
+frame_of values a = record {
+  method = a.method;
+  place = a.place;
+  arguments = take (a.locals - a.arguments) (drop a.arguments values);
+  locals = take (a.stack - a.locals) (drop a.locals values);
+  stack = reverse (drop a.stack values);
+  constructed = a.constructed;
+}
+
+-- the frames that lie in the row, the uppermost first
+abbrev pub frames_of : List Value → List Activation → List Frame
+frames_of values [] = []
+frames_of values (a ∷ rest) = frame_of values a ∷ frames_of (take a.arguments values) rest
+
+-- the row and the activations are those of these frames
+pub record Lays (values : List Value) (running : Activation) (below : List Activation) (f : Frame) (fs : List Frame) : Type 0 where
+  pub values_are : values ≡ row (f ∷ fs)
+  pub running_is : running ≡ activation fs f
+  pub below_are : below ≡ activations fs
+
+-- no frame has more values than the room for one
+abbrev pub Fit : ℕ → List Frame → Type 0
+Fit room [] = Unit {0}
+Fit room (f ∷ fs) = (size f ≤ room) × Fit room fs
+
+-- what callers see of a row with its activations, the running one beside those below it
+abbrev pub shown : List Value → Activation → List Activation → (depth room : ℕ) → Frames
+shown values running below depth room = record {
+  running = frame_of values running;
+  below = frames_of (take running.arguments values) (reverse below);
+  depth = depth;
+  room = room;
+}
+
+-- the row and the activations are those of the frames, which fit into the memory that was taken
+pub record IsSound (values : List Value) (running : Activation) (below : List Activation) (depth room capacity most_below : ℕ) : Type 0 where
+  pub lays : Lays values running (reverse below) (shown values running below depth room).running (shown values running below depth room).below
+  pub fit : Fit room ((shown values running below depth room).running ∷ (shown values running below depth room).below)
+  pub few : length below + 1 ≤ depth
+  pub large : depth * room ≤ capacity
+  pub deep : depth ≤ most_below + 1

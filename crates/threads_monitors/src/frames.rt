@@ -1,0 +1,244 @@
+// The frames of a thread.
+
+ghost use Rattle.std.specs.Prelude.{◌≡◌, ◌<◌, ◌≤◌, ◌+◌, ◌*◌, ◌^◌, ◌∷◌, ◌++◌, [], length, map, slice_get, None, Some, IfOk, ◌==◌, vec_len, vec_capacity};
+ghost use Rattle.threads_monitors.specs.Frames.{zero_value};
+
+use cil_model::memory::NoMemory;
+use object_memory::{Addr, Value, ValueKind};
+use std::alloc::Global;
+use std::marker::Model;
+
+/// Where the values of a frame begin in the row of all values: its arguments, its locals and its stack. Beside them what
+/// it runs, the place of the next instruction, and the object to push at the end of a constructor.
+#[derive(Clone, Copy, Debug)]
+struct Activation {
+    method: u32,
+    place: u32,
+    constructed: Option<Addr>,
+    arguments: usize,
+    locals: usize,
+    stack: usize,
+}
+
+/// The frames of a live thread (ECMA-335 I.12.3.2), one of which runs. All memory is taken when the first one is made: no
+/// call and no return takes any. Contracts see a list of frames with their arguments, locals and stacks.
+#[derive(Debug, Drop)]
+pub struct FrameMemory {
+    values: Vec<Value>,
+    running: Activation,
+    below: Vec<Activation>,
+    depth: usize,
+    room: usize,
+}
+
+impl Model for FrameMemory {
+    ghost use Rattle.std.specs.Prelude.{vec_capacity};
+    ghost use Rattle.threads_monitors.specs.Activations.{IsSound, shown};
+    ghost use Rattle.threads_monitors.specs.Frames.{Frames};
+
+    ghost Value = { Frames };
+
+    ghost view = { λ m. shown m.values.items m.running m.below.items m.depth m.room };
+
+    ghost invariant = { λ m. IsSound m.values.items m.running m.below.items m.depth m.room (vec_capacity m.values) (vec_capacity m.below) };
+}
+
+impl FrameMemory {
+    ghost use Rattle.threads_monitors.specs.Frames.{size, new_frame, returned, with_argument, with_call, with_local, with_place, with_stack};
+
+    /// The memory of a thread that begins with a frame of the method, with these arguments and with zeros in locals of
+    /// these kinds. There is room for `depth` frames, and in each for `room` values: arguments, locals and stack.
+    ///
+    /// No other call takes memory. `NoMemory` where there is none; nothing is kept then.
+    pub fn new(
+        alloc: Global,
+        depth: usize,
+        room: usize,
+        method: u32,
+        arguments: &[Value],
+        locals: &[ValueKind],
+    ) -> Result<FrameMemory, NoMemory>
+        requires some { 0 < depth }
+        requires limits { depth * room < 2 ^ 32 }
+        requires fits { length arguments.now + length locals.now ≤ room }
+        ensures { IfOk result (λ m. m ≡ record { running = new_frame method arguments.now locals.now None; below = []; depth = depth; room = room }) }
+    {
+        let mut values = Vec::with_capacity(alloc, depth * room)?;
+        let below = Vec::with_capacity(alloc, depth - 1)?;
+        push_values(&mut values, arguments);
+        push_zeros(&mut values, locals);
+        let running = Activation {
+            method,
+            place: 0,
+            constructed: None,
+            arguments: 0,
+            locals: arguments.len(),
+            stack: values.len(),
+        };
+        Ok(FrameMemory {
+            values,
+            running,
+            below,
+            depth,
+            room,
+        })
+    }
+
+    /// The number of the method that runs.
+    pub fn method(&self) -> u32
+        ensures { result ≡ self.now.running.method }
+    {
+        self.running.method
+    }
+
+    /// The place of the next instruction of the running method.
+    pub fn place(&self) -> u32
+        ensures { result ≡ self.now.running.place }
+    {
+        self.running.place
+    }
+
+    /// Sets the place of the next instruction. Nothing else changes.
+    pub fn set_place(&mut self, place: u32)
+        ensures { self.new ≡ with_place self.old place }
+    {
+        self.running.place = place;
+    }
+
+    /// The object that the running constructor of `newobj` makes (ECMA-335 III.4.21). None in any other method.
+    pub fn constructed(&self) -> Option<Addr>
+        ensures { result ≡ self.now.running.constructed }
+    {
+        self.running.constructed
+    }
+
+    /// Pushes a value on the running frame's stack.
+    pub fn push(&mut self, value: Value)
+        requires { size self.old.running < self.old.room }
+        ensures { self.new ≡ with_stack self.old (value ∷ self.old.running.stack) }
+    {
+        self.values.push_reserved(value);
+    }
+
+    /// Takes the topmost value off the running frame's stack.
+    pub fn pop(&mut self) -> Value
+        requires { 0 < length self.old.running.stack }
+        ensures popped { self.old.running.stack ≡ result ∷ self.new.running.stack }
+        ensures others { self.new ≡ with_stack self.old self.new.running.stack }
+    {
+        self.values.pop().unwrap()
+    }
+
+    /// An argument of the running frame (ECMA-335 III.3.38). They count from 0.
+    pub fn argument(&self, index: usize) -> Value
+        requires { index < length self.now.running.arguments }
+        ensures { slice_get self.now.running.arguments index ≡ Some result }
+    {
+        self.values[self.running.arguments + index]
+    }
+
+    /// Stores to an argument of the running frame (ECMA-335 III.3.61). Nothing else changes.
+    pub fn set_argument(&mut self, index: usize, value: Value)
+        requires { index < length self.old.running.arguments }
+        ensures { self.new ≡ with_argument self.old index value }
+    {
+        self.values[self.running.arguments + index] = value;
+    }
+
+    /// A local of the running frame (ECMA-335 III.3.43). They count from 0.
+    pub fn local(&self, index: usize) -> Value
+        requires { index < length self.now.running.locals }
+        ensures { slice_get self.now.running.locals index ≡ Some result }
+    {
+        self.values[self.running.locals + index]
+    }
+
+    /// Stores to a local of the running frame (ECMA-335 III.3.63). Nothing else changes.
+    pub fn set_local(&mut self, index: usize, value: Value)
+        requires { index < length self.old.running.locals }
+        ensures { self.new ≡ with_local self.old index value }
+    {
+        self.values[self.running.locals + index] = value;
+    }
+
+    /// Whether there are as many frames as there may be.
+    pub fn is_full(&self) -> bool
+        ensures { result ≡ (length self.now.below + 1 == self.now.depth) }
+    {
+        self.below.len() + 1 == self.depth
+    }
+
+    /// Calls a method (ECMA-335 III.3.19): the uppermost `arguments` values of the stack become the new frame's arguments,
+    /// which had been pushed in their order, and its locals are zeros of these kinds. It takes no memory, and moves no argument.
+    pub fn push_frame(
+        &mut self,
+        method: u32,
+        arguments: usize,
+        locals: &[ValueKind],
+        constructed: Option<Addr>,
+    )
+        requires depth { length self.old.below + 1 < self.old.depth }
+        requires arguments { arguments ≤ length self.old.running.stack }
+        requires room { arguments + length locals.now ≤ self.old.room }
+        ensures { self.new ≡ with_call self.old method arguments locals.now constructed }
+    {
+        let locals_start = self.values.len();
+        let arguments_start = locals_start - arguments;
+        push_zeros(&mut self.values, locals);
+        self.below.push_reserved(self.running);
+        self.running = Activation {
+            method,
+            place: 0,
+            constructed,
+            arguments: arguments_start,
+            locals: locals_start,
+            stack: self.values.len(),
+        };
+    }
+
+    /// Drops the running frame with its values, and the one below it runs again (ECMA-335 III.3.57).
+    pub fn pop_frame(&mut self)
+        requires { 0 < length self.old.below }
+        ensures { self.new ≡ returned self.old }
+    {
+        self.values.truncate(self.running.arguments);
+        self.running = self.below.pop().unwrap();
+    }
+}
+
+/// 0 of the kind, or null.
+fn zero(kind: ValueKind) -> Value
+    ensures { result ≡ zero_value kind }
+{
+    match kind {
+        ValueKind::Int32 => Value::Int32(0),
+        ValueKind::Int64 => Value::Int64(0),
+        ValueKind::Native => Value::Native(0),
+        ValueKind::Ref => Value::Ref(Addr::null()),
+    }
+}
+
+/// Appends a zero of each kind. There is room for them.
+fn push_zeros(values: &mut Vec<Value>, kinds: &[ValueKind])
+    requires room { vec_len values.old + length kinds.now ≤ vec_capacity values.old }
+    ensures items { values.new.items ≡ values.old.items ++ map zero_value kinds.now }
+    ensures capacity { vec_capacity values.new ≡ vec_capacity values.old }
+{
+    for kind in kinds {
+        values.push_reserved(zero(*kind));
+    }
+}
+
+/// Appends the values. There is room for them.
+fn push_values(values: &mut Vec<Value>, more: &[Value])
+    requires room { vec_len values.old + length more.now ≤ vec_capacity values.old }
+    ensures items { values.new.items ≡ values.old.items ++ more.now }
+    ensures capacity { vec_capacity values.new ≡ vec_capacity values.old }
+{
+    for value in more {
+        values.push_reserved(*value);
+    }
+}
+
+#[cfg(test)]
+mod tests;
