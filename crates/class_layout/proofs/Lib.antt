@@ -1,0 +1,6 @@
+pub mod Places
+pub mod ClassNumbers
+pub mod AncestorLaws
+pub mod Marks
+pub mod BracketLaws
+pub mod NumberedLaws

@@ -1,0 +1,3 @@
+pub mod ByClass
+pub mod Tested
+pub mod Laid
