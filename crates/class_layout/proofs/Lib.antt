@@ -4,3 +4,4 @@ pub mod AncestorLaws
 pub mod Marks
 pub mod BracketLaws
 pub mod NumberedLaws
+pub mod KindLaws

@@ -1,5 +1,5 @@
 -- Places in lists.
-use Rattle.std.proofs.Common.{◌≡◌, ◌<◌, ◌+◌, ◌==◌, ℕ, zero, suc, Bool, true, false, ◌||◌, cond, IsTrue, List, [], ◌∷◌, ◌++◌, length, map, get_or, take, slice_get, Option, Some, None, option_map, refl, sym, ap, ◌∙◌, arith}
+use Rattle.std.proofs.Common.{◌≡◌, ◌<◌, ◌+◌, ◌==◌, ℕ, zero, suc, Bool, true, false, ◌||◌, cond, IsTrue, List, [], ◌∷◌, ◌++◌, length, map, get_or, take, slice_get, Option, Some, None, option_map, refl, sym, ap, ◌∙◌, arith, append_assoc}
 use Rattle.std.proofs.Math.Seq.{take-length}
 use Rattle.std.specs.Prelude.{filter_map, flat_map}
 use Rattle.std.specs.List.{list_any, position_from, cons_option}
@@ -64,3 +64,17 @@ flat_takes f xs i d ys zs l before after =
 -- lists with the same answers have one length
 pub same_length : {X Y Z : Type 0} (f : X → Z) (g : Y → Z) (xs : List X) (ys : List Y) → map f xs ≡ map g ys → length xs ≡ length ys
 same_length f g xs ys e = sym (length-map xs f) ∙ ap length e ∙ length-map ys g
+
+-- the same, behind a list that stands before
+pub flat_takes_after : {X Y : Type 0} (f : X → List Y) (xs : List X) (i : ℕ) (d : X) (first ys zs : List Y) → i < length xs → ys ≡ first ++ flat_map f (take i xs) → zs ≡ ys ++ f (get_or xs i d) → zs ≡ first ++ flat_map f (take (i + 1) xs)
+flat_takes_after f xs i d first ys zs l before after =
+    after ∙ ap (λ vs. vs ++ f (get_or xs i d)) before ∙ append_assoc first (flat_map f (take i xs)) (f (get_or xs i d)) ∙
+    ap (λ vs. first ++ vs) (flat_takes f xs i d (flat_map f (take i xs)) (flat_map f (take i xs) ++ f (get_or xs i d)) l refl refl)
+
+pub filter_map_of_map : {X Y Z : Type 0} (f : X → Y) (h : Y → Option Z) (xs : List X) → filter_map h (map f xs) ≡ filter_map (λ x. h (f x)) xs
+filter_map_of_map f h [] = refl
+filter_map_of_map f h (x ∷ xs) = ap (cons_option (h (f x))) (filter_map_of_map f h xs)
+
+-- what a loop has filtered, when it has seen all items
+pub all_filtered : {X Y Z : Type 0} (h : Y → Option Z) (f : X → Y) (xs : List X) (i : ℕ) (zs : List Z) → i ≡ length xs → zs ≡ filter_map (λ x. h (f x)) (take i xs) → zs ≡ filter_map h (map f xs)
+all_filtered h f xs i zs seen e = e ∙ ap (λ n. filter_map (λ x. h (f x)) (take n xs)) seen ∙ ap (filter_map (λ x. h (f x))) (take-length xs) ∙ sym (filter_map_of_map f h xs)

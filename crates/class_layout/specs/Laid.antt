@@ -4,6 +4,7 @@ use Rattle.cil_model.specs.declared.trees.Tree.{Tree}
 use Rattle.cil_model.specs.Chains.{is_interface}
 use Rattle.cil_model.specs.Legality.{IsLegal}
 use Rattle.class_layout.specs.ByClass.{by_class, base_number, assignable_row}
+use Rattle.class_layout.specs.Kinds.{slot_kinds}
 use Rattle.class_layout.specs.declared.ancestry.Ancestry.{Ancestry}
 use Rattle.class_layout.specs.declared.layout.Layout.{Layout}
 
@@ -17,3 +18,4 @@ pub record IsAncestry (tree : Tree) (table : Ancestry) : Type 0 where
 pub record IsLayout (tree : Tree) (layout : Layout) : Type 0 where
   pub legal : IsLegal tree
   pub ancestry : IsAncestry tree layout.ancestry
+  pub kinds : map (λ row. row.items) layout.kinds.items ≡ by_class tree (slot_kinds tree)

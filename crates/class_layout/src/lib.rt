@@ -2,10 +2,13 @@
 #![tactic(auto)]
 
 mod ancestry;
+mod fields;
+mod kinds;
 mod layout;
 mod program;
 mod rows;
 mod tested;
 
+pub use kinds::SlotKind;
 pub use layout::Layout;
 pub use program::lay_out;
