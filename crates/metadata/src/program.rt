@@ -64,9 +64,10 @@ impl Model for Program {
 }
 
 impl Program {
-    /// The tree that was resolved, as it was given.
+    /// The tree that was resolved, as it was given. It is legal.
     pub fn tree(&self) -> &Tree
-        ensures { result.now ≡ self.now }
+        ensures whole { result.now ≡ self.now }
+        ensures legal { IsLegal self.now }
     {
         &self.tree
     }

@@ -1,0 +1,7 @@
+pub mod Places
+pub mod ClassNumbers
+pub mod AncestorLaws
+pub mod Marks
+pub mod BracketLaws
+pub mod NumberedLaws
+pub mod KindLaws

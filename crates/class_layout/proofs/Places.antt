@@ -1,0 +1,80 @@
+-- Places in lists.
+use Rattle.std.proofs.Common.{◌≡◌, ◌<◌, ◌+◌, ◌==◌, ℕ, zero, suc, Bool, true, false, ◌||◌, cond, IsTrue, List, [], ◌∷◌, ◌++◌, length, map, get_or, take, slice_get, Option, Some, None, option_map, refl, sym, ap, ◌∙◌, arith, append_assoc}
+use Rattle.std.proofs.Math.Seq.{take-length}
+use Rattle.std.specs.Prelude.{filter_map, flat_map}
+use Rattle.std.specs.List.{list_any, position_from, cons_option}
+use Rattle.std.proofs.lemmas.List.{take_more, append-nil, length-map}
+use Rattle.std.proofs.lemmas.Grind.{flat_map-append}
+use Rattle.std.proofs.lemmas.Bool.{or_parts}
+use Rattle.cil_model.specs.Legality.{has_repeat}
+use Rattle.name_tables.proofs.NumberLaws.{none_is_some, position_from-suc}
+use Rattle.name_tables.proofs.Lists.{map_of_map, filter_map-take_more}
+
+-- two lists with the same element at each place
+pub same_elements : {X : Type 0} (xs ys : List X) → ((j : ℕ) → slice_get xs j ≡ slice_get ys j) → xs ≡ ys
+same_elements [] [] h = refl
+same_elements [] (y ∷ ys) h = absurd (none_is_some y (h 0))
+same_elements (x ∷ xs) [] h = absurd (none_is_some x (sym (h 0)))
+same_elements {X} (x ∷ xs) (y ∷ ys) h =
+    let first : Some x ≡ Some y = h 0 in
+    let e : x ≡ y = cc in
+    let rest : xs ≡ ys = same_elements xs ys (λ j. h (suc j)) in
+    ap (λ z. z ∷ xs) e ∙ ap (λ zs. y ∷ zs) rest
+
+-- an item of a list in which no item passes does not pass
+pub passes_not : {X : Type 0} (test : X → Bool) (xs : List X) (n : ℕ) (x : X) → list_any test xs ≡ false → slice_get xs n ≡ Some x → test x ≡ false
+passes_not test [] n x h e = absurd (none_is_some x e)
+passes_not {X} test (y ∷ ys) zero x h e =
+    let s : y ≡ x = cc in
+    ap test (sym s) ∙ (or_parts (test y) (list_any test ys) h).0
+passes_not test (y ∷ ys) (suc n) x h e = passes_not test ys n x (or_parts (test y) (list_any test ys) h).1 e
+
+-- where no item stands twice, each is found at its own place
+pub first_place : {X : Type 0} (same : X → X → Bool) → ((x : X) → IsTrue (same x x)) → ((x y : X) → same x y ≡ same y x) → (xs : List X) (n : ℕ) (x : X) →
+    has_repeat same xs ≡ false → slice_get xs n ≡ Some x → position_from (same x) 0 xs ≡ Some n
+first_place same itself symm [] n x h e = absurd (none_is_some x e)
+first_place {X} same itself symm (y ∷ ys) zero x h e =
+    let s : y ≡ x = cc in
+    ap (λ (z : X). cond (same x z) (Some 0) (position_from (same x) 1 ys)) s ∙ ap (λ b. cond b (Some 0) (position_from (same x) 1 ys)) (itself x)
+first_place same itself symm (y ∷ ys) (suc n) x h e =
+    let apart : same x y ≡ false = symm x y ∙ passes_not (same y) ys n x (or_parts _ _ h).0 e in
+    ap (λ b. cond b (Some 0) (position_from (same x) 1 ys)) apart ∙ position_from-suc (same x) 0 ys ∙ ap (option_map suc) (first_place same itself symm ys n x (or_parts _ _ h).1 e)
+
+-- what a loop over keys has pushed, when it has seen all of them
+pub all_pushed : {K E C Y : Type 0} (key : K → C) (name : E → C) (answer : C → Y) (pushed : List Y) (ks : List K) (es : List E) (n : ℕ) → n ≡ length ks →
+    pushed ≡ map (λ k. answer (key k)) (take n ks) → map key ks ≡ map name es → pushed ≡ map (λ e. answer (name e)) es
+all_pushed key name answer pushed ks es n h e keys =
+    e ∙ ap (λ m. map (λ k. answer (key k)) (take m ks)) h ∙ ap (map (λ k. answer (key k))) (take-length ks) ∙ sym (map_of_map key answer ks) ∙ ap (map answer) keys ∙ map_of_map name answer es
+
+-- a loop that filters, where nothing or one more is pushed
+pub filter_skips : {X Y : Type 0} (h : X → Option Y) (xs : List X) (i : ℕ) (x : X) (ys : List Y) → i < length xs → x ≡ get_or xs i x → ys ≡ filter_map h (take i xs) → h x ≡ None → ys ≡ filter_map h (take (i + 1) xs)
+filter_skips h xs i x ys l e before none =
+    before ∙ sym (filter_map-take_more h xs i x l e ∙ ap (λ o. filter_map h (take i xs) ++ cons_option o []) none ∙ append-nil (filter_map h (take i xs)))
+
+pub filter_takes : {X Y : Type 0} (h : X → Option Y) (xs : List X) (i : ℕ) (x : X) (ys zs : List Y) (y : Y) → i < length xs → x ≡ get_or xs i x → ys ≡ filter_map h (take i xs) → h x ≡ Some y → zs ≡ ys ++ y ∷ [] → zs ≡ filter_map h (take (i + 1) xs)
+filter_takes h xs i x ys zs y l e before some after =
+    after ∙ ap (λ vs. vs ++ y ∷ []) before ∙ sym (filter_map-take_more h xs i x l e ∙ ap (λ o. filter_map h (take i xs) ++ cons_option o []) some)
+
+-- a loop that pushes a list for each item
+pub flat_takes : {X Y : Type 0} (f : X → List Y) (xs : List X) (i : ℕ) (d : X) (ys zs : List Y) → i < length xs → ys ≡ flat_map f (take i xs) → zs ≡ ys ++ f (get_or xs i d) → zs ≡ flat_map f (take (i + 1) xs)
+flat_takes f xs i d ys zs l before after =
+    after ∙ ap (λ vs. vs ++ f (get_or xs i d)) before ∙ ap (λ vs. flat_map f (take i xs) ++ vs) (sym (append-nil (f (get_or xs i d)))) ∙
+    sym (flat_map-append f (take i xs) (get_or xs i d ∷ [])) ∙ ap (flat_map f) (sym (take_more xs i d l))
+
+-- lists with the same answers have one length
+pub same_length : {X Y Z : Type 0} (f : X → Z) (g : Y → Z) (xs : List X) (ys : List Y) → map f xs ≡ map g ys → length xs ≡ length ys
+same_length f g xs ys e = sym (length-map xs f) ∙ ap length e ∙ length-map ys g
+
+-- the same, behind a list that stands before
+pub flat_takes_after : {X Y : Type 0} (f : X → List Y) (xs : List X) (i : ℕ) (d : X) (first ys zs : List Y) → i < length xs → ys ≡ first ++ flat_map f (take i xs) → zs ≡ ys ++ f (get_or xs i d) → zs ≡ first ++ flat_map f (take (i + 1) xs)
+flat_takes_after f xs i d first ys zs l before after =
+    after ∙ ap (λ vs. vs ++ f (get_or xs i d)) before ∙ append_assoc first (flat_map f (take i xs)) (f (get_or xs i d)) ∙
+    ap (λ vs. first ++ vs) (flat_takes f xs i d (flat_map f (take i xs)) (flat_map f (take i xs) ++ f (get_or xs i d)) l refl refl)
+
+pub filter_map_of_map : {X Y Z : Type 0} (f : X → Y) (h : Y → Option Z) (xs : List X) → filter_map h (map f xs) ≡ filter_map (λ x. h (f x)) xs
+filter_map_of_map f h [] = refl
+filter_map_of_map f h (x ∷ xs) = ap (cons_option (h (f x))) (filter_map_of_map f h xs)
+
+-- what a loop has filtered, when it has seen all items
+pub all_filtered : {X Y Z : Type 0} (h : Y → Option Z) (f : X → Y) (xs : List X) (i : ℕ) (zs : List Z) → i ≡ length xs → zs ≡ filter_map (λ x. h (f x)) (take i xs) → zs ≡ filter_map h (map f xs)
+all_filtered h f xs i zs seen e = e ∙ ap (λ n. filter_map (λ x. h (f x)) (take n xs)) seen ∙ ap (filter_map (λ x. h (f x))) (take-length xs) ∙ sym (filter_map_of_map f h xs)

@@ -1,0 +1,4 @@
+pub mod ByClass
+pub mod Tested
+pub mod Kinds
+pub mod Laid

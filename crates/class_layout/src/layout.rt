@@ -1,0 +1,89 @@
+// The layout of a program.
+
+ghost use Rattle.std.specs.Prelude.{◌≡◌, IfOk, Some, length, option_map, slice_get};
+ghost use Rattle.cil_model.specs.declared.trees.Tree.{Tree};
+ghost use Rattle.cil_model.specs.declared.types.ClassName.{ClassName};
+ghost use Rattle.cil_model.specs.declared.types.DeclaredType.{DeclaredType};
+ghost use Rattle.cil_model.specs.Assignable.{is_assignable};
+ghost use Rattle.cil_model.specs.Chains.{is_interface};
+ghost use Rattle.cil_model.specs.Fields.{slot_types, is_reference_slot};
+ghost use Rattle.cil_model.specs.Legality.{IsLegal};
+ghost use Rattle.resolved_code.specs.Numbered.{class_name, type_at};
+ghost use Rattle.class_layout.specs.ByClass.{base_number};
+
+use crate::ancestry::Ancestry;
+use crate::fields::{all_kinds, is_reference_at, kind_at};
+use crate::kinds::SlotKind;
+use crate::rows::row_at;
+use crate::tested::is_tested;
+use cil_model::memory::NoMemory;
+use name_tables::lookups::NameTables;
+use resolved_code::types::NumberedType;
+use std::alloc::Global;
+
+/// Where the fields of a program lie, which methods its virtual calls run, and which types stand for others. Contracts say whose
+/// layout it is by `IsLayout`.
+#[derive(Debug, Drop)]
+pub struct Layout {
+    ancestry: Ancestry,
+    kinds: Vec<Vec<SlotKind>>,
+}
+
+impl Layout {
+    ghost use Rattle.class_layout.specs.Laid.{IsLayout};
+    ghost use Rattle.class_layout.specs.Kinds.{kind_of};
+
+    /// The layout of a legal tree. Fails for want of memory alone.
+    pub(crate) fn new(alloc: Global, names: &NameTables) -> Result<Self, NoMemory>
+        requires { IsLegal names.now.classes.tree.now }
+        ensures { IfOk result (λ layout. IsLayout names.now.classes.tree.now layout) }
+    {
+        Ok(Layout {
+            ancestry: Ancestry::new(alloc, names)?,
+            kinds: all_kinds(alloc, names)?,
+        })
+    }
+
+    /// The number of the base of a class (ECMA-335 II.10.1); none where it has none, or where no class has the number.
+    pub fn base(&self, class: usize) -> Option<usize>
+        ensures { (tree : Tree) → IsLayout tree self.now → (c : ClassName) → class_name tree class ≡ Some c → result ≡ base_number tree c }
+    {
+        self.ancestry.base(class)
+    }
+
+    /// Whether a class is an interface (ECMA-335 II.12).
+    pub fn is_interface(&self, class: usize) -> bool
+        ensures { (tree : Tree) → IsLayout tree self.now → (c : ClassName) → class_name tree class ≡ Some c → result ≡ is_interface tree c }
+    {
+        self.ancestry.is_interface(class)
+    }
+
+    /// Whether a value of the first type may stand where the second is wanted (ECMA-335 I.8.7). An array may stand for one of as many
+    /// brackets where its element may stand for the other's, and for `object` with fewer.
+    pub fn assignable(&self, from: NumberedType, to: NumberedType) -> bool
+        ensures { (tree : Tree) → IsLayout tree self.now → (a b : DeclaredType) → type_at tree from ≡ Some a → type_at tree to ≡ Some b → result ≡ is_assignable tree a b }
+    {
+        is_tested(&self.ancestry, from, to)
+    }
+
+    /// How many slots an object of a class has: the hidden field of a `Cilvm.Thread`, and its instance fields with those of its bases.
+    pub fn slots(&self, class: usize) -> usize
+        ensures { (tree : Tree) → IsLayout tree self.now → (c : ClassName) → class_name tree class ≡ Some c → result ≡ length (slot_types tree c) }
+    {
+        row_at(self.kinds.as_slice(), class).len()
+    }
+
+    /// What a slot of an object of a class holds; none from `slots` on.
+    pub fn kind(&self, class: usize, slot: usize) -> Option<SlotKind>
+        ensures { (tree : Tree) → IsLayout tree self.now → (c : ClassName) → class_name tree class ≡ Some c → result ≡ option_map kind_of (slice_get (slot_types tree c) slot) }
+    {
+        kind_at(row_at(self.kinds.as_slice(), class), slot)
+    }
+
+    /// Whether a slot of an object of a class holds a reference.
+    pub fn is_reference(&self, class: usize, slot: usize) -> bool
+        ensures { (tree : Tree) → IsLayout tree self.now → (c : ClassName) → class_name tree class ≡ Some c → result ≡ is_reference_slot tree c slot }
+    {
+        is_reference_at(row_at(self.kinds.as_slice(), class), slot)
+    }
+}

@@ -1,0 +1,14 @@
+// Where the fields of a legal program lie, which methods its virtual calls run, and which types stand for others: by tables of numbers.
+#![tactic(auto)]
+
+mod ancestry;
+mod fields;
+mod kinds;
+mod layout;
+mod program;
+mod rows;
+mod tested;
+
+pub use kinds::SlotKind;
+pub use layout::Layout;
+pub use program::lay_out;

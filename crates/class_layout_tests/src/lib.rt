@@ -1,0 +1,5 @@
+//! Layouts of sources.
+#![tactic(auto)]
+
+#[cfg(test)]
+mod layouts;
