@@ -12,8 +12,8 @@ ghost use Rattle.cil_model.specs.Legality.{is_small_instruction, is_small_code, 
 ghost use Rattle.cil_model.specs.declared.types.ClassName.{ClassName};
 ghost use Rattle.metadata.specs.Counts.{instance_count, static_count};
 
-use crate::bodies::{code_of, lines_of};
-use crate::entry::methods_of_tree;
+use name_tables::bodies::{code_of, lines_of};
+use name_tables::trees::methods_of_tree;
 use crate::mentions::types_of_tree;
 use cil_model::instructions::Instruction;
 use cil_model::limits::{

@@ -1,0 +1,5 @@
+pub mod Lists
+pub mod LabelLaws
+pub mod LiteralNumbers
+pub mod StandLaws
+pub mod FoundLaws
