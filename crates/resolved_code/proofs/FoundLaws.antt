@@ -32,7 +32,8 @@ use Rattle.cil_model.specs.Mentions.{bases_named, literal_of, literals_of, types
 use Rattle.cil_model.specs.Legality.{IsLegal, is_known_extern, is_resolved, class_finds, is_possible_base, is_possible_type, is_source_interface, passes_source, finds_labels, finds_member, lacks_name}
 use Rattle.cil_model.proofs.SameLaws.{both_first, both_second, text_equivalence, same_text_itself}
 use Rattle.cil_model.proofs.Legal.{names_found}
-use Rattle.name_tables.specs.Numbers.{class_number, nearest_number, field_number, method_number, field_at, method_at, declarations, source_entry}
+use Rattle.name_tables.specs.Sameness.{same_field, same_called, called_of}
+use Rattle.name_tables.specs.Numbers.{class_number, place_in, nearest_number, field_number, method_number, field_at, method_at, declarations, source_entry}
 use Rattle.name_tables.proofs.FirstPlaces.{is_some-position_from}
 use Rattle.name_tables.proofs.NumberLaws.{declared_at_none, field_is_numbered, method_is_numbered, numbers_of_unknown}
 use Rattle.resolved_code.specs.Rules.{all_some, if_named, element_rule, type_rule, types_rule, member_of, with_owner, operation_rule, operations_rule, body_rule, kind_rule, resolved_method_rule, resolved_field_rule, with_members, class_rule, classes_rule}
@@ -176,7 +177,7 @@ module _ (tree : Tree) where
   field_owner is_static r h = by_number (class_number tree r.owner) refl
     where
       by_number : (o : Option ℕ) → class_number tree r.owner ≡ o → is_some o ≡ true
-      by_number None e = untrue (sym (ap (λ ns. is_some (nearest_number _ ns)) (numbers_of_unknown tree (longest_chain tree) r.owner e)) ∙ h)
+      by_number None e = untrue (sym (ap (λ ns. is_some (nearest_number (place_in (λ d. d.fields) (same_field (record { is_static = is_static; field_type = r.field_type; name = r.name })) tree) ns)) (numbers_of_unknown tree (longest_chain tree) r.owner e)) ∙ h)
       by_number (Some n) e = refl
 
   method_there : (is_instance : Bool) (r : MethodReference) → is_some (find_method tree is_instance r) ≡ true → is_some (method_number tree is_instance r) ≡ true
@@ -190,7 +191,7 @@ module _ (tree : Tree) where
   method_owner is_instance r h = by_number (class_number tree r.owner) refl
     where
       by_number : (o : Option ℕ) → class_number tree r.owner ≡ o → is_some o ≡ true
-      by_number None e = untrue (sym (ap (λ ns. is_some (nearest_number _ ns)) (none_searched r.name r.owner e)) ∙ h)
+      by_number None e = untrue (sym (ap (λ ns. is_some (nearest_number (place_in (λ d. d.methods) (λ m. same_called (record { name = r.name; signature = r.signature }, not is_instance) (called_of m)) tree) ns)) (none_searched r.name r.owner e)) ∙ h)
       by_number (Some n) e = refl
 
   -- ---- instructions
@@ -360,7 +361,11 @@ module _ (tree : Tree) where
 
     two : (cs : List ClassName) → list_all (is_resolved tree) cs ≡ true → list_all (is_possible_type tree) cs ≡ true → list_all (λ c. is_resolved tree c && is_possible_type tree c) cs ≡ true
     two [] h k = refl
-    two (c ∷ cs) h k = both _ _ (both _ _ (both_first _ _ h) (both_first _ _ k)) (two cs (both_second _ _ h) (both_second _ _ k))
+    two (c ∷ cs) h k =
+        let r = is_resolved tree c in
+        let p = is_possible_type tree c in
+        both (r && p) (list_all (λ x. is_resolved tree x && is_possible_type tree x) cs) (both r p (both_first r (list_all (is_resolved tree) cs) h) (both_first p (list_all (is_possible_type tree) cs) k))
+        (two cs (both_second r (list_all (is_resolved tree) cs) h) (both_second p (list_all (is_possible_type tree) cs) k))
 
     types_found : list_all is_type_found (types_of_tree tree) ≡ true
     types_found =

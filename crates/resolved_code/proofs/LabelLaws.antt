@@ -1,5 +1,5 @@
 -- The place of a label among all labels leads to the line that it stands before.
-use Rattle.std.proofs.Common.{◌≡◌, ℕ, suc, ◌+◌, Bool, true, false, cond, ◌||◌, List, [], ◌∷◌, ◌++◌, map, option_map, option_and_then, Option, Some, None, slice_get, refl, sym, ap, ◌∙◌, ◌<◌, length, take, get_or, arith, append_assoc}
+use Rattle.std.proofs.Common.{◌≡◌, ℕ, suc, ◌+◌, Bool, true, false, cond, ◌||◌, List, [], ◌∷◌, ◌++◌, map, option_map, option_and_then, Option, Some, None, slice_get, refl, sym, ap, ◌∙◌, ◌<◌, length, take, get_or, arith, append_assoc, length-take-le}
 use Rattle.std.specs.Prelude.{flat_map}
 use Rattle.std.proofs.lemmas.List.{take_more, append-nil}
 use Rattle.std.specs.List.{position_from, list_any}

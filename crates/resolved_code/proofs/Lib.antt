@@ -3,3 +3,5 @@ pub mod LabelLaws
 pub mod LiteralNumbers
 pub mod StandLaws
 pub mod FoundLaws
+pub mod OtherInstructions
+pub mod WholeLaws

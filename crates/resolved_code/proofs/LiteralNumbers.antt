@@ -2,6 +2,7 @@
 use Rattle.std.proofs.Common.{◌≡◌, ◌<◌, ◌+◌, length, take, get_or, ℕ, Bool, true, false, cond, not, ◌||◌, ◌&&◌, IsTrue, is_some, if◌then◌else◌, List, [], ◌∷◌, ◌++◌, map, filter, refl, sym, ap, subst, ◌∙◌, append_assoc}
 use Rattle.std.specs.List.{list_any, list_all, position_from}
 use Rattle.std.specs.Cmp.{IsEquivalence}
+use Rattle.std.proofs.lemmas.Bool.{and_from}
 use Rattle.std.proofs.lemmas.List.{map-append}
 use Rattle.cil_model.specs.Same.{same_text}
 use Rattle.std.specs.List.{filter_map}
@@ -80,10 +81,7 @@ all_among_once xs = among [] xs
     among pre (s ∷ rest) =
         let later : list_all (λ z. list_any (same_text z) (each_once same_text ((pre ++ s ∷ []) ++ rest))) rest ≡ true = among (pre ++ s ∷ []) rest in
         let P : List (List ℕ) → Type 0 = λ whole. list_all (λ z. list_any (same_text z) (each_once same_text whole)) rest ≡ true in
-        both_true (one pre s rest) (subst P (append_assoc pre (s ∷ []) rest) later)
-      where
-        both_true : {a b : Bool} → a ≡ true → b ≡ true → a && b ≡ true
-        both_true h k = ap (λ x. x && _) h ∙ k
+        and_from _ _ (one pre s rest) (subst P (append_assoc pre (s ∷ []) rest) later)
 
 -- one more instruction
 pub literals_more : {Z : Type 0} (view : Z → Instruction) (zs : List Z) (i : ℕ) (z : Z) → i < length zs → z ≡ get_or zs i z →

@@ -87,11 +87,11 @@ named_back {X} {Y} back rule stands (Some x) p h = mapped (λ (q : Option Y). op
 -- what is found passes
 passes : {X : Type 0} (test : X → Bool) (xs : List X) (x : X) → find test xs ≡ Some x → test x ≡ true
 passes test [] x e = none_some x e
-passes {X} test (y ∷ ys) x e = by_test (test y) refl e
+passes {X} test (y ∷ ys) x e = by_test (passes test ys x) (test y) refl e
   where
-    by_test : (b : Bool) → test y ≡ b → cond b (Some y) (find test ys) ≡ Some x → test x ≡ true
-    by_test true h k = given (λ (z : X). test z ≡ true) y x k h
-    by_test false h k = passes test ys x k
+    by_test : (find test ys ≡ Some x → test x ≡ true) → (b : Bool) → test y ≡ b → cond b (Some y) (find test ys) ≡ Some x → test x ≡ true
+    by_test further true h k = given (λ (z : X). test z ≡ true) y x k h
+    by_test further false h k = further k
 
 -- the item at the place where a text is found
 found_text : (s : List ℕ) (i : ℕ) (xs : List (List ℕ)) → position_from (same_text s) 0 xs ≡ Some i → slice_get xs i ≡ Some s

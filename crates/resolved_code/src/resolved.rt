@@ -78,5 +78,6 @@ pub fn resolve_classes(
     ensures exact { IfOk result (λ r. r ≡ classes_rule names.now.classes.tree.now) }
 {
     let resolver = Resolver { names, literals };
-    resolver.classes(alloc, names.classes.all())
+    let resolved = resolver.classes(alloc, names.classes.all())?;
+    Ok(resolved)
 }
