@@ -1,7 +1,7 @@
 // Names for refusals: the class, member or label at which a rule is broken first.
 
 use crate::cycles::is_own_base;
-use crate::doubled::{class_doubles, class_names, field_names, label_keys, text_keys};
+use crate::doubled::{class_doubles, class_names, field_names, text_keys};
 use crate::implemented::implements_all;
 use crate::kinds::kinds_fit;
 use crate::limits::is_small_class;
@@ -15,7 +15,7 @@ use cil_model::memory::NoMemory;
 use cil_model::texts::Text;
 use cil_model::trees::{Class, Line, Method, Tree};
 use cil_model::types::{ClassName, DeclaredType, Element};
-use name_tables::bodies::lines_of;
+use name_tables::bodies::{label_keys, lines_of};
 use name_tables::class_tables::method_keys;
 use name_tables::classes::methods_of;
 use name_tables::keys::TextKey;

@@ -53,4 +53,6 @@ label_places_end i n (x ∷ xs) line e =
 
 pub label_places_more : (lines : List Line) (i : ℕ) (line : Line) → i < length lines → line ≡ get_or lines i line → label_places 0 (take (i + 1) lines) ≡ label_places 0 (take i lines) ++ map (λ label. i) line.labels
 label_places_more lines i line l e =
-    ap (label_places 0) (take_more lines i line l ∙ ap (λ x. take i lines ++ x ∷ []) (sym e)) ∙ label_places_end 0 i (take i lines) line (sym (length-take-le i lines (omega (arith, l))))
+    ap (label_places 0) (take_more lines i line l ∙ ap (λ x. take i lines ++ x ∷ []) (sym e)) ∙ (
+    let k : length (take i lines) ≡ i = length-take-le i lines (omega (arith, l)) in
+    label_places_end 0 i (take i lines) line (omega (arith, k)))

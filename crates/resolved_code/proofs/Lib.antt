@@ -5,3 +5,4 @@ pub mod StandLaws
 pub mod FoundLaws
 pub mod OtherInstructions
 pub mod WholeLaws
+pub mod Made
