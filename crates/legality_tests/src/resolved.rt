@@ -21,7 +21,8 @@ const SOURCE: &str = ".assembly extern mscorlib {}
   ldc.i4 1 newarr class M[] pop ldc.i4 0 switch (N, L) ret } }
 ";
 
-const OPERATIONS: &str = "";
+const OPERATIONS: &str =
+    "Static(Body { max_stack: 8, locals: Sequence { items: [] }, operations: Sequence { items: [LoadString(0), Pop, LoadString(1), StoreStaticField(MemberNumber { class: 5, place: 0 }), LoadString(0), Pop, NewObject(MemberNumber { class: 6, place: 0 }), Duplicate, LoadField { owner: 6, field: MemberNumber { class: 5, place: 1 } }, BranchTrue(0), CallVirtual { owner: 6, method: MemberNumber { class: 6, place: 1 } }, LoadInt32(1), NewArray(NumberedType { element: Class(6), brackets: 1 }), Pop, LoadInt32(0), Switch(Sequence { items: [6, 0] }), Return] } })";
 
 /// The operations of `Main`.
 #[test]
