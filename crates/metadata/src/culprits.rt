@@ -1,13 +1,11 @@
 // Names for refusals: the class, member or label at which a rule is broken first.
 
-use crate::bodies::lines_of;
 use crate::cycles::is_own_base;
-use crate::doubled::{class_doubles, class_names, field_names, label_keys, text_keys};
-use crate::entry::methods_of_tree;
+use crate::doubled::{class_doubles, class_names, field_names, text_keys};
 use crate::implemented::implements_all;
 use crate::kinds::kinds_fit;
 use crate::limits::is_small_class;
-use crate::mentions::{instructions_of_tree, labels_of, owner_of_instruction, types_of_tree};
+use crate::mentions::{labels_of, owner_of_instruction, types_of_tree};
 use crate::rules::Rule;
 use crate::unknown::{
     is_known_class, is_known_extern, is_known_instruction, is_known_type, is_placed,
@@ -17,11 +15,13 @@ use cil_model::memory::NoMemory;
 use cil_model::texts::Text;
 use cil_model::trees::{Class, Line, Method, Tree};
 use cil_model::types::{ClassName, DeclaredType, Element};
+use name_tables::bodies::{label_keys, lines_of};
 use name_tables::class_tables::method_keys;
 use name_tables::classes::methods_of;
 use name_tables::keys::TextKey;
 use name_tables::lookups::NameTables;
 use name_tables::places::Places;
+use name_tables::trees::{instructions_of_tree, methods_of_tree};
 use std::alloc::Global;
 
 // ---- how names are written

@@ -7,11 +7,11 @@ ghost use Rattle.cil_model.specs.Declarations.{fields_of, methods_of, interfaces
 ghost use Rattle.cil_model.specs.Legality.{has_repeat, same_method, labels_before, class_doubles, doubles_name};
 ghost use Rattle.name_tables.specs.Keys.{text_of_key, class_of_key};
 
-use crate::bodies::lines_of;
 use cil_model::memory::NoMemory;
 use cil_model::texts::Text;
 use cil_model::trees::{Class, ClassKind, Method, Tree};
 use cil_model::types::ClassName;
+use name_tables::bodies::label_keys;
 use name_tables::class_tables::method_keys;
 use name_tables::classes::{fields_of, methods_of};
 use name_tables::keys::{ClassKey, TextKey};
@@ -55,18 +55,6 @@ fn class_keys(alloc: Global, names: &[ClassName]) -> Result<Vec<ClassKey<'_>>, N
     let mut keys = Vec::new(alloc);
     for name in names {
         keys.push(ClassKey::of(name))?;
-    }
-    Ok(keys)
-}
-
-pub fn label_keys(alloc: Global, method: &Method) -> Result<Vec<TextKey<'_>>, NoMemory>
-    ensures { IfOk result (λ v. map text_of_key v.items ≡ labels_before method.now) }
-{
-    let mut keys = Vec::new(alloc);
-    for line in lines_of(method) {
-        for label in line.labels.as_slice() {
-            keys.push(TextKey { text: label })?;
-        }
     }
     Ok(keys)
 }

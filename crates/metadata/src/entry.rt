@@ -6,11 +6,11 @@ ghost use Rattle.std.specs.List.{list_any};
 ghost use Rattle.cil_model.specs.Legality.{is_entry_method, lacks_entry};
 ghost use Rattle.cil_model.specs.Mentions.{methods_of_tree};
 
-use crate::bodies::code_of;
 use cil_model::memory::NoMemory;
 use cil_model::trees::{Method, Tree};
-use name_tables::classes::methods_of;
+use name_tables::bodies::code_of;
 use name_tables::kinds::is_static;
+use name_tables::trees::methods_of_tree;
 use std::alloc::Global;
 
 /// Whether a method has an entry point (ECMA-335 II.15.4.1.2).
@@ -30,20 +30,6 @@ pub fn is_entry_method(method: &Method) -> bool
     is_static(&method.kind)
         && method.signature.return_type.is_none()
         && method.signature.parameters.as_slice().is_empty()
-}
-
-/// The methods of all classes, in source order. Fails for want of memory alone.
-pub fn methods_of_tree(alloc: Global, tree: &Tree) -> Result<Vec<&Method>, NoMemory>
-    ensures { IfOk result (λ v. map (λ m. m.now) v.items ≡ methods_of_tree tree.now) }
-{
-    let mut all = Vec::new(alloc);
-    for class in tree.classes.as_slice() {
-        let methods = methods_of(alloc, class)?;
-        for method in methods.as_slice() {
-            all.push(*method)?;
-        }
-    }
-    Ok(all)
 }
 
 fn count_entry_points(methods: &[&Method]) -> usize

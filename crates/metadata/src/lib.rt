@@ -1,7 +1,6 @@
 // Which trees are legal programs.
 #![tactic(auto)]
 
-mod bodies;
 mod culprits;
 mod cycles;
 mod doubled;

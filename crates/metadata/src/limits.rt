@@ -12,8 +12,6 @@ ghost use Rattle.cil_model.specs.Legality.{is_small_instruction, is_small_code, 
 ghost use Rattle.cil_model.specs.declared.types.ClassName.{ClassName};
 ghost use Rattle.metadata.specs.Counts.{instance_count, static_count};
 
-use crate::bodies::{code_of, lines_of};
-use crate::entry::methods_of_tree;
 use crate::mentions::types_of_tree;
 use cil_model::instructions::Instruction;
 use cil_model::limits::{
@@ -23,10 +21,12 @@ use cil_model::limits::{
 use cil_model::memory::NoMemory;
 use cil_model::trees::{Class, Code, Field, Line, Method};
 use cil_model::types::DeclaredType;
+use name_tables::bodies::{code_of, lines_of};
 use name_tables::classes::methods_of;
 use name_tables::keys::ClassKey;
 use name_tables::kinds::is_static;
 use name_tables::lookups::NameTables;
+use name_tables::trees::methods_of_tree;
 use std::alloc::Global;
 
 // ---- code

@@ -1,18 +1,18 @@
-// What a tree names: its types and its instructions, in source order.
+// What a tree names: its types, in source order, and what its instructions name.
 
 ghost use Rattle.std.specs.Prelude.{◌≡◌, [], ◌∷◌, ◌++◌, IfOk, map, option_map, option_to_list, flat_map};
 ghost use Rattle.cil_model.specs.Bodies.{labels_of};
 ghost use Rattle.cil_model.specs.Declarations.{fields_of};
-ghost use Rattle.cil_model.specs.Mentions.{types_of_signature, types_of_instruction, owners_of_instruction, instructions_of, types_of_method, methods_of_tree, instructions_of_tree, types_of_tree};
+ghost use Rattle.cil_model.specs.Mentions.{types_of_signature, types_of_instruction, owners_of_instruction, instructions_of, types_of_method, methods_of_tree, types_of_tree};
 
-use crate::bodies::{lines_of, locals_of};
-use crate::entry::methods_of_tree;
 use cil_model::instructions::Instruction;
 use cil_model::memory::NoMemory;
 use cil_model::texts::Text;
 use cil_model::trees::{Class, Method, Tree};
 use cil_model::types::{ClassName, DeclaredType, Signature};
+use name_tables::bodies::{lines_of, locals_of};
 use name_tables::classes::fields_of;
+use name_tables::trees::methods_of_tree;
 use std::alloc::Global;
 use std::slice::from_ref;
 
@@ -166,28 +166,4 @@ pub fn types_of_tree(alloc: Global, tree: &Tree) -> Result<Vec<&DeclaredType>, N
         add_types_of_method(&mut types, method)?;
     }
     Ok(types)
-}
-
-fn add_instructions<'a>(
-    instructions: &mut Vec<&'a Instruction>,
-    method: &'a Method,
-) -> Result<(), NoMemory>
-    ensures { IfOk result (λ _. map (λ i. i.now) instructions.new.items ≡ map (λ i. i.now) instructions.old.items ++ instructions_of method.now) }
-{
-    for line in lines_of(method) {
-        instructions.push(&line.instruction)?;
-    }
-    Ok(())
-}
-
-/// Every instruction of the tree, in source order. Fails for want of memory alone.
-pub fn instructions_of_tree(alloc: Global, tree: &Tree) -> Result<Vec<&Instruction>, NoMemory>
-    ensures { IfOk result (λ v. map (λ i. i.now) v.items ≡ instructions_of_tree tree.now) }
-{
-    let methods = methods_of_tree(alloc, tree)?;
-    let mut instructions = Vec::new(alloc);
-    for method in methods.as_slice() {
-        add_instructions(&mut instructions, method)?;
-    }
-    Ok(instructions)
 }

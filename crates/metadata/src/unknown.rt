@@ -11,18 +11,18 @@ ghost use Rattle.cil_model.specs.Mentions.{bases_named, class_of_element, owners
 ghost use Rattle.cil_model.specs.Legality.{is_known_extern, is_resolved, is_source_class, is_source_interface, is_possible_base, is_possible_type, class_finds, finds_member, finds_labels, lacks_name};
 ghost use Rattle.name_tables.specs.Keys.{text_of_key};
 
-use crate::bodies::lines_of;
-use crate::doubled::{interfaces_named, label_keys};
-use crate::entry::methods_of_tree;
-use crate::mentions::{instructions_of_tree, labels_of, owner_of_instruction, types_of_tree};
+use crate::doubled::interfaces_named;
+use crate::mentions::{labels_of, owner_of_instruction, types_of_tree};
 use cil_model::instructions::{FieldReference, Instruction, MethodReference};
 use cil_model::memory::NoMemory;
 use cil_model::texts::Text;
 use cil_model::trees::{Class, ClassKind, Line, Method, Tree};
 use cil_model::types::{ClassName, DeclaredType, Element, Signature};
+use name_tables::bodies::{label_keys, lines_of};
 use name_tables::keys::{ClassKey, TextKey};
 use name_tables::lookups::NameTables;
 use name_tables::places::Places;
+use name_tables::trees::{instructions_of_tree, methods_of_tree};
 use std::alloc::Global;
 
 // ---- names of assemblies and classes

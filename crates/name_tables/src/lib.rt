@@ -1,6 +1,7 @@
 // Look-ups of classes and members by hash, each of which finds what the definitions find.
 #![tactic(auto)]
 
+pub mod bodies;
 pub mod built_in;
 pub mod class_tables;
 pub mod classes;
@@ -9,3 +10,4 @@ pub mod kinds;
 pub mod lookups;
 pub mod places;
 pub mod tables;
+pub mod trees;

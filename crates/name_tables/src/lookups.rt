@@ -7,7 +7,7 @@ ghost use Rattle.cil_model.specs.Chains.{find_field, find_method};
 ghost use Rattle.name_tables.specs.BuiltInTable.{built_in_entry};
 ghost use Rattle.cil_model.specs.Declarations.{built_ins};
 ghost use Rattle.name_tables.specs.Keys.{class_of_key, field_of_key, called_of_key, reference_of_keys};
-ghost use Rattle.name_tables.specs.Numbers.{chain_numbers, nearest_number, place_in, field_at, method_at, declarations, class_number};
+ghost use Rattle.name_tables.specs.Numbers.{chain_numbers, nearest_number, place_in, field_at, method_at, field_number, method_number, declarations, class_number};
 ghost use Rattle.name_tables.specs.Sameness.{same_field, same_called, called_of};
 
 use crate::built_in::BuiltInClass;
@@ -114,7 +114,8 @@ impl<'a> NameTables<'a> {
 
     /// The field of this name, type and staticness in the nearest class of the owner's chain (ECMA-335 II.16, this profile).
     pub fn find_field(&self, is_static: bool, reference: &FieldReference) -> Option<MemberNumber>
-        ensures { option_map (λ m. field_at self.now.classes.tree.now (m.class, m.place)) result ≡ option_map Some (find_field self.now.classes.tree.now is_static reference.now) }
+        ensures number { option_map (λ m. (m.class, m.place)) result ≡ field_number self.now.classes.tree.now is_static reference.now }
+        ensures member { option_map (λ m. field_at self.now.classes.tree.now (m.class, m.place)) result ≡ option_map Some (find_field self.now.classes.tree.now is_static reference.now) }
     {
         let key = FieldKey {
             is_static,
@@ -132,7 +133,8 @@ impl<'a> NameTables<'a> {
         method: MethodKey,
         is_instance: bool,
     ) -> Option<MemberNumber>
-        ensures { option_map (λ m. method_at self.now.classes.tree.now (m.class, m.place)) result ≡ option_map Some (find_method self.now.classes.tree.now is_instance (reference_of_keys owner.entry method.entry)) }
+        ensures number { option_map (λ m. (m.class, m.place)) result ≡ method_number self.now.classes.tree.now is_instance (reference_of_keys owner.entry method.entry) }
+        ensures member { option_map (λ m. method_at self.now.classes.tree.now (m.class, m.place)) result ≡ option_map Some (find_method self.now.classes.tree.now is_instance (reference_of_keys owner.entry method.entry)) }
     {
         let key = CallKey {
             method,
@@ -151,7 +153,8 @@ impl<'a> NameTables<'a> {
         is_instance: bool,
         reference: &MethodReference,
     ) -> Option<MemberNumber>
-        ensures { option_map (λ m. method_at self.now.classes.tree.now (m.class, m.place)) result ≡ option_map Some (find_method self.now.classes.tree.now is_instance reference.now) }
+        ensures number { option_map (λ m. (m.class, m.place)) result ≡ method_number self.now.classes.tree.now is_instance reference.now }
+        ensures member { option_map (λ m. method_at self.now.classes.tree.now (m.class, m.place)) result ≡ option_map Some (find_method self.now.classes.tree.now is_instance reference.now) }
     {
         let owner = ClassKey::of(&reference.owner);
         let method = MethodKey::new(&reference.name, &reference.signature);
@@ -165,7 +168,8 @@ impl<'a> NameTables<'a> {
         name: &Text,
         signature: &Signature,
     ) -> Option<MemberNumber>
-        ensures { option_map (λ m. method_at self.now.classes.tree.now (m.class, m.place)) result ≡ option_map Some (find_method self.now.classes.tree.now true (virtual_reference owner.now name.now signature.now)) }
+        ensures number { option_map (λ m. (m.class, m.place)) result ≡ method_number self.now.classes.tree.now true (virtual_reference owner.now name.now signature.now) }
+        ensures member { option_map (λ m. method_at self.now.classes.tree.now (m.class, m.place)) result ≡ option_map Some (find_method self.now.classes.tree.now true (virtual_reference owner.now name.now signature.now)) }
     {
         self.find_call(ClassKey::of(owner), MethodKey::named(name, signature), true)
     }
@@ -176,7 +180,8 @@ impl<'a> NameTables<'a> {
         class: &ClassName,
         parameters: &[DeclaredType],
     ) -> Option<MemberNumber>
-        ensures { option_map (λ m. method_at self.now.classes.tree.now (m.class, m.place)) result ≡ option_map Some (find_method self.now.classes.tree.now true (constructor_reference class.now parameters.now)) }
+        ensures number { option_map (λ m. (m.class, m.place)) result ≡ method_number self.now.classes.tree.now true (constructor_reference class.now parameters.now) }
+        ensures member { option_map (λ m. method_at self.now.classes.tree.now (m.class, m.place)) result ≡ option_map Some (find_method self.now.classes.tree.now true (constructor_reference class.now parameters.now)) }
     {
         self.find_call(
             ClassKey::of(class),

@@ -73,6 +73,13 @@ impl<'a> ClassTables<'a> {
         })
     }
 
+    /// The classes with their members, by number.
+    pub fn all(&self) -> &[ClassTable<'a>]
+        ensures { map (λ t. entry_of t.class) result.now ≡ declarations self.now.tree.now }
+    {
+        self.classes.as_slice()
+    }
+
     /// The names of the classes, by number.
     pub fn names(&self) -> &[ClassKey<'a>]
         ensures { map class_of_key result.now ≡ map (λ e. e.0) (declarations self.now.tree.now) }

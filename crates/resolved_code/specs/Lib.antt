@@ -1,2 +1,4 @@
 pub mod Numbered
 pub mod Resolved
+pub mod Rules
+pub mod LabelPlaces

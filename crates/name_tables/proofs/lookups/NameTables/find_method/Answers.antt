@@ -1,12 +1,20 @@
-use Rattle.std.proofs.Common.{ap, ◌∙◌, option_map, Some}
+use Rattle.std.proofs.Common.{◌≡◌, ap, ◌∙◌, option_map, Some}
 use Rattle.cil_model.specs.declared.types.ClassName.{ClassName}
+use Rattle.cil_model.specs.declared.instructions.MethodReference.{MethodReference}
 use Rattle.cil_model.specs.Chains.{find_method}
 use Rattle.name_tables.specs.Sameness.{MethodIdentity}
-use Rattle.name_tables.specs.Keys.{method_of_key}
+use Rattle.name_tables.specs.Keys.{method_of_key, reference_of_keys}
+use Rattle.name_tables.specs.Numbers.{method_number}
 use Rattle.name_tables.proofs.lookups.NameTables.find_method.Goals as goal
 
 pub returns : goal.returns
 returns c =
     let t = c.args.self.now.classes.tree.now in
-    c.find_call.ensures ∙ ap (λ (o : ClassName). option_map Some (find_method t c.args.is_instance (record { owner = o; name = (method_of_key c.new-method.result).name; signature = (method_of_key c.new-method.result).signature }))) c.of-owner.ensures ∙
-    ap (λ (k : MethodIdentity). option_map Some (find_method t c.args.is_instance (record { owner = c.args.reference.now.owner; name = k.name; signature = k.signature }))) c.new-method.ensures
+    let with_owner : ClassName → MethodReference = λ o. record { owner = o; name = (method_of_key c.new-method.result).name; signature = (method_of_key c.new-method.result).signature } in
+    let with_key : MethodIdentity → MethodReference = λ k. record { owner = c.args.reference.now.owner; name = k.name; signature = k.signature } in
+    let same : reference_of_keys c.of-owner.result c.new-method.result ≡ with_key (method_of_key c.new-method.result) = ap with_owner c.of-owner.ensures in
+    let whole = same ∙ ap with_key c.new-method.ensures in
+    record {
+      number = c.find_call.ensures.number ∙ ap (method_number t c.args.is_instance) whole;
+      member = c.find_call.ensures.member ∙ ap (λ r. option_map Some (find_method t c.args.is_instance r)) whole;
+    }

@@ -1,11 +1,16 @@
 // The parts of a method's body.
 
-ghost use Rattle.std.specs.Prelude.{◌≡◌, option_map, flat_map};
+ghost use Rattle.std.specs.Prelude.{◌≡◌, IfOk, map, option_map, flat_map};
 ghost use Rattle.cil_model.specs.Bodies.{code_of, lines_of};
+ghost use Rattle.cil_model.specs.Legality.{labels_before};
 ghost use Rattle.cil_model.specs.Mentions.{codes_of};
+ghost use Rattle.name_tables.specs.Keys.{text_of_key};
 
+use crate::keys::TextKey;
+use cil_model::memory::NoMemory;
 use cil_model::trees::{Code, Line, Method, MethodKind};
 use cil_model::types::DeclaredType;
+use std::alloc::Global;
 
 /// The code of a method, where it has some.
 pub fn code_of(kind: &MethodKind) -> Option<&Code>
@@ -41,4 +46,17 @@ pub fn locals_of(method: &Method) -> &[DeclaredType]
         MethodKind::Virtual { code, .. } => code.locals.as_slice(),
         MethodKind::Abstract { .. } => &[],
     }
+}
+
+/// All labels of a method, in their order (ECMA-335 II.5.4). Fails for want of memory alone.
+pub fn label_keys(alloc: Global, method: &Method) -> Result<Vec<TextKey<'_>>, NoMemory>
+    ensures { IfOk result (λ v. map text_of_key v.items ≡ labels_before method.now) }
+{
+    let mut keys = Vec::new(alloc);
+    for line in lines_of(method) {
+        for label in line.labels.as_slice() {
+            keys.push(TextKey { text: label })?;
+        }
+    }
+    Ok(keys)
 }

@@ -1,7 +1,7 @@
 use Rattle.std.proofs.Common.{◌≡◌, ◌++◌, map, take}
 use Rattle.std.specs.Prelude.{flat_map}
 use Rattle.cil_model.specs.Declarations.{methods_of}
-use Rattle.metadata.proofs.entry.methods_of_tree.Given as goal
+use Rattle.name_tables.proofs.trees.methods_of_tree.Given as goal
 
 abbrev pub invariant-loop-class : goal.invariant-loop-class
 invariant-loop-class l = map (λ m. m.now) l.all.items ≡ flat_map methods_of (take l.class-index l.class-items)

@@ -1,0 +1,46 @@
+-- Lists of what is found, as a loop goes along them.
+use Rattle.std.proofs.Common.{◌≡◌, ◌<◌, ◌+◌, ℕ, zero, suc, List, [], ◌∷◌, ◌++◌, length, take, get_or, map, option_map, option_and_then, Option, Some, None, refl, sym, ap, ◌∙◌, arith}
+use Rattle.name_tables.proofs.Lists.{map-take_more, map_of_map}
+use Rattle.resolved_code.specs.Rules.{all_some}
+
+all_some_end : {Y : Type 0} (os : List (Option Y)) (ys : List Y) (y : Y) → all_some os ≡ Some ys → all_some (os ++ Some y ∷ []) ≡ Some (ys ++ y ∷ [])
+all_some_end [] ys y h = let e : [] ≡ ys = cc in ap (λ zs. Some (zs ++ y ∷ [])) e
+all_some_end {Y} (o ∷ os) ys y h = by_first (λ zs e. all_some_end os zs y e) o (all_some os) refl h
+  where
+    by_first : ((zs : List Y) → all_some os ≡ Some zs → all_some (os ++ Some y ∷ []) ≡ Some (zs ++ y ∷ [])) → (p : Option Y) (q : Option (List Y)) → all_some os ≡ q → option_and_then (λ x. option_map (λ xs. x ∷ xs) q) p ≡ Some ys →
+        option_and_then (λ x. option_map (λ xs. x ∷ xs) (all_some (os ++ Some y ∷ []))) p ≡ Some (ys ++ y ∷ [])
+    by_first further None q e k = absurd (lost k)
+      where
+        lost : None ≡ Some ys → ⊥
+        lost k' = cc
+    by_first further (Some x) None e k = absurd (lost k)
+      where
+        lost : None ≡ Some ys → ⊥
+        lost k' = cc
+    by_first further (Some x) (Some zs) e k = let f : x ∷ zs ≡ ys = cc in ap (option_map (λ xs. x ∷ xs)) (further zs e) ∙ ap (λ ws. Some (ws ++ y ∷ [])) f
+
+-- one more item
+pub all_some_more : {X Y : Type 0} (rule : X → Option Y) (xs : List X) (i : ℕ) (x : X) (ys : List Y) (y : Y) → i < length xs → x ≡ get_or xs i x →
+    all_some (map rule (take i xs)) ≡ Some ys → rule x ≡ Some y → all_some (map rule (take (i + 1) xs)) ≡ Some (ys ++ y ∷ [])
+all_some_more rule xs i x ys y l e h k =
+    ap all_some (map-take_more rule xs i x l e ∙ ap (λ o. map rule (take i xs) ++ o ∷ []) k) ∙ all_some_end (map rule (take i xs)) ys y h
+
+-- an item that finds nothing
+pub all_some_absent : {X Y : Type 0} (rule : X → Option Y) (xs : List X) (i : ℕ) (x : X) → i < length xs → x ≡ get_or xs i x → rule x ≡ None → all_some (map rule xs) ≡ None
+all_some_absent rule [] i x l e h = absurd (omega (arith, l))
+all_some_absent rule (z ∷ zs) zero x l e h = ap (option_and_then (λ y. option_map (λ ys. y ∷ ys) (all_some (map rule zs)))) (sym (ap rule e) ∙ h)
+all_some_absent {X} {Y} rule (z ∷ zs) (suc i) x l e h = by_first (rule z) (all_some_absent rule zs i x (omega (arith, l)) e h)
+  where
+    by_first : (o : Option Y) → all_some (map rule zs) ≡ None → option_and_then (λ y. option_map (λ ys. y ∷ ys) (all_some (map rule zs))) o ≡ None
+    by_first None k = refl
+    by_first (Some y) k = ap (option_map (λ ys. y ∷ ys)) k
+
+-- the same of items that are seen through a view
+pub all_some_more_seen : {Z X Y : Type 0} (view : Z → X) (rule : X → Option Y) (zs : List Z) (i : ℕ) (z : Z) (ys : List Y) (y : Y) → i < length zs → z ≡ get_or zs i z →
+    all_some (map rule (map view (take i zs))) ≡ Some ys → rule (view z) ≡ Some y → all_some (map rule (map view (take (i + 1) zs))) ≡ Some (ys ++ y ∷ [])
+all_some_more_seen view rule zs i z ys y l e h k =
+    ap all_some (map_of_map view rule (take (i + 1) zs)) ∙ all_some_more (λ w. rule (view w)) zs i z ys y l e (sym (ap all_some (map_of_map view rule (take i zs))) ∙ h) k
+
+pub all_some_absent_seen : {Z X Y : Type 0} (view : Z → X) (rule : X → Option Y) (zs : List Z) (i : ℕ) (z : Z) → i < length zs → z ≡ get_or zs i z → rule (view z) ≡ None →
+    all_some (map rule (map view zs)) ≡ None
+all_some_absent_seen view rule zs i z l e h = ap all_some (map_of_map view rule zs) ∙ all_some_absent (λ w. rule (view w)) zs i z l e h

@@ -1,0 +1,8 @@
+use Rattle.std.proofs.Common.{◌++◌, map, sym, ap, ◌∙◌, arith}
+use Rattle.resolved_code.proofs.LabelLaws.{label_places_more}
+use Rattle.resolved_code.proofs.labels.label_places.Goals as goal
+
+pub loop-place-preserved : goal.loop-place-preserved
+loop-place-preserved c =
+    c.in_ok-add_places.ensures ∙ ap (λ z. z ++ map (λ label. c.loop-place.place) c.index-lines-place.result.labels) c.loop-place.invariant ∙
+    sym (label_places_more c.args.lines.now c.loop-place.place c.index-lines-place.result (omega arith) c.index-lines-place.is)

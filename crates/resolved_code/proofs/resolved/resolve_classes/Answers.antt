@@ -1,0 +1,16 @@
+use Rattle.std.proofs.Common.{◌≡◌, sym, ap, ◌∙◌, map}
+use Rattle.cil_model.specs.declared.types.ClassName.{ClassName}
+use Rattle.cil_model.specs.Declarations.{Declaration}
+use Rattle.name_tables.specs.declared.class_tables.ClassTable.{ClassTable}
+use Rattle.name_tables.specs.Entries.{entry_of}
+use Rattle.name_tables.proofs.Lists.{map_of_map}
+use Rattle.resolved_code.specs.Rules.{all_some, class_rule}
+use Rattle.resolved_code.proofs.WholeLaws.{all_resolved, all_found}
+use Rattle.resolved_code.proofs.resolved.resolve_classes.Goals as goal
+
+pub returns : goal.returns
+returns c =
+    let t = c.args.names.now.classes.tree.now in
+    let rule : ClassName × Declaration → _ = λ e. class_rule t e.1 in
+    let exact = c.in_ok-resolved.ensures ∙ ap all_some (sym (map_of_map (λ (x : ClassTable). entry_of x.class) rule c.all.result.now) ∙ ap (map rule) c.all.ensures) in
+    record { resolved = all_resolved t c.in_ok-resolved.resolved exact; legal = all_found t c.in_ok-resolved.resolved exact; exact = exact }

@@ -1,0 +1,281 @@
+// Instructions with their operands looked up, one group after the other.
+
+ghost use Rattle.std.specs.Prelude.{◌≡◌, IfOk, Some, option_map, map, true};
+ghost use Rattle.std.specs.List.{position_from};
+ghost use Rattle.cil_model.specs.Bodies.{place_of, virtual_reference, constructor_reference};
+ghost use Rattle.cil_model.specs.Mentions.{literals_of};
+ghost use Rattle.cil_model.specs.Same.{same_text};
+ghost use Rattle.resolved_code.specs.declared.operations.Operation.TheVariants.{LoadString, Switch, Call, CallVirtual, NewObject};
+ghost use Rattle.name_tables.specs.Numbers.{field_number, method_number};
+ghost use Rattle.resolved_code.specs.Rules.{all_some, field_rule, method_rule, with_owner, branch_rule, type_operand_rule, field_operand_rule, call_rule, plain_rule, operation_rule};
+
+use crate::labels::Labels;
+use crate::literals::Literals;
+use crate::numbering::{class_number, numbered_type};
+use crate::operations::Operation;
+use cil_model::instructions::{FieldReference, Instruction, MethodReference};
+use cil_model::memory::NoMemory;
+use cil_model::sequences::Sequence;
+use cil_model::texts::Text;
+use cil_model::types::{ClassName, DeclaredType, Signature};
+use name_tables::lookups::{MemberNumber, NameTables};
+use std::alloc::Global;
+
+/// What the names of a tree are looked up in.
+#[derive(Drop)]
+pub struct Resolver<'n, 'a> {
+    pub names: &'n NameTables<'a>,
+    pub literals: &'n Literals<'a>,
+    ghost one_tree: { literals.now.tree.now ≡ names.now.classes.tree.now },
+}
+
+// ---- instructions without names
+
+/// An instruction that names nothing (ECMA-335 III.3 and III.4). None for one that names something.
+fn plain_operation(instruction: &Instruction) -> Option<Operation>
+    ensures { result ≡ plain_rule instruction.now }
+{
+    match instruction {
+        Instruction::NoOperation => Some(Operation::NoOperation),
+        Instruction::LoadInt32(value) => Some(Operation::LoadInt32(*value)),
+        Instruction::LoadInt64(value) => Some(Operation::LoadInt64(*value)),
+        Instruction::LoadNull => Some(Operation::LoadNull),
+        Instruction::LoadArgument(number) => Some(Operation::LoadArgument(*number)),
+        Instruction::StoreArgument(number) => Some(Operation::StoreArgument(*number)),
+        Instruction::LoadLocal(number) => Some(Operation::LoadLocal(*number)),
+        Instruction::StoreLocal(number) => Some(Operation::StoreLocal(*number)),
+        Instruction::Duplicate => Some(Operation::Duplicate),
+        Instruction::Pop => Some(Operation::Pop),
+        Instruction::Binary(operation) => Some(Operation::Binary(*operation)),
+        Instruction::Unary(operation) => Some(Operation::Unary(*operation)),
+        Instruction::Shift(operation) => Some(Operation::Shift(*operation)),
+        Instruction::Compare(comparison) => Some(Operation::Compare(*comparison)),
+        Instruction::ConvertInt32 => Some(Operation::ConvertInt32),
+        Instruction::ConvertInt64 => Some(Operation::ConvertInt64),
+        Instruction::LoadLength => Some(Operation::LoadLength),
+        Instruction::LoadElementInt32 => Some(Operation::LoadElementInt32),
+        Instruction::LoadElementInt64 => Some(Operation::LoadElementInt64),
+        Instruction::LoadElementReference => Some(Operation::LoadElementReference),
+        Instruction::StoreElementInt32 => Some(Operation::StoreElementInt32),
+        Instruction::StoreElementInt64 => Some(Operation::StoreElementInt64),
+        Instruction::StoreElementReference => Some(Operation::StoreElementReference),
+        Instruction::Return => Some(Operation::Return),
+        _ => None,
+    }
+}
+
+// ---- branches
+
+/// A branch to one label, by the label's place (ECMA-335 III.3.5 to III.3.17). None where no line has the label.
+fn branch(labels: &Labels, instruction: &Instruction) -> Option<Operation>
+    ensures { result ≡ branch_rule labels.now.lines.now instruction.now }
+{
+    match instruction {
+        Instruction::Branch(label) => Some(Operation::Branch(labels.place(label)?)),
+        Instruction::BranchTrue(label) => Some(Operation::BranchTrue(labels.place(label)?)),
+        Instruction::BranchFalse(label) => Some(Operation::BranchFalse(labels.place(label)?)),
+        Instruction::BranchCompare(comparison, label) => {
+            Some(Operation::BranchCompare(*comparison, labels.place(label)?))
+        }
+        _ => None,
+    }
+}
+
+fn target_places(
+    alloc: Global,
+    labels: &Labels,
+    targets: &[Text],
+) -> Result<Option<Sequence<usize>>, NoMemory>
+    ensures { IfOk result (λ places. places ≡ all_some (map (λ label. place_of label labels.now.lines.now) targets.now)) }
+{
+    let mut places = Vec::new(alloc);
+    for label in targets {
+        let Some(place) = labels.place(label) else {
+            return Ok(None);
+        };
+        places.push(place)?;
+    }
+    Ok(Some(Sequence::new(places)))
+}
+
+/// A `switch` (ECMA-335 III.3.66). None where one of its labels stands nowhere. Fails for want of memory alone.
+fn switch(alloc: Global, labels: &Labels, targets: &[Text]) -> Result<Option<Operation>, NoMemory>
+    ensures { IfOk result (λ o. o ≡ option_map Switch (all_some (map (λ label. place_of label labels.now.lines.now) targets.now))) }
+{
+    match target_places(alloc, labels, targets)? {
+        None => Ok(None),
+        Some(places) => Ok(Some(Operation::Switch(places))),
+    }
+}
+
+impl<'n, 'a> Resolver<'n, 'a> {
+    // ---- types
+
+    /// An instruction on a type (ECMA-335 III.4.3, III.4.6, III.4.20). None where the class that it names stands for nothing.
+    fn type_operation(&self, instruction: &Instruction) -> Option<Operation>
+        ensures { result ≡ type_operand_rule self.now.names.now.classes.tree.now instruction.now }
+    {
+        match instruction {
+            Instruction::NewArray(declared) => {
+                Some(Operation::NewArray(numbered_type(self.names, declared)?))
+            }
+            Instruction::CastClass(declared) => {
+                Some(Operation::CastClass(numbered_type(self.names, declared)?))
+            }
+            Instruction::IsInstance(declared) => {
+                Some(Operation::IsInstance(numbered_type(self.names, declared)?))
+            }
+            _ => None,
+        }
+    }
+
+    // ---- fields
+
+    fn field(&self, is_static: bool, reference: &FieldReference) -> Option<MemberNumber>
+        ensures { result ≡ field_rule self.now.names.now.classes.tree.now is_static reference.now }
+    {
+        self.names.find_field(is_static, reference)
+    }
+
+    /// An instruction on a field (ECMA-335 III.4.10, III.4.14, III.4.28, III.4.30). None where there is no such field.
+    fn field_operation(&self, instruction: &Instruction) -> Option<Operation>
+        ensures { result ≡ field_operand_rule self.now.names.now.classes.tree.now instruction.now }
+    {
+        match instruction {
+            Instruction::LoadField(reference) => Some(Operation::LoadField {
+                owner: class_number(self.names, &reference.owner)?,
+                field: self.field(false, reference)?,
+            }),
+            Instruction::StoreField(reference) => Some(Operation::StoreField {
+                owner: class_number(self.names, &reference.owner)?,
+                field: self.field(false, reference)?,
+            }),
+            Instruction::LoadStaticField(reference) => {
+                Some(Operation::LoadStaticField(self.field(true, reference)?))
+            }
+            Instruction::StoreStaticField(reference) => {
+                Some(Operation::StoreStaticField(self.field(true, reference)?))
+            }
+            _ => None,
+        }
+    }
+
+    // ---- calls
+
+    fn method(&self, is_instance: bool, reference: &MethodReference) -> Option<MemberNumber>
+        ensures { result ≡ method_rule self.now.names.now.classes.tree.now is_instance reference.now }
+    {
+        self.names.find_method(is_instance, reference)
+    }
+
+    fn virtual_method(
+        &self,
+        owner: &ClassName,
+        name: &Text,
+        signature: &Signature,
+    ) -> Option<MemberNumber>
+        ensures { result ≡ method_rule self.now.names.now.classes.tree.now true (virtual_reference owner.now name.now signature.now) }
+    {
+        self.names.find_virtual(owner, name, signature)
+    }
+
+    fn constructor(&self, class: &ClassName, parameters: &[DeclaredType]) -> Option<MemberNumber>
+        ensures { result ≡ method_rule self.now.names.now.classes.tree.now true (constructor_reference class.now parameters.now) }
+    {
+        self.names.find_constructor(class, parameters)
+    }
+
+    /// A `call` (ECMA-335 III.3.19). None where there is no such method.
+    fn call(&self, is_instance: bool, reference: &MethodReference) -> Option<Operation>
+        ensures { result ≡ with_owner self.now.names.now.classes.tree.now reference.now.owner (Call is_instance) (method_rule self.now.names.now.classes.tree.now is_instance reference.now) }
+    {
+        Some(Operation::Call {
+            is_instance,
+            owner: class_number(self.names, &reference.owner)?,
+            method: self.method(is_instance, reference)?,
+        })
+    }
+
+    /// A `callvirt` (ECMA-335 III.4.2). None where there is no such method.
+    fn call_virtual(
+        &self,
+        owner: &ClassName,
+        name: &Text,
+        signature: &Signature,
+    ) -> Option<Operation>
+        ensures { result ≡ with_owner self.now.names.now.classes.tree.now owner.now CallVirtual (method_rule self.now.names.now.classes.tree.now true (virtual_reference owner.now name.now signature.now)) }
+    {
+        Some(Operation::CallVirtual {
+            owner: class_number(self.names, owner)?,
+            method: self.virtual_method(owner, name, signature)?,
+        })
+    }
+
+    /// A `newobj` (ECMA-335 III.4.21). None where there is no such constructor.
+    fn new_object(&self, class: &ClassName, parameters: &[DeclaredType]) -> Option<Operation>
+        ensures { result ≡ option_map NewObject (method_rule self.now.names.now.classes.tree.now true (constructor_reference class.now parameters.now)) }
+    {
+        Some(Operation::NewObject(self.constructor(class, parameters)?))
+    }
+
+    /// A call of one of these kinds. None where there is no such method.
+    fn call_operation(&self, instruction: &Instruction) -> Option<Operation>
+        ensures { result ≡ call_rule self.now.names.now.classes.tree.now instruction.now }
+    {
+        match instruction {
+            Instruction::Call {
+                is_instance,
+                method,
+            } => self.call(*is_instance, method),
+            Instruction::CallVirtual {
+                owner,
+                name,
+                signature,
+            } => self.call_virtual(owner, name, signature),
+            Instruction::NewObject(class, parameters) => {
+                self.new_object(class, parameters.as_slice())
+            }
+            _ => None,
+        }
+    }
+
+    // ---- any instruction
+
+    /// A literal by its number (ECMA-335 III.4.16). None where the tree has no such literal.
+    fn load_string(&self, text: &Text) -> Option<Operation>
+        ensures { result ≡ option_map LoadString (position_from (same_text text.now) 0 (literals_of self.now.names.now.classes.tree.now)) }
+    {
+        Some(Operation::LoadString(self.literals.number(text)?))
+    }
+
+    /// What runs for an instruction of a method with these labels. None where a name of it stands for nothing. Fails for want
+    /// of memory alone.
+    pub fn operation(
+        &self,
+        alloc: Global,
+        labels: &Labels,
+        instruction: &Instruction,
+    ) -> Result<Option<Operation>, NoMemory>
+        ensures { IfOk result (λ o. o ≡ operation_rule self.now.names.now.classes.tree.now labels.now.lines.now instruction.now) }
+    {
+        match instruction {
+            Instruction::LoadString(text) => Ok(self.load_string(text)),
+            Instruction::Switch(targets) => switch(alloc, labels, targets.as_slice()),
+            Instruction::Branch(_)
+            | Instruction::BranchTrue(_)
+            | Instruction::BranchFalse(_)
+            | Instruction::BranchCompare(_, _) => Ok(branch(labels, instruction)),
+            Instruction::NewArray(_) | Instruction::CastClass(_) | Instruction::IsInstance(_) => {
+                Ok(self.type_operation(instruction))
+            }
+            Instruction::LoadField(_)
+            | Instruction::StoreField(_)
+            | Instruction::LoadStaticField(_)
+            | Instruction::StoreStaticField(_) => Ok(self.field_operation(instruction)),
+            Instruction::Call { .. }
+            | Instruction::CallVirtual { .. }
+            | Instruction::NewObject(_, _) => Ok(self.call_operation(instruction)),
+            _ => Ok(plain_operation(instruction)),
+        }
+    }
+}
