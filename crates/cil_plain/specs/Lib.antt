@@ -1,0 +1,7 @@
+pub mod Names
+pub mod Values
+pub mod Contents
+pub mod Monitors
+pub mod Stores
+pub mod Effects
+pub mod Located

@@ -1,0 +1,19 @@
+// The reference machine as a slow, obvious program over a tree, for tests.
+#![tactic(auto)]
+
+pub mod arithmetic;
+pub mod arrays;
+pub mod births;
+pub mod calls;
+pub mod casts;
+pub mod display;
+pub mod effects;
+pub mod fields;
+pub mod locations;
+pub mod objects;
+pub mod stacks;
+pub mod states;
+#[cfg(test)]
+mod tests;
+pub mod turns;
+pub mod values;
