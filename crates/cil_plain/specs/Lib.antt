@@ -5,3 +5,5 @@ pub mod Monitors
 pub mod Stores
 pub mod Effects
 pub mod Located
+pub mod Declared
+pub mod Taken

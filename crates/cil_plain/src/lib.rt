@@ -9,8 +9,12 @@ pub mod casts;
 pub mod display;
 pub mod effects;
 pub mod fields;
+pub mod instances;
+pub mod invocations;
 pub mod locations;
 pub mod objects;
+pub mod operands;
+pub mod references;
 pub mod stacks;
 pub mod states;
 #[cfg(test)]
