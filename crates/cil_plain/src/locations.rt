@@ -42,14 +42,13 @@ fn label_numbered(labels: &[Text], number: i32) -> Option<&Text>
     labels.get(number.cast_unsigned() as usize)
 }
 
-impl<'a> FoundField<'a> {
-    pub fn key(&self) -> PlainKey<'a>
-        ensures { result ≡ key_of self.now }
-    {
-        PlainKey {
-            declared_in: self.owner.copy(),
-            name: &self.field.name,
-        }
+/// The key of the field that was found.
+pub fn key_of<'a>(found: &FoundField<'a>) -> PlainKey<'a>
+    ensures { result ≡ key_of found.now }
+{
+    PlainKey {
+        declared_in: found.owner.copy(),
+        name: &found.field.name,
     }
 }
 
@@ -200,7 +199,7 @@ impl<'a> Turn<'a> {
         match &object.kind {
             ValueKind::Null => Ok(raises(Fault::NullReference)),
             ValueKind::Reference(name) => {
-                let value = self.state.field_value(name, &found.key());
+                let value = self.state.field_value(name, &key_of(&found));
                 self.next_given(stack, value)
             }
             _ => Ok(sticks()),
@@ -224,7 +223,7 @@ impl<'a> Turn<'a> {
             ValueKind::Null => Ok(raises(Fault::NullReference)),
             ValueKind::Reference(name) => {
                 let alloc = self.here.alloc();
-                match self.state.with_field(alloc, name, &found.key(), v)? {
+                match self.state.with_field(alloc, name, &key_of(&found), v)? {
                     None => Ok(sticks()),
                     Some(state) => onward(self.frame, self.below, state, stack),
                 }
@@ -240,7 +239,7 @@ impl<'a> Turn<'a> {
         let Some(found) = self.here.find_field(true, r)? else {
             return Ok(sticks());
         };
-        let value = self.state.static_value(&found.key());
+        let value = self.state.static_value(&key_of(&found));
         self.next_given(stack, value)
     }
 
@@ -255,7 +254,7 @@ impl<'a> Turn<'a> {
             return Ok(sticks());
         };
         let alloc = self.here.alloc();
-        match self.state.replaced_statics(alloc, &found.key(), v)? {
+        match self.state.replaced_statics(alloc, &key_of(&found), v)? {
             None => Ok(sticks()),
             Some(statics) => {
                 let state = self.state.with_statics(statics);
