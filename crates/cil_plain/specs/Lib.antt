@@ -5,3 +5,4 @@ pub mod Monitors
 pub mod Stores
 pub mod Effects
 pub mod Located
+pub mod Actions

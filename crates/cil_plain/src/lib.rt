@@ -1,6 +1,7 @@
 // The reference machine as a slow, obvious program over a tree, for tests.
 #![tactic(auto)]
 
+pub mod actions;
 pub mod arithmetic;
 pub mod arrays;
 pub mod births;
@@ -10,6 +11,7 @@ pub mod display;
 pub mod effects;
 pub mod fields;
 pub mod locations;
+pub mod monitors;
 pub mod objects;
 pub mod stacks;
 pub mod states;
