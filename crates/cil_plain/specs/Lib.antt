@@ -7,3 +7,4 @@ pub mod Effects
 pub mod Located
 pub mod Declared
 pub mod Taken
+pub mod Actions

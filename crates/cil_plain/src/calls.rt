@@ -5,10 +5,7 @@ ghost use Rattle.cil_model.specs.Effects.{are_of_kinds, returned, new_frame};
 ghost use Rattle.cil_model.specs.Steps.{execute, leave, leave_value, return_from, is_too_deep, frame_for};
 ghost use Rattle.cil_model.specs.Values.{zero_of};
 
-use plain_lookups::bodies::code_of;
-use plain_lookups::copies::Copies;
 use crate::effects::{PlainEffect, goes, raises, sticks};
-use plain_lookups::names::PlainClassName;
 use crate::stacks::Stack;
 use crate::states::{PlainFrame, PlainState};
 use crate::turns::Turn;
@@ -16,6 +13,9 @@ use crate::values::{PlainName, PlainValue, is_of_kind, zero_of};
 use cil_model::memory::NoMemory;
 use cil_model::trees::{Code, Method};
 use cil_model::types::DeclaredType;
+use plain_lookups::bodies::code_of;
+use plain_lookups::copies::Copies;
+use plain_lookups::names::PlainClassName;
 use std::alloc::Global;
 
 /// Whether each value is of the kind of its type.

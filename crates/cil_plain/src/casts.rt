@@ -9,11 +9,11 @@ use crate::arrays::{ElementTest, Located};
 use crate::effects::{PlainEffect, PlainSetting, onward, raises, sticks};
 use crate::states::PlainState;
 use crate::turns::Turn;
-use plain_lookups::types::PlainType;
 use crate::values::{PlainName, PlainValue, ValueKind};
 use cil_model::memory::NoMemory;
 use cil_model::reports::Fault;
 use cil_model::types::DeclaredType;
+use plain_lookups::types::PlainType;
 
 impl<'a> PlainSetting<'a> {
     pub fn type_of(&self, state: &PlainState<'a>, name: &PlainName) -> Option<PlainType<'a>>

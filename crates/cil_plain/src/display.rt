@@ -1,8 +1,8 @@
 // A short text of a state, for tests that fail: each thread with its frames, their instructions and stacks.
 
-use plain_lookups::bodies::lines_of;
 use crate::states::{PlainFrame, PlainState, PlainThread};
 use crate::values::{NameKind, PlainName, PlainValue, ValueKind};
+use plain_lookups::bodies::lines_of;
 use std::fmt;
 
 /// `object 3`, or a literal's characters in quotes.

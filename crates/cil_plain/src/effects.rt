@@ -4,9 +4,6 @@ ghost use Rattle.std.specs.Prelude.{◌≡◌, ◌∷◌, IfOk};
 ghost use Rattle.cil_model.specs.Bodies.{lines_of};
 ghost use Rattle.cil_model.specs.Effects.{Goes, Blocks, Raises, Sticks, after, onward};
 
-use plain_lookups::bodies::lines_of;
-use plain_lookups::copies::Copies;
-use plain_lookups::declarations::Program;
 use crate::stacks::Stack;
 use crate::states::{PlainFrame, PlainState};
 use crate::values::PlainValue;
@@ -14,6 +11,9 @@ use cil_model::limits::Limits;
 use cil_model::memory::NoMemory;
 use cil_model::reports::Fault;
 use cil_model::trees::Line;
+use plain_lookups::bodies::lines_of;
+use plain_lookups::copies::Copies;
+use plain_lookups::declarations::Program;
 use std::alloc::Global;
 use std::marker::Model;
 

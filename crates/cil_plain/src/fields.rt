@@ -4,11 +4,11 @@ ghost use Rattle.std.specs.Prelude.{◌≡◌, ◌++◌, ◌∷◌, [], IfOk, op
 ghost use Rattle.cil_model.specs.Fields.{same_key};
 ghost use Rattle.cil_model.specs.States.{entry_at, with_entry, same_kind_or_none, replaced_entry, replaced_at};
 
-use plain_lookups::copies::{Copies, copy_items};
-use plain_lookups::names::PlainClassName;
 use crate::values::PlainValue;
 use cil_model::memory::NoMemory;
 use cil_model::texts::Text;
+use plain_lookups::copies::{Copies, copy_items};
+use plain_lookups::names::PlainClassName;
 use std::alloc::Global;
 use std::marker::Model;
 

@@ -1,6 +1,7 @@
 // The reference machine as a slow, obvious program over a tree, for tests.
 #![tactic(auto)]
 
+pub mod actions;
 pub mod arithmetic;
 pub mod arrays;
 pub mod births;
@@ -12,6 +13,7 @@ pub mod fields;
 pub mod instances;
 pub mod invocations;
 pub mod locations;
+pub mod monitors;
 pub mod objects;
 pub mod operands;
 pub mod references;

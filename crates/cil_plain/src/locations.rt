@@ -8,7 +8,6 @@ ghost use Rattle.cil_model.specs.Fields.{same_key};
 ghost use Rattle.cil_model.specs.States.{entry_at, replaced_entry, replaced_at};
 ghost use Rattle.cil_model.specs.Steps.{execute, stored, to_label, switch_on, key_of};
 
-use plain_lookups::chains::FoundField;
 use crate::effects::{PlainEffect, PlainSetting, onward, raises, sticks};
 use crate::fields::{FieldEntry, PlainKey, entry_at, replaced_at, replaced_entry};
 use crate::stacks::Stack;
@@ -20,6 +19,7 @@ use cil_model::memory::NoMemory;
 use cil_model::reports::Fault;
 use cil_model::sequences::Sequence;
 use cil_model::texts::Text;
+use plain_lookups::chains::FoundField;
 use std::alloc::Global;
 
 /// The value at a signed place.
@@ -43,7 +43,7 @@ fn label_numbered(labels: &[Text], number: i32) -> Option<&Text>
 }
 
 /// The key of the field that was found.
-fn key_of<'a>(found: &FoundField<'a>) -> PlainKey<'a>
+pub fn key_of<'a>(found: &FoundField<'a>) -> PlainKey<'a>
     ensures { result ≡ key_of found.now }
 {
     PlainKey {

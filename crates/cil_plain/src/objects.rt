@@ -5,15 +5,15 @@ ghost use Rattle.cil_model.specs.Fields.{same_key};
 ghost use Rattle.cil_model.specs.States.{entry_at, object_at, with_object, type_of_contents, type_of, class_of_contents, class_of, fields_of_contents, elements_of_contents, field_value, with_field, array_at, with_element, next_name, with_birth, monitor_of, with_monitor, is_live, is_live_thread};
 ghost use Rattle.cil_plain.specs.Stores.{contents_with_field, contents_with_element};
 
-use plain_lookups::copies::{Copies, put};
-use plain_lookups::declarations::Program;
 use crate::fields::{PlainKey, entry_at, replaced_at, replaced_entry};
-use plain_lookups::names::PlainClassName;
 use crate::states::{ContentsKind, PlainContents, PlainMonitor, PlainObject, PlainState};
-use plain_lookups::types::{PlainType, array_of, string_type};
 use crate::values::{NameKind, PlainName, PlainValue};
 use cil_model::memory::NoMemory;
 use cil_model::types::DeclaredType;
+use plain_lookups::copies::{Copies, put};
+use plain_lookups::declarations::Program;
+use plain_lookups::names::PlainClassName;
+use plain_lookups::types::{PlainType, array_of, string_type};
 use std::alloc::Global;
 
 impl<'a> PlainContents<'a> {

@@ -2,8 +2,8 @@
 
 ghost use Rattle.std.specs.Prelude.{◌≡◌, [], ◌∷◌, MatchOption, OnOk, IfOk, length, reverse};
 
-use plain_lookups::copies::{Copies, copy_items};
 use cil_model::memory::NoMemory;
+use plain_lookups::copies::{Copies, copy_items};
 use std::alloc::Global;
 use std::fmt;
 use std::marker::Model;

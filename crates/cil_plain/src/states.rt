@@ -2,9 +2,7 @@
 
 ghost use Rattle.std.specs.Prelude.{◌≡◌, IfOk, option_map, length};
 
-use plain_lookups::copies::{Copies, copy_items};
 use crate::fields::FieldEntry;
-use plain_lookups::names::PlainClassName;
 use crate::stacks::Stack;
 use crate::values::{PlainName, PlainValue};
 use cil_model::memory::NoMemory;
@@ -12,6 +10,8 @@ use cil_model::reports::End;
 use cil_model::texts::Text;
 use cil_model::trees::Method;
 use cil_model::types::DeclaredType;
+use plain_lookups::copies::{Copies, copy_items};
+use plain_lookups::names::PlainClassName;
 use std::alloc::Global;
 use std::marker::Model;
 

@@ -8,7 +8,6 @@ use crate::arithmetic::{
     binary_value, branch_values, compare_values, convert_32, convert_64, is_set, one_or_zero,
     shift_value, unary_value,
 };
-use plain_lookups::bodies::place_of;
 use crate::effects::{PlainEffect, PlainSetting, goes, onward, raises, sticks};
 use crate::stacks::Stack;
 use crate::states::{PlainFrame, PlainState};
@@ -18,6 +17,7 @@ use cil_model::instructions::{
 };
 use cil_model::memory::NoMemory;
 use cil_model::texts::Text;
+use plain_lookups::bodies::place_of;
 
 /// A thread that is at an instruction: what it is done in, the state, and the thread's frames.
 #[derive(Drop)]
