@@ -75,11 +75,7 @@ fn with_report(text: String, report: Report) -> Result<String, NoMemory> {
 }
 
 /// The text with the reports of these steps; with the state and `stuck` where one is stuck.
-fn with_steps(
-    text: String,
-    machine: &mut PlainMachine,
-    steps: Steps,
-) -> Result<String, NoMemory> {
+fn with_steps(text: String, machine: &mut PlainMachine, steps: Steps) -> Result<String, NoMemory> {
     let mut text = text;
     for _ in 0..steps.count {
         match machine.step(steps.thread, steps.is_refused)? {
@@ -95,7 +91,11 @@ fn with_console(text: String, console: &[u8]) -> Result<String, NoMemory> {
     let mut text = text;
     text.push(' ')?;
     for byte in console {
-        let character = if *byte == b'\n' { ';' } else { char::from(*byte) };
+        let character = if *byte == b'\n' {
+            ';'
+        } else {
+            char::from(*byte)
+        };
         text.push(character)?;
     }
     Ok(text)
