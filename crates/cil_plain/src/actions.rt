@@ -150,7 +150,7 @@ impl<'a> PlainSetting<'a> {
         self.program.is_thread_class(c)
     }
 
-    fn class_of(&self, state: &PlainState<'a>, name: &PlainName) -> Option<PlainClassName<'a>>
+    pub fn class_of(&self, state: &PlainState<'a>, name: &PlainName) -> Option<PlainClassName<'a>>
         ensures { result ≡ class_of state.now name.now }
     {
         let program = self.program;

@@ -6,7 +6,7 @@ ghost use Rattle.cil_model.specs.Assignable.{type_of_class};
 ghost use Rattle.cil_model.specs.Bodies.{reference_operands};
 ghost use Rattle.cil_model.specs.Chains.{find_method, is_virtual};
 ghost use Rattle.cil_model.specs.Slots.{target};
-ghost use Rattle.cil_model.specs.States.{class_of, new_instance, with_birth};
+ghost use Rattle.cil_model.specs.States.{new_instance, with_birth};
 ghost use Rattle.cil_model.specs.Steps.{execute, is_too_deep, frame_for, run_method, run_virtual, method_for, construct};
 ghost use Rattle.cil_plain.specs.Taken.{taken};
 
@@ -70,13 +70,6 @@ impl<'a> PlainSetting<'a> {
         new_instance(program, c)
     }
 
-    fn class_of(&self, state: &PlainState<'a>, name: &PlainName) -> Option<PlainClassName<'a>>
-        ensures { result ≡ class_of state.now name.now }
-    {
-        let program = self.program;
-        state.class_of(program, name)
-    }
-
     /// The type of the object that a call is made on, where it is made on one.
     fn owner_type(&self, is_instance: bool, owner: &'a ClassName) -> Option<PlainType<'a>>
         ensures { result ≡ (if is_instance then Some (type_of_class owner.now) else None) }
@@ -107,7 +100,7 @@ impl<'a> Turn<'a> {
     }
 
     /// The frame of a method with code, above the one that calls it.
-    fn enter(
+    fn frame_for(
         self,
         found: FoundMethod<'a>,
         constructed: Option<PlainName<'a>>,
@@ -141,7 +134,7 @@ impl<'a> Turn<'a> {
         if self.is_too_deep() {
             Ok(raises(Fault::StackOverflow))
         } else {
-            self.enter(found, None, operands)
+            self.frame_for(found, None, operands)
         }
     }
 
@@ -219,7 +212,7 @@ impl<'a> Turn<'a> {
             let (_, rest) = operands.into_parts();
             turn.next_with(rest, object)
         } else {
-            turn.enter(found, Some(name), operands.with_first(object)?)
+            turn.frame_for(found, Some(name), operands.with_first(object)?)
         }
     }
 
