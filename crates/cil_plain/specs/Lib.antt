@@ -8,3 +8,5 @@ pub mod Located
 pub mod Declared
 pub mod Taken
 pub mod Actions
+pub mod Outcomes
+pub mod Machines

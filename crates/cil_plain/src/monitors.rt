@@ -65,6 +65,16 @@ impl<'a> LiteralMonitor<'a> {
     }
 }
 
+/// The literal with a monitor that nobody holds.
+pub fn free_monitor<'a>(characters: &'a Text) -> LiteralMonitor<'a>
+    ensures { result ≡ (characters.now, Free) }
+{
+    LiteralMonitor {
+        characters,
+        monitor: PlainMonitor::free(),
+    }
+}
+
 /// The monitor of a literal.
 fn literal_monitor(monitors: &[LiteralMonitor], characters: &Text) -> Option<PlainMonitor>
     ensures { result ≡ entry_at same_text characters.now monitors.now }
