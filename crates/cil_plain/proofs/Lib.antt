@@ -1,3 +1,3 @@
 pub mod Lists
 pub mod Stores
-pub mod Calls
+pub mod Invoked

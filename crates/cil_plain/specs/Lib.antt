@@ -5,7 +5,7 @@ pub mod Monitors
 pub mod Stores
 pub mod Effects
 pub mod Located
-pub mod Declared
+pub mod OwnFields
 pub mod Taken
 pub mod Actions
 pub mod Outcomes

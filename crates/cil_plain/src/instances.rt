@@ -5,7 +5,7 @@ ghost use Rattle.std.specs.Prelude.{◌≡◌, ◌++◌, IfOk, flat_map, map, re
 ghost use Rattle.cil_model.specs.Same.{same_flag};
 ghost use Rattle.cil_model.specs.Fields.{own_fields, instance_fields, static_fields};
 ghost use Rattle.cil_model.specs.States.{zeroed, new_instance};
-ghost use Rattle.cil_plain.specs.Declared.{fields_among};
+ghost use Rattle.cil_plain.specs.OwnFields.{fields_among};
 
 use crate::fields::{FieldEntry, PlainKey};
 use crate::states::{ContentsKind, PlainContents};

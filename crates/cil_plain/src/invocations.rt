@@ -1,5 +1,5 @@
 // Calls of methods and constructors (ECMA-335 III.3.19, III.4.2, III.4.21).
-#![tactic(auto, using(crate::proofs::Calls::calls))]
+#![tactic(auto, using(crate::proofs::Invoked::calls))]
 
 ghost use Rattle.std.specs.Prelude.{◌≡◌, IfOk, Some, None, if◌then◌else◌};
 ghost use Rattle.cil_model.specs.Assignable.{type_of_class};

@@ -1,6 +1,6 @@
 // The reference machine of a program, for tests.
 
-ghost use Rattle.std.specs.Prelude.{◌≡◌, IfOk, OnErr, Some, None, length, count_by, option_map};
+ghost use Rattle.std.specs.Prelude.{◌≡◌, IfOk, OnErr, OnOk, Some, None, length, count_by, option_map};
 ghost use Rattle.cil_model.specs.Runs.{opening};
 ghost use Rattle.cil_model.specs.States.{is_live, is_live_thread};
 ghost use Rattle.cil_plain.specs.Machines.{PlainContent, answer_of, end_in, run_of_machine, run_of_parts, step_of_machine};
