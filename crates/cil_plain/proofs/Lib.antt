@@ -1,3 +1,5 @@
 pub mod Lists
 pub mod Stores
 pub mod Invoked
+pub mod Growths
+pub mod Acted

@@ -1,13 +1,13 @@
 // Calls of built-in members: one event, and no frame (ECMA-335 Partition IV; Cilvm.Thread is this profile's).
 
-ghost use Rattle.std.specs.Prelude.{◌≡◌, ◌++◌, ◌∷◌, [], IfOk, Some, length, option_map};
+ghost use Rattle.std.specs.Prelude.{◌≡◌, ◌&&◌, ◌++◌, ◌∷◌, [], IfOk, Some, length, option_map};
 ghost use Rattle.std.specs.Fmt.{signed_decimal};
 ghost use Rattle.cil_model.specs.BuiltIn.{action_of, act, line_of, begin, start, join, thread_object, Write, Enter, Exit, Start, Join};
 ghost use Rattle.cil_model.specs.Chains.{is_thread_class};
 ghost use Rattle.cil_model.specs.Declarations.{thread_name, run_method};
 ghost use Rattle.cil_model.specs.Effects.{Effect, given};
-ghost use Rattle.cil_model.specs.declared.instructions.MethodName.TheVariants.{Constructor};
-ghost use Rattle.cil_model.specs.Same.{same_method_name};
+ghost use Rattle.cil_model.specs.declared.instructions.MethodName.TheVariants.{Constructor, Named};
+ghost use Rattle.cil_model.specs.Same.{same_class, same_method_name};
 ghost use Rattle.cil_model.specs.Slots.{target};
 ghost use Rattle.cil_model.specs.States.{HeapObject, class_of, object_at};
 ghost use Rattle.cil_plain.specs.Actions.{action_of_kind, only_item, started};
@@ -59,12 +59,14 @@ impl Model for PlainAction {
 }
 
 /// The only item of a list that has one alone.
-fn only_item<'a>(items: Vec<PlainValue<'a>>) -> Option<PlainValue<'a>>
-    ensures { result ≡ only_item items.entry.items }
+fn only_item<'a>(items: &[PlainValue<'a>]) -> Option<PlainValue<'a>>
+    ensures { result ≡ only_item items.now }
 {
-    let mut items = items;
-    let item = items.pop()?;
-    if items.is_empty() { Some(item) } else { None }
+    let (item, others) = items.split_first()?;
+    match others.split_first() {
+        None => Some(item.copy()),
+        Some(_) => None,
+    }
 }
 
 /// A number in decimal digits, with `-` where it is negative, and a line end.
@@ -111,6 +113,25 @@ fn is_constructor(name: &MethodName) -> bool
     }
 }
 
+/// Whether the owner and the name are the class's constructor.
+fn is_constructor_of(class: &PlainClassName, owner: &PlainClassName, name: &MethodName) -> bool
+    ensures { result ≡ same_class class.now owner.now && same_method_name Constructor name.now }
+{
+    class.is_same(owner) && is_constructor(name)
+}
+
+/// Whether the owner and the name are the class's methods of this text.
+fn is_method_of(
+    class: &PlainClassName,
+    text: &str,
+    owner: &PlainClassName,
+    name: &MethodName,
+) -> bool
+    ensures { result ≡ same_class class.now owner.now && same_method_name (Named text.now) name.now }
+{
+    class.is_same(owner) && is_named(name, text)
+}
+
 impl<'a> PlainSetting<'a> {
     /// What a call of the class's method does; none for a method with code of its own.
     pub fn action_of(&self, owner: &PlainClassName, method: &Method) -> Option<PlainAction>
@@ -125,19 +146,19 @@ impl<'a> PlainSetting<'a> {
     {
         let built_ins = self.program.built_ins;
         let name = &method.name;
-        if built_ins.object_name().is_same(owner) && is_constructor(name) {
+        if is_constructor_of(&built_ins.object_name(), owner, name) {
             Some(ActionKind::Construct)
-        } else if built_ins.thread_name().is_same(owner) && is_constructor(name) {
+        } else if is_constructor_of(&built_ins.thread_name(), owner, name) {
             Some(ActionKind::Construct)
-        } else if built_ins.console_name().is_same(owner) && is_named(name, "WriteLine") {
+        } else if is_method_of(&built_ins.console_name(), "WriteLine", owner, name) {
             Some(ActionKind::Write)
-        } else if built_ins.monitor_name().is_same(owner) && is_named(name, "Enter") {
+        } else if is_method_of(&built_ins.monitor_name(), "Enter", owner, name) {
             Some(ActionKind::Enter)
-        } else if built_ins.monitor_name().is_same(owner) && is_named(name, "Exit") {
+        } else if is_method_of(&built_ins.monitor_name(), "Exit", owner, name) {
             Some(ActionKind::Exit)
-        } else if built_ins.thread_name().is_same(owner) && is_named(name, "Start") {
+        } else if is_method_of(&built_ins.thread_name(), "Start", owner, name) {
             Some(ActionKind::Start)
-        } else if built_ins.thread_name().is_same(owner) && is_named(name, "Join") {
+        } else if is_method_of(&built_ins.thread_name(), "Join", owner, name) {
             Some(ActionKind::Join)
         } else {
             None
@@ -421,6 +442,7 @@ impl<'a> Turn<'a> {
     }
 
     /// The action on its operands, with the stack below them.
+    #[tactic(auto, using(crate::proofs::Acted::act_on_none, crate::proofs::Acted::act_on_one))]
     pub fn act(
         self,
         action: PlainAction,
@@ -429,7 +451,7 @@ impl<'a> Turn<'a> {
     ) -> Result<PlainEffect<'a>, NoMemory>
         ensures { IfOk result (λ e. e ≡ act self.entry.here self.entry.state self.entry.frame self.entry.below action.entry arguments.entry.items rest.entry) }
     {
-        let Some(value) = only_item(arguments) else {
+        let Some(value) = only_item(arguments.as_slice()) else {
             return Ok(sticks());
         };
         match action.kind {

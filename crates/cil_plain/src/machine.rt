@@ -1,6 +1,6 @@
 // The reference machine of a program, for tests.
 
-ghost use Rattle.std.specs.Prelude.{◌≡◌, IfOk, OnErr, OnOk, Some, None, length, count_by, option_map};
+ghost use Rattle.std.specs.Prelude.{◌≡◌, IfOk, OnErr, Some, None, length, count_by, option_map};
 ghost use Rattle.cil_model.specs.Runs.{opening};
 ghost use Rattle.cil_model.specs.States.{is_live, is_live_thread};
 ghost use Rattle.cil_plain.specs.Machines.{PlainContent, answer_of, end_in, run_of_machine, run_of_parts, step_of_machine};
@@ -94,6 +94,7 @@ impl<'a> PlainMachine<'a> {
 
     /// The steps one after another; none follows one that is stuck. Where memory is wanted, some of them may have been
     /// made.
+    #[tactic(auto, using(crate::proofs::Growths::preceded_by_one, crate::proofs::Growths::sticks_after_all, crate::proofs::Growths::runs_to_all, crate::proofs::Growths::run_goes_on, crate::proofs::Growths::run_sticks))]
     pub fn run(&mut self, requests: &[StepRequest]) -> Result<PlainRun, NoMemory>
         ensures runs { IfOk result (λ run. run_of_machine self.old requests.now ≡ run_of_parts run.is_stuck run.reports.items self.new.state) }
         ensures same_program { (self.new.tree ≡ self.old.tree) × (self.new.limits ≡ self.old.limits) }

@@ -1,7 +1,7 @@
 // The state in which a run begins (ECMA-335 I.12.3.1 and II.15.4.1.2).
 #![tactic(auto, using(crate::proofs::Lists::list_steps))]
 
-ghost use Rattle.std.specs.Prelude.{◌≡◌, IfOk, map, filter, filter_map, flat_map, not, option_map, slice_get, ◌∷◌, [], None};
+ghost use Rattle.std.specs.Prelude.{◌≡◌, ◌++◌, IfOk, map, filter, filter_map, flat_map, not, option_map, slice_get, ◌∷◌, [], None};
 ghost use Rattle.cil_model.specs.Bodies.{entry_points, is_entry_point, source_methods};
 ghost use Rattle.cil_model.specs.Declarations.{methods_of, source_name};
 ghost use Rattle.cil_model.specs.Mentions.{each_once, instructions_of, instructions_of_tree, literal_of, literals_of, methods_of_tree};
@@ -31,20 +31,23 @@ fn methods_of_tree(alloc: Global, tree: &Tree) -> Result<Vec<&Method>, NoMemory>
     let mut all = Vec::new(alloc);
     for class in tree.classes.as_slice() {
         let methods = methods_of(alloc, class)?;
-        all.extend_from_slice(methods.as_slice())?;
+        for method in methods.as_slice() {
+            all.push(*method)?;
+        }
     }
     Ok(all)
 }
 
-/// The instructions of a method.
-fn instructions_of(alloc: Global, method: &Method) -> Result<Vec<&Instruction>, NoMemory>
-    ensures { IfOk result (λ is. map (λ i. i.now) is.items ≡ instructions_of method.now) }
+fn add_instructions<'a>(
+    instructions: &mut Vec<&'a Instruction>,
+    method: &'a Method,
+) -> Result<(), NoMemory>
+    ensures { IfOk result (λ _. map (λ i. i.now) instructions.new.items ≡ map (λ i. i.now) instructions.old.items ++ instructions_of method.now) }
 {
-    let mut instructions = Vec::new(alloc);
     for line in lines_of(method) {
         instructions.push(&line.instruction)?;
     }
-    Ok(instructions)
+    Ok(())
 }
 
 /// The instructions of the source, in source order.
@@ -52,12 +55,11 @@ fn instructions_of_tree(alloc: Global, tree: &Tree) -> Result<Vec<&Instruction>,
     ensures { IfOk result (λ is. map (λ i. i.now) is.items ≡ instructions_of_tree tree.now) }
 {
     let methods = methods_of_tree(alloc, tree)?;
-    let mut all = Vec::new(alloc);
+    let mut instructions = Vec::new(alloc);
     for method in methods.as_slice() {
-        let instructions = instructions_of(alloc, method)?;
-        all.extend_from_slice(instructions.as_slice())?;
+        add_instructions(&mut instructions, method)?;
     }
-    Ok(all)
+    Ok(instructions)
 }
 
 /// The characters of the literals among instructions.
