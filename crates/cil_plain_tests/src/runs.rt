@@ -186,3 +186,19 @@ fn births_within_the_depth_and_where_memory_is_refused(rt: HostRuntime) -> Resul
     }
     Ok(())
 }
+
+#[test]
+fn a_stuck_step_changes_nothing_and_the_state_prints(rt: HostRuntime) -> Result<(), Fail> {
+    let told = main_story(
+        rt.alloc(),
+        "",
+        "ldc.i4.1 ldc.i4.2 ldarg 3 ret",
+        LIMITS,
+        &[steps(0, 3)],
+    )?;
+    assert_eq!(rt;
+        told.as_str(),
+        "rrstuck: thread 0: 9998 steps left [2: LoadArgument(3) [int32 2, int32 1]]\n "
+    );
+    Ok(())
+}
