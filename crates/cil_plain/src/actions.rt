@@ -449,7 +449,7 @@ impl<'a> Turn<'a> {
         arguments: Vec<PlainValue<'a>>,
         rest: Stack<PlainValue<'a>>,
     ) -> Result<PlainEffect<'a>, NoMemory>
-        ensures { IfOk result (λ e. e ≡ act self.entry.here self.entry.state self.entry.frame self.entry.below action.entry arguments.entry.items rest.entry) }
+        ensures { IfOk result (λ e. e ≡ act self.entry.here self.entry.state self.entry.frame self.entry.below action arguments.entry.items rest.entry) }
     {
         let Some(value) = only_item(arguments.as_slice()) else {
             return Ok(sticks());

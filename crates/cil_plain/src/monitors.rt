@@ -44,7 +44,7 @@ impl PlainMonitor {
 impl<'a> LiteralMonitor<'a> {
     /// The same literal with another monitor.
     fn with_monitor(&self, monitor: PlainMonitor) -> Self
-        ensures { result ≡ (self.now.0, monitor.entry) }
+        ensures { result ≡ (self.now.0, monitor) }
     {
         LiteralMonitor {
             characters: self.characters,
@@ -94,7 +94,7 @@ fn with_literal_monitor<'a>(
     characters: &Text,
     monitor: PlainMonitor,
 ) -> Result<Vec<LiteralMonitor<'a>>, NoMemory>
-    ensures { IfOk result (λ ms. ms.items ≡ with_entry same_text characters.now monitor.entry monitors.now) }
+    ensures { IfOk result (λ ms. ms.items ≡ with_entry same_text characters.now monitor monitors.now) }
 {
     let Some((first, others)) = monitors.split_first() else {
         return Ok(Vec::new(alloc));
@@ -118,7 +118,7 @@ impl<'a> PlainObject<'a> {
     }
 
     fn with_monitor(&self, alloc: Global, monitor: PlainMonitor) -> Result<Self, NoMemory>
-        ensures { IfOk result (λ o. o ≡ record self.now { monitor = monitor.entry }) }
+        ensures { IfOk result (λ o. o ≡ record self.now { monitor = monitor }) }
     {
         Ok(PlainObject {
             contents: self.contents.copied(alloc)?,
@@ -141,7 +141,7 @@ impl<'a> PlainState<'a> {
         characters: &Text,
         monitor: PlainMonitor,
     ) -> Result<Self, NoMemory>
-        ensures { IfOk result (λ s. s ≡ record self.entry { literal_monitors = with_entry same_text characters.now monitor.entry self.entry.literal_monitors }) }
+        ensures { IfOk result (λ s. s ≡ record self.entry { literal_monitors = with_entry same_text characters.now monitor self.entry.literal_monitors }) }
     {
         let mut state = self;
         state.literal_monitors = with_literal_monitor(
@@ -173,7 +173,7 @@ impl<'a> PlainState<'a> {
         name: &PlainName,
         monitor: PlainMonitor,
     ) -> Result<Self, NoMemory>
-        ensures { IfOk result (λ s. s ≡ with_monitor self.entry name.now monitor.entry) }
+        ensures { IfOk result (λ s. s ≡ with_monitor self.entry name.now monitor) }
     {
         if let NameKind::Literal(characters) = name.kind {
             return self.with_literal_monitor(alloc, characters, monitor);
@@ -205,7 +205,7 @@ impl<'a> Turn<'a> {
         stack: Stack<PlainValue<'a>>,
         monitor: PlainMonitor,
     ) -> Result<PlainEffect<'a>, NoMemory>
-        ensures { IfOk result (λ e. e ≡ onward self.entry.frame self.entry.below (with_monitor self.entry.state name.now monitor.entry) stack.entry) }
+        ensures { IfOk result (λ e. e ≡ onward self.entry.frame self.entry.below (with_monitor self.entry.state name.now monitor) stack.entry) }
     {
         let alloc = self.here.alloc();
         let state = self.state.with_monitor(alloc, name, monitor)?;
@@ -226,7 +226,7 @@ impl<'a> Turn<'a> {
         stack: Stack<PlainValue<'a>>,
         monitor: PlainMonitor,
     ) -> Result<PlainEffect<'a>, NoMemory>
-        ensures { IfOk result (λ e. e ≡ enter self.entry.here self.entry.state self.entry.frame self.entry.below name.now stack.entry monitor.entry) }
+        ensures { IfOk result (λ e. e ≡ enter self.entry.here self.entry.state self.entry.frame self.entry.below name.now stack.entry monitor) }
     {
         let thread = self.thread();
         let count = match monitor.holding {
@@ -251,7 +251,7 @@ impl<'a> Turn<'a> {
         stack: Stack<PlainValue<'a>>,
         monitor: PlainMonitor,
     ) -> Result<PlainEffect<'a>, NoMemory>
-        ensures { IfOk result (λ e. e ≡ exit self.entry.here self.entry.state self.entry.frame self.entry.below name.now stack.entry monitor.entry) }
+        ensures { IfOk result (λ e. e ≡ exit self.entry.here self.entry.state self.entry.frame self.entry.below name.now stack.entry monitor) }
     {
         let thread = self.thread();
         match monitor.holding {
