@@ -1,5 +1,6 @@
 -- What an action does with operands that are not one.
-use Rattle.std.proofs.Common.{◌≡◌, List, [], ◌∷◌, Option, Some, None, refl, ap}
+use Rattle.std.proofs.Common.{◌≡◌, List, [], ◌∷◌, Option, Some, None, refl, sym, ap}
+use Rattle.cil_model.proofs.BelowLaws.{none_is_some}
 use Rattle.cil_model.specs.Values.{Value}
 use Rattle.cil_model.specs.States.{State, Frame}
 use Rattle.cil_model.specs.Effects.{Setting, Sticks}
@@ -7,7 +8,9 @@ use Rattle.cil_model.specs.BuiltIn.{Action, Construct, Write, Enter, Exit, Start
 use Rattle.cil_plain.specs.Actions.{only_item}
 
 pub only_one : {X : Type 0} (x : X) (xs : List X) → only_item xs ≡ Some x → xs ≡ x ∷ []
+only_one x [] h = none_is_some x h
 only_one x (y ∷ []) h = cc
+only_one x (y ∷ z ∷ zs) h = none_is_some x h
 
 module _ (here : Setting) (s : State) (f : Frame) (below : List Frame) where
   none_alone : (a : Action) (rest : List Value) → act here s f below a [] rest ≡ Sticks
@@ -28,6 +31,7 @@ module _ (here : Setting) (s : State) (f : Frame) (below : List Frame) where
 
   pub act_on_none : (a : Action) (vs rest : List Value) → only_item vs ≡ None → act here s f below a vs rest ≡ Sticks
   act_on_none a [] rest h = none_alone a rest
+  act_on_none a (v ∷ []) rest h = none_is_some v (sym h)
   act_on_none a (v ∷ w ∷ vs) rest h = more_alone a v w vs rest
 
   pub act_on_one : (a : Action) (v : Value) (vs rest : List Value) → only_item vs ≡ Some v → act here s f below a vs rest ≡ act here s f below a (v ∷ []) rest

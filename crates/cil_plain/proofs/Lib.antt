@@ -3,3 +3,4 @@ pub mod Stores
 pub mod Invoked
 pub mod Growths
 pub mod Acted
+pub mod Entered

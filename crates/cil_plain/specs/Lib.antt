@@ -10,3 +10,4 @@ pub mod Taken
 pub mod Actions
 pub mod Outcomes
 pub mod Machines
+pub mod Entries

@@ -1,6 +1,6 @@
 // Calls of built-in members: one event, and no frame (ECMA-335 Partition IV; Cilvm.Thread is this profile's).
 
-ghost use Rattle.std.specs.Prelude.{◌≡◌, ◌&&◌, ◌++◌, ◌∷◌, [], IfOk, Some, length, option_map};
+ghost use Rattle.std.specs.Prelude.{◌≡◌, ◌&&◌, ◌++◌, ◌∷◌, [], IfOk, Some, None, length, option_map};
 ghost use Rattle.std.specs.Fmt.{signed_decimal};
 ghost use Rattle.cil_model.specs.BuiltIn.{action_of, act, line_of, begin, start, join, thread_object, Write, Enter, Exit, Start, Join};
 ghost use Rattle.cil_model.specs.Chains.{is_thread_class};
@@ -144,7 +144,8 @@ impl<'a> PlainSetting<'a> {
     fn action_kind(&self, owner: &PlainClassName, method: &Method) -> Option<ActionKind>
         ensures { option_map action_of_kind result ≡ action_of owner.now method.now }
     {
-        let built_ins = self.program.built_ins;
+        let program = self.program;
+        let built_ins = program.built_ins;
         let name = &method.name;
         if is_constructor_of(&built_ins.object_name(), owner, name) {
             Some(ActionKind::Construct)

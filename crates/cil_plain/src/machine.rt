@@ -6,7 +6,7 @@ ghost use Rattle.cil_model.specs.States.{is_live, is_live_thread};
 ghost use Rattle.cil_plain.specs.Machines.{PlainContent, answer_of, end_in, run_of_machine, run_of_parts, step_of_machine};
 
 use crate::openings::opening;
-use crate::states::{PlainState, PlainThread};
+use crate::states::PlainState;
 use crate::steps::{OutcomeKind, step};
 use cil_model::limits::Limits;
 use cil_model::memory::NoMemory;
@@ -99,7 +99,8 @@ impl<'a> PlainMachine<'a> {
         ensures runs { IfOk result (λ run. run_of_machine self.old requests.now ≡ run_of_parts run.is_stuck run.reports.items self.new.state) }
         ensures same_program { (self.new.tree ≡ self.old.tree) × (self.new.limits ≡ self.old.limits) }
     {
-        let mut reports = Vec::new(self.program.alloc);
+        let program = self.program;
+        let mut reports = Vec::new(program.alloc);
         for request in requests {
             match self.step(request.thread, request.is_refused)? {
                 None => {
@@ -158,14 +159,6 @@ impl<'a> fmt::Display for PlainMachine<'a> {
     fn fmt<W: fmt::Write>(&self, f: &mut fmt::Formatter<W>) -> fmt::Result {
         let state = &self.state;
         write!(f, "{state}")
-    }
-}
-
-impl<'a> PlainThread<'a> {
-    fn is_live(&self) -> bool
-        ensures { result ≡ is_live_thread self.now }
-    {
-        self.ended.is_none()
     }
 }
 

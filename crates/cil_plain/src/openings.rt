@@ -1,13 +1,13 @@
 // The state in which a run begins (ECMA-335 I.12.3.1 and II.15.4.1.2).
 #![tactic(auto, using(crate::proofs::Lists::list_steps))]
 
-ghost use Rattle.std.specs.Prelude.{◌≡◌, ◌++◌, IfOk, map, filter, filter_map, flat_map, not, option_map, slice_get, ◌∷◌, [], None};
-ghost use Rattle.cil_model.specs.Bodies.{entry_points, is_entry_point, source_methods};
-ghost use Rattle.cil_model.specs.Declarations.{methods_of, source_name};
+ghost use Rattle.std.specs.Prelude.{◌≡◌, ◌++◌, IfOk, map, filter, filter_map, not};
+ghost use Rattle.cil_model.specs.Bodies.{is_entry_point};
 ghost use Rattle.cil_model.specs.Mentions.{each_once, instructions_of, instructions_of_tree, literal_of, literals_of, methods_of_tree};
 ghost use Rattle.cil_model.specs.Runs.{opening, opening_at};
 ghost use Rattle.cil_model.specs.Same.{same_text};
 ghost use Rattle.cil_model.specs.States.{Free};
+ghost use Rattle.cil_plain.specs.Entries.{first_entry, with_class, with_classes};
 
 use crate::calls::new_frame;
 use crate::instances::{static_fields, zeroed};
@@ -138,7 +138,7 @@ fn is_entry_point(method: &Method) -> bool
 
 /// The first entry point among a class's methods.
 fn entry_among<'a>(class: &'a Class, methods: &[&'a Method]) -> Option<FoundMethod<'a>>
-    ensures { result ≡ slice_get (filter (λ found. is_entry_point found.1) (map (λ m. (source_name class.now, m)) (map (λ m. m.now) methods.now))) 0 }
+    ensures { result ≡ first_entry (with_class class.now (map (λ m. m.now) methods.now)) }
 {
     let (first, others) = methods.split_first()?;
     if is_entry_point(first) {
@@ -152,8 +152,9 @@ fn entry_among<'a>(class: &'a Class, methods: &[&'a Method]) -> Option<FoundMeth
 }
 
 /// The first entry point among the methods of these classes.
+#[tactic(auto, using(crate::proofs::Entered::entry_here, crate::proofs::Entered::entry_later))]
 fn entry_in<'a>(alloc: Global, classes: &'a [Class]) -> Result<Option<FoundMethod<'a>>, NoMemory>
-    ensures { IfOk result (λ found. found ≡ slice_get (filter (λ f. is_entry_point f.1) (flat_map (λ c. map (λ m. (source_name c, m)) (methods_of c)) classes.now)) 0) }
+    ensures { IfOk result (λ found. found ≡ first_entry (with_classes classes.now)) }
 {
     let Some((first, others)) = classes.split_first() else {
         return Ok(None);

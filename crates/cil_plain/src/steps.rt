@@ -1,6 +1,7 @@
 // One step of one thread.
 
-ghost use Rattle.std.specs.Prelude.{◌≡◌, ◌-◌, IfOk, is_some};
+ghost use Rattle.std.specs.Prelude.{◌≡◌, ◌-◌, IfOk};
+ghost use Rattle.cil_model.specs.States.{is_live_thread};
 ghost use Rattle.cil_model.specs.Steps.{Answers, Stuck, with_thread_at, ended_as, goes_on, settled, step_of, step};
 
 use crate::dispatch::effect_of;
@@ -66,10 +67,11 @@ impl<'a> PlainState<'a> {
 }
 
 impl<'a> PlainThread<'a> {
-    fn is_over(&self) -> bool
-        ensures { result ≡ is_some self.now.ended }
+    /// Whether the thread has not ended.
+    pub fn is_live(&self) -> bool
+        ensures { result ≡ is_live_thread self.now }
     {
-        self.ended.is_some()
+        self.ended.is_none()
     }
 
     /// The steps that are left after one more.
@@ -167,7 +169,7 @@ fn step_of<'a>(
     ensures { IfOk result (λ o. o ≡ step_of here.entry state.now thread.now) }
 {
     let alloc = here.alloc();
-    if thread.is_over() {
+    if !thread.is_live() {
         return Ok(answers(Report::Absent, state.copied(alloc)?));
     }
     let number = here.thread;
