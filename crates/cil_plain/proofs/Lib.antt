@@ -4,3 +4,4 @@ pub mod Invoked
 pub mod Growths
 pub mod Acted
 pub mod Entered
+pub mod Locked

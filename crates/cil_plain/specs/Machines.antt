@@ -8,6 +8,7 @@ use Rattle.cil_model.specs.States.{State, Thread}
 use Rattle.cil_model.specs.Steps.{Outcome, Answers, Stuck, step}
 use Rattle.cil_model.specs.Runs.{Run, RunsTo, SticksAfter, StepRequest, run, preceded_by}
 
+-- what contracts see of a machine
 pub record PlainContent : Type 0 where
   pub tree : Tree
   pub limits : Limits

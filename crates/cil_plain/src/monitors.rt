@@ -4,6 +4,7 @@ ghost use Rattle.std.specs.Prelude.{◌≡◌, IfOk, if◌then◌else◌, nat_le
 ghost use Rattle.cil_model.specs.BuiltIn.{enter, exit};
 ghost use Rattle.cil_model.specs.Effects.{onward};
 ghost use Rattle.cil_model.specs.Same.{same_text};
+ghost use Rattle.cil_model.specs.Values.{Born};
 ghost use Rattle.cil_model.specs.States.{Free, Held, entry_at, with_entry, monitor_of, with_monitor};
 
 use crate::effects::{PlainEffect, blocks, onward, raises};
@@ -166,6 +167,23 @@ impl<'a> PlainState<'a> {
         }
     }
 
+    #[tactic(auto, using(crate::proofs::Locked::monitor_changed, crate::proofs::Locked::monitor_nowhere))]
+    fn with_born_monitor(
+        self,
+        alloc: Global,
+        number: usize,
+        monitor: PlainMonitor,
+    ) -> Result<Self, NoMemory>
+        ensures { IfOk result (λ s. s ≡ with_monitor self.entry (Born number) monitor) }
+    {
+        let name = PlainName::born(number);
+        let changed = match self.object_at(&name) {
+            None => return Ok(self),
+            Some(object) => object.with_monitor(alloc, monitor)?,
+        };
+        Ok(self.with_object(&name, changed))
+    }
+
     /// The state with another monitor of an object that is there; as it was where there is no such object.
     pub fn with_monitor(
         self,
@@ -175,14 +193,10 @@ impl<'a> PlainState<'a> {
     ) -> Result<Self, NoMemory>
         ensures { IfOk result (λ s. s ≡ with_monitor self.entry name.now monitor) }
     {
-        if let NameKind::Literal(characters) = name.kind {
-            return self.with_literal_monitor(alloc, characters, monitor);
+        match name.kind {
+            NameKind::Literal(characters) => self.with_literal_monitor(alloc, characters, monitor),
+            NameKind::Born(number) => self.with_born_monitor(alloc, number, monitor),
         }
-        let changed = match self.object_at(name) {
-            None => return Ok(self),
-            Some(object) => object.with_monitor(alloc, monitor)?,
-        };
-        Ok(self.with_object(name, changed))
     }
 }
 
@@ -229,18 +243,19 @@ impl<'a> Turn<'a> {
         ensures { IfOk result (λ e. e ≡ enter self.entry.here self.entry.state self.entry.frame self.entry.below name.now stack.entry monitor) }
     {
         let thread = self.thread();
-        let count = match monitor.holding {
-            None => 0,
+        match monitor.holding {
+            None => self.onward_with_monitor(name, stack, PlainMonitor::held(thread, 1)),
             Some(holding) => {
                 if holding.owner != thread {
                     return Ok(blocks());
                 }
-                holding.count
+                match holding.count.checked_add(1) {
+                    None => Err(NoMemory),
+                    Some(count) => {
+                        self.onward_with_monitor(name, stack, PlainMonitor::held(thread, count))
+                    }
+                }
             }
-        };
-        match count.checked_add(1) {
-            None => Err(NoMemory),
-            Some(count) => self.onward_with_monitor(name, stack, PlainMonitor::held(thread, count)),
         }
     }
 
