@@ -11,7 +11,7 @@ use crate::fields::{FieldEntry, PlainKey};
 use crate::states::{ContentsKind, PlainContents};
 use crate::values::zero_of;
 use cil_model::memory::NoMemory;
-use cil_model::trees::Field;
+use cil_model::trees::{Class, Field};
 use cil_model::types::DeclaredType;
 use plain_lookups::declarations::Program;
 use plain_lookups::names::PlainClassName;
@@ -67,14 +67,14 @@ fn is_same_flag(own: bool, other: bool) -> bool
 
 /// The fields, and behind them the static or the instance ones among those that a class declares.
 fn with_fields_of<'a>(
-    fields: Vec<TypedField<'a>>,
+    before: Vec<TypedField<'a>>,
     declared: &[&'a Field],
     is_static: bool,
     owner: &PlainClassName<'a>,
 ) -> Result<Vec<TypedField<'a>>, NoMemory>
-    ensures { IfOk result (λ fs. fs.items ≡ fields.entry.items ++ fields_among is_static owner.now (map (λ f. f.now) declared.now)) }
+    ensures { IfOk result (λ fs. fs.items ≡ before.entry.items ++ fields_among is_static owner.now (map (λ f. f.now) declared.now)) }
 {
-    let mut fields = fields;
+    let mut fields = before;
     for field in declared {
         if is_same_flag(field.is_static, is_static) {
             let key = PlainKey {
@@ -127,13 +127,19 @@ pub fn instance_fields<'a>(
     fields_along(program, chain.as_slice())
 }
 
+fn source_classes<'a>(program: &Program<'a>) -> &'a [Class]
+    ensures { result.now ≡ program.now.classes }
+{
+    program.tree.classes.as_slice()
+}
+
 /// The static fields of all classes, in source order.
 pub fn static_fields<'a>(program: &Program<'a>) -> Result<Vec<TypedField<'a>>, NoMemory>
     ensures { IfOk result (λ fs. fs.items ≡ static_fields program.now) }
 {
-    let tree = program.tree;
+    let classes = source_classes(program);
     let mut fields = Vec::new(program.alloc);
-    for class in tree.classes.as_slice() {
+    for class in classes {
         let owner = PlainClassName::of_source(class);
         fields = with_own_fields(program, fields, true, &owner)?;
     }

@@ -97,6 +97,7 @@ fn is_of_plain_kind(t: &PlainType, v: &PlainValue) -> bool
 }
 
 /// So many operands of a stack, where it has so many.
+#[tactic(auto, using(crate::proofs::Invoked::popped_nothing, crate::proofs::Invoked::popped_missing, crate::proofs::Invoked::popped_more))]
 pub fn popped<'a>(
     alloc: Global,
     count: usize,
