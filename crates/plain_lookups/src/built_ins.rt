@@ -1,7 +1,8 @@
 // The built-in classes (ECMA-335 Partition IV; Cilvm.Thread is this profile's).
 
 ghost use Rattle.std.specs.Prelude.{◌≡◌, [], ◌∷◌, IfOk, Some, None, pos, string_bytes, false, true, codes};
-ghost use Rattle.cil_model.specs.Declarations.{plain, void_method, no_code, return_alone, object_constructor, run_method, object_name, string_name, console_name, monitor_name, thread_name, built_in};
+ghost use Rattle.cil_model.specs.Declarations.{plain, void_method, no_code, return_alone, object_constructor, run_method, object_name, string_name, console_name, monitor_name, thread_name, built_in, built_ins};
+ghost use Rattle.plain_lookups.specs.BuiltInMethods.{static_method, instance_method, console_methods, monitor_methods, thread_methods};
 
 use crate::names::PlainClassName;
 use cil_model::instructions::{Instruction, MethodName};
@@ -29,6 +30,20 @@ impl Model for BuiltInClass {
     ghost Value = { NameOfClass × Declaration };
 
     ghost view = { λ b. (b.name, built_in b.base b.methods) };
+}
+
+impl BuiltInClass {
+    pub fn name(&self) -> PlainClassName<'_>
+        ensures { result ≡ self.now.0 }
+    {
+        PlainClassName::of(&self.name)
+    }
+
+    pub fn methods(&self) -> &[Method]
+        ensures { result.now ≡ self.now.1.methods }
+    {
+        self.methods.as_slice()
+    }
 }
 
 fn text(alloc: Global, characters: &str) -> Result<Text, NoMemory>
@@ -89,7 +104,7 @@ fn void_method(name: MethodName, parameters: Sequence<DeclaredType>, kind: Metho
 
 /// A static method of one parameter.
 fn static_method(alloc: Global, name: &str, element: Element) -> Result<Method, NoMemory>
-    ensures { IfOk result (λ m. m ≡ void_method (MethodName.Named name.now) (plain element ∷ []) (MethodKind.Static no_code)) }
+    ensures { IfOk result (λ m. m ≡ static_method name.now element) }
 {
     let parameter = DeclaredType {
         element,
@@ -102,7 +117,7 @@ fn static_method(alloc: Global, name: &str, element: Element) -> Result<Method, 
 
 /// An instance method without parameters.
 fn instance_method(alloc: Global, name: &str) -> Result<Method, NoMemory>
-    ensures { IfOk result (λ m. m ≡ void_method (MethodName.Named name.now) [] (MethodKind.Instance no_code)) }
+    ensures { IfOk result (λ m. m ≡ instance_method name.now) }
 {
     let name = MethodName::Named(text(alloc, name)?);
     Ok(void_method(
@@ -136,44 +151,27 @@ fn run_method(alloc: Global) -> Result<Method, NoMemory>
 /// The built-in classes, which every program has beside those of its source.
 #[derive(Debug, Drop)]
 pub struct BuiltIns {
-    object: BuiltInClass,
-    string: BuiltInClass,
-    console: BuiltInClass,
-    monitor: BuiltInClass,
-    thread: BuiltInClass,
-    run: Method,
+    classes: Vec<BuiltInClass>,
 }
 
 impl Model for BuiltIns {
-    ghost use Rattle.std.specs.Prelude.{◌≡◌, ℕ, List, [], ◌∷◌};
-    ghost use Rattle.cil_model.specs.Declarations.{built_ins, run_method as method_of_run};
+    ghost use Rattle.std.specs.Prelude.{◌≡◌, ℕ};
+    ghost use Rattle.cil_model.specs.Declarations.{built_ins};
 
     ghost Value = { ℕ };
 
     ghost view = { λ b. 0 };
 
-    ghost invariant = { λ b. ((b.object ∷ b.string ∷ b.console ∷ b.monitor ∷ b.thread ∷ []) ≡ built_ins) × (b.run ≡ method_of_run) };
+    ghost invariant = { λ b. b.classes.items ≡ built_ins };
 }
 
 impl BuiltIns {
     pub fn new(alloc: Global) -> Result<Self, NoMemory> {
-        let object = object_class(alloc)?;
-        let string = string_class(alloc)?;
-        let console = console_class(alloc)?;
-        let monitor = monitor_class(alloc)?;
-        let thread = thread_class(alloc)?;
-        let run = run_method(alloc)?;
-        Ok(BuiltIns {
-            object,
-            string,
-            console,
-            monitor,
-            thread,
-            run,
-        })
+        let classes = classes(alloc)?;
+        Ok(BuiltIns { classes })
     }
 
-    ghost use Rattle.std.specs.Prelude.{find, option_map};
+    ghost use Rattle.std.specs.Prelude.{find, option_map, slice_get};
     ghost use Rattle.cil_model.specs.Same.{same_class};
     ghost use Rattle.cil_model.specs.Declarations.{built_ins, Declaration, object_name, string_name, thread_name, console_name, monitor_name};
     ghost use Rattle.cil_model.specs.declared.types.ClassName.{ClassName as NameOfClass};
@@ -181,56 +179,92 @@ impl BuiltIns {
     pub fn class_named(&self, name: &PlainClassName) -> Option<&BuiltInClass>
         ensures { option_map (λ b. b.now) result ≡ find (λ (entry : NameOfClass × Declaration). same_class entry.0 name.now) built_ins }
     {
-        if PlainClassName::of(&self.object.name).is_same(name) {
-            Some(&self.object)
-        } else if PlainClassName::of(&self.string.name).is_same(name) {
-            Some(&self.string)
-        } else if PlainClassName::of(&self.console.name).is_same(name) {
-            Some(&self.console)
-        } else if PlainClassName::of(&self.monitor.name).is_same(name) {
-            Some(&self.monitor)
-        } else if PlainClassName::of(&self.thread.name).is_same(name) {
-            Some(&self.thread)
-        } else {
-            None
-        }
+        self.classes.iter().find(|class| class.name().is_same(name))
+    }
+
+    /// The class at a place of the list of built-in classes.
+    fn class_at(&self, place: usize) -> Option<&BuiltInClass>
+        ensures { option_map (λ b. b.now) result ≡ slice_get built_ins place }
+    {
+        self.classes.get(place)
     }
 
     pub fn object_name(&self) -> PlainClassName<'_>
         ensures { result ≡ object_name }
     {
-        PlainClassName::of(&self.object.name)
+        match self.class_at(0) {
+            Some(class) => class.name(),
+            None => unreachable!(),
+        }
     }
 
     pub fn string_name(&self) -> PlainClassName<'_>
         ensures { result ≡ string_name }
     {
-        PlainClassName::of(&self.string.name)
+        match self.class_at(1) {
+            Some(class) => class.name(),
+            None => unreachable!(),
+        }
     }
 
     pub fn console_name(&self) -> PlainClassName<'_>
         ensures { result ≡ console_name }
     {
-        PlainClassName::of(&self.console.name)
+        match self.class_at(2) {
+            Some(class) => class.name(),
+            None => unreachable!(),
+        }
     }
 
     pub fn monitor_name(&self) -> PlainClassName<'_>
         ensures { result ≡ monitor_name }
     {
-        PlainClassName::of(&self.monitor.name)
+        match self.class_at(3) {
+            Some(class) => class.name(),
+            None => unreachable!(),
+        }
     }
 
     pub fn thread_name(&self) -> PlainClassName<'_>
         ensures { result ≡ thread_name }
     {
-        PlainClassName::of(&self.thread.name)
+        match self.class_at(4) {
+            Some(class) => class.name(),
+            None => unreachable!(),
+        }
+    }
+
+    /// The methods of the class of threads.
+    fn thread_methods(&self) -> &[Method]
+        ensures { result.now ≡ thread_methods }
+    {
+        match self.class_at(4) {
+            Some(class) => class.methods(),
+            None => unreachable!(),
+        }
     }
 
     pub fn run_method(&self) -> &Method
         ensures { result.now ≡ run_method }
     {
-        &self.run
+        match self.thread_methods().get(1) {
+            Some(method) => method,
+            None => unreachable!(),
+        }
     }
+}
+
+/// The built-in classes in the order of their list.
+fn classes(alloc: Global) -> Result<Vec<BuiltInClass>, NoMemory>
+    ensures { IfOk result (λ classes. classes.items ≡ built_ins) }
+{
+    let mut classes = Vec::new(alloc);
+    classes.push(object_class(alloc)?)?;
+    classes.push(string_class(alloc)?)?;
+    classes.push(console_class(alloc)?)?;
+    classes.push(monitor_class(alloc)?)?;
+    classes.push(thread_class(alloc)?)?;
+    Ok(classes)
 }
 
 fn object_class(alloc: Global) -> Result<BuiltInClass, NoMemory>
@@ -257,59 +291,69 @@ fn string_class(alloc: Global) -> Result<BuiltInClass, NoMemory>
     })
 }
 
+/// What `System.Console` declares.
+fn console_methods(alloc: Global) -> Result<Vec<Method>, NoMemory>
+    ensures { IfOk result (λ methods. methods.items ≡ console_methods) }
+{
+    let mut methods = Vec::new(alloc);
+    methods.push(static_method(alloc, "WriteLine", Element::Int32)?)?;
+    methods.push(static_method(alloc, "WriteLine", Element::Int64)?)?;
+    methods.push(static_method(alloc, "WriteLine", Element::String)?)?;
+    Ok(methods)
+}
+
 fn console_class(alloc: Global) -> Result<BuiltInClass, NoMemory>
-    ensures { IfOk result (λ b. b ≡ (
-      console_name,
-      built_in None (
-          void_method (MethodName.Named (codes "WriteLine")) (plain Element.Int32 ∷ []) (MethodKind.Static no_code) ∷
-          void_method (MethodName.Named (codes "WriteLine")) (plain Element.Int64 ∷ []) (MethodKind.Static no_code) ∷
-          void_method (MethodName.Named (codes "WriteLine")) (plain Element.String ∷ []) (MethodKind.Static no_code) ∷ []),
-    )) }
+    ensures { IfOk result (λ b. b ≡ (console_name, built_in None console_methods)) }
 {
     let name = class_name(alloc, "mscorlib", "System.Console")?;
-    let first = static_method(alloc, "WriteLine", Element::Int32)?;
-    let second = static_method(alloc, "WriteLine", Element::Int64)?;
-    let third = static_method(alloc, "WriteLine", Element::String)?;
+    let methods = console_methods(alloc)?;
     Ok(BuiltInClass {
         name,
         base: None,
-        methods: Sequence::new(vec![in alloc; first, second, third]?),
+        methods: Sequence::new(methods),
     })
+}
+
+/// What `System.Threading.Monitor` declares.
+fn monitor_methods(alloc: Global) -> Result<Vec<Method>, NoMemory>
+    ensures { IfOk result (λ methods. methods.items ≡ monitor_methods) }
+{
+    let mut methods = Vec::new(alloc);
+    methods.push(static_method(alloc, "Enter", Element::Object)?)?;
+    methods.push(static_method(alloc, "Exit", Element::Object)?)?;
+    Ok(methods)
 }
 
 fn monitor_class(alloc: Global) -> Result<BuiltInClass, NoMemory>
-    ensures { IfOk result (λ b. b ≡ (
-      monitor_name,
-      built_in None (
-          void_method (MethodName.Named (codes "Enter")) (plain Element.Object ∷ []) (MethodKind.Static no_code) ∷
-          void_method (MethodName.Named (codes "Exit")) (plain Element.Object ∷ []) (MethodKind.Static no_code) ∷ []),
-    )) }
+    ensures { IfOk result (λ b. b ≡ (monitor_name, built_in None monitor_methods)) }
 {
     let name = class_name(alloc, "mscorlib", "System.Threading.Monitor")?;
-    let first = static_method(alloc, "Enter", Element::Object)?;
-    let second = static_method(alloc, "Exit", Element::Object)?;
+    let methods = monitor_methods(alloc)?;
     Ok(BuiltInClass {
         name,
         base: None,
-        methods: Sequence::new(vec![in alloc; first, second]?),
+        methods: Sequence::new(methods),
     })
 }
 
+/// What `Cilvm.Thread` declares.
+fn thread_methods(alloc: Global) -> Result<Vec<Method>, NoMemory>
+    ensures { IfOk result (λ methods. methods.items ≡ thread_methods) }
+{
+    let mut methods = Vec::new(alloc);
+    methods.push(object_constructor(alloc))?;
+    methods.push(run_method(alloc)?)?;
+    methods.push(instance_method(alloc, "Start")?)?;
+    methods.push(instance_method(alloc, "Join")?)?;
+    Ok(methods)
+}
+
 fn thread_class(alloc: Global) -> Result<BuiltInClass, NoMemory>
-    ensures { IfOk result (λ b. b ≡ (
-      thread_name,
-      built_in (Some object_name) (
-          object_constructor ∷ run_method ∷
-          void_method (MethodName.Named (codes "Start")) [] (MethodKind.Instance no_code) ∷
-          void_method (MethodName.Named (codes "Join")) [] (MethodKind.Instance no_code) ∷ []),
-    )) }
+    ensures { IfOk result (λ b. b ≡ (thread_name, built_in (Some object_name) thread_methods)) }
 {
     let name = class_name(alloc, "cilvm", "Cilvm.Thread")?;
     let base = class_name(alloc, "mscorlib", "System.Object")?;
-    let run = run_method(alloc)?;
-    let start = instance_method(alloc, "Start")?;
-    let join = instance_method(alloc, "Join")?;
-    let methods = vec![in alloc; object_constructor(alloc), run, start, join]?;
+    let methods = thread_methods(alloc)?;
     Ok(BuiltInClass {
         name,
         base: Some(base),

@@ -48,7 +48,8 @@ pub fn is_new_slot_method(kind: &MethodKind) -> bool
     }
 }
 
-fn are_same_types(own: &[DeclaredType], others: &[DeclaredType]) -> bool
+/// Whether both have the same types in the same order.
+pub fn are_same_types(own: &[DeclaredType], others: &[DeclaredType]) -> bool
     ensures { result ≡ same_lists same_type own.now others.now }
 {
     match (own.split_first(), others.split_first()) {
@@ -58,15 +59,22 @@ fn are_same_types(own: &[DeclaredType], others: &[DeclaredType]) -> bool
     }
 }
 
-pub fn is_same_signature(own: &Signature, others: &Signature) -> bool
-    ensures { result ≡ same_signature own.now others.now }
+/// Whether both return the same type, or both nothing.
+pub fn is_same_result(own: Option<&DeclaredType>, others: Option<&DeclaredType>) -> bool
+    ensures { result ≡ same_options same_type (option_map (λ t. t.now) own.entry) (option_map (λ t. t.now) others.entry) }
 {
-    let same_result = match (&own.return_type, &others.return_type) {
+    match (own, others) {
         (None, None) => true,
         (Some(a), Some(b)) => a.is_same(b),
         _ => false,
-    };
-    are_same_types(own.parameters.as_slice(), others.parameters.as_slice()) && same_result
+    }
+}
+
+pub fn is_same_signature(own: &Signature, others: &Signature) -> bool
+    ensures { result ≡ same_signature own.now others.now }
+{
+    are_same_types(own.parameters.as_slice(), others.parameters.as_slice())
+        && is_same_result(own.return_type.as_ref(), others.return_type.as_ref())
 }
 
 /// A field with the class that declares it.

@@ -66,6 +66,12 @@ impl<'a> PlainDeclaration<'a> {
         self.is_interface
     }
 
+    pub fn is_abstract(&self) -> bool
+        ensures { result ≡ self.now.is_abstract }
+    {
+        self.is_abstract
+    }
+
     pub fn interfaces(&self) -> &'a [ClassName]
         ensures { result.now ≡ self.now.interfaces }
     {

@@ -1,11 +1,11 @@
 // Which values of one type may stand where another is wanted (ECMA-335 I.8.7).
 
-ghost use Rattle.std.specs.Prelude.{◌≡◌, IfOk, ◌||◌};
+ghost use Rattle.std.specs.Prelude.{◌≡◌, ◌==◌, ◌&&◌, IfOk, ◌||◌};
 ghost use Rattle.std.specs.List.{list_any};
-ghost use Rattle.cil_model.specs.Same.{same_class, same_element};
+ghost use Rattle.cil_model.specs.Same.{same_class, same_element, same_type};
 ghost use Rattle.cil_model.specs.Declarations.{plain};
 ghost use Rattle.cil_model.specs.Chains.{interfaces_in};
-ghost use Rattle.cil_model.specs.Assignable.{is_reference_element, array_of, element_of_class, type_of_class, is_class_assignable, is_element_assignable, is_assignable_at, is_assignable};
+ghost use Rattle.cil_model.specs.Assignable.{is_reference, is_reference_element, array_of, element_of_class, type_of_class, is_class_assignable, is_element_assignable, is_assignable_at, is_assignable};
 
 use crate::declarations::Program;
 use crate::names::PlainClassName;
@@ -72,19 +72,45 @@ impl<'a> PlainElement<'a> {
         PlainElement { kind }
     }
 
-    pub fn is_same(&self, other: &Element) -> bool
+    pub fn copy(&self) -> Self
+        ensures { result ≡ self.now }
+    {
+        let kind = match &self.kind {
+            ElementKind::Int32 => ElementKind::Int32,
+            ElementKind::Int64 => ElementKind::Int64,
+            ElementKind::Object => ElementKind::Object,
+            ElementKind::String => ElementKind::String,
+            ElementKind::Class(c) => ElementKind::Class(c.copy()),
+        };
+        PlainElement { kind }
+    }
+
+    /// Whether both are the same type; `object` isn't a class by that name.
+    pub fn is_same(&self, other: &PlainElement) -> bool
         ensures { result ≡ same_element self.now other.now }
     {
-        match (&self.kind, other) {
-            (ElementKind::Int32, Element::Int32) => true,
-            (ElementKind::Int64, Element::Int64) => true,
-            (ElementKind::Object, Element::Object) => true,
-            (ElementKind::String, Element::String) => true,
-            (ElementKind::Class(own), Element::Class(others)) => {
-                own.is_same(&PlainClassName::of(others))
-            }
+        match (&self.kind, &other.kind) {
+            (ElementKind::Int32, ElementKind::Int32) => true,
+            (ElementKind::Int64, ElementKind::Int64) => true,
+            (ElementKind::Object, ElementKind::Object) => true,
+            (ElementKind::String, ElementKind::String) => true,
+            (ElementKind::Class(own), ElementKind::Class(others)) => own.is_same(others),
             _ => false,
         }
+    }
+
+    /// Whether both are the same type with these numbers of pairs of brackets.
+    fn is_same_array(&self, brackets: u64, other: &PlainElement, others: u64) -> bool
+        ensures { result ≡ (same_element self.now other.now && (brackets == others)) }
+    {
+        self.is_same(other) && brackets == others
+    }
+
+    /// Whether it is `object`, without an assembly.
+    pub fn is_object(&self) -> bool
+        ensures { result ≡ same_element self.now ObjectElement }
+    {
+        matches!(self.kind, ElementKind::Object)
     }
 
     /// Whether the type with so many pairs of brackets is a reference.
@@ -104,21 +130,6 @@ impl<'a> PlainElement<'a> {
     }
 }
 
-fn is_reference_element(element: &Element, brackets: u32) -> bool
-    ensures { result ≡ is_reference_element element.now brackets }
-{
-    if brackets > 0 {
-        return true;
-    }
-    match element {
-        Element::Int32 => false,
-        Element::Int64 => false,
-        Element::Object => true,
-        Element::String => true,
-        Element::Class(_) => true,
-    }
-}
-
 impl<'a> PlainType<'a> {
     pub fn of(t: &'a DeclaredType) -> Self
         ensures { result ≡ t.now }
@@ -127,6 +138,29 @@ impl<'a> PlainType<'a> {
             element: PlainElement::of(&t.element),
             brackets: u64::from(t.brackets),
         }
+    }
+
+    pub fn copy(&self) -> Self
+        ensures { result ≡ self.now }
+    {
+        PlainType {
+            element: self.element.copy(),
+            brackets: self.brackets,
+        }
+    }
+
+    /// Whether both have the same element and as many pairs of brackets (ECMA-335 I.8.6.1).
+    pub fn is_same(&self, other: &PlainType) -> bool
+        ensures { result ≡ same_type self.now other.now }
+    {
+        self.element.is_same(&other.element) && self.brackets == other.brackets
+    }
+
+    /// Whether the type is a reference (ECMA-335 I.8.2.1).
+    pub fn is_reference(&self) -> bool
+        ensures { result ≡ is_reference self.now }
+    {
+        self.element.is_reference(self.brackets)
     }
 }
 
@@ -198,17 +232,19 @@ impl<'a> Program<'a> {
         self.is_met_along(d, chain.as_slice())
     }
 
-    fn is_element_assignable(&self, e: &PlainElement<'a>, f: &Element) -> Result<bool, NoMemory>
+    fn is_element_assignable(
+        &self,
+        e: &PlainElement<'a>,
+        f: &PlainElement,
+    ) -> Result<bool, NoMemory>
         ensures { IfOk result (λ b. b ≡ is_element_assignable self.now e.now f.now) }
     {
-        match (&e.kind, f) {
-            (_, Element::Object) => Ok(e.is_reference(0)),
-            (ElementKind::Class(c), Element::Class(d)) => {
-                self.is_class_assignable(c, &PlainClassName::of(d))
-            }
-            (ElementKind::Int32, Element::Int32) => Ok(true),
-            (ElementKind::Int64, Element::Int64) => Ok(true),
-            (ElementKind::String, Element::String) => Ok(true),
+        match (&e.kind, &f.kind) {
+            (_, ElementKind::Object) => Ok(e.is_reference(0)),
+            (ElementKind::Class(c), ElementKind::Class(d)) => self.is_class_assignable(c, d),
+            (ElementKind::Int32, ElementKind::Int32) => Ok(true),
+            (ElementKind::Int64, ElementKind::Int64) => Ok(true),
+            (ElementKind::String, ElementKind::String) => Ok(true),
             _ => Ok(false),
         }
     }
@@ -218,8 +254,8 @@ impl<'a> Program<'a> {
         &self,
         e: &PlainElement<'a>,
         m: u64,
-        f: &Element,
-        n: u32,
+        f: &PlainElement,
+        n: u64,
     ) -> Result<bool, NoMemory>
         ensures { IfOk result (λ b. b ≡ is_assignable_at self.now e.now m f.now n) }
     {
@@ -227,21 +263,32 @@ impl<'a> Program<'a> {
             if m == 0 {
                 return self.is_element_assignable(e, f);
             }
-            return Ok(matches!(f, Element::Object));
+            return Ok(f.is_object());
         }
         if m == 0 {
             return Ok(false);
         }
-        if e.is_same(f) && m - 1 == u64::from(n - 1) {
+        if e.is_same_array(m - 1, f, n - 1) {
             return Ok(true);
         }
-        if !e.is_reference(m - 1) || !is_reference_element(f, n - 1) {
+        if !e.is_reference(m - 1) || !f.is_reference(n - 1) {
             return Ok(false);
         }
         self.is_assignable_at(e, m - 1, f, n - 1)
     }
 
     /// Whether a value of the first type may stand where the second is wanted.
+    pub fn is_assignable_to(
+        &self,
+        own: &PlainType<'a>,
+        wanted: &PlainType,
+    ) -> Result<bool, NoMemory>
+        ensures { IfOk result (λ b. b ≡ is_assignable self.now own.now wanted.now) }
+    {
+        self.is_assignable_at(&own.element, own.brackets, &wanted.element, wanted.brackets)
+    }
+
+    /// The same, where the wanted type stands in the tree.
     pub fn is_assignable(
         &self,
         own: &PlainType<'a>,
@@ -249,6 +296,6 @@ impl<'a> Program<'a> {
     ) -> Result<bool, NoMemory>
         ensures { IfOk result (λ b. b ≡ is_assignable self.now own.now wanted.now) }
     {
-        self.is_assignable_at(&own.element, own.brackets, &wanted.element, wanted.brackets)
+        self.is_assignable_to(own, &PlainType::of(wanted))
     }
 }
