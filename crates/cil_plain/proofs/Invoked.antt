@@ -1,17 +1,20 @@
 -- Operands that a call takes, and what it goes on with.
 use Rattle.std.proofs.Common.{◌≡◌, ℕ, zero, suc, ◌-◌, ◌+◌, ◌<◌, Bool, true, false, if◌then◌else◌, List, [], ◌∷◌, ◌++◌, length, reverse, take, drop, Option, Some, None, option_map, option_and_then, refl, ap, ◌∙◌, sym, arith}
-use Rattle.std.specs.Prelude.{nat_le, option_to_list}
+use Rattle.std.specs.Prelude.{nat_le, option_to_list, slice_get}
 use Rattle.std.proofs.lemmas.Bool.Decides.{nat_tests}
 use Rattle.std.proofs.lemmas.Grind.{common_steps}
 use Rattle.std.proofs.lemmas.List.{reverse-append}
 use Rattle.cil_model.specs.declared.types.DeclaredType.{DeclaredType}
 use Rattle.cil_model.specs.declared.instructions.MethodReference.{MethodReference}
+use Rattle.cil_model.specs.declared.types.ClassName.{ClassName}
+use Rattle.cil_model.specs.declared.trees.Method.{Method}
+use Rattle.cil_model.specs.declared.reports.Fault.TheVariants.{NullReference}
 use Rattle.cil_model.specs.Assignable.{type_of_class}
 use Rattle.cil_model.specs.Bodies.{reference_operands}
 use Rattle.cil_model.specs.Values.{Value}
 use Rattle.cil_model.specs.States.{State, Frame}
-use Rattle.cil_model.specs.Effects.{Setting, Effect, Sticks, given, are_of_kinds}
-use Rattle.cil_model.specs.Steps.{operands, is_too_deep}
+use Rattle.cil_model.specs.Effects.{Setting, Effect, Sticks, given, not_null, are_of_kinds}
+use Rattle.cil_model.specs.Steps.{operands, method_for, run_method, run_virtual}
 use Rattle.cil_plain.specs.Taken.{popped, taken}
 
 pub popped_nothing : (stack : List Value) → popped 0 stack ≡ Some ([], stack)
@@ -58,4 +61,14 @@ module _ (here : Setting) (s : State) (f : Frame) (below : List Frame) where
   pub operands_missing : (types : List DeclaredType) (go : List Value → List Value → Effect) → taken types f.stack ≡ None → operands here s f below types go ≡ Sticks
   operands_missing types go h = operands_are types go ∙ ap (λ t. given t (λ p. go p.0 p.1)) h
 
-pub ruleset calls = (common_steps)
+  -- a call on an object goes by the first operand
+  pub virtual_nothing : (found : ClassName × Method) (arguments rest : List Value) → slice_get arguments 0 ≡ None → run_virtual here s f below found arguments rest ≡ Sticks
+  virtual_nothing found [] rest h = refl
+  virtual_nothing found (this ∷ arguments) rest h = absurd (cc)
+
+  pub virtual_on : (found : ClassName × Method) (arguments rest : List Value) (this : Value) → slice_get arguments 0 ≡ Some this →
+      run_virtual here s f below found arguments rest ≡ not_null this NullReference (λ n. given (method_for here s f below n found) (λ chosen. run_method here s f below chosen arguments rest))
+  virtual_on found [] rest this h = absurd (cc)
+  virtual_on found (first ∷ arguments) rest this h = ap (λ (v : Value). not_null v NullReference (λ n. given (method_for here s f below n found) (λ chosen. run_method here s f below chosen (first ∷ arguments) rest))) (cc)
+
+pub ruleset calls = (common_steps, operand_types, operands_found, operands_missing, virtual_nothing, virtual_on)

@@ -1,20 +1,21 @@
 // Calls of methods and constructors (ECMA-335 III.3.19, III.4.2, III.4.21).
 #![tactic(auto, using(crate::proofs::Invoked::calls))]
 
-ghost use Rattle.std.specs.Prelude.{◌≡◌, IfOk, Some, None, if◌then◌else◌};
+ghost use Rattle.std.specs.Prelude.{◌≡◌, ◌∷◌, IfOk, Some, None, if◌then◌else◌};
 ghost use Rattle.cil_model.specs.Assignable.{type_of_class};
 ghost use Rattle.cil_model.specs.Bodies.{reference_operands};
 ghost use Rattle.cil_model.specs.Chains.{find_method, is_virtual};
 ghost use Rattle.cil_model.specs.Slots.{target};
 ghost use Rattle.cil_model.specs.States.{new_instance, with_birth};
-ghost use Rattle.cil_model.specs.Steps.{execute, is_too_deep, frame_for, run_method, run_virtual, method_for, construct};
+ghost use Rattle.cil_model.specs.Effects.{onward};
+ghost use Rattle.cil_model.specs.Values.{Reference};
+ghost use Rattle.cil_model.specs.Steps.{execute, birth, is_too_deep, frame_for, run_method, run_virtual, method_for, construct};
 ghost use Rattle.cil_plain.specs.Taken.{taken};
 
 use crate::calls::new_frame;
-use crate::effects::{PlainEffect, PlainSetting, goes, onward, raises, sticks};
+use crate::effects::{PlainEffect, PlainSetting, goes, raises, sticks};
 use crate::instances::new_instance;
 use crate::operands::Operands;
-use crate::references::{constructor_reference, virtual_reference};
 use crate::stacks::Stack;
 use crate::states::{PlainContents, PlainFrame, PlainState};
 use crate::turns::Turn;
@@ -27,6 +28,7 @@ use cil_model::texts::Text;
 use cil_model::types::{ClassName, DeclaredType, Signature};
 use plain_lookups::bodies::code_of;
 use plain_lookups::chains::{FoundMethod, is_virtual};
+use plain_lookups::members::PlainMethodReference;
 use plain_lookups::names::PlainClassName;
 use plain_lookups::types::PlainType;
 use std::alloc::Global;
@@ -41,14 +43,12 @@ impl<'a> PlainSetting<'a> {
     pub fn find_method(
         &self,
         is_instance: bool,
-        r: &MethodReference,
-        owner: &'a ClassName,
+        r: &PlainMethodReference<'a>,
     ) -> Result<Option<FoundMethod<'a>>, NoMemory>
-        requires { owner.now ≡ r.now.owner }
         ensures { IfOk result (λ found. found ≡ find_method self.now.tree is_instance r.now) }
     {
         let program = self.program;
-        program.find_method(is_instance, r, &PlainClassName::of(owner))
+        program.find_method(is_instance, r)
     }
 
     /// The method that runs where the one that was found is called on an object of class `d`.
@@ -189,6 +189,40 @@ impl<'a> Turn<'a> {
         })
     }
 
+    /// A new object, whose constructor does nothing.
+    fn construct_at_once(
+        self,
+        c: &PlainClassName<'a>,
+        rest: Stack<PlainValue<'a>>,
+    ) -> Result<PlainEffect<'a>, NoMemory>
+        ensures { IfOk result (λ e. e ≡ birth self.entry.here self.entry.state self.entry.frame self.entry.below (new_instance self.entry.here.tree c.now) (λ name born. onward self.entry.frame self.entry.below born (Reference name ∷ rest.entry))) }
+    {
+        if self.here.is_refused() {
+            return Ok(raises(Fault::OutOfMemory));
+        }
+        let object = PlainValue::reference(self.state.next_name());
+        let turn = self.with_birth_of(c)?;
+        turn.next_with(rest, object)
+    }
+
+    /// A new object, and the frame of its constructor, which pushes it at its end.
+    fn construct_by_frame(
+        self,
+        c: &PlainClassName<'a>,
+        found: FoundMethod<'a>,
+        operands: Operands<'a>,
+    ) -> Result<PlainEffect<'a>, NoMemory>
+        ensures { IfOk result (λ e. e ≡ birth self.entry.here self.entry.state self.entry.frame self.entry.below (new_instance self.entry.here.tree c.now) (λ name born. frame_for self.entry.here self.entry.state self.entry.frame self.entry.below found.entry.0 found.entry.1 (Reference name ∷ operands.entry.0) (Some name) born operands.entry.1)) }
+    {
+        if self.here.is_refused() {
+            return Ok(raises(Fault::OutOfMemory));
+        }
+        let name = self.state.next_name();
+        let operands = operands.with_first(PlainValue::reference(name.copy()))?;
+        let turn = self.with_birth_of(c)?;
+        turn.frame_for(found, Some(name), operands)
+    }
+
     /// A new object: at once where the constructor is built in, else with a frame that pushes it at its end.
     fn construct(
         self,
@@ -199,20 +233,14 @@ impl<'a> Turn<'a> {
         ensures { IfOk result (λ e. e ≡ construct self.entry.here self.entry.state self.entry.frame self.entry.below c.now found.entry operands.entry.0 operands.entry.1) }
     {
         let action = self.here.action_of(&found.owner(), found.method());
-        if action.is_none() && self.is_too_deep() {
-            return Ok(raises(Fault::StackOverflow));
-        }
-        if self.here.is_refused() {
-            return Ok(raises(Fault::OutOfMemory));
-        }
-        let name = self.state.next_name();
-        let turn = self.with_birth_of(c)?;
-        let object = PlainValue::reference(name.copy());
         if action.is_some() {
             let (_, rest) = operands.into_parts();
-            turn.next_with(rest, object)
+            return self.construct_at_once(c, rest);
+        }
+        if self.is_too_deep() {
+            Ok(raises(Fault::StackOverflow))
         } else {
-            turn.frame_for(found, Some(name), operands.with_first(object)?)
+            self.construct_by_frame(c, found, operands)
         }
     }
 
@@ -223,7 +251,10 @@ impl<'a> Turn<'a> {
     ) -> Result<PlainEffect<'a>, NoMemory>
         ensures { IfOk result (λ e. e ≡ execute self.entry.here self.entry.state self.entry.frame self.entry.below (Call is_instance r.now)) }
     {
-        let Some(found) = self.here.find_method(is_instance, r, &r.owner)? else {
+        let Some(found) = self
+            .here
+            .find_method(is_instance, &PlainMethodReference::of(r))?
+        else {
             return Ok(sticks());
         };
         let owner = self.here.owner_type(is_instance, &r.owner);
@@ -241,8 +272,8 @@ impl<'a> Turn<'a> {
     ) -> Result<PlainEffect<'a>, NoMemory>
         ensures { IfOk result (λ e. e ≡ execute self.entry.here self.entry.state self.entry.frame self.entry.below (CallVirtual owner.now name.now signature.now)) }
     {
-        let reference = virtual_reference(self.here.alloc(), owner, name, signature)?;
-        let Some(found) = self.here.find_method(true, &reference, owner)? else {
+        let reference = PlainMethodReference::virtual_method(owner, name, signature);
+        let Some(found) = self.here.find_method(true, &reference)? else {
             return Ok(sticks());
         };
         let owner = self.here.owner_type(true, owner);
@@ -259,8 +290,8 @@ impl<'a> Turn<'a> {
     ) -> Result<PlainEffect<'a>, NoMemory>
         ensures { IfOk result (λ e. e ≡ execute self.entry.here self.entry.state self.entry.frame self.entry.below (NewObject c.now parameters.now)) }
     {
-        let reference = constructor_reference(self.here.alloc(), c, parameters)?;
-        let Some(found) = self.here.find_method(true, &reference, c)? else {
+        let reference = PlainMethodReference::constructor(c, parameters.as_slice());
+        let Some(found) = self.here.find_method(true, &reference)? else {
             return Ok(sticks());
         };
         match self.operands(&None, parameters.as_slice())? {

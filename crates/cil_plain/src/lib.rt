@@ -19,7 +19,6 @@ pub mod monitors;
 pub mod objects;
 pub mod openings;
 pub mod operands;
-pub mod references;
 pub mod stacks;
 pub mod states;
 pub mod steps;
