@@ -4,10 +4,10 @@ use crate::bodies::place_of;
 use crate::built_ins::BuiltIns;
 use crate::copies::{Copies, copy_items, put};
 use crate::declarations::Program;
-use crate::members::PlainMethodReference;
+use crate::members::{PlainMethodName, PlainMethodReference};
 use crate::names::{PlainClassName, is_named, is_same_method_name};
-use crate::types::{PlainType, array_of};
-use cil_model::instructions::{FieldReference, Instruction, MethodName, MethodReference};
+use crate::types::{ElementKind, PlainElement, PlainType};
+use cil_model::instructions::{FieldReference, Instruction, MethodName};
 use cil_model::memory::NoMemory;
 use cil_model::sequences::Sequence;
 use cil_model::texts::Text;
@@ -22,23 +22,27 @@ fn text(alloc: Global, characters: &str) -> Result<Text, NoMemory> {
 
 /// A class of the source by its name.
 fn named(alloc: Global, name: &str) -> Result<ClassName, NoMemory> {
+    let name = text(alloc, name)?;
     Ok(ClassName {
         assembly: None,
-        name: text(alloc, name)?,
+        name,
     })
 }
 
 fn object(alloc: Global) -> Result<ClassName, NoMemory> {
+    let assembly = text(alloc, "mscorlib")?;
+    let name = text(alloc, "System.Object")?;
     Ok(ClassName {
-        assembly: Some(text(alloc, "mscorlib")?),
-        name: text(alloc, "System.Object")?,
+        assembly: Some(assembly),
+        name,
     })
 }
 
 /// The method `f`, which takes nothing and returns nothing.
 fn method_f(alloc: Global, kind: MethodKind) -> Result<Member, NoMemory> {
+    let name = text(alloc, "f")?;
     Ok(Member::Method(Method {
-        name: MethodName::Named(text(alloc, "f")?),
+        name: MethodName::Named(name),
         signature: Signature {
             parameters: Sequence::new(Vec::new(alloc)),
             return_type: None,
@@ -57,252 +61,317 @@ fn virtual_f(alloc: Global, is_new_slot: bool) -> Result<Member, NoMemory> {
     method_f(alloc, MethodKind::Virtual { is_new_slot, code })
 }
 
-fn class_with_f(
+fn int32() -> DeclaredType {
+    DeclaredType {
+        element: Element::Int32,
+        brackets: 0,
+    }
+}
+
+/// The field `age`, an `int32`.
+fn age(alloc: Global) -> Result<Member, NoMemory> {
+    let name = text(alloc, "age")?;
+    Ok(Member::Field(Field {
+        is_static: false,
+        field_type: int32(),
+        name,
+    }))
+}
+
+/// A class with `f`.
+fn class(
     alloc: Global,
     name: &str,
     base: ClassName,
     interfaces: Vec<ClassName>,
     is_new_slot: bool,
 ) -> Result<Class, NoMemory> {
+    let name = text(alloc, name)?;
+    let mut members = Vec::new(alloc);
+    members.push(virtual_f(alloc, is_new_slot)?)?;
     Ok(Class {
-        name: text(alloc, name)?,
+        name,
         kind: ClassKind::Class {
             is_abstract: false,
             base,
             interfaces: Sequence::new(interfaces),
         },
-        members: Sequence::new(vec![in alloc; virtual_f(alloc, is_new_slot)?]?),
+        members: Sequence::new(members),
     })
 }
 
-fn interface_with_f(alloc: Global, name: &str) -> Result<Class, NoMemory> {
+/// The list of the interface `I` alone.
+fn list(alloc: Global) -> Result<Vec<ClassName>, NoMemory> {
+    let mut interfaces = Vec::new(alloc);
+    interfaces.push(named(alloc, "I")?)?;
+    Ok(interfaces)
+}
+
+/// `I` has `f`.
+fn interface(alloc: Global) -> Result<Class, NoMemory> {
+    let name = text(alloc, "I")?;
+    let mut members = Vec::new(alloc);
+    members.push(method_f(alloc, MethodKind::Abstract { is_new_slot: true })?)?;
     Ok(Class {
-        name: text(alloc, name)?,
+        name,
         kind: ClassKind::Interface,
-        members: Sequence::new(vec![in alloc;
-            method_f(alloc, MethodKind::Abstract { is_new_slot: true })?,
-        ]?),
+        members: Sequence::new(members),
     })
 }
 
-fn tree_of(classes: Vec<Class>, alloc: Global) -> Tree {
-    Tree {
+/// `A` lists `I` and has `age` and a new `f`.
+fn class_a(alloc: Global) -> Result<Class, NoMemory> {
+    let mut class = class(alloc, "A", object(alloc)?, list(alloc)?, true)?;
+    let mut members = Vec::new(alloc);
+    members.push(virtual_f(alloc, true)?)?;
+    members.push(age(alloc)?)?;
+    class.members = Sequence::new(members);
+    Ok(class)
+}
+
+/// `B` extends `A` and has a new `f`.
+fn class_b(alloc: Global) -> Result<Class, NoMemory> {
+    class(alloc, "B", named(alloc, "A")?, Vec::new(alloc), true)
+}
+
+/// `C` extends `B` and overrides its `f`.
+fn class_c(alloc: Global) -> Result<Class, NoMemory> {
+    class(alloc, "C", named(alloc, "B")?, Vec::new(alloc), false)
+}
+
+/// `D` extends `A`, lists `I` again, and has a new `f`.
+fn class_d(alloc: Global) -> Result<Class, NoMemory> {
+    class(alloc, "D", named(alloc, "A")?, list(alloc)?, true)
+}
+
+fn tree(alloc: Global) -> Result<Tree, NoMemory> {
+    let mut classes = Vec::new(alloc);
+    classes.push(interface(alloc)?)?;
+    classes.push(class_a(alloc)?)?;
+    classes.push(class_b(alloc)?)?;
+    classes.push(class_c(alloc)?)?;
+    classes.push(class_d(alloc)?)?;
+    Ok(Tree {
         externs: Sequence::new(Vec::new(alloc)),
         assembly: None,
         classes: Sequence::new(classes),
+    })
+}
+
+/// The class at a place of the source: `I`, `A`, `B`, `C` and `D`; else `System.Object`.
+fn class_at<'a>(program: &Program<'a>, place: usize) -> PlainClassName<'a> {
+    match program.tree.classes.as_slice().get(place) {
+        Some(class) => PlainClassName::of_source(class),
+        None => program.built_ins.object_name(),
     }
 }
 
-/// The name of the class whose `f` runs for an object of class `d` where `f` of class `c` is called; empty where none does.
-fn target_of(alloc: Global, tree: &Tree, d: &str, c: &str) -> Result<String, NoMemory> {
-    let built_ins = BuiltIns::new(alloc)?;
-    let program = Program {
-        alloc,
-        tree,
-        built_ins: &built_ins,
+/// Whether the class's `f` of this name runs for objects of one class where `f` of the other is called.
+fn runs<'a>(
+    program: &Program<'a>,
+    place: usize,
+    called: usize,
+    wanted: &str,
+) -> Result<bool, NoMemory> {
+    let owner = class_at(program, called);
+    let methods = program.methods_in(&owner)?;
+    let Some(method) = methods.first() else {
+        return Ok(false);
     };
-    let object_class = named(alloc, d)?;
-    let called_class = named(alloc, c)?;
-    let owner = PlainClassName::of(&called_class);
-    let signature = Signature {
-        parameters: Sequence::new(Vec::new(alloc)),
-        return_type: None,
-    };
-    let name = MethodName::Named(text(alloc, "f")?);
-    let mut found_name = String::new(alloc);
-    if let Some(method) = program.method_in(&name, &signature, &owner)? {
-        if let Some(found) = program.target(&PlainClassName::of(&object_class), &owner, method)? {
-            found_name.push_str(found.owner().name.as_str())?;
+    match program.target(&class_at(program, place), &owner, method)? {
+        None => Ok(false),
+        Some(found) => Ok(found.owner().name.as_str() == wanted),
+    }
+}
+
+/// A new slot hides the inherited one, and an interface is seen from the nearest class that lists it.
+fn targets_are_right(program: &Program) -> Result<bool, NoMemory> {
+    for (place, called, wanted) in [(3, 1, "A"), (3, 2, "C"), (2, 0, "A"), (4, 0, "D")] {
+        if !runs(program, place, called, wanted)? {
+            return Ok(false);
         }
     }
-    Ok(found_name)
+    Ok(true)
 }
 
 #[test]
-fn a_new_slot_hides_the_inherited_one(rt: HostRuntime) -> Result<(), Fail> {
-    let alloc = rt.alloc();
-    let a = class_with_f(alloc, "A", object(alloc)?, Vec::new(alloc), true)?;
-    let b = class_with_f(alloc, "B", named(alloc, "A")?, Vec::new(alloc), true)?;
-    let c = class_with_f(alloc, "C", named(alloc, "B")?, Vec::new(alloc), false)?;
-    let tree = tree_of(vec![in alloc; a, b, c]?, alloc);
-    let of_a = target_of(alloc, &tree, "C", "A")?;
-    assert!(rt; of_a.as_str() == "A");
-    let of_b = target_of(alloc, &tree, "C", "B")?;
-    assert!(rt; of_b.as_str() == "C");
+fn slots_decide_what_runs(rt: HostRuntime) -> Result<(), Fail> {
+    let tree = tree(rt.alloc())?;
+    let built_ins = BuiltIns::new(rt.alloc())?;
+    let program = Program {
+        alloc: rt.alloc(),
+        tree: &tree,
+        built_ins: &built_ins,
+    };
+    assert!(rt; targets_are_right(&program)?);
     Ok(())
 }
 
-#[test]
-fn an_interface_is_seen_from_the_nearest_class_that_lists_it(rt: HostRuntime) -> Result<(), Fail> {
-    let alloc = rt.alloc();
-    for (listed_again, wanted) in [(false, "A"), (true, "B")] {
-        let interface = interface_with_f(alloc, "I")?;
-        let list = vec![in alloc; named(alloc, "I")?]?;
-        let a = class_with_f(alloc, "A", object(alloc)?, list, true)?;
-        let again = if listed_again {
-            vec![in alloc; named(alloc, "I")?]?
-        } else {
-            Vec::new(alloc)
-        };
-        let b = class_with_f(alloc, "B", named(alloc, "A")?, again, true)?;
-        let tree = tree_of(vec![in alloc; interface, a, b]?, alloc);
-        let found = target_of(alloc, &tree, "B", "I")?;
-        assert!(rt; found.as_str() == wanted);
+fn numbers<'a>(brackets: u64) -> PlainType<'a> {
+    PlainType {
+        element: PlainElement {
+            kind: ElementKind::Int32,
+        },
+        brackets,
     }
-    Ok(())
 }
 
-/// `Dog` lists `IRun`.
-fn dogs_that_run(alloc: Global) -> Result<Tree, NoMemory> {
-    let interface = interface_with_f(alloc, "IRun")?;
-    let list = vec![in alloc; named(alloc, "IRun")?]?;
-    let dog = class_with_f(alloc, "Dog", object(alloc)?, list, true)?;
-    Ok(tree_of(vec![in alloc; interface, dog]?, alloc))
+fn objects<'a>(brackets: u64) -> PlainType<'a> {
+    PlainType {
+        element: PlainElement {
+            kind: ElementKind::Object,
+        },
+        brackets,
+    }
 }
 
-fn arrays(element: Element, brackets: u32) -> DeclaredType {
-    DeclaredType { element, brackets }
+fn of_class<'a>(program: &Program<'a>, place: usize, brackets: u64) -> PlainType<'a> {
+    PlainType {
+        element: PlainElement {
+            kind: ElementKind::Class(class_at(program, place)),
+        },
+        brackets,
+    }
+}
+
+/// `A[][]` is an `I[][]` and an `object[]`, and no `I[]` is an `A[]`.
+fn class_arrays_are_right(program: &Program) -> Result<bool, NoMemory> {
+    let a = of_class(program, 1, 2);
+    let i = of_class(program, 0, 2);
+    if program.is_assignable_to(&i, &a)? || !program.is_assignable_to(&a, &i)? {
+        return Ok(false);
+    }
+    program.is_assignable_to(&a, &objects(1))
+}
+
+/// `int32[][]` is an `object[]`, and no `object[][]`.
+fn number_arrays_are_right(program: &Program) -> Result<bool, NoMemory> {
+    if program.is_assignable_to(&numbers(2), &objects(2))? {
+        return Ok(false);
+    }
+    program.is_assignable_to(&numbers(2), &objects(1))
 }
 
 #[test]
 fn arrays_are_assignable_by_their_elements(rt: HostRuntime) -> Result<(), Fail> {
-    let alloc = rt.alloc();
-    let tree = dogs_that_run(alloc)?;
-    let built_ins = BuiltIns::new(alloc)?;
+    let tree = tree(rt.alloc())?;
+    let built_ins = BuiltIns::new(rt.alloc())?;
     let program = Program {
-        alloc,
+        alloc: rt.alloc(),
         tree: &tree,
         built_ins: &built_ins,
     };
-    let dogs = arrays(Element::Class(named(alloc, "Dog")?), 1);
-    let runners = arrays(Element::Class(named(alloc, "IRun")?), 1);
-    let numbers = arrays(Element::Int32, 1);
-    let objects = arrays(Element::Object, 1);
-    assert!(rt; program.is_assignable(&PlainType::of(&dogs), &runners)?);
-    assert!(rt; !program.is_assignable(&PlainType::of(&runners), &dogs)?);
-    assert!(rt; !program.is_assignable(&PlainType::of(&numbers), &objects)?);
+    assert!(rt; class_arrays_are_right(&program)? && number_arrays_are_right(&program)?);
     Ok(())
 }
 
+/// `int32 B::age`
+fn age_of_b(alloc: Global) -> Result<FieldReference, NoMemory> {
+    let owner = named(alloc, "B")?;
+    let name = text(alloc, "age")?;
+    Ok(FieldReference {
+        field_type: int32(),
+        owner,
+        name,
+    })
+}
+
+/// The field is found in `A`, and is not static.
+fn fields_are_right<'a>(
+    program: &Program<'a>,
+    reference: &'a FieldReference,
+) -> Result<bool, NoMemory> {
+    if program.find_field(true, reference)?.is_some() {
+        return Ok(false);
+    }
+    match program.find_field(false, reference)? {
+        None => Ok(false),
+        Some(found) => Ok(found.owner.name.as_str() == "A"),
+    }
+}
+
 #[test]
-fn an_array_of_arrays_is_an_array_of_objects(rt: HostRuntime) -> Result<(), Fail> {
-    let alloc = rt.alloc();
-    let tree = dogs_that_run(alloc)?;
-    let built_ins = BuiltIns::new(alloc)?;
+fn a_field_is_found_in_a_base(rt: HostRuntime) -> Result<(), Fail> {
+    let tree = tree(rt.alloc())?;
+    let built_ins = BuiltIns::new(rt.alloc())?;
+    let reference = age_of_b(rt.alloc())?;
     let program = Program {
-        alloc,
+        alloc: rt.alloc(),
         tree: &tree,
         built_ins: &built_ins,
     };
-    let dogs = arrays(Element::Class(named(alloc, "Dog")?), 1);
-    let runners = arrays(Element::Class(named(alloc, "IRun")?), 2);
-    let numbers = arrays(Element::Int32, 1);
-    let objects = arrays(Element::Object, 1);
-    let nested_objects = arrays(Element::Object, 2);
-    assert!(rt; program.is_assignable(&array_of(&dogs), &runners)?);
-    assert!(rt; !program.is_assignable(&PlainType::of(&runners), &dogs)?);
-    assert!(rt; program.is_assignable(&array_of(&numbers), &objects)?);
-    assert!(rt; !program.is_assignable(&array_of(&numbers), &nested_objects)?);
+    assert!(rt; fields_are_right(&program, &reference)?);
+    Ok(())
+}
+
+/// `C` has `f` and no constructor, and is no class of threads.
+fn methods_are_right<'a>(program: &Program<'a>, f: &'a Text) -> Result<bool, NoMemory> {
+    let c = class_at(program, 3);
+    let reference = PlainMethodReference {
+        owner: c.copy(),
+        name: PlainMethodName::Named(f),
+        parameters: &[],
+        return_type: None,
+    };
+    let Some(found) = program.find_method(true, &reference)? else {
+        return Ok(false);
+    };
+    let is_of_threads = program.is_thread_class(&c)?;
+    Ok(found.owner().is_same(&c) && !is_of_threads)
+}
+
+#[test]
+fn a_method_is_found_in_the_nearest_class(rt: HostRuntime) -> Result<(), Fail> {
+    let tree = tree(rt.alloc())?;
+    let built_ins = BuiltIns::new(rt.alloc())?;
+    let f = text(rt.alloc(), "f")?;
+    let program = Program {
+        alloc: rt.alloc(),
+        tree: &tree,
+        built_ins: &built_ins,
+    };
+    assert!(rt; methods_are_right(&program, &f)?);
     Ok(())
 }
 
 #[test]
 fn names_are_the_same_by_their_parts(rt: HostRuntime) -> Result<(), Fail> {
-    let alloc = rt.alloc();
-    let in_library = object(alloc)?;
-    let in_source = named(alloc, "System.Object")?;
+    let in_library = object(rt.alloc())?;
+    let in_source = named(rt.alloc(), "System.Object")?;
+    let run = MethodName::Named(text(rt.alloc(), "Run")?);
     assert!(rt; PlainClassName::of(&in_library).is_same(&PlainClassName::of(&in_library)));
     assert!(rt; !PlainClassName::of(&in_library).is_same(&PlainClassName::of(&in_source)));
-    let run = MethodName::Named(text(alloc, "Run")?);
-    assert!(rt; is_named(&run, "Run"));
-    assert!(rt; is_same_method_name(&run, &run));
-    assert!(rt; !is_same_method_name(&run, &MethodName::Constructor));
+    assert!(rt; is_named(&run, "Run") && is_same_method_name(&run, &run));
     Ok(())
 }
 
-/// `Puppy` extends `Dog`, which extends `object` and has an `int32` field `age`.
-fn dogs(alloc: Global) -> Result<Tree, NoMemory> {
-    let mut dog = class_with_f(alloc, "Dog", object(alloc)?, Vec::new(alloc), true)?;
-    dog.members = Sequence::new(vec![in alloc;
-        virtual_f(alloc, true)?,
-        Member::Field(Field {
-            is_static: false,
-            field_type: arrays(Element::Int32, 0),
-            name: text(alloc, "age")?,
-        }),
-    ]?);
-    let puppy = class_with_f(alloc, "Puppy", named(alloc, "Dog")?, Vec::new(alloc), true)?;
-    Ok(tree_of(vec![in alloc; puppy, dog]?, alloc))
-}
-
-#[test]
-fn a_field_is_found_in_a_base(rt: HostRuntime) -> Result<(), Fail> {
-    let alloc = rt.alloc();
-    let tree = dogs(alloc)?;
-    let built_ins = BuiltIns::new(alloc)?;
-    let program = Program {
-        alloc,
-        tree: &tree,
-        built_ins: &built_ins,
-    };
-    let reference = FieldReference {
-        field_type: arrays(Element::Int32, 0),
-        owner: named(alloc, "Puppy")?,
-        name: text(alloc, "age")?,
-    };
-    let found = program.find_field(false, &reference)?;
-    assert!(rt; found.is_some_and(|field| field.owner.name.as_str() == "Dog"));
-    assert!(rt; program.find_field(true, &reference)?.is_none());
-    Ok(())
-}
-
-#[test]
-fn a_method_is_found_in_the_nearest_class(rt: HostRuntime) -> Result<(), Fail> {
-    let alloc = rt.alloc();
-    let tree = dogs(alloc)?;
-    let built_ins = BuiltIns::new(alloc)?;
-    let program = Program {
-        alloc,
-        tree: &tree,
-        built_ins: &built_ins,
-    };
-    let reference = MethodReference {
-        owner: named(alloc, "Puppy")?,
-        name: MethodName::Named(text(alloc, "f")?),
-        signature: Signature {
-            parameters: Sequence::new(Vec::new(alloc)),
-            return_type: None,
-        },
-    };
-    let found = program.find_method(true, &PlainMethodReference::of(&reference))?;
-    assert!(rt; found.is_some_and(|method| method.owner().name.as_str() == "Puppy"));
-    let puppy = PlainClassName::of(&reference.owner);
-    let constructor = PlainMethodReference::constructor(&reference.owner, &[]);
-    assert!(rt; program.find_method(true, &constructor)?.is_none());
-    assert_eq!(rt; program.chain_of(&puppy)?.len(), 3);
-    assert!(rt; !program.is_thread_class(&puppy)?);
-    assert!(rt; program.is_thread_class(&built_ins.thread_name())?);
-    Ok(())
-}
-
-/// A line whose labels are the words.
-fn line(alloc: Global, labels: &[&str]) -> Result<Line, NoMemory> {
-    let mut texts = Vec::new(alloc);
-    for label in labels {
-        texts.push(text(alloc, label)?)?;
-    }
-    Ok(Line {
-        labels: Sequence::new(texts),
+fn line(labels: Vec<Text>) -> Line {
+    Line {
+        labels: Sequence::new(labels),
         instruction: Instruction::NoOperation,
-    })
+    }
+}
+
+/// The label `B` alone.
+fn label_b(alloc: Global) -> Result<Vec<Text>, NoMemory> {
+    let mut labels = Vec::new(alloc);
+    labels.push(text(alloc, "B")?)?;
+    Ok(labels)
+}
+
+/// Two lines, the second after the label `B`.
+fn lines(alloc: Global) -> Result<Vec<Line>, NoMemory> {
+    let mut lines = Vec::new(alloc);
+    lines.push(line(Vec::new(alloc)))?;
+    lines.push(line(label_b(alloc)?))?;
+    Ok(lines)
 }
 
 #[test]
 fn a_label_stands_before_a_line(rt: HostRuntime) -> Result<(), Fail> {
-    let alloc = rt.alloc();
-    let lines = vec![in alloc; line(alloc, &[])?, line(alloc, &["A", "B"])?]?;
-    assert_eq!(rt; place_of(&text(alloc, "B")?, lines.as_slice()), Some(1));
-    assert_eq!(rt; place_of(&text(alloc, "C")?, lines.as_slice()), None);
+    let lines = lines(rt.alloc())?;
+    let label = text(rt.alloc(), "B")?;
+    assert_eq!(rt; place_of(&label, lines.as_slice()), Some(1));
     Ok(())
 }
 
@@ -314,8 +383,7 @@ impl Copies for u8 {
 
 #[test]
 fn an_item_of_a_copy_is_put(rt: HostRuntime) -> Result<(), Fail> {
-    let items = vec![in rt.alloc(); 1u8, 2, 3]?;
-    let mut copies = copy_items(rt.alloc(), items.as_slice())?;
+    let mut copies = copy_items(rt.alloc(), [1u8, 2, 3].as_slice())?;
     put(&mut copies, 1, 7);
     put(&mut copies, 3, 9);
     assert_eq!(rt; copies.as_slice(), [1, 7, 3].as_slice());
