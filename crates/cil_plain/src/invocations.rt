@@ -31,7 +31,6 @@ use plain_lookups::chains::{FoundMethod, is_virtual};
 use plain_lookups::members::PlainMethodReference;
 use plain_lookups::names::PlainClassName;
 use plain_lookups::types::PlainType;
-use std::alloc::Global;
 
 fn is_virtual_method(found: &FoundMethod) -> bool
     ensures { result ≡ is_virtual found.now.1.kind }
