@@ -1,0 +1,5 @@
+pub mod StackKinds
+pub mod BodyTypes
+pub mod TypingTests
+pub mod ElementTests
+pub mod Parents
