@@ -1,0 +1,7 @@
+use Rattle.std.proofs.Common.{rules, arith, ◌≡◌, ◌≤◌, ◌+◌, ◌<◌, true, false, Some, None, option_map, length, refl, sym, ap, subst, ◌∙◌, List}
+use Rattle.cil_model.specs.declared.trees.Tree.{Tree}
+use Rattle.flow_rules.proofs.Classes.{objects_known}
+use Rattle.flow_rules.proofs.type_tree.element_of_class.Goals as goal
+
+pub returns-else-number-eq1-clause-named : goal.returns-else-number-eq1-clause-named
+returns-else-number-eq1-clause-named c = λ tree known. objects_known tree c.args.number (omega arith) known
