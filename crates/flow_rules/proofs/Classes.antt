@@ -1,5 +1,5 @@
 -- Classes by their numbers in a legal tree.
-use Rattle.std.proofs.Common.{◌≡◌, ◌≤◌, ◌<◌, ◌+◌, ◌-◌, ℕ, zero, suc, Bool, true, false, cond, not, ◌&&◌, ◌||◌, if◌then◌else◌, IsTrue, is_some, List, [], ◌∷◌, ◌++◌, map, length, Option, Some, None, option_map, option_and_then, slice_get, refl, sym, ap, subst, ◌∙◌, arith}
+use Rattle.std.proofs.Common.{◌≡◌, ◌≤◌, ◌<◌, ◌+◌, ℕ, zero, suc, Bool, true, false, cond, ◌||◌, if◌then◌else◌, is_some, List, [], ◌∷◌, map, length, Option, Some, None, option_map, option_and_then, slice_get, refl, sym, ap, subst, ◌∙◌, arith}
 use Rattle.std.proofs.lemmas.List.{length-map}
 use Rattle.std.specs.Prelude.{IfSome}
 use Rattle.std.specs.List.{position_from, list_any}
@@ -11,13 +11,13 @@ use Rattle.cil_model.specs.declared.types.DeclaredType.{DeclaredType}
 use Rattle.cil_model.specs.declared.trees.Tree.{Tree}
 use Rattle.cil_model.specs.declared.trees.Class.{Class as SourceClass}
 use Rattle.cil_model.specs.Same.{same_class, same_text}
-use Rattle.cil_model.specs.Declarations.{source_name, Declaration, declaration_of, built_ins, mscorlib, cilvm, object_name, string_name, console_name, monitor_name, thread_name}
+use Rattle.cil_model.specs.Declarations.{source_name, Declaration, declaration_of, mscorlib, cilvm, object_name, string_name, console_name, monitor_name, thread_name}
 use Rattle.cil_model.specs.Chains.{base_of}
 use Rattle.cil_model.specs.Assignable.{element_of_class}
 use Rattle.cil_model.specs.TypeTree.{parent_element}
-use Rattle.cil_model.specs.Legality.{IsLegal, has_repeat, class_doubles, doubles_name, first_broken}
+use Rattle.cil_model.specs.Legality.{IsLegal, has_repeat, class_doubles, doubles_name}
 use Rattle.cil_model.proofs.BelowLaws.{same_some}
-use Rattle.cil_model.proofs.SameLaws.{same_class_equal, same_class_itself, class_equivalence}
+use Rattle.cil_model.proofs.SameLaws.{same_class_itself, class_equivalence}
 use Rattle.name_tables.specs.Numbers.{declarations, class_number, source_entry}
 use Rattle.name_tables.proofs.NumberLaws.{IsNumbered, numbered}
 use Rattle.resolved_code.specs.Numbered.{class_name}
@@ -27,7 +27,7 @@ use Rattle.resolved_code.specs.declared.types.NumberedElement.{NumberedElement}
 use Rattle.resolved_code.specs.declared.types.NumberedElement.TheVariants.{Int32, Int64, Object, String, Class}
 use Rattle.resolved_code.specs.declared.types.NumberedType.{NumberedType}
 use Rattle.flow_rules.specs.Named.{class_named, element_named, type_named, is_known}
-use Rattle.flow_rules.specs.Merging.{AreClasses, IsClassAt}
+use Rattle.flow_rules.specs.Merging.{IsClassAt}
 
 none_is_some : {X A : Type 0} (x : X) → None ≡ Some x → A
 none_is_some {X} {A} x e = absurd (lost e)

@@ -14,7 +14,7 @@ use Rattle.cil_model.specs.TypeTree.{StackType, Declared, NativeInt, Null, paren
 use Rattle.cil_model.specs.Legality.{IsLegal}
 use Rattle.cil_model.proofs.Legal.{no_cycle}
 use Rattle.cil_model.proofs.ChainLaws.{chain_ends}
-use Rattle.cil_model.proofs.BelowLaws.{typed, same_some, none_is_some, declared_is_null, declared_is_native, null_is_native, climb, ancestor_is_reference}
+use Rattle.cil_model.proofs.BelowLaws.{typed, same_some, none_is_some, declared_is_null, declared_is_native, climb}
 
 no_item : {A : Type 0} (c : ClassName) (cs : List ClassName) → c ∷ cs ≡ [] → A
 no_item {A} c cs e = absurd (lost e)

@@ -1,5 +1,5 @@
 -- What the flow rule says of the types that numbers stand for.
-use Rattle.std.specs.Prelude.{◌≡◌, List, Option, Some, None, option_map, Result, Ok, Err}
+use Rattle.std.specs.Prelude.{◌≡◌, List, Some, None, option_map, Result, Ok, Err}
 use Rattle.cil_model.specs.declared.instructions.Instruction.{Instruction}
 use Rattle.cil_model.specs.declared.trees.Tree.{Tree}
 use Rattle.cil_model.specs.FlowRules.{StackAfter, flow}

@@ -1,5 +1,5 @@
 -- The types that numbered ones stand for. A number that is no class's, which no resolved code has, stands for System.Object's.
-use Rattle.std.specs.Prelude.{ℕ, Bool, true, List, Option, option_map, is_some, map}
+use Rattle.std.specs.Prelude.{ℕ, Bool, true, List, is_some, map}
 use Rattle.std.specs.Option.{option_map_or}
 use Rattle.cil_model.specs.declared.types.ClassName.{ClassName}
 use Rattle.cil_model.specs.declared.types.Element.{Element}

@@ -3,8 +3,13 @@
 
 pub mod arrays;
 pub mod entries;
+pub mod flow;
+pub mod members;
 pub mod method_types;
 pub mod mismatches;
 pub mod operators;
+#[cfg(test)]
+mod tests;
 pub mod type_stack;
 pub mod type_tree;
+pub mod variables;

@@ -160,13 +160,20 @@ pub fn convert_to_int64(stack: &mut TypeStack) -> Result<(), FlowError>
     put_where(is_allowed, Mismatch::OperandType(operand), INT64, stack)
 }
 
-/// `brtrue` and `brfalse`, of an integer or a reference.
-pub fn branch_on_value(stack: &mut TypeStack) -> Result<(), FlowError>
+/// `brtrue`, of an integer or a reference.
+pub fn branch_true(stack: &mut TypeStack) -> Result<(), FlowError>
     ensures { (m : MethodTypes) (label : List ℕ) → IsAfter m.types.now result stack.new (flow_of m (Named.BranchTrue label) stack.old) }
 {
     let operand = stack.take_one()?;
     let is_allowed = operand.is_integer() || operand.is_reference();
     keep_where(is_allowed, Mismatch::OperandType(operand), stack)
+}
+
+/// `brfalse`, of an integer or a reference.
+pub fn branch_false(stack: &mut TypeStack) -> Result<(), FlowError>
+    ensures { (m : MethodTypes) (label : List ℕ) → IsAfter m.types.now result stack.new (flow_of m (Named.BranchFalse label) stack.old) }
+{
+    branch_true(stack)
 }
 
 /// `beq`, `bne.un`, `bge`, `bgt`, `ble`, `blt`

@@ -50,6 +50,7 @@ impl TypeStack {
     pub fn take(&mut self) -> Option<StackEntry>
         ensures top { IfSome result (λ top. self.old ≡ top ∷ self.new) }
         ensures empty { result ≡ None → self.old ≡ [] }
+        ensures stays { result ≡ None → self.new ≡ [] }
     {
         self.entries.pop()
     }

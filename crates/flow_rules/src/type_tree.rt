@@ -1,8 +1,12 @@
 // The tree of types, and merges in it (ECMA-335 III.1.8.1.3; the tree is this profile's).
 
-ghost use Rattle.std.specs.Prelude.{◌≡◌, ◌≤◌, ◌+◌, ◌-◌, ◌==◌, if◌then◌else◌, true, false, Some, None, option_map, slice_get, IfSome};
+ghost use Rattle.std.specs.Prelude.{◌≡◌, ◌≤◌, ◌+◌, ◌-◌, ◌==◌, ◌||◌, if◌then◌else◌, true, false, Some, None, option_map, slice_get, IfSome};
 ghost use Rattle.cil_model.specs.declared.trees.Tree.{Tree};
-ghost use Rattle.cil_model.specs.Assignable.{element_of_class};
+ghost use Rattle.cil_model.specs.declared.types.ClassName.{ClassName};
+ghost use Rattle.cil_model.specs.Assignable.{element_of_class, type_of_class, is_class_assignable, is_element_assignable, is_assignable};
+ghost use Rattle.std.specs.List.{list_any};
+ghost use Rattle.cil_model.specs.Same.{same_element};
+ghost use Rattle.cil_model.specs.declared.types.Element.TheVariants as Named;
 ghost use Rattle.cil_model.specs.Chains.{base_of, longest_chain};
 ghost use Rattle.cil_model.specs.TypeTree.{parent, parent_element, IsBelow};
 ghost use Rattle.cil_model.specs.TypeTree as OnStack;
@@ -149,6 +153,78 @@ impl<'a> TypeTree<'a> {
         None
     }
 
+    /// The most classes that a chain has.
+    fn longest_chain(&self) -> usize
+        ensures { result ≡ longest_chain self.now }
+    {
+        self.classes.len().saturating_sub(2)
+    }
+
+    /// Whether a class is another, or lists it, or has a base of which that is so.
+    fn is_class_assignable(&self, from: usize, to: usize) -> bool
+        requires from { is_known self.now (Class from) ≡ true }
+        requires to { is_known self.now (Class to) ≡ true }
+        ensures { result ≡ is_class_assignable self.now (class_named self.now from) (class_named self.now to) }
+    {
+        let mut here = from;
+        for step in 0..self.longest_chain() {
+            let Some(class) = self.class(here) else {
+                return false;
+            };
+            if is_or_lists(here, class, to) {
+                return true;
+            }
+            match class.base {
+                None => return false,
+                Some(base) => here = base,
+            }
+        }
+        false
+    }
+
+    /// The same of types without brackets. Only the two integers may not stand for `object`.
+    fn is_element_assignable(&self, from: NumberedElement, to: NumberedElement) -> bool
+        requires from { is_known self.now from ≡ true }
+        requires to { is_known self.now to ≡ true }
+        ensures { result ≡ is_element_assignable self.now (element_named self.now from) (element_named self.now to) }
+    {
+        match (from, to) {
+            (NumberedElement::Int32, NumberedElement::Object) => false,
+            (NumberedElement::Int64, NumberedElement::Object) => false,
+            (_, NumberedElement::Object) => true,
+            (NumberedElement::Class(from), NumberedElement::Class(to)) => {
+                self.is_class_assignable(from, to)
+            }
+            (NumberedElement::Int32, NumberedElement::Int32) => true,
+            (NumberedElement::Int64, NumberedElement::Int64) => true,
+            (NumberedElement::String, NumberedElement::String) => true,
+            _ => false,
+        }
+    }
+
+    /// The same of types whose classes are known: as many brackets on both, or fewer on `object`.
+    #[tactic(auto, using(crate::proofs::BracketLaws::as_many, crate::proofs::BracketLaws::with_fewer, crate::proofs::BracketLaws::with_more))]
+    fn is_known_assignable(&self, from: NumberedType, to: NumberedType) -> bool
+        requires from { is_known self.now from.element ≡ true }
+        requires to { is_known self.now to.element ≡ true }
+        ensures { result ≡ is_assignable self.now (type_named self.now from) (type_named self.now to) }
+    {
+        if from.brackets == to.brackets {
+            return self.is_element_assignable(from.element, to.element);
+        }
+        if to.brackets < from.brackets {
+            return is_object(to.element);
+        }
+        false
+    }
+
+    /// Whether a value of the first type may stand where the second is wanted (ECMA-335 I.8.7).
+    pub fn is_assignable(&self, from: NumberedType, to: NumberedType) -> bool
+        ensures { result ≡ is_assignable self.now (type_named self.now from) (type_named self.now to) }
+    {
+        self.is_known_assignable(self.known(from), self.known(to))
+    }
+
     /// The closest common ancestor of two entries (ECMA-335 III.1.8.1.3; the tree is this profile's). None where no type is above
     /// both, as above `int32` and a reference.
     pub fn merge(&self, first: StackEntry, second: StackEntry) -> Option<StackEntry>
@@ -173,6 +249,20 @@ fn class_in(classes: &[ResolvedClass], number: usize) -> Option<&ResolvedClass>
     ensures beyond { result ≡ None → slice_get classes.now number ≡ None }
 {
     classes.get(number)
+}
+
+/// Whether a class is another, or lists it.
+fn is_or_lists(number: usize, class: &ResolvedClass, wanted: usize) -> bool
+    ensures { result ≡ (number == wanted) || list_any (λ i. i == wanted) class.now.interfaces }
+{
+    number == wanted || class.interfaces.as_slice().contains(&wanted)
+}
+
+/// `object`
+fn is_object(element: NumberedElement) -> bool
+    ensures { (tree : Tree) → result ≡ same_element (element_named tree element) Named.Object }
+{
+    matches!(element, NumberedElement::Object)
 }
 
 /// Null lies below every reference, and below nothing else.
@@ -226,5 +316,15 @@ pub fn element_of_class(number: usize) -> NumberedElement
         NumberedElement::String
     } else {
         NumberedElement::Class(number)
+    }
+}
+
+/// The type of a class's objects (ECMA-335 II.7.2).
+pub fn type_of_class(number: usize) -> NumberedType
+    ensures { (tree : Tree) (c : ClassName) → class_name tree number ≡ Some c → type_named tree result ≡ type_of_class c }
+{
+    NumberedType {
+        element: element_of_class(number),
+        brackets: 0,
     }
 }

@@ -1,5 +1,4 @@
-use Rattle.std.proofs.Common.{rules, arith, ◌≡◌, ◌≤◌, ◌+◌, ◌<◌, true, false, Some, None, option_map, length, refl, sym, ap, subst, ◌∙◌, List}
-use Rattle.cil_model.specs.declared.trees.Tree.{Tree}
+use Rattle.std.proofs.Common.{arith}
 use Rattle.flow_rules.proofs.Classes.{objects_known}
 use Rattle.flow_rules.proofs.type_tree.element_of_class.Goals as goal
 

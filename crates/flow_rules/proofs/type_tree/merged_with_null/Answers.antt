@@ -1,5 +1,4 @@
-use Rattle.std.proofs.Common.{rules, arith, ◌≡◌, ◌≤◌, ◌+◌, ◌<◌, true, false, Some, None, option_map, length, refl, sym, ap, subst, ◌∙◌, List}
-use Rattle.cil_model.specs.declared.trees.Tree.{Tree}
+use Rattle.std.proofs.Common.{sym, ◌∙◌}
 use Rattle.flow_rules.specs.Named.{type_named}
 use Rattle.flow_rules.proofs.Climbing.{null_apart}
 use Rattle.flow_rules.proofs.type_tree.merged_with_null.Goals as goal

@@ -1,5 +1,3 @@
-use Rattle.std.proofs.Common.{rules, arith, ◌≡◌, ◌≤◌, ◌+◌, ◌<◌, true, false, Some, None, option_map, length, refl, sym, ap, subst, ◌∙◌, List}
-use Rattle.cil_model.specs.declared.trees.Tree.{Tree}
 use Rattle.flow_rules.proofs.type_tree.TypeTree.merge.Goals as goal
 
 pub returns-in-Declared-Null : goal.returns-in-Declared-Null

@@ -1,4 +1,4 @@
-use Rattle.std.proofs.Common.{rules, arith, ◌≡◌, ◌≤◌, ◌+◌, ◌<◌, true, false, Some, None, option_map, length, refl, sym, ap, subst, ◌∙◌, List}
+use Rattle.std.proofs.Common.{arith, subst}
 use Rattle.cil_model.specs.declared.trees.Tree.{Tree}
 use Rattle.flow_rules.specs.Merging.{AreClasses}
 use Rattle.flow_rules.proofs.Classes.{class_count}
