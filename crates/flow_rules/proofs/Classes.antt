@@ -1,0 +1,295 @@
+-- Classes by their numbers in a legal tree.
+use Rattle.std.proofs.Common.{◌≡◌, ◌≤◌, ◌<◌, ◌+◌, ℕ, zero, suc, Bool, true, false, cond, ◌||◌, if◌then◌else◌, is_some, List, [], ◌∷◌, map, length, Option, Some, None, option_map, option_and_then, slice_get, refl, sym, ap, subst, ◌∙◌, arith}
+use Rattle.std.proofs.lemmas.List.{length-map}
+use Rattle.std.specs.Prelude.{IfSome}
+use Rattle.std.specs.List.{position_from, list_any}
+use Rattle.std.specs.Option.{option_map_or}
+use Rattle.cil_model.specs.declared.types.ClassName.{ClassName}
+use Rattle.cil_model.specs.declared.types.Element.{Element}
+use Rattle.cil_model.specs.declared.types.Element.TheVariants as Named
+use Rattle.cil_model.specs.declared.types.DeclaredType.{DeclaredType}
+use Rattle.cil_model.specs.declared.trees.Tree.{Tree}
+use Rattle.cil_model.specs.declared.trees.Class.{Class as SourceClass}
+use Rattle.cil_model.specs.Same.{same_class, same_text}
+use Rattle.cil_model.specs.Declarations.{source_name, Declaration, declaration_of, mscorlib, cilvm, object_name, string_name, console_name, monitor_name, thread_name}
+use Rattle.cil_model.specs.Chains.{base_of}
+use Rattle.cil_model.specs.Assignable.{element_of_class}
+use Rattle.cil_model.specs.TypeTree.{parent_element}
+use Rattle.cil_model.specs.Legality.{IsLegal, has_repeat, class_doubles, doubles_name}
+use Rattle.cil_model.proofs.BelowLaws.{same_some}
+use Rattle.cil_model.proofs.SameLaws.{same_class_itself, class_equivalence}
+use Rattle.name_tables.specs.Numbers.{declarations, class_number, source_entry}
+use Rattle.name_tables.proofs.NumberLaws.{IsNumbered, numbered}
+use Rattle.resolved_code.specs.Numbered.{class_name}
+use Rattle.resolved_code.specs.Resolved.{AllAlike, AreResolved, IsResolvedClass}
+use Rattle.resolved_code.specs.declared.classes.ResolvedClass.{ResolvedClass}
+use Rattle.resolved_code.specs.declared.types.NumberedElement.{NumberedElement}
+use Rattle.resolved_code.specs.declared.types.NumberedElement.TheVariants.{Int32, Int64, Object, String, Class}
+use Rattle.resolved_code.specs.declared.types.NumberedType.{NumberedType}
+use Rattle.flow_rules.specs.Named.{class_named, element_named, type_named, is_known}
+use Rattle.flow_rules.specs.Merging.{IsClassAt}
+
+none_is_some : {X A : Type 0} (x : X) → None ≡ Some x → A
+none_is_some {X} {A} x e = absurd (lost e)
+  where
+    lost : None ≡ Some x → ⊥
+    lost h = cc
+
+pub if_some_then : {T : Type 0} (o : Option T) (P Q : T → Type 0) → ((v : T) → P v → Q v) → IfSome o P → IfSome o Q
+if_some_then None P Q f h = h
+if_some_then (Some v) P Q f h = f v h
+
+-- ---- lists that are alike
+
+module _ {X Y : Type 0} (R : X → Y → Type 0) where
+  pub alike_at : (xs : List X) (ys : List Y) → AllAlike R xs ys → (n : ℕ) (y : Y) → slice_get ys n ≡ Some y → (x : X) × (slice_get xs n ≡ Some x) × R x y
+  alike_at [] [] a n y e = none_is_some y e
+  alike_at (x ∷ xs) (z ∷ ys) a zero y e = let same : z ≡ y = cc in (x, refl, subst (R x) same a.0)
+  alike_at (x ∷ xs) (z ∷ ys) a (suc n) y e = alike_at xs ys a.1 n y e
+  alike_at [] (z ∷ ys) a n y e = absurd a
+  alike_at (x ∷ xs) [] a n y e = absurd a
+
+  pub alike_beyond : (xs : List X) (ys : List Y) → AllAlike R xs ys → (n : ℕ) → slice_get ys n ≡ None → slice_get xs n ≡ None
+  alike_beyond [] [] a n e = refl
+  alike_beyond (x ∷ xs) (z ∷ ys) a zero e = none_is_some z (sym e)
+  alike_beyond (x ∷ xs) (z ∷ ys) a (suc n) e = alike_beyond xs ys a.1 n e
+  alike_beyond [] (z ∷ ys) a n e = absurd a
+  alike_beyond (x ∷ xs) [] a n e = absurd a
+
+  pub alike_length : (xs : List X) (ys : List Y) → AllAlike R xs ys → length xs ≡ length ys
+  alike_length [] [] a = refl
+  alike_length (x ∷ xs) (z ∷ ys) a = ap suc (alike_length xs ys a.1)
+  alike_length [] (z ∷ ys) a = absurd a
+  alike_length (x ∷ xs) [] a = absurd a
+
+-- ---- names are not doubled
+
+both_false : (a b : Bool) → a || b ≡ false → (a ≡ false) × (b ≡ false)
+both_false false b h = (refl, h)
+both_false true b h = absurd (cc h)
+
+pub has_repeat-map : {X Y : Type 0} (f : X → Y) (same : Y → Y → Bool) (xs : List X) → has_repeat same (map f xs) ≡ has_repeat (λ a b. same (f a) (f b)) xs
+has_repeat-map {X} {Y} f same [] = refl
+has_repeat-map {X} {Y} f same (x ∷ xs) = ap (λ b. b || has_repeat same (map f xs)) (any_mapped (same (f x)) xs) ∙ ap (λ b. list_any (λ y. same (f x) (f y)) xs || b) (has_repeat-map f same xs)
+  where
+    any_mapped : (test : Y → Bool) (ys : List X) → list_any test (map f ys) ≡ list_any (λ y. test (f y)) ys
+    any_mapped test [] = refl
+    any_mapped test (y ∷ ys) = ap (λ b. test (f y) || b) (any_mapped test ys)
+
+-- what passes no test among the items does not at a place of theirs
+none_at : {X : Type 0} (test : X → Bool) (xs : List X) → list_any test xs ≡ false → (n : ℕ) (x : X) → slice_get xs n ≡ Some x → test x ≡ false
+none_at test [] h n x e = none_is_some x e
+none_at {X} test (y ∷ ys) h zero x e = let same : y ≡ x = cc in subst (λ (z : X). test z ≡ false) same (both_false (test y) (list_any test ys) h).0
+none_at test (y ∷ ys) h (suc n) x e = none_at test ys (both_false (test y) (list_any test ys) h).1 n x e
+
+module _ {X : Type 0} (same : X → X → Bool) (itself : (x : X) → same x x ≡ true) (symmetric : (x y : X) → same x y ≡ same y x) where
+  -- an item among those that are not doubled is found at its own place
+  pub own_place : (xs : List X) → has_repeat same xs ≡ false → (i n : ℕ) (x : X) → slice_get xs n ≡ Some x → position_from (same x) i xs ≡ Some (i + n)
+  own_place [] h i n x e = none_is_some x e
+  own_place (y ∷ ys) h i zero x e =
+      let equal : y ≡ x = cc in
+      let passes : same x y ≡ true = subst (λ (z : X). same x z ≡ true) (sym equal) (itself x) in
+      let here : i ≡ i + 0 = omega arith in
+      ap (λ b. cond b (Some i) (position_from (same x) (i + 1) ys)) passes ∙ ap Some here
+  own_place (y ∷ ys) h i (suc n) x e =
+      let parts : (list_any (same y) ys ≡ false) × (has_repeat same ys ≡ false) = both_false (list_any (same y) ys) (has_repeat same ys) h in
+      let differs : same x y ≡ false = symmetric x y ∙ none_at (same y) ys parts.0 n x e in
+      let here : i + 1 + n ≡ i + suc n = omega arith in
+      ap (λ b. cond b (Some i) (position_from (same x) (i + 1) ys)) differs ∙ own_place ys parts.1 (i + 1) n x e ∙ ap Some here
+
+unbroken : (b : Bool) (n : ℕ) (rest : Option ℕ) → (if b then Some n else rest) ≡ None → b ≡ false
+unbroken false n rest h = refl
+unbroken true n rest h = none_is_some n (sym h)
+
+class_in : Element → ClassName
+class_in (Named.Class c) = c
+class_in _ = object_name
+
+all_five : {a b c d e r : Bool} → a ≡ false → b ≡ false → c ≡ false → d ≡ false → e ≡ false → r ≡ false → a || (b || (c || (d || (e || r)))) ≡ false
+all_five ha hb hc hd he hr = λ i. ha i || (hb i || (hc i || (hd i || (he i || hr i))))
+
+module _ (tree : Tree) where
+  abbrev same_entry : ClassName × Declaration → ClassName × Declaration → Bool
+  same_entry a b = same_class a.0 b.0
+
+  -- no class of the source has an assembly
+  plain_alone : (a n : List ℕ) (cs : List SourceClass) → list_any (λ (e : ClassName × Declaration). same_class (record { assembly = Some a; name = n }) e.0) (map source_entry cs) ≡ false
+  plain_alone a n [] = refl
+  plain_alone a n (c ∷ cs) = plain_alone a n cs
+
+  source_repeats : IsLegal tree → has_repeat same_entry (map source_entry tree.classes) ≡ false
+  source_repeats legal =
+      let doubled : doubles_name tree ≡ false = unbroken (doubles_name tree) 201 _ legal in
+      let classes : has_repeat (λ (a b : SourceClass). same_text a.name b.name) tree.classes ≡ false = (both_false (has_repeat same_text tree.externs) _ (both_false (has_repeat same_text tree.externs || has_repeat (λ (a b : SourceClass). same_text a.name b.name) tree.classes) (list_any class_doubles tree.classes) doubled).0).1 in
+      has_repeat-map source_entry same_entry tree.classes ∙ classes
+
+  no_repeats : IsLegal tree → has_repeat same_entry (declarations tree) ≡ false
+  no_repeats legal =
+      all_five (plain_alone mscorlib object_name.name tree.classes) (plain_alone mscorlib string_name.name tree.classes) (plain_alone mscorlib console_name.name tree.classes)
+      (plain_alone mscorlib monitor_name.name tree.classes) (plain_alone cilvm thread_name.name tree.classes) (source_repeats legal)
+
+  module _ (legal : IsLegal tree) where
+    -- a class's name is found at its own number
+    pub own_number : (n : ℕ) (c : ClassName) → class_name tree n ≡ Some c → class_number tree c ≡ Some n
+    own_number n c e = by_entry (slice_get (declarations tree) n) refl e
+      where
+        by_entry : (o : Option (ClassName × Declaration)) → slice_get (declarations tree) n ≡ o → option_map (λ (x : ClassName × Declaration). x.0) o ≡ Some c → class_number tree c ≡ Some n
+        by_entry None at h = none_is_some c h
+        by_entry (Some x) at h =
+            let named : x.0 ≡ c = cc in
+            let place : position_from (same_entry x) 0 (declarations tree) ≡ Some (0 + n) = own_place same_entry (λ y. same_class_itself y.0) (λ y z. class_equivalence.symm y.0 z.0) (declarations tree) (no_repeats legal) 0 n x at in
+            let here : 0 + n ≡ n = omega arith in
+            subst (λ (d : ClassName). class_number tree d ≡ Some n) named (place ∙ ap Some here)
+
+    -- two numbers with one name are one
+    pub one_number : (n m : ℕ) (c : ClassName) → class_name tree n ≡ Some c → class_name tree m ≡ Some c → n ≡ m
+    one_number n m c e f = let h : Some n ≡ Some m = sym (own_number n c e) ∙ own_number m c f in cc
+
+    -- what stands at a class's number is what its name declares
+    pub own_declaration : (n : ℕ) (c : ClassName) (d : Declaration) → slice_get (declarations tree) n ≡ Some (c, d) → declaration_of tree c ≡ Some d
+    own_declaration n c d e =
+        let number : class_number tree c ≡ Some n = own_number n c (ap (option_map (λ (x : ClassName × Declaration). x.0)) e) in
+        let found : (d' : Declaration) × (declaration_of tree c ≡ Some d') × (slice_get (declarations tree) n ≡ Some (c, d')) = subst (IsNumbered tree c) number (numbered tree c) in
+        let pairs : (c, found.0) ≡ (c, d) = same_some (c, found.0) (c, d) (sym found.2 ∙ e) in
+        found.1 ∙ ap (λ (x : ClassName × Declaration). Some x.1) pairs
+
+    -- what stands at a class's number, where the classes are resolved
+    pub class_at : (classes : List ResolvedClass) → AreResolved tree classes → (n : ℕ) (k : ResolvedClass) → slice_get classes n ≡ Some k →
+        (c : ClassName) × (d : Declaration) × (slice_get (declarations tree) n ≡ Some (c, d)) × IsResolvedClass tree d k
+    class_at classes alike n k e =
+        let found : (x : ClassName × Declaration) × (slice_get (declarations tree) n ≡ Some x) × IsResolvedClass tree x.1 k = alike_at (λ (x : ClassName × Declaration) r. IsResolvedClass tree x.1 r) (declarations tree) classes alike n k e in
+        (found.0.0, found.0.1, found.1, found.2)
+
+  -- the declarations are as many as the classes
+  pub class_count : (classes : List ResolvedClass) → AreResolved tree classes → length classes ≡ length tree.classes + 5
+  class_count classes alike =
+      let all : length (declarations tree) ≡ length classes = alike_length (λ (x : ClassName × Declaration) r. IsResolvedClass tree x.1 r) (declarations tree) classes alike in
+      let source : length (map source_entry tree.classes) ≡ length tree.classes = length-map tree.classes source_entry in
+      omega (arith, all, source)
+
+  -- beyond the last class there is no name
+  pub beyond_classes : (classes : List ResolvedClass) → AreResolved tree classes → (n : ℕ) → slice_get classes n ≡ None → class_name tree n ≡ None
+  beyond_classes classes alike n e = ap (option_map (λ (x : ClassName × Declaration). x.0)) (alike_beyond (λ (x : ClassName × Declaration) r. IsResolvedClass tree x.1 r) (declarations tree) classes alike n e)
+
+  -- up to the last class there is one
+  pub up_to_classes : (classes : List ResolvedClass) → AreResolved tree classes → (n : ℕ) → n < length classes → is_some (class_name tree n) ≡ true
+  up_to_classes classes alike n h =
+      let all : length (declarations tree) ≡ length classes = alike_length (λ (x : ClassName × Declaration) r. IsResolvedClass tree x.1 r) (declarations tree) classes alike in
+      present (declarations tree) n (omega (arith, all, h))
+    where
+      present : (es : List (ClassName × Declaration)) (m : ℕ) → m < length es → is_some (option_map (λ (x : ClassName × Declaration). x.0) (slice_get es m)) ≡ true
+      present [] m k = absurd (omega (arith, k))
+      present (x ∷ es) zero k = refl
+      present (x ∷ es) (suc m) k = present es m (omega (arith, k))
+
+  absent : {X : Type 0} (xs : List X) (m : ℕ) → length xs ≤ m → slice_get xs m ≡ None
+  absent [] m h = refl
+  absent (x ∷ xs) zero h = absurd (omega (arith, h))
+  absent (x ∷ xs) (suc m) h = absent xs m (omega (arith, h))
+
+  pub unnamed : (n : ℕ) → class_name tree n ≡ None → class_named tree n ≡ object_name
+  unnamed n e = ap (λ (o : Option ClassName). option_map_or (λ (x : ClassName). x) o object_name) e
+
+  pub past_classes : (classes : List ResolvedClass) → AreResolved tree classes → (n : ℕ) → length classes ≤ n → class_named tree 0 ≡ class_named tree n
+  past_classes classes alike n h = sym (unnamed n (beyond_classes classes alike n (absent classes n h)))
+
+  -- ---- the type of a class's objects
+
+  number_of_type : (n : ℕ) (c : ClassName) → 1 < n → class_name tree n ≡ Some c → element_of_class c ≡ Named.Class c
+  number_of_type zero c h e = absurd (omega (arith, h))
+  number_of_type (suc zero) c h e = absurd (omega (arith, h))
+  number_of_type (suc (suc zero)) c h e = subst (λ (d : ClassName). element_of_class d ≡ Named.Class d) (same_some console_name c e) refl
+  number_of_type (suc (suc (suc zero))) c h e = subst (λ (d : ClassName). element_of_class d ≡ Named.Class d) (same_some monitor_name c e) refl
+  number_of_type (suc (suc (suc (suc zero)))) c h e = subst (λ (d : ClassName). element_of_class d ≡ Named.Class d) (same_some thread_name c e) refl
+  number_of_type (suc (suc (suc (suc (suc n))))) c h e = source_type tree.classes n e
+    where
+      source_type : (cs : List SourceClass) (m : ℕ) → option_map (λ (x : ClassName × Declaration). x.0) (slice_get (map source_entry cs) m) ≡ Some c → element_of_class c ≡ Named.Class c
+      source_type [] m f = none_is_some c f
+      source_type (k ∷ cs) zero f = subst (λ (d : ClassName). element_of_class d ≡ Named.Class d) (same_some (source_name k) c f) refl
+      source_type (k ∷ cs) (suc m) f = source_type cs m f
+
+  pub element_at_number : (n : ℕ) (c : ClassName) → class_name tree n ≡ Some c → class_named tree n ≡ c
+  element_at_number n c e = ap (λ (o : Option ClassName). option_map_or (λ (x : ClassName). x) o object_name) e
+
+  pub objects_of : (n : ℕ) (c : ClassName) → 1 < n → class_name tree n ≡ Some c → Named.Class (class_named tree n) ≡ element_of_class (class_named tree n)
+  objects_of n c h e = let P : ClassName → Type 0 = λ x. Named.Class x ≡ element_of_class x in subst P (sym (element_at_number n c e)) (sym (number_of_type n c h e))
+
+  pub objects_known : (n : ℕ) → 1 < n → is_some (class_name tree n) ≡ true → Named.Class (class_named tree n) ≡ element_of_class (class_named tree n)
+  objects_known n h known = by_name (class_name tree n) refl known
+    where
+      by_name : (o : Option ClassName) → class_name tree n ≡ o → is_some o ≡ true → Named.Class (class_named tree n) ≡ element_of_class (class_named tree n)
+      by_name None e k = absurd (cc k)
+      by_name (Some c) e k = objects_of n c h e
+
+  -- ---- bases
+
+  pub no_base : (n : ℕ) → class_name tree n ≡ None → Named.Object ≡ parent_element (base_of tree (class_named tree n))
+  no_base n e = let P : ClassName → Type 0 = λ x. Named.Object ≡ parent_element (base_of tree x) in subst P (sym (unnamed n e)) refl
+
+  -- the base by its number is the base by its name
+  pub base_at : IsLegal tree → (n : ℕ) (k : ResolvedClass) → IsClassAt tree n k → option_map (class_name tree) k.base ≡ option_map Some (base_of tree (class_named tree n))
+  base_at legal n k (c, d, at, alike) =
+      let name : class_name tree n ≡ Some c = ap (option_map (λ (x : ClassName × Declaration). x.0)) at in
+      let base : base_of tree (class_named tree n) ≡ d.base = ap (base_of tree) (element_at_number n c name) ∙ ap (option_and_then (λ (x : Declaration). x.base)) (own_declaration legal n c d at) in
+      alike.base ∙ ap (option_map Some) (sym base)
+
+  -- the parent of a class that has none
+  pub base_missing : (o : Option ℕ) (b : Option ClassName) → option_map (class_name tree) o ≡ option_map Some b → o ≡ None → Named.Object ≡ parent_element b
+  base_missing o None h e = refl
+  base_missing o (Some b) h e = none_is_some (Some b) (sym (ap (option_map (class_name tree)) e) ∙ h)
+
+  base_present : (m : ℕ) (b : Option ClassName) → Some (class_name tree m) ≡ option_map Some b → (c : ClassName) × (b ≡ Some c) × (class_name tree m ≡ Some c)
+  base_present m None h = none_is_some (class_name tree m) (sym h)
+  base_present m (Some c) h = (c, refl, same_some (class_name tree m) (Some c) h)
+
+  pub base_known : (o : Option ℕ) (m : ℕ) (b : Option ClassName) → option_map (class_name tree) o ≡ option_map Some b → o ≡ Some m → is_some (class_name tree m) ≡ true
+  base_known o m b h e = let f : (c : ClassName) × (b ≡ Some c) × (class_name tree m ≡ Some c) = base_present m b (sym (ap (option_map (class_name tree)) e) ∙ h) in ap is_some f.2
+
+  pub base_named : (o : Option ℕ) (m : ℕ) (b : Option ClassName) → option_map (class_name tree) o ≡ option_map Some b → o ≡ Some m → element_of_class (class_named tree m) ≡ parent_element b
+  base_named o m b h e =
+      let f : (c : ClassName) × (b ≡ Some c) × (class_name tree m ≡ Some c) = base_present m b (sym (ap (option_map (class_name tree)) e) ∙ h) in
+      ap element_of_class (element_at_number m f.0 f.2) ∙ ap parent_element (sym f.1)
+
+  -- ---- a type has one number
+
+  pub one_element : IsLegal tree → (a b : NumberedElement) → is_known tree a ≡ true → is_known tree b ≡ true → element_named tree a ≡ element_named tree b → a ≡ b
+  unfolding class_in
+  one_element legal Int32 Int32 k l e = refl
+  one_element legal Int64 Int64 k l e = refl
+  one_element legal Object Object k l e = refl
+  one_element legal String String k l e = refl
+  one_element legal (Class m) (Class n) k l e = by_names (class_name tree m) (class_name tree n) refl refl k l
+    where
+      by_names : (o p : Option ClassName) → class_name tree m ≡ o → class_name tree n ≡ p → is_some o ≡ true → is_some p ≡ true → Class m ≡ Class n
+      by_names None p f g k' l' = absurd (cc k')
+      by_names (Some c) None f g k' l' = absurd (cc l')
+      by_names (Some c) (Some d) f g k' l' =
+          let names : class_named tree m ≡ class_named tree n = ap class_in e in
+          let same : c ≡ d = sym (element_at_number m c f) ∙ names ∙ element_at_number n d g in
+          ap Class (one_number legal m n c f (g ∙ ap Some (sym same)))
+  one_element legal Int32 Int64 k l e = absurd (cc e)
+  one_element legal Int32 Object k l e = absurd (cc e)
+  one_element legal Int32 String k l e = absurd (cc e)
+  one_element legal Int32 (Class n) k l e = absurd (cc e)
+  one_element legal Int64 Int32 k l e = absurd (cc e)
+  one_element legal Int64 Object k l e = absurd (cc e)
+  one_element legal Int64 String k l e = absurd (cc e)
+  one_element legal Int64 (Class n) k l e = absurd (cc e)
+  one_element legal Object Int32 k l e = absurd (cc e)
+  one_element legal Object Int64 k l e = absurd (cc e)
+  one_element legal Object String k l e = absurd (cc e)
+  one_element legal Object (Class n) k l e = absurd (cc e)
+  one_element legal String Int32 k l e = absurd (cc e)
+  one_element legal String Int64 k l e = absurd (cc e)
+  one_element legal String Object k l e = absurd (cc e)
+  one_element legal String (Class n) k l e = absurd (cc e)
+  one_element legal (Class n) Int32 k l e = absurd (cc e)
+  one_element legal (Class n) Int64 k l e = absurd (cc e)
+  one_element legal (Class n) Object k l e = absurd (cc e)
+  one_element legal (Class n) String k l e = absurd (cc e)
+
+  pub one_type : IsLegal tree → (a b : NumberedType) → is_known tree a.element ≡ true → is_known tree b.element ≡ true → type_named tree a ≡ type_named tree b → a ≡ b
+  one_type legal a b k l e = λ i. record {
+    element = one_element legal a.element b.element k l (ap (λ (t : DeclaredType). t.element) e) i;
+    brackets = ap (λ (t : DeclaredType). t.brackets) e i;
+  }

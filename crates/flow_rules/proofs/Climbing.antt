@@ -1,0 +1,181 @@
+-- Ancestors end in a legal tree, within the number of its classes and the brackets.
+use Rattle.std.proofs.Common.{◌≡◌, ◌≤◌, ◌<◌, ◌+◌, ◌-◌, ◌⊎◌, ℕ, zero, suc, Bool, true, false, IsTrue, List, [], ◌∷◌, Option, Some, None, option_and_then, refl, inl, inr, sym, ap, ◌∙◌, subst, arith}
+use Rattle.std.proofs.lemmas.Bool.{cases_lt}
+use Rattle.cil_model.specs.declared.types.ClassName.{ClassName}
+use Rattle.cil_model.specs.declared.types.Element.{Element}
+use Rattle.cil_model.specs.declared.types.Element.TheVariants.{Int32, Int64, Object, String, Class}
+use Rattle.cil_model.specs.declared.types.DeclaredType.{DeclaredType}
+use Rattle.cil_model.specs.declared.trees.Tree.{Tree}
+use Rattle.cil_model.specs.Same.{same_class}
+use Rattle.cil_model.specs.Declarations.{object_name, string_name}
+use Rattle.cil_model.specs.Chains.{base_of, chain_within, longest_chain}
+use Rattle.cil_model.specs.Assignable.{is_reference, is_reference_element, element_named}
+use Rattle.cil_model.specs.TypeTree.{StackType, Declared, NativeInt, Null, parent_element, parent_at, parent, ancestor, IsBelow, IsMerge}
+use Rattle.cil_model.specs.Legality.{IsLegal}
+use Rattle.cil_model.proofs.Legal.{no_cycle}
+use Rattle.cil_model.proofs.ChainLaws.{chain_ends}
+use Rattle.cil_model.proofs.BelowLaws.{typed, same_some, none_is_some, declared_is_null, declared_is_native, climb}
+
+no_item : {A : Type 0} (c : ClassName) (cs : List ClassName) → c ∷ cs ≡ [] → A
+no_item {A} c cs e = absurd (lost e)
+  where
+    lost : c ∷ cs ≡ [] → ⊥
+    lost h = cc
+
+rest_of : List ClassName → List ClassName
+rest_of [] = []
+rest_of (c ∷ cs) = cs
+
+module _ (tree : Tree) where
+  -- one more parent up
+  pub next : (n : ℕ) (a b c : DeclaredType) → ancestor tree n a ≡ Some b → parent tree b ≡ Some c → ancestor tree (n + 1) a ≡ Some c
+  next n a b c e f =
+      let k : (k : ℕ) × (k ≡ n + 1) × (ancestor tree k a ≡ ancestor tree 1 b) = climb tree n 1 a b e in
+      let one : ancestor tree 1 b ≡ Some c = ap (option_and_then (ancestor tree 0)) f in
+      ap (λ m. ancestor tree m a) (sym k.1) ∙ k.2 ∙ one
+
+  -- above a type without a parent there is nothing
+  pub beyond : (n j : ℕ) (a b v : DeclaredType) → ancestor tree n a ≡ Some b → parent tree b ≡ None → n < j → ancestor tree j a ≡ Some v → ⊥
+  beyond n j a b v e f h g =
+      let k : (k : ℕ) × (k ≡ n + suc (j - n - 1)) × (ancestor tree k a ≡ ancestor tree (suc (j - n - 1)) b) = climb tree n (suc (j - n - 1)) a b e in
+      let same : k.0 ≡ j = omega (arith, k.1, h) in
+      let none : ancestor tree (suc (j - n - 1)) b ≡ None = ap (option_and_then (ancestor tree (j - n - 1))) f in
+      none_is_some v (sym none ∙ sym k.2 ∙ ap (λ m. ancestor tree m a) same ∙ g)
+
+  -- from one ancestor on to a further one
+  pub on_from : (m j : ℕ) (b t v : DeclaredType) → m ≤ j → ancestor tree m b ≡ Some t → ancestor tree j b ≡ Some v → (r : ℕ) × (ancestor tree r t ≡ Some v)
+  on_from m j b t v h e f =
+      let c : (k : ℕ) × (k ≡ m + (j - m)) × (ancestor tree k b ≡ ancestor tree (j - m) t) = climb tree m (j - m) b t e in
+      let same : c.0 ≡ j = omega (arith, h, c.1) in
+      (j - m, sym c.2 ∙ ap (λ k. ancestor tree k b) same ∙ f)
+
+  object_ends : (k n : ℕ) → k < n → ancestor tree n (typed Object k) ≡ None
+  object_ends k zero h = absurd (omega (arith, h))
+  object_ends zero (suc n) h = refl
+  object_ends (suc k) (suc n) h = object_ends k n (omega (arith, h))
+
+  string_ends : (k n : ℕ) → k + 1 < n → ancestor tree n (typed String k) ≡ None
+  string_ends k zero h = absurd (omega (arith, h))
+  string_ends k (suc n) h = object_ends k n (omega (arith, h))
+
+  class_ends : (m : ℕ) (c : ClassName) → chain_within tree (suc m) (Some c) ≡ chain_within tree m (Some c) → (k n : ℕ) → m + k + 2 ≤ n → ancestor tree n (typed (Class c) k) ≡ None
+  unfolding rest_of
+  class_ends zero c e k n h = no_item c (chain_within tree zero (base_of tree c)) e
+  class_ends (suc m) c e k zero h = absurd (omega (arith, h))
+  class_ends (suc m) c e k (suc n) h = by_base (base_of tree c) (ap rest_of e) (λ b f. class_ends m b f k n (omega (arith, h)))
+    where
+      by_name : (v w : Bool) (b : ClassName) → ancestor tree n (typed (Class b) k) ≡ None → ancestor tree n (typed (element_named v w b) k) ≡ None
+      by_name true w b f = object_ends k n (omega (arith, h))
+      by_name false true b f = string_ends k n (omega (arith, h))
+      by_name false false b f = f
+
+      by_base : (o : Option ClassName) → chain_within tree (suc m) o ≡ chain_within tree m o → ((b : ClassName) → chain_within tree (suc m) (Some b) ≡ chain_within tree m (Some b) → ancestor tree n (typed (Class b) k) ≡ None) →
+          ancestor tree n (typed (parent_element o) k) ≡ None
+      by_base None f further = object_ends k n (omega (arith, h))
+      by_base (Some b) f further = by_name (same_class b object_name) (same_class b string_name) b (further b f)
+
+  pub type_ends : IsLegal tree → (e : Element) (k n : ℕ) → longest_chain tree + k + 2 ≤ n → ancestor tree n (typed e k) ≡ None
+  type_ends legal e k zero h = absurd (omega (arith, h))
+  type_ends legal Object k n h = object_ends k n (omega (arith, h))
+  type_ends legal String k n h = string_ends k n (omega (arith, h))
+  type_ends legal Int32 zero (suc n) h = refl
+  type_ends legal Int64 zero (suc n) h = refl
+  type_ends legal Int32 (suc k) (suc n) h = object_ends k n (omega (arith, h))
+  type_ends legal Int64 (suc k) (suc n) h = object_ends k n (omega (arith, h))
+  type_ends legal (Class c) k n h = class_ends (longest_chain tree) c (chain_ends tree (no_cycle tree legal) c (suc (longest_chain tree)) (omega arith)) k n h
+
+  -- ---- merges
+
+  -- the first above the one that is above the other too is the merge
+  pub closest : (k : ℕ) (a b u : DeclaredType) → ancestor tree k a ≡ Some u → IsBelow tree (Declared b) (Declared u) →
+      ((i : ℕ) (v : DeclaredType) → i < k → ancestor tree i a ≡ Some v → IsBelow tree (Declared b) (Declared v) → ⊥) → IsMerge tree (Declared a) (Declared b) (Declared u)
+  closest k a b u first second nearer = record { above_first = (k, first); above_second = second; least = least }
+    where
+      least : (other : StackType) → IsBelow tree (Declared a) other → IsBelow tree (Declared b) other → IsBelow tree (Declared u) other
+      least (Declared v) (i, h) under = by_order (cases_lt i k)
+        where
+          by_order : (i < k) ⊎ (k ≤ i) → IsBelow tree (Declared u) (Declared v)
+          by_order (inl l) = absurd (nearer i v l h under)
+          by_order (inr l) = on_from k i a u v l first h
+      least Null h h' = declared_is_null a h
+      least NativeInt h h' = declared_is_native a h
+
+  -- where none above the one is above the other, they have none in common
+  pub apart : (a b : DeclaredType) → ((i : ℕ) (v : DeclaredType) → ancestor tree i a ≡ Some v → IsBelow tree (Declared b) (Declared v) → ⊥) → (above : StackType) → IsBelow tree (Declared a) above → IsBelow tree (Declared b) above → ⊥
+  apart a b none (Declared v) (i, h) under = none i v h under
+  apart a b none Null h under = declared_is_null a h
+  apart a b none NativeInt h under = declared_is_native a h
+
+  -- null and what is no reference have no type above both
+  no_reference : (e : Element) (n : ℕ) (p : DeclaredType) → parent_at tree e n ≡ Some p → IsTrue (is_reference_element e n)
+  no_reference e (suc n) p h = refl
+  no_reference Object zero p h = refl
+  no_reference String zero p h = refl
+  no_reference (Class c) zero p h = refl
+  no_reference Int32 zero p h = none_is_some p h
+  no_reference Int64 zero p h = none_is_some p h
+
+  never : {A : Type 0} → true ≡ false → A
+  never {A} e = absurd (lost e)
+    where
+      lost : true ≡ false → ⊥
+      lost h = cc
+
+  alone : (n : ℕ) (t v : DeclaredType) → is_reference t ≡ false → IsTrue (is_reference v) → ancestor tree n t ≡ Some v → ⊥
+  alone zero t v none r e = let P : DeclaredType → Type 0 = λ x. IsTrue (is_reference x) in never (sym (subst P (sym (same_some t v e)) r) ∙ none)
+  alone (suc n) t v none r e = by_parent (parent tree t) refl e
+    where
+      by_parent : (o : Option DeclaredType) → parent tree t ≡ o → option_and_then (ancestor tree n) o ≡ Some v → ⊥
+      by_parent None h f = none_is_some v f
+      by_parent (Some p) h f = never (sym (no_reference t.element t.brackets p h) ∙ none)
+
+  pub null_apart : (t : DeclaredType) → is_reference t ≡ false → (above : StackType) → IsBelow tree Null above → IsBelow tree (Declared t) above → ⊥
+  null_apart t none (Declared v) r (n, e) = alone n t v none r e
+  null_apart t none Null r under = declared_is_null t under
+  null_apart t none NativeInt r under = declared_is_native t under
+
+  -- ---- a type is not above another
+
+  pub not_among : (n : ℕ) (a u v : DeclaredType) → ((j : ℕ) → j < n → ancestor tree j a ≡ Some v → ⊥) → ancestor tree n a ≡ Some u → (u ≡ v → ⊥) → (j : ℕ) → j < n + 1 → ancestor tree j a ≡ Some v → ⊥
+  not_among n a u v before here differs j h e = by_order (cases_lt j n)
+    where
+      by_order : (j < n) ⊎ (n ≤ j) → ⊥
+      by_order (inl l) = before j l e
+      by_order (inr l) =
+          let same : j ≡ n = omega (arith, h, l) in
+          differs (same_some u v (sym here ∙ ap (λ m. ancestor tree m a) (sym same) ∙ e))
+
+  pub nowhere : (n : ℕ) (a u v : DeclaredType) → ((j : ℕ) → j < n + 1 → ancestor tree j a ≡ Some v → ⊥) → ancestor tree n a ≡ Some u → parent tree u ≡ None → IsBelow tree (Declared a) (Declared v) → ⊥
+  nowhere n a u v before here last (j, e) = by_order (cases_lt n j)
+    where
+      by_order : (n < j) ⊎ (j ≤ n) → ⊥
+      by_order (inl l) = beyond n j a u v here last l e
+      by_order (inr l) = before j (omega (arith, l)) e
+
+  -- none of the first so many is common, nor is the next
+  pub none_common : (n : ℕ) (a b u : DeclaredType) → ((j : ℕ) (v : DeclaredType) → j < n → ancestor tree j a ≡ Some v → IsBelow tree (Declared b) (Declared v) → ⊥) → ancestor tree n a ≡ Some u →
+      (IsBelow tree (Declared b) (Declared u) → ⊥) → (j : ℕ) (v : DeclaredType) → j < n + 1 → ancestor tree j a ≡ Some v → IsBelow tree (Declared b) (Declared v) → ⊥
+  none_common n a b u before here differs j v h e under = by_order (cases_lt j n)
+    where
+      by_order : (j < n) ⊎ (n ≤ j) → ⊥
+      by_order (inl l) = before j v l e under
+      by_order (inr l) =
+          let same : j ≡ n = omega (arith, h, l) in
+          let at : u ≡ v = same_some u v (sym here ∙ ap (λ m. ancestor tree m a) (sym same) ∙ e) in
+          let P : DeclaredType → Type 0 = λ x. IsBelow tree (Declared b) (Declared x) in
+          differs (subst P (sym at) under)
+
+  pub none_at_all : (n : ℕ) (a b u : DeclaredType) → ((j : ℕ) (v : DeclaredType) → j < n + 1 → ancestor tree j a ≡ Some v → IsBelow tree (Declared b) (Declared v) → ⊥) → ancestor tree n a ≡ Some u → parent tree u ≡ None →
+      (above : StackType) → IsBelow tree (Declared a) above → IsBelow tree (Declared b) above → ⊥
+  none_at_all n a b u before here last = apart a b everywhere
+    where
+      everywhere : (i : ℕ) (v : DeclaredType) → ancestor tree i a ≡ Some v → IsBelow tree (Declared b) (Declared v) → ⊥
+      everywhere i v e under = by_order (cases_lt n i)
+        where
+          by_order : (n < i) ⊎ (i ≤ n) → ⊥
+          by_order (inl l) = beyond n i a u v here last l e
+          by_order (inr l) = before i v (omega (arith, l)) e under
+
+  -- so far up there is nothing
+  pub too_far : IsLegal tree → (n m : ℕ) (a u : DeclaredType) → longest_chain tree + a.brackets + 2 ≤ m → m ≤ n → ancestor tree n a ≡ Some u → ⊥
+  too_far legal n m a u far reached e = none_is_some u (sym (type_ends legal a.element a.brackets n (omega (arith, far, reached))) ∙ e)

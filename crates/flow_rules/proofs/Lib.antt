@@ -1,0 +1,9 @@
+pub mod Classes
+pub mod Climbing
+pub mod Shorts
+pub mod Operands
+pub mod MemberLaws
+pub mod MemberRules
+pub mod OperationLaws
+pub mod BracketLaws
+pub mod ChainNumbers

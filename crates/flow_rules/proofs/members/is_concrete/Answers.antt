@@ -1,0 +1,5 @@
+use Rattle.flow_rules.proofs.MemberLaws.{concrete_class}
+use Rattle.flow_rules.proofs.members.is_concrete.Goals as goal
+
+pub returns-in-Some : goal.returns-in-Some
+returns-in-Some c = λ name at. concrete_class c.args.types.now c.class.ensures.legal c.args.number name c.in-Some.class.now c.in-Some.ensures.found at

@@ -1,0 +1,10 @@
+use Rattle.std.proofs.Common.{List, slice_get, sym, ap, ◌∙◌}
+use Rattle.resolved_code.specs.declared.classes.ResolvedMethod.{ResolvedMethod}
+use Rattle.flow_rules.proofs.MemberLaws.{method_there, method_lacks}
+use Rattle.flow_rules.proofs.members.method_at.Goals as goal
+
+pub returns-in-None-clause-absent : goal.returns-in-None-clause-absent
+returns-in-None-clause-absent c = λ b r is. method_lacks c.args.types.now b r c.args.number c.in-Some.class.now is c.in-Some.ensures.found (ap (λ (fs : List ResolvedMethod). slice_get fs c.args.number.place) (sym c.as_slice.ensures) ∙ c.method_in.ensures.beyond c.in-None.is)
+
+pub returns-in-Some-method_in-clause-found : goal.returns-in-Some-method_in-clause-found
+returns-in-Some-method_in-clause-found c = λ b r is. method_there c.args.types.now b r c.args.number c.in-Some.class.now c.in-Some-method_in.method.now is c.in-Some.ensures.found (ap (λ (fs : List ResolvedMethod). slice_get fs c.args.number.place) (sym c.as_slice.ensures) ∙ c.in-Some-method_in.ensures.found)

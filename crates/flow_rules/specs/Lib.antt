@@ -1,0 +1,5 @@
+pub mod Named
+pub mod Merging
+pub mod Flow
+pub mod Members
+pub mod Operations

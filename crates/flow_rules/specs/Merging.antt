@@ -1,0 +1,26 @@
+-- What a merge answers.
+use Rattle.std.specs.Prelude.{◌≡◌, ℕ, List, Option, Some, None, slice_get}
+use Rattle.cil_model.specs.declared.types.ClassName.{ClassName}
+use Rattle.cil_model.specs.Declarations.{Declaration}
+use Rattle.name_tables.specs.Numbers.{declarations}
+use Rattle.cil_model.specs.declared.trees.Tree.{Tree}
+use Rattle.cil_model.specs.TypeTree.{StackType, IsBelow, IsMerge}
+use Rattle.resolved_code.specs.Resolved.{AreResolved, IsResolvedClass}
+use Rattle.resolved_code.specs.declared.classes.ResolvedClass.{ResolvedClass}
+use Rattle.cil_model.specs.Legality.{IsLegal}
+use Rattle.flow_rules.specs.Named.{stack_type}
+use Rattle.flow_rules.specs.declared.entries.StackEntry.{StackEntry}
+
+-- the merge, or that no type is above both (III.1.8.1.3)
+abbrev pub IsMerged : Tree → StackEntry → StackEntry → Option StackEntry → Type 0
+IsMerged tree a b (Some m) = IsMerge tree (stack_type tree a) (stack_type tree b) (stack_type tree m)
+IsMerged tree a b None = (above : StackType) → IsBelow tree (stack_type tree a) above → IsBelow tree (stack_type tree b) above → ⊥
+
+-- the classes of a legal tree by their numbers
+pub record AreClasses (tree : Tree) (classes : List ResolvedClass) : Type 0 where
+  pub legal : IsLegal tree
+  pub resolved : AreResolved tree classes
+
+-- the class with this number
+abbrev pub IsClassAt : Tree → ℕ → ResolvedClass → Type 0
+IsClassAt tree n class = (name : ClassName) × (declared : Declaration) × (slice_get (declarations tree) n ≡ Some (name, declared)) × IsResolvedClass tree declared class

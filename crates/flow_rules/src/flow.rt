@@ -1,0 +1,98 @@
+// The flow rule (ECMA-335 III.1.8 and the verifiability parts of III.3 and III.4).
+
+ghost use Rattle.std.specs.Prelude.{◌≡◌, List};
+ghost use Rattle.cil_model.specs.declared.trees.Line.{Line};
+ghost use Rattle.cil_model.specs.declared.instructions.Instruction.{Instruction};
+ghost use Rattle.resolved_code.specs.Resolved.{IsOperation};
+ghost use Rattle.flow_rules.specs.Flow.{IsAfter, flow_of};
+ghost use Rattle.flow_rules.specs.Operations.{OfEach};
+
+use crate::arrays::{
+    cast, load_element_int32, load_element_int64, load_element_reference, load_length, new_array,
+    store_element_int32, store_element_int64, store_element_reference,
+};
+use crate::entries::StackEntry;
+use crate::members::{
+    call, call_virtual, load_field, load_static_field, new_object, store_field, store_static_field,
+};
+use crate::method_types::MethodTypes;
+use crate::mismatches::FlowError;
+use crate::operators::{
+    INT32, INT64, binary, branch_compare, branch_false, branch_true, compare, convert_to_int32,
+    convert_to_int64, duplicate, pop, put, shift, switch, unary,
+};
+use crate::type_stack::TypeStack;
+use crate::variables::{load_argument, load_local, return_value, store_argument, store_local};
+use resolved_code::operations::Operation;
+use resolved_code::types::{NumberedElement, NumberedType};
+
+/// `string` on the stack.
+const STRING: StackEntry = StackEntry::Declared(NumberedType {
+    element: NumberedElement::String,
+    brackets: 0,
+});
+
+fn step(method: &MethodTypes, operation: &Operation, stack: &mut TypeStack) -> Result<(), FlowError>
+    ensures { OfEach method.now.types.now (λ i. IsAfter method.now.types.now result stack.new (flow_of method.now i stack.old)) operation.now }
+{
+    match operation {
+        Operation::NoOperation | Operation::Branch(_) => Ok(()),
+        Operation::LoadInt32(_) => put(INT32, stack),
+        Operation::LoadInt64(_) => put(INT64, stack),
+        Operation::LoadNull => put(StackEntry::Null, stack),
+        Operation::LoadString(_) => put(STRING, stack),
+        Operation::LoadArgument(place) => load_argument(method, *place, stack),
+        Operation::StoreArgument(place) => store_argument(method, *place, stack),
+        Operation::LoadLocal(place) => load_local(method, *place, stack),
+        Operation::StoreLocal(place) => store_local(method, *place, stack),
+        Operation::Duplicate => duplicate(stack),
+        Operation::Pop => pop(stack),
+        Operation::Binary(_) => binary(stack),
+        Operation::Unary(_) => unary(stack),
+        Operation::Shift(_) => shift(stack),
+        Operation::Compare(comparison) => compare(*comparison, stack),
+        Operation::ConvertInt32 => convert_to_int32(stack),
+        Operation::ConvertInt64 => convert_to_int64(stack),
+        Operation::BranchTrue(_) => branch_true(stack),
+        Operation::BranchFalse(_) => branch_false(stack),
+        Operation::BranchCompare(comparison, _) => branch_compare(*comparison, stack),
+        Operation::Switch(_) => switch(stack),
+        Operation::LoadField { owner, field } => load_field(method, *owner, *field, stack),
+        Operation::StoreField { owner, field } => store_field(method, *owner, *field, stack),
+        Operation::LoadStaticField(field) => load_static_field(method, *field, stack),
+        Operation::StoreStaticField(field) => store_static_field(method, *field, stack),
+        Operation::NewArray(element) => new_array(*element, stack),
+        Operation::LoadLength => load_length(stack),
+        Operation::LoadElementInt32 => load_element_int32(stack),
+        Operation::LoadElementInt64 => load_element_int64(stack),
+        Operation::LoadElementReference => load_element_reference(stack),
+        Operation::StoreElementInt32 => store_element_int32(stack),
+        Operation::StoreElementInt64 => store_element_int64(stack),
+        Operation::StoreElementReference => store_element_reference(stack),
+        Operation::CastClass(t) | Operation::IsInstance(t) => cast(*t, stack),
+        Operation::Call {
+            is_instance,
+            owner,
+            method: called,
+        } => call(method, *is_instance, *owner, *called, stack),
+        Operation::CallVirtual {
+            owner,
+            method: called,
+        } => call_virtual(method, *owner, *called, stack),
+        Operation::NewObject(constructor) => new_object(method, *constructor, stack),
+        Operation::Return => return_value(method, stack),
+    }
+}
+
+/// Does to a stack of types what the flow rule says of the instruction that an operation stands for. At a mismatch the rule has no
+/// answer: the instruction has no place on such a stack. After an error the stack holds some of what it held, and is of no use.
+/// Whether the stack is higher than `.maxstack` is not asked here.
+pub fn flow(
+    method: &MethodTypes,
+    operation: &Operation,
+    stack: &mut TypeStack,
+) -> Result<(), FlowError>
+    ensures { (lines : List Line) (i : Instruction) → IsOperation method.now.types.now lines i operation.now → IsAfter method.now.types.now result stack.new (flow_of method.now i stack.old) }
+{
+    step(method, operation, stack)
+}

@@ -1,0 +1,13 @@
+// The types of a method's arguments, locals and result.
+
+use crate::type_tree::TypeTree;
+use resolved_code::types::NumberedType;
+
+/// What the flow rule asks of a method: the types of its program, those of its arguments and locals, and the type that it returns;
+/// none is `void`.
+pub struct MethodTypes<'a> {
+    pub types: &'a TypeTree<'a>,
+    pub arguments: &'a [NumberedType],
+    pub locals: &'a [NumberedType],
+    pub return_type: Option<NumberedType>,
+}

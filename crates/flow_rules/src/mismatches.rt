@@ -1,0 +1,38 @@
+// Why an instruction has no result on a stack.
+
+use crate::entries::StackEntry;
+use cil_model::memory::NoMemory;
+use name_tables::lookups::MemberNumber;
+use resolved_code::types::NumberedType;
+
+/// Why an instruction has no place on a stack (ECMA-335 III.1.8 and the verifiability parts of III.3 and III.4).
+#[derive(Clone, Copy, PartialEq, Eq, Debug)]
+pub enum Mismatch {
+    /// The stack holds fewer operands than the instruction takes.
+    OperandMissing,
+    /// The instruction takes no operand of this type.
+    OperandType(StackEntry),
+    /// The instruction takes no two operands of these types together.
+    OperandTypes(StackEntry, StackEntry),
+    /// The first can't stand where the second is wanted.
+    NotAssignable(StackEntry, NumberedType),
+    /// The method has no argument or no local of this number.
+    NoSuchPlace(i64),
+    /// `castclass` and `isinst` take no such type.
+    NoReference(NumberedType),
+    /// The code names no member by this number.
+    NoSuchMember(MemberNumber),
+    /// `call` of a method without code.
+    AbstractMethod(MemberNumber),
+    /// `newobj` of an abstract class.
+    AbstractClass(usize),
+    /// `ret` leaves this below what it returns.
+    LeftOnStack(StackEntry),
+}
+
+/// Why there is no stack after an instruction.
+#[derive(Clone, Copy, PartialEq, Eq, Debug)]
+pub enum FlowError {
+    Mismatch(Mismatch),
+    OutOfMemory,
+}

@@ -1,0 +1,330 @@
+// The tree of types, and merges in it (ECMA-335 III.1.8.1.3; the tree is this profile's).
+
+ghost use Rattle.std.specs.Prelude.{◌≡◌, ◌≤◌, ◌+◌, ◌-◌, ◌==◌, ◌||◌, if◌then◌else◌, true, false, Some, None, option_map, slice_get, IfSome};
+ghost use Rattle.cil_model.specs.declared.trees.Tree.{Tree};
+ghost use Rattle.cil_model.specs.declared.types.ClassName.{ClassName};
+ghost use Rattle.cil_model.specs.Assignable.{element_of_class, type_of_class, is_class_assignable, is_element_assignable, is_assignable};
+ghost use Rattle.std.specs.List.{list_any};
+ghost use Rattle.cil_model.specs.Same.{same_element};
+ghost use Rattle.cil_model.specs.declared.types.Element.TheVariants as Named;
+ghost use Rattle.cil_model.specs.Chains.{base_of, longest_chain};
+ghost use Rattle.cil_model.specs.TypeTree.{parent, parent_element, IsBelow};
+ghost use Rattle.cil_model.specs.TypeTree as OnStack;
+ghost use Rattle.cil_model.specs.Legality.{IsLegal};
+ghost use Rattle.resolved_code.specs.Numbered.{class_name};
+ghost use Rattle.resolved_code.specs.declared.types.NumberedElement.TheVariants.{Object, Class};
+ghost use Rattle.flow_rules.specs.declared.entries.StackEntry.TheVariants.{Declared, Null};
+ghost use Rattle.flow_rules.specs.Named.{type_named, element_named, class_named, is_known};
+ghost use Rattle.flow_rules.specs.Merging.{IsMerged, AreClasses, IsClassAt};
+
+use crate::entries::{StackEntry, is_reference};
+use cil_model::trees::Tree;
+use resolved_code::classes::ResolvedClass;
+use resolved_code::types::{NumberedElement, NumberedType};
+use std::marker::Model;
+
+/// The types of a legal program, each below its parent. Contracts see it as the program's tree.
+pub struct TypeTree<'a> {
+    tree: &'a Tree,
+    classes: &'a [ResolvedClass],
+}
+
+impl<'a> Model for TypeTree<'a> {
+    ghost use Rattle.cil_model.specs.declared.trees.Tree.{Tree};
+    ghost use Rattle.flow_rules.specs.Merging.{AreClasses};
+
+    ghost Value = { Tree };
+
+    ghost view = { λ t. t.tree.now };
+
+    ghost invariant = { λ t. AreClasses t.tree.now t.classes.now };
+}
+
+impl<'a> TypeTree<'a> {
+    /// The types of a legal program with these classes.
+    pub fn new(tree: &'a Tree, classes: &'a [ResolvedClass]) -> Self
+        requires { AreClasses tree.now classes.now }
+        ensures { result ≡ tree.now }
+    {
+        TypeTree { tree, classes }
+    }
+
+    /// The type itself; in place of a number that is no class's, System.Object's.
+    fn known(&self, t: NumberedType) -> NumberedType
+        ensures known { is_known self.now result.element ≡ true }
+        ensures same { type_named self.now result ≡ type_named self.now t }
+    {
+        let NumberedElement::Class(number) = t.element else {
+            return t;
+        };
+        if number < self.classes.len() {
+            return t;
+        }
+        NumberedType {
+            element: NumberedElement::Class(0),
+            brackets: t.brackets,
+        }
+    }
+
+    /// The class with this number.
+    pub fn class(&self, number: usize) -> Option<&ResolvedClass>
+        ensures found { IfSome result (λ class. IsClassAt self.now number class.now) }
+        ensures beyond { result ≡ None → class_name self.now number ≡ None }
+        ensures legal { IsLegal self.now }
+    {
+        class_in(self.classes, number)
+    }
+
+    /// The element of a class's parent: its base, or `object`.
+    fn base_element(&self, number: usize) -> NumberedElement
+        ensures named { element_named self.now result ≡ parent_element (base_of self.now (class_named self.now number)) }
+        ensures known { is_known self.now result ≡ true }
+    {
+        match self.class(number) {
+            None => NumberedElement::Object,
+            Some(class) => match class.base {
+                None => NumberedElement::Object,
+                Some(base) => element_of_class(base),
+            },
+        }
+    }
+
+    /// The parent of a type (this profile). `object`, `int32` and `int64` have none.
+    pub fn parent(&self, t: NumberedType) -> Option<NumberedType>
+        ensures named { option_map (type_named self.now) result ≡ parent self.now (type_named self.now t) }
+        ensures known { IfSome result (λ p. is_known self.now p.element ≡ true) }
+    {
+        match t.element {
+            NumberedElement::Class(number) => Some(NumberedType {
+                element: self.base_element(number),
+                brackets: t.brackets,
+            }),
+            NumberedElement::String => Some(objects(t.brackets)),
+            NumberedElement::Object | NumberedElement::Int32 | NumberedElement::Int64 => {
+                parent_of_array(t)
+            }
+        }
+    }
+
+    /// More parents than a type has above it.
+    fn most_steps(&self, t: NumberedType) -> usize
+        ensures enough { longest_chain self.now + t.brackets + 2 ≤ result }
+        ensures legal { IsLegal self.now }
+    {
+        self.classes.len() + t.brackets as usize + 2
+    }
+
+    /// Whether a type is another or above it.
+    fn is_above(&self, upper: NumberedType, lower: NumberedType) -> bool
+        requires upper { is_known self.now upper.element ≡ true }
+        requires lower { is_known self.now lower.element ≡ true }
+        ensures above { result ≡ true → IsBelow self.now (OnStack.Declared (type_named self.now lower)) (OnStack.Declared (type_named self.now upper)) }
+        ensures apart { result ≡ false → IsBelow self.now (OnStack.Declared (type_named self.now lower)) (OnStack.Declared (type_named self.now upper)) → ⊥ }
+    {
+        let mut here = lower;
+        for step in 0..self.most_steps(lower) {
+            if is_same(here, upper) {
+                return true;
+            }
+            match self.parent(here) {
+                None => return false,
+                Some(parent) => here = parent,
+            }
+        }
+        false
+    }
+
+    /// The closest type above two others.
+    fn merged_types(&self, first: NumberedType, second: NumberedType) -> Option<NumberedType>
+        requires first { is_known self.now first.element ≡ true }
+        requires second { is_known self.now second.element ≡ true }
+        ensures { IsMerged self.now (Declared first) (Declared second) (option_map Declared result) }
+    {
+        let mut here = first;
+        for step in 0..self.most_steps(first) {
+            if self.is_above(here, second) {
+                return Some(here);
+            }
+            match self.parent(here) {
+                None => return None,
+                Some(parent) => here = parent,
+            }
+        }
+        None
+    }
+
+    /// The most classes that a chain has.
+    fn longest_chain(&self) -> usize
+        ensures { result ≡ longest_chain self.now }
+    {
+        self.classes.len().saturating_sub(2)
+    }
+
+    /// Whether a class is another, or lists it, or has a base of which that is so.
+    fn is_class_assignable(&self, from: usize, to: usize) -> bool
+        requires from { is_known self.now (Class from) ≡ true }
+        requires to { is_known self.now (Class to) ≡ true }
+        ensures { result ≡ is_class_assignable self.now (class_named self.now from) (class_named self.now to) }
+    {
+        let mut here = from;
+        for step in 0..self.longest_chain() {
+            let Some(class) = self.class(here) else {
+                return false;
+            };
+            if is_or_lists(here, class, to) {
+                return true;
+            }
+            match class.base {
+                None => return false,
+                Some(base) => here = base,
+            }
+        }
+        false
+    }
+
+    /// The same of types without brackets. Only the two integers may not stand for `object`.
+    fn is_element_assignable(&self, from: NumberedElement, to: NumberedElement) -> bool
+        requires from { is_known self.now from ≡ true }
+        requires to { is_known self.now to ≡ true }
+        ensures { result ≡ is_element_assignable self.now (element_named self.now from) (element_named self.now to) }
+    {
+        match (from, to) {
+            (NumberedElement::Int32, NumberedElement::Object) => false,
+            (NumberedElement::Int64, NumberedElement::Object) => false,
+            (_, NumberedElement::Object) => true,
+            (NumberedElement::Class(from), NumberedElement::Class(to)) => {
+                self.is_class_assignable(from, to)
+            }
+            (NumberedElement::Int32, NumberedElement::Int32) => true,
+            (NumberedElement::Int64, NumberedElement::Int64) => true,
+            (NumberedElement::String, NumberedElement::String) => true,
+            _ => false,
+        }
+    }
+
+    /// The same of types whose classes are known: as many brackets on both, or fewer on `object`.
+    #[tactic(auto, using(crate::proofs::BracketLaws::as_many, crate::proofs::BracketLaws::with_fewer, crate::proofs::BracketLaws::with_more))]
+    fn is_known_assignable(&self, from: NumberedType, to: NumberedType) -> bool
+        requires from { is_known self.now from.element ≡ true }
+        requires to { is_known self.now to.element ≡ true }
+        ensures { result ≡ is_assignable self.now (type_named self.now from) (type_named self.now to) }
+    {
+        if from.brackets == to.brackets {
+            return self.is_element_assignable(from.element, to.element);
+        }
+        if to.brackets < from.brackets {
+            return is_object(to.element);
+        }
+        false
+    }
+
+    /// Whether a value of the first type may stand where the second is wanted (ECMA-335 I.8.7).
+    pub fn is_assignable(&self, from: NumberedType, to: NumberedType) -> bool
+        ensures { result ≡ is_assignable self.now (type_named self.now from) (type_named self.now to) }
+    {
+        self.is_known_assignable(self.known(from), self.known(to))
+    }
+
+    /// The closest common ancestor of two entries (ECMA-335 III.1.8.1.3; the tree is this profile's). None where no type is above
+    /// both, as above `int32` and a reference.
+    pub fn merge(&self, first: StackEntry, second: StackEntry) -> Option<StackEntry>
+        ensures { IsMerged self.now first second result }
+    {
+        match (first, second) {
+            (StackEntry::Declared(one), StackEntry::Declared(other)) => {
+                let merged = self.merged_types(self.known(one), self.known(other))?;
+                Some(StackEntry::Declared(merged))
+            }
+            (StackEntry::Null, StackEntry::Declared(t)) => merged_with_null(t),
+            (StackEntry::Declared(t), StackEntry::Null) => merged_with_null(t),
+            (StackEntry::Null, StackEntry::Null) => Some(StackEntry::Null),
+            (StackEntry::NativeInt, StackEntry::NativeInt) => Some(StackEntry::NativeInt),
+            _ => None,
+        }
+    }
+}
+
+fn class_in(classes: &[ResolvedClass], number: usize) -> Option<&ResolvedClass>
+    ensures found { IfSome result (λ class. slice_get classes.now number ≡ Some class.now) }
+    ensures beyond { result ≡ None → slice_get classes.now number ≡ None }
+{
+    classes.get(number)
+}
+
+/// Whether a class is another, or lists it.
+fn is_or_lists(number: usize, class: &ResolvedClass, wanted: usize) -> bool
+    ensures { result ≡ (number == wanted) || list_any (λ i. i == wanted) class.now.interfaces }
+{
+    number == wanted || class.interfaces.as_slice().contains(&wanted)
+}
+
+/// `object`
+fn is_object(element: NumberedElement) -> bool
+    ensures { (tree : Tree) → result ≡ same_element (element_named tree element) Named.Object }
+{
+    matches!(element, NumberedElement::Object)
+}
+
+/// Null lies below every reference, and below nothing else.
+fn merged_with_null(t: NumberedType) -> Option<StackEntry>
+    ensures first { (tree : Tree) → IsMerged tree Null (Declared t) result }
+    ensures second { (tree : Tree) → IsMerged tree (Declared t) Null result }
+{
+    if is_reference(t) {
+        Some(StackEntry::Declared(t))
+    } else {
+        None
+    }
+}
+
+/// Whether two types are one.
+fn is_same(one: NumberedType, other: NumberedType) -> bool
+    ensures same { result ≡ true → one ≡ other }
+    ensures apart { result ≡ false → one ≡ other → ⊥ }
+{
+    one == other
+}
+
+/// `object` with these brackets.
+fn objects(brackets: u32) -> NumberedType
+    ensures { result ≡ record { element = Object; brackets = brackets } }
+{
+    NumberedType {
+        element: NumberedElement::Object,
+        brackets,
+    }
+}
+
+/// The parent of `object[]`, `int32[]` or `int64[]` is `object`; what has no brackets has none.
+fn parent_of_array(t: NumberedType) -> Option<NumberedType>
+    ensures { result ≡ if t.brackets == 0 then None else Some (record { element = Object; brackets = t.brackets - 1 }) }
+{
+    if t.brackets == 0 {
+        return None;
+    }
+    Some(objects(t.brackets - 1))
+}
+
+/// The element of a class's objects: `object` and `string` have names of their own (ECMA-335 II.7.2).
+pub fn element_of_class(number: usize) -> NumberedElement
+    ensures named { (tree : Tree) → is_known tree (Class number) ≡ true → element_named tree result ≡ element_of_class (class_named tree number) }
+    ensures known { (tree : Tree) → is_known tree (Class number) ≡ true → is_known tree result ≡ true }
+{
+    if number == 0 {
+        NumberedElement::Object
+    } else if number == 1 {
+        NumberedElement::String
+    } else {
+        NumberedElement::Class(number)
+    }
+}
+
+/// The type of a class's objects (ECMA-335 II.7.2).
+pub fn type_of_class(number: usize) -> NumberedType
+    ensures { (tree : Tree) (c : ClassName) → class_name tree number ≡ Some c → type_named tree result ≡ type_of_class c }
+{
+    NumberedType {
+        element: element_of_class(number),
+        brackets: 0,
+    }
+}
