@@ -13,16 +13,16 @@ const SOURCE: &str = ".assembly extern mscorlib {}
  .field public int32 x
  .method public virtual instance void f() cil managed { .maxstack 0 ret } }
 .class public auto ansi M extends A {
- .method public instance void .ctor() cil managed { .maxstack 0 ret }
+ .method public specialname rtspecialname instance void .ctor() cil managed { .maxstack 0 ret }
  .method public virtual instance void f() cil managed { .maxstack 0 ret }
  .method public static void Main() cil managed { .entrypoint .maxstack 8
   L: ldstr \"b\" pop ldstr \"a\" stsfld string A::s ldstr \"b\" pop
   N: newobj instance void M::.ctor() dup ldfld int32 M::x brtrue L callvirt instance void M::f()
-  ldc.i4 1 newarr class M[] pop ldc.i4 0 switch (N, L) ret } }
+  ldc.i4 1 newarr class M pop ldc.i4 0 switch (N, L) ret } }
 ";
 
 const OPERATIONS: &str =
-    "Static(Body { max_stack: 8, locals: Sequence { items: [] }, operations: Sequence { items: [LoadString(0), Pop, LoadString(1), StoreStaticField(MemberNumber { class: 5, place: 0 }), LoadString(0), Pop, NewObject(MemberNumber { class: 6, place: 0 }), Duplicate, LoadField { owner: 6, field: MemberNumber { class: 5, place: 1 } }, BranchTrue(0), CallVirtual { owner: 6, method: MemberNumber { class: 6, place: 1 } }, LoadInt32(1), NewArray(NumberedType { element: Class(6), brackets: 1 }), Pop, LoadInt32(0), Switch(Sequence { items: [6, 0] }), Return] } })";
+    "Static(Body { max_stack: 8, locals: Sequence { items: [] }, operations: Sequence { items: [LoadString(0), Pop, LoadString(1), StoreStaticField(MemberNumber { class: 5, place: 0 }), LoadString(0), Pop, NewObject(MemberNumber { class: 6, place: 0 }), Duplicate, LoadField { owner: 6, field: MemberNumber { class: 5, place: 1 } }, BranchTrue(0), CallVirtual { owner: 6, method: MemberNumber { class: 6, place: 1 } }, LoadInt32(1), NewArray(NumberedType { element: Class(6), brackets: 0 }), Pop, LoadInt32(0), Switch(Sequence { items: [6, 0] }), Return] } })";
 
 /// The operations of `Main`.
 #[test]
@@ -43,7 +43,10 @@ fn operands_are_numbers(rt: HostRuntime) -> Result<(), Fail> {
     let Some(method) = class.methods.as_slice().get(2) else {
         return Err(Fail::new("too few methods"));
     };
-    assert_eq!(rt; format!(in alloc; "{:?}", method.kind)?.as_str(), OPERATIONS);
+    assert_eq!(rt;
+        format!(in alloc; "{:?}", method.kind)?.as_str(),
+        OPERATIONS
+    );
     assert_eq!(rt; literals.texts(alloc)?.as_slice().len(), 2);
     Ok(())
 }

@@ -1,30 +1,7 @@
-#!/bin/sh
-# How long a local takes to load and to store, as a value with its kind (16 bytes) and as a bare word (8 bytes): prints
-# millions of such pairs a second for each.
-#
-# It makes a program in a temporary folder that stands on this repository's own crates, as heap_speed.sh does. Each pair
-# loads a local, adds a number and stores the sum to another local; the places have no pattern.
-set -eu
-top=$(cd "$(dirname "$0")/.." && pwd)
-work=$(mktemp -d)
-trap 'rm -rf "$work"' EXIT
-
-mkdir "$work/crates"
-for crate in cil_model space_block object_memory; do
-    cp -r "$top/crates/$crate" "$work/crates"
-done
-cp "$top/HANDLES" "$work"
-cd "$work"
-echo 'cil_model:
-space_block:
-object_memory: cil_model space_block' > crates.txt
-rt new crates/value_speed start_io > made.txt
-echo 'value_speed: cil_model object_memory' >> crates.txt
-rm -rf BUILD.bazel crates/value_speed/BUILD.bazel crates/value_speed/src crates/value_speed/specs crates/value_speed/proofs
-mkdir crates/value_speed/src
-: > crates/value_speed/stdin
-cat > crates/value_speed/src/main.rt <<'PROGRAM'
-//! Loads and stores locals again and again, and tells how fast.
+//! How long a local takes to load and to store, as a value with its kind (16 bytes) and as a bare word (8 bytes): prints
+//! millions of such pairs a second for each.
+//!
+//! Each pair loads a local, adds a number and stores the sum to another local; the places have no pattern.
 #![tactic(auto)]
 
 ghost use Rattle.std.specs.Prelude.{◌<◌};
@@ -78,6 +55,3 @@ fn main(rt: HostRuntime) -> io::Result<()> {
     tell_words(&rt, 1_000_000_000)?;
     tell_values(&rt, 1_000_000_000)
 }
-PROGRAM
-cd crates/value_speed
-rt run 2> log.txt || { cat log.txt; exit 1; }

@@ -1,30 +1,6 @@
-#!/bin/sh
-# How fast programs are laid out: prints the processor time, in microseconds, for a source of as many classes as the limit allows, most of
-# them one chain of bases with four fields each, where each class lists every interface, and for one of half as many classes in
-# the chain. The reader's time and that of the rules are not in it.
-#
-# It makes a program in a temporary folder that stands on this repository's own crates, makes each source in memory, reads
-# it, resolves the tree and lays the program out. `rt run` proves the program and builds it by LLVM, as it builds any program of the
-# repository.
-set -eu
-top=$(cd "$(dirname "$0")/.." && pwd)
-work=$(mktemp -d)
-trap 'rm -rf "$work"' EXIT
-
-mkdir "$work/crates"
-for crate in cil_model ilasm_tokens ilasm_reader name_tables resolved_code metadata class_layout; do
-    cp -r "$top/crates/$crate" "$work/crates"
-done
-cp "$top/HANDLES" "$work"
-cd "$work"
-grep -E '^(cil_model|ilasm_tokens|ilasm_reader|name_tables|resolved_code|metadata|class_layout):' "$top/crates.txt" > crates.txt
-rt new crates/layout_speed start_io > made.txt
-echo 'layout_speed: ilasm_reader metadata class_layout' >> crates.txt
-rm -rf BUILD.bazel crates/layout_speed/BUILD.bazel crates/layout_speed/src crates/layout_speed/specs crates/layout_speed/proofs
-mkdir crates/layout_speed/src
-: > crates/layout_speed/stdin
-cat > crates/layout_speed/src/main.rt <<'PROGRAM'
-//! Lays programs out, and tells how long that takes.
+//! How fast programs are laid out: prints the processor time, in microseconds, for a source of as many classes as the limit
+//! allows, most of them one chain of bases with four fields each, where each class lists every interface, and for one of half as
+//! many classes in the chain. The reader's time and that of the rules are not in it.
 #![tactic(auto)]
 
 use class_layout::lay_out;
@@ -78,6 +54,3 @@ fn main(rt: HostRuntime) -> io::Result<()> {
     tell(&rt, 238, 16)?;
     tell(&rt, 127, 127)
 }
-PROGRAM
-cd crates/layout_speed
-rt run 2> log.txt || { cat log.txt; exit 1; }

@@ -1,33 +1,8 @@
-#!/bin/sh
-# How fast sources are read: prints bytes in a microsecond, which is MB/s, for sources of 64 KiB, 256 KiB and 1 MiB of one shape.
-#
-# It makes a program in a temporary folder that stands on this repository's own crates, makes each source in memory, and
-# reads it again and again. A figure is of the processor time, the system's share with it, from the call of `read` until
-# the tree is given back. The sizes take turns, so that a machine that is busy for a while slows all of them. Printed are the
-# fastest reading of each size, which other work on the machine disturbs least, and the mean of all. `rt run` proves the
-# program and builds it by LLVM, as it builds any program of the repository. So the figures are of what is shipped, and no crate of
-# the repository is there for it alone.
-set -eu
-top=$(cd "$(dirname "$0")/.." && pwd)
-work=$(mktemp -d)
-trap 'rm -rf "$work"' EXIT
-
-mkdir "$work/crates"
-for crate in cil_model ilasm_tokens ilasm_reader; do
-    cp -r "$top/crates/$crate" "$work/crates"
-done
-cp "$top/HANDLES" "$work"
-cd "$work"
-echo 'cil_model:
-ilasm_tokens: cil_model
-ilasm_reader: cil_model ilasm_tokens' > crates.txt
-rt new crates/read_speed start_io > made.txt
-echo 'read_speed: ilasm_reader' >> crates.txt
-rm -rf BUILD.bazel crates/read_speed/BUILD.bazel crates/read_speed/src crates/read_speed/specs crates/read_speed/proofs
-mkdir crates/read_speed/src
-: > crates/read_speed/stdin
-cat > crates/read_speed/src/main.rt <<'PROGRAM'
-//! Reads sources again and again, and tells how fast.
+//! How fast sources are read: prints bytes in a microsecond, which is MB/s, for sources of 64 KiB, 256 KiB and 1 MiB of one shape.
+//!
+//! A figure is of the processor time, the system's share with it, from the call of `read` until the tree is given back. The sizes
+//! take turns, so that a machine that is busy for a while slows all of them. Printed are the fastest reading of each size, which
+//! other work on the machine disturbs least, and the mean of all.
 #![tactic(auto)]
 
 use ilasm_reader::read;
@@ -120,6 +95,3 @@ fn main(rt: HostRuntime) -> io::Result<()> {
     middle.print(&rt)?;
     large.print(&rt)
 }
-PROGRAM
-cd crates/read_speed
-rt run 2> log.txt || { cat log.txt; exit 1; }

@@ -1,32 +1,8 @@
-#!/bin/sh
-# How fast the heap is: prints births in a microsecond, which is millions a second, and stores to slots likewise.
-#
-# It makes a program in a temporary folder that stands on this repository's own crates: it fills a heap of 1,048,576 words
-# with objects of two slots again and again, and stores into the slots of one object again and again. It divides what was
-# done by the processor time that it took, the system's share with it; making the blocks isn't counted. `rt run` proves the
-# program and builds it by LLVM, as it builds any program of the repository. So the figure is of what is shipped, and no
-# crate of the repository is there for it alone.
-set -eu
-top=$(cd "$(dirname "$0")/.." && pwd)
-work=$(mktemp -d)
-trap 'rm -rf "$work"' EXIT
-
-mkdir "$work/crates"
-for crate in cil_model space_block object_memory; do
-    cp -r "$top/crates/$crate" "$work/crates"
-done
-cp "$top/HANDLES" "$work"
-cd "$work"
-echo 'cil_model:
-space_block:
-object_memory: cil_model space_block' > crates.txt
-rt new crates/heap_speed start_io > made.txt
-echo 'heap_speed: cil_model space_block object_memory' >> crates.txt
-rm -rf BUILD.bazel crates/heap_speed/BUILD.bazel crates/heap_speed/src crates/heap_speed/specs crates/heap_speed/proofs
-mkdir crates/heap_speed/src
-: > crates/heap_speed/stdin
-cat > crates/heap_speed/src/main.rt <<'PROGRAM'
-//! Makes objects and stores into slots again and again, and tells how fast.
+//! How fast the heap is: prints births in a microsecond, which is millions a second, and stores to slots likewise.
+//!
+//! It fills a heap of 1,048,576 words with objects of two slots again and again, and stores into the slots of one object again
+//! and again. It divides what was done by the processor time that it took, the system's share with it; making the blocks isn't
+//! counted.
 #![tactic(auto)]
 
 ghost use Rattle.std.specs.Prelude.{◌≡◌, ◌≤◌, length, IfSome};
@@ -128,18 +104,3 @@ fn main(rt: HostRuntime) -> io::Result<()> {
     tell_births(&rt, 1_048_576, 100)?;
     tell_stores(&rt, 65_536, 1_000_000_000)
 }
-PROGRAM
-mkdir -p crates/heap_speed/proofs/store
-cat > crates/heap_speed/proofs/store/Invariants.antt <<'INVARIANTS'
-use Rattle.std.proofs.Common.{◌≤◌, length}
-use Rattle.object_memory.specs.Cells.{slots_at}
-use Rattle.heap_speed.proofs.store.Given as goal
-
-abbrev pub invariant-loop-number : goal.invariant-loop-number
-invariant-loop-number l = 8 ≤ length (slots_at l.heap.block l.address)
-
-abbrev pub invariant-loop-index : goal.invariant-loop-index
-invariant-loop-index l = 8 ≤ length (slots_at l.heap.block l.address)
-INVARIANTS
-cd crates/heap_speed
-rt run 2> log.txt || { cat log.txt; exit 1; }

@@ -1,28 +1,5 @@
-#!/bin/sh
-# How fast trees are resolved: prints the processor time, in microseconds, for a source at the limits of classes, methods and
-# bytes, all of whose classes are one chain of bases, and for one of half as many classes. The reader's time is not in it.
-#
-# It makes a program in a temporary folder that stands on this repository's own crates, makes each source in memory, reads
-# it, and resolves the tree. `rt run` proves the program and builds it by LLVM, as it builds any program of the repository.
-set -eu
-top=$(cd "$(dirname "$0")/.." && pwd)
-work=$(mktemp -d)
-trap 'rm -rf "$work"' EXIT
-
-mkdir "$work/crates"
-for crate in cil_model ilasm_tokens ilasm_reader name_tables metadata; do
-    cp -r "$top/crates/$crate" "$work/crates"
-done
-cp "$top/HANDLES" "$work"
-cd "$work"
-grep -E '^(cil_model|ilasm_tokens|ilasm_reader|name_tables|metadata):' "$top/crates.txt" > crates.txt
-rt new crates/resolve_speed start_io > made.txt
-echo 'resolve_speed: ilasm_reader metadata' >> crates.txt
-rm -rf BUILD.bazel crates/resolve_speed/BUILD.bazel crates/resolve_speed/src crates/resolve_speed/specs crates/resolve_speed/proofs
-mkdir crates/resolve_speed/src
-: > crates/resolve_speed/stdin
-cat > crates/resolve_speed/src/main.rt <<'PROGRAM'
-//! Resolves sources, and tells how long that takes.
+//! How fast trees are resolved: prints the processor time, in microseconds, for a source at the limits of classes, methods and
+//! bytes, all of whose classes are one chain of bases, and for one of half as many classes. The reader's time is not in it.
 #![tactic(auto)]
 
 use ilasm_reader::read;
@@ -77,6 +54,3 @@ fn main(rt: HostRuntime) -> io::Result<()> {
     tell(&rt, "129 classes below an abstract one", ABSTRACT, 127, 25)?;
     tell(&rt, "256 classes below an abstract one", ABSTRACT, 254, 25)
 }
-PROGRAM
-cd crates/resolve_speed
-rt run 2> log.txt || { cat log.txt; exit 1; }

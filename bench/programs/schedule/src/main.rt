@@ -1,32 +1,6 @@
-#!/bin/sh
-# How fast the text of a schedule is read and written: prints milliseconds of processor time for one reading of
-# `s0*1000000`, and for one reading and one writing of 250,000, 500,000 and 1,000,000 single events. The latter grow with
-# the number of events and no faster. What was read is looked over and counted, and that is part of the time.
-#
-# It makes a program in a temporary folder that stands on this repository's own crates, makes each text in memory, and
-# divides the processor time of some rounds, the system's share with it, by their number. `rt run` proves the program and
-# builds it by LLVM, as it builds any program of the repository. So the figure is of what is shipped, and no crate of the
-# repository is there for it alone.
-set -eu
-top=$(cd "$(dirname "$0")/.." && pwd)
-work=$(mktemp -d)
-trap 'rm -rf "$work"' EXIT
-
-mkdir "$work/crates"
-for crate in cil_model schedule_text; do
-    cp -r "$top/crates/$crate" "$work/crates"
-done
-cp "$top/HANDLES" "$work"
-cd "$work"
-echo 'cil_model:
-schedule_text: cil_model thiserror' > crates.txt
-rt new crates/schedule_speed start_io > made.txt
-echo 'schedule_speed: cil_model schedule_text' >> crates.txt
-rm -rf BUILD.bazel crates/schedule_speed/BUILD.bazel crates/schedule_speed/src crates/schedule_speed/specs crates/schedule_speed/proofs
-mkdir crates/schedule_speed/src
-: > crates/schedule_speed/stdin
-cat > crates/schedule_speed/src/main.rt <<'PROGRAM'
-//! Reads and writes schedules again and again, and tells how fast.
+//! How fast the text of a schedule is read and written: prints milliseconds of processor time for one reading of `s0*1000000`,
+//! and for one reading and one writing of 250,000, 500,000 and 1,000,000 single events. The latter grow with the number of events
+//! and no faster. What was read is looked over and counted, and that is part of the time.
 #![tactic(auto)]
 
 use cil_model::events::Event;
@@ -99,6 +73,3 @@ fn main(rt: HostRuntime) -> io::Result<()> {
     tell_singles(&rt, 125_000)?;
     tell_singles(&rt, 250_000)
 }
-PROGRAM
-cd crates/schedule_speed
-rt run 2> log.txt || { cat log.txt; exit 1; }
