@@ -1,0 +1,13 @@
+pub mod Names
+pub mod Values
+pub mod Contents
+pub mod Monitors
+pub mod Stores
+pub mod Effects
+pub mod Located
+pub mod OwnFields
+pub mod Taken
+pub mod Actions
+pub mod Outcomes
+pub mod Machines
+pub mod Entries
