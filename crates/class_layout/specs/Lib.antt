@@ -1,4 +1,5 @@
 pub mod ByClass
 pub mod Tested
 pub mod Kinds
+pub mod FieldSlots
 pub mod Laid

@@ -7,6 +7,7 @@ mod kinds;
 mod layout;
 mod program;
 mod rows;
+mod slots;
 mod tested;
 
 pub use kinds::SlotKind;

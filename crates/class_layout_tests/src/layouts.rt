@@ -3,6 +3,7 @@
 use class_layout::{Layout, SlotKind, lay_out};
 use ilasm_reader::read;
 use metadata::resolve;
+use name_tables::lookups::MemberNumber;
 use resolved_code::types::{NumberedElement, NumberedType};
 use std::alloc::Global;
 use std::process::Abort;
@@ -14,6 +15,8 @@ const SOURCE: &str = ".assembly extern mscorlib {} .assembly extern cilvm {}
 .class public auto ansi Dog extends [mscorlib]System.Object implements IRun { .field public int32 size }
 .class interface public abstract auto ansi IRun { }
 .class public auto ansi Work extends [cilvm]Cilvm.Thread { .field public object result }
+.class public auto ansi A extends [mscorlib]System.Object { .field public int32 x .field public static object all .field public int32 y }
+.class public auto ansi B extends A { .field public int32 x }
 ";
 
 const PUPPY: NumberedElement = NumberedElement::Class(6);
@@ -90,5 +93,24 @@ fn the_hidden_field_is_no_reference(rt: HostRuntime) -> Result<(), Fail> {
     assert_eq!(rt; layout.kind(9, 0), Some(SlotKind::Hidden));
     assert!(rt; !layout.is_reference(9, 0));
     assert!(rt; layout.is_reference(9, 1));
+    Ok(())
+}
+
+#[test]
+fn fields_have_slots(rt: HostRuntime) -> Result<(), Fail> {
+    let layout = layout(&rt, rt.alloc());
+    for (class, place, slot) in [
+        (7, 0, 0),
+        (6, 0, 1),
+        (6, 1, 0),
+        (6, 2, 2),
+        (9, 0, 1),
+        (10, 0, 0),
+        (10, 1, 1),
+        (10, 2, 1),
+        (11, 0, 2),
+    ] {
+        assert_eq!(rt; layout.slot(MemberNumber { class, place }), Some(slot));
+    }
     Ok(())
 }
