@@ -7,3 +7,4 @@ pub mod NumberedLaws
 pub mod KindLaws
 pub mod SlotLaws
 pub mod RowLaws
+pub mod TargetLaws

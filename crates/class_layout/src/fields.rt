@@ -65,6 +65,7 @@ pub fn own_kinds(alloc: Global, names: &NameTables, class: ClassKey) -> Result<V
     }
 }
 
+/// What the instance fields that each class itself declares hold.
 pub fn all_own_kinds(alloc: Global, names: &NameTables) -> Result<Vec<Vec<SlotKind>>, NoMemory>
     ensures { IfOk result (λ v. map (λ row. row.items) v.items ≡ by_class names.now.classes.tree.now (own_kinds names.now.classes.tree.now)) }
 {

@@ -8,7 +8,9 @@ ghost use Rattle.cil_model.specs.Assignable.{is_assignable};
 ghost use Rattle.cil_model.specs.Chains.{is_interface};
 ghost use Rattle.cil_model.specs.Fields.{slot_types, is_reference_slot, instance_slot, static_slot};
 ghost use Rattle.cil_model.specs.declared.trees.Field.{Field};
-ghost use Rattle.name_tables.specs.Numbers.{field_at};
+ghost use Rattle.cil_model.specs.declared.trees.Method.{Method};
+ghost use Rattle.cil_model.specs.Slots.{target};
+ghost use Rattle.name_tables.specs.Numbers.{field_at, method_at};
 ghost use Rattle.cil_model.specs.Legality.{IsLegal};
 ghost use Rattle.resolved_code.specs.Numbered.{class_name, type_at};
 ghost use Rattle.class_layout.specs.ByClass.{base_number};
@@ -18,6 +20,7 @@ use crate::fields::{all_kinds, is_reference_at, kind_at};
 use crate::kinds::SlotKind;
 use crate::rows::row_at;
 use crate::slots::{all_fields, number_at};
+use crate::targets::{Targets, all_targets, target_at};
 use crate::tested::is_tested;
 use cil_model::memory::NoMemory;
 use name_tables::lookups::{MemberNumber, NameTables};
@@ -31,6 +34,7 @@ pub struct Layout {
     ancestry: Ancestry,
     kinds: Vec<Vec<SlotKind>>,
     fields: Vec<Vec<usize>>,
+    targets: Vec<Vec<Targets>>,
 }
 
 impl Layout {
@@ -46,6 +50,7 @@ impl Layout {
             ancestry: Ancestry::new(alloc, names)?,
             kinds: all_kinds(alloc, names)?,
             fields: all_fields(alloc, names)?,
+            targets: all_targets(alloc, names)?,
         })
     }
 
@@ -98,5 +103,13 @@ impl Layout {
         ensures static_field { (tree : Tree) → IsLayout tree self.now → (c : ClassName) (f : Field) → field_at tree (field.class, field.place) ≡ Some (c, f) → f.is_static ≡ true → result ≡ static_slot tree (record { declared_in = c; name = f.name }) }
     {
         number_at(row_at(self.fields.as_slice(), field.class), field.place)
+    }
+    /// The method that runs where a method is called on an object of a class (ECMA-335 II.10.3, II.12.2; where an interface is listed
+    /// again, this profile); a method that is not virtual is its own. None where no class or method has the number, or no method of
+    /// the class fills the slot.
+    pub fn target(&self, class: usize, method: MemberNumber) -> Option<MemberNumber>
+        ensures { (tree : Tree) → IsLayout tree self.now → (c d : ClassName) (m : Method) → class_name tree class ≡ Some d → method_at tree (method.class, method.place) ≡ Some (c, m) → option_map (λ n. method_at tree (n.class, n.place)) result ≡ option_map Some (target tree d c m) }
+    {
+        target_at(self.targets.as_slice(), class, method)
     }
 }

@@ -8,6 +8,7 @@ mod layout;
 mod program;
 mod rows;
 mod slots;
+mod targets;
 mod tested;
 
 pub use kinds::SlotKind;
