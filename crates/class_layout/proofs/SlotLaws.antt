@@ -2,6 +2,7 @@
 use Rattle.std.proofs.Common.{◌≡◌, ◌+◌, ◌-◌, ℕ, zero, suc, Bool, true, false, ◌||◌, ◌&&◌, cond, IsTrue, List, [], ◌∷◌, ◌++◌, length, map, reverse, slice_get, unwrap_or, Option, Some, None, option_map, option_and_then, if◌then◌else◌, refl, sym, ap, subst, ◌∙◌, arith}
 use Rattle.std.specs.Prelude.{filter, filter_map, flat_map}
 use Rattle.std.specs.List.{list_any, position_from}
+use Rattle.std.specs.Option.{option_map_or}
 use Rattle.std.proofs.lemmas.Bool.{or_parts, or_from}
 use Rattle.std.proofs.lemmas.List.{append-nil, reverse-append, length-map, length-append}
 use Rattle.std.proofs.lemmas.List.Folds.{list_any-append}
@@ -202,16 +203,15 @@ module _ (tree : Tree) where
   shorter test (suc n) (Some c) h = or_from _ _ (or_parts _ _ h).0 (shorter test n (base_of tree c) (or_parts _ _ h).1)
 
   -- a class with fields is of the source
-  IsOfSource : ClassName → Declaration → Type 0
+  abbrev IsOfSource : ClassName → Declaration → Type 0
   IsOfSource c d = (k : Class) × (m : ℕ) × (slice_get tree.classes m ≡ Some k) × ((c, d) ≡ source_entry k)
 
   of_the_source : (n p : ℕ) (c : ClassName) (d : Declaration) (f : Field) → slice_get (declarations tree) n ≡ Some (c, d) → slice_get d.fields p ≡ Some f → IsOfSource c d
   of_the_source n p c d f h at = by_number n h
     where
-      without_fields : (e : ClassName × Declaration) → e.1.fields ≡ [] → Some e ≡ Some (c, d) → IsOfSource c d
-      without_fields e none same =
-          let q : e ≡ (c, d) = cc in
-          let empty : d.fields ≡ [] = sym (ap (λ (y : ClassName × Declaration). y.1.fields) q) ∙ none in
+      without_fields : (o : Option (ClassName × Declaration)) → o ≡ Some (c, d) → option_map_or (λ (y : ClassName × Declaration). y.1.fields) o [] ≡ [] → IsOfSource c d
+      without_fields o same none =
+          let empty : d.fields ≡ [] = sym (ap (λ z. option_map_or (λ (y : ClassName × Declaration). y.1.fields) z []) same) ∙ none in
           absurd (none_is_some f (sym (ap (λ xs. slice_get xs p) empty) ∙ at))
 
       by_class : (m : ℕ) (o : Option Class) → slice_get tree.classes m ≡ o → option_map source_entry o ≡ Some (c, d) → IsOfSource c d
@@ -219,11 +219,11 @@ module _ (tree : Tree) where
       by_class m (Some s) e k = let q : (c, d) ≡ source_entry s = cc in (s, m, e, q)
 
       by_number : (m : ℕ) → slice_get (declarations tree) m ≡ Some (c, d) → IsOfSource c d
-      by_number zero k = without_fields _ refl k
-      by_number (suc zero) k = without_fields _ refl k
-      by_number (suc (suc zero)) k = without_fields _ refl k
-      by_number (suc (suc (suc zero))) k = without_fields _ refl k
-      by_number (suc (suc (suc (suc zero)))) k = without_fields _ refl k
+      by_number zero k = without_fields (slice_get (declarations tree) 0) k refl
+      by_number (suc zero) k = without_fields (slice_get (declarations tree) 1) k refl
+      by_number (suc (suc zero)) k = without_fields (slice_get (declarations tree) 2) k refl
+      by_number (suc (suc (suc zero))) k = without_fields (slice_get (declarations tree) 3) k refl
+      by_number (suc (suc (suc (suc zero)))) k = without_fields (slice_get (declarations tree) 4) k refl
       by_number (suc (suc (suc (suc (suc m))))) k = by_class m (slice_get tree.classes m) refl (sym (slice_get-map source_entry tree.classes m) ∙ k)
 
   once_in : IsLegal tree → (k : Class) (m : ℕ) → slice_get tree.classes m ≡ Some k → has_repeat same_name (fields_of_kind k.kind (fields_of k)) ≡ false
@@ -255,7 +255,8 @@ module _ (tree : Tree) where
       declared =
           let found : FoundAt tree c n = found_at tree c n (number_of_place tree legal n (c, d) h) in
           let both : Some (c, found.0) ≡ Some (c, d) = sym found.2 ∙ h in
-          let same : found.0 ≡ d = cc in
+          let pairs : (c, found.0) ≡ (c, d) = cc in
+          let same : found.0 ≡ d = ap (λ (y : ClassName × Declaration). y.1) pairs in
           ap (listed_by (λ (x : Declaration). x.fields)) found.1 ∙ ap (λ (x : Declaration). x.fields) same
 
       at_place : slice_get (fields_in tree c) p ≡ Some f

@@ -101,14 +101,14 @@ module _ (tree : Tree) where
         by_kind true e g = e
         by_kind false e g = false_is_true g
 
+    abbrev fills_slot : ClassName → ClassName → List ClassName → Bool
+    fills_slot s c cs = same_options same_class (slot_along tree k.name k.signature (c ∷ cs)) (Some s)
+
     filler_known : (s : ClassName) (i : ℕ) → class_number tree s ≡ Some i → (cs : List ClassName) → IsFiller (fillers s cs) (filler_numbered tree k i (numbers cs))
     filler_known s i e [] = tt
     filler_known s i e (c ∷ cs) = by_number (class_number tree c) refl (filler_known s i e cs) (tied tree k (c ∷ cs))
       where
-        fills : Bool
-        fills = same_options same_class (slot_along tree k.name k.signature (c ∷ cs)) (Some s)
-
-        virtually : (m : Method) → method_in tree k.name k.signature c ≡ Some m → fills ≡ true → is_virtual m.kind ≡ true
+        virtually : (m : Method) → method_in tree k.name k.signature c ≡ Some m → fills_slot s c cs ≡ true → is_virtual m.kind ≡ true
         virtually m g h =
             fills_as_virtual s c (slot_along tree k.name k.signature cs) m (
             sym (ap (λ f. same_options same_class (option_map_or (slot_filled c (slot_along tree k.name k.signature cs)) f (slot_along tree k.name k.signature cs)) (Some s)) g) ∙ h)
@@ -116,14 +116,14 @@ module _ (tree : Tree) where
         by_number : (o : Option ℕ) → class_number tree c ≡ o → IsFiller (fillers s cs) (filler_numbered tree k i (numbers cs)) →
             IsTied tree (slot_along tree k.name k.signature (c ∷ cs)) (slot_numbered tree k (cons_option (class_number tree c) (numbers cs))) → IsFiller (fillers s (c ∷ cs)) (filler_numbered tree k i (cons_option o (numbers cs)))
         by_number None g further h =
-            let P : Option Method → Type 0 = λ f. IsFiller (option_map_or (λ (m : Method). if fills then Some (c, m) else fillers s cs) f (fillers s cs)) (filler_numbered tree k i (numbers cs)) in
+            let P : Option Method → Type 0 = λ f. IsFiller (option_map_or (λ (m : Method). if fills_slot s c cs then Some (c, m) else fillers s cs) f (fillers s cs)) (filler_numbered tree k i (numbers cs)) in
             subst P (sym (nothing_found tree k c g)) further
         by_number (Some n) g further h =
             let T : Option ℕ → Type 0 = λ o. IsTied tree (slot_along tree k.name k.signature (c ∷ cs)) (slot_numbered tree k (cons_option o (numbers cs))) in
-            let one : fills ≡ option_map_or (λ x. x == i) (slot_numbered tree k (n ∷ numbers cs)) false = same_slot tree k s i e _ _ (subst T g h) in
-            let P : Option Method → Type 0 = λ f. IsFiller (fillers s (c ∷ cs)) (if fills then option_map_or (λ (m : Method). Some n) f (filler_numbered tree k i (numbers cs)) else filler_numbered tree k i (numbers cs)) in
-            let here : IsFiller (fillers s (c ∷ cs)) (if fills then option_map_or (λ (m : Method). Some n) (method_found tree k n) (filler_numbered tree k i (numbers cs)) else filler_numbered tree k i (numbers cs)) =
-            subst P (sym (found_by_number tree k c n g)) (filler_here c n (method_in tree k.name k.signature c) fills (fillers s cs) (filler_numbered tree k i (numbers cs)) g refl virtually further) in
+            let one : fills_slot s c cs ≡ option_map_or (λ x. x == i) (slot_numbered tree k (n ∷ numbers cs)) false = same_slot tree k s i e _ _ (subst T g h) in
+            let P : Option Method → Type 0 = λ f. IsFiller (fillers s (c ∷ cs)) (if fills_slot s c cs then option_map_or (λ (m : Method). Some n) f (filler_numbered tree k i (numbers cs)) else filler_numbered tree k i (numbers cs)) in
+            let here : IsFiller (fillers s (c ∷ cs)) (if fills_slot s c cs then option_map_or (λ (m : Method). Some n) (method_found tree k n) (filler_numbered tree k i (numbers cs)) else filler_numbered tree k i (numbers cs)) =
+            subst P (sym (found_by_number tree k c n g)) (filler_here c n (method_in tree k.name k.signature c) (fills_slot s c cs) (fillers s cs) (filler_numbered tree k i (numbers cs)) g refl virtually further) in
             let Q : Bool → Type 0 = λ b. IsFiller (fillers s (c ∷ cs)) (filler_over tree k n b (filler_numbered tree k i (numbers cs))) in
             subst Q one here
 
@@ -162,17 +162,14 @@ module _ (tree : Tree) where
     lister_known i j e [] = tt
     lister_known i j e (c ∷ cs) = by_number (class_number tree c) refl (lister_known i j e cs)
       where
-        rest : Option ClassName
-        rest = lister_along tree k.name k.signature i cs
-
-        by_test : (n : ℕ) (b : Bool) → class_number tree c ≡ Some n → IsTied tree rest (find (is_lister listed j) (numbers cs)) → IsTied tree (cond b (Some c) rest) (cond b (Some n) (find (is_lister listed j) (numbers cs)))
+        by_test : (n : ℕ) (b : Bool) → class_number tree c ≡ Some n → IsTied tree (lister_along tree k.name k.signature i cs) (find (is_lister listed j) (numbers cs)) → IsTied tree (cond b (Some c) (lister_along tree k.name k.signature i cs)) (cond b (Some n) (find (is_lister listed j) (numbers cs)))
         by_test n true g further = g
         by_test n false g further = further
 
-        by_number : (o : Option ℕ) → class_number tree c ≡ o → IsTied tree rest (find (is_lister listed j) (numbers cs)) → IsTied tree (lister_along tree k.name k.signature i (c ∷ cs)) (find (is_lister listed j) (cons_option o (numbers cs)))
+        by_number : (o : Option ℕ) → class_number tree c ≡ o → IsTied tree (lister_along tree k.name k.signature i cs) (find (is_lister listed j) (numbers cs)) → IsTied tree (lister_along tree k.name k.signature i (c ∷ cs)) (find (is_lister listed j) (cons_option o (numbers cs)))
         by_number None g further =
             let none : list_any (same_class i) (interfaces_in tree c) ≡ false = ap (λ z. list_any (same_class i) (listed_by (λ (x : Declaration). x.interfaces) z)) (not_declared tree c g) in
-            let P : Bool → Type 0 = λ b. IsTied tree (cond b (Some c) rest) (find (is_lister listed j) (numbers cs)) in
+            let P : Bool → Type 0 = λ b. IsTied tree (cond b (Some c) (lister_along tree k.name k.signature i cs)) (find (is_lister listed j) (numbers cs)) in
             subst P (sym none) further
         by_number (Some n) g further =
             let row : is_lister listed j n ≡ list_any (same_class i) (interfaces_in tree c) =
@@ -190,30 +187,30 @@ module _ (tree : Tree) where
     abbrev virtual_of : Option Method → Option Method
     virtual_of = option_and_then (λ (m : Method). if is_virtual m.kind then Some m else None)
 
+    abbrev virtual_above : List ClassName → Option (ClassName × Method)
+    virtual_above cs = nearest (virtual_in tree k.name k.signature) cs
+
+    abbrev found_above : List ClassName → Option ℕ
+    found_above cs = find (is_virtual_found tree k) (numbers cs)
+
     virtual_known : (cs : List ClassName) → IsNearest (nearest (virtual_in tree k.name k.signature) cs) (find (is_virtual_found tree k) (numbers cs))
     virtual_known [] = tt
     virtual_known (c ∷ cs) = by_number (class_number tree c) refl (virtual_known cs)
       where
-        rest : Option (ClassName × Method)
-        rest = nearest (virtual_in tree k.name k.signature) cs
-
-        below : Option ℕ
-        below = find (is_virtual_found tree k) (numbers cs)
-
-        by_kind : (n : ℕ) (m : Method) (b : Bool) → class_number tree c ≡ Some n → IsNearest rest below → IsNearest (option_map_or (λ x. Some (c, x)) (if b then Some m else None) rest) (cond b (Some n) below)
+        by_kind : (n : ℕ) (m : Method) (b : Bool) → class_number tree c ≡ Some n → IsNearest (virtual_above cs) (found_above cs) → IsNearest (option_map_or (λ x. Some (c, x)) (if b then Some m else None) (virtual_above cs)) (cond b (Some n) (found_above cs))
         by_kind n m true g further = g
         by_kind n m false g further = further
 
-        by_method : (n : ℕ) (f : Option Method) → class_number tree c ≡ Some n → IsNearest rest below → IsNearest (option_map_or (λ x. Some (c, x)) (virtual_of f) rest) (cond (option_map_or (λ (m : Method). is_virtual m.kind) f false) (Some n) below)
+        by_method : (n : ℕ) (f : Option Method) → class_number tree c ≡ Some n → IsNearest (virtual_above cs) (found_above cs) → IsNearest (option_map_or (λ x. Some (c, x)) (virtual_of f) (virtual_above cs)) (cond (option_map_or (λ (m : Method). is_virtual m.kind) f false) (Some n) (found_above cs))
         by_method n None g further = further
         by_method n (Some m) g further = by_kind n m (is_virtual m.kind) g further
 
-        by_number : (o : Option ℕ) → class_number tree c ≡ o → IsNearest rest below → IsNearest (nearest (virtual_in tree k.name k.signature) (c ∷ cs)) (find (is_virtual_found tree k) (cons_option o (numbers cs)))
+        by_number : (o : Option ℕ) → class_number tree c ≡ o → IsNearest (virtual_above cs) (found_above cs) → IsNearest (nearest (virtual_in tree k.name k.signature) (c ∷ cs)) (find (is_virtual_found tree k) (cons_option o (numbers cs)))
         by_number None g further =
-            let P : Option Method → Type 0 = λ f. IsNearest (option_map_or (λ x. Some (c, x)) (virtual_of f) rest) below in
+            let P : Option Method → Type 0 = λ f. IsNearest (option_map_or (λ x. Some (c, x)) (virtual_of f) (virtual_above cs)) (found_above cs) in
             subst P (sym (nothing_found tree k c g)) further
         by_number (Some n) g further =
-            let P : Option Method → Type 0 = λ f. IsNearest (nearest (virtual_in tree k.name k.signature) (c ∷ cs)) (cond (option_map_or (λ (m : Method). is_virtual m.kind) f false) (Some n) below) in
+            let P : Option Method → Type 0 = λ f. IsNearest (nearest (virtual_in tree k.name k.signature) (c ∷ cs)) (cond (option_map_or (λ (m : Method). is_virtual m.kind) f false) (Some n) (found_above cs)) in
             subst P (sym (found_by_number tree k c n g)) (by_method n (method_in tree k.name k.signature c) g further)
 
     -- an interface's method
@@ -265,20 +262,21 @@ module _ (tree : Tree) where
       by_row None = refl
       by_row (Some row) = refl
 
+  abbrev Tells : List (List Targets) → ℕ → MemberNumber → ClassName → ClassName → Method → Type 0
+  Tells rows class method d x y = option_map stands_at (option_and_then (target_in class method) (option_map targets_of (slice_get (unwrap_or (slice_get rows method.class) []) method.place))) ≡ option_map Some (target tree d x y)
+
   -- what the table says of a method and a class of objects
   pub target_found : IsLegal tree → (rows : List (List Targets)) (class : ℕ) (method : MemberNumber) (c d : ClassName) (m : Method) → map (map targets_of) rows ≡ by_class tree (target_rows tree) → class_name tree class ≡ Some d → stands_at method ≡ Some (c, m) →
       option_map stands_at (option_and_then (target_in class method) (option_map targets_of (slice_get (unwrap_or (slice_get rows method.class) []) method.place))) ≡ option_map Some (target tree d c m)
   target_found legal rows class method c d m are named at = by_entry (slice_get (declarations tree) method.class) refl at
     where
-      Tells : ClassName → Method → Type 0
-      Tells x y = option_map stands_at (option_and_then (target_in class method) (option_map targets_of (slice_get (unwrap_or (slice_get rows method.class) []) method.place))) ≡ option_map Some (target tree d x y)
-
-      by_place : (a : ClassName) (x : Declaration) (y : Method) → slice_get (declarations tree) method.class ≡ Some (a, x) → slice_get x.methods method.place ≡ Some y → stands_at method ≡ Some (a, y) → Tells a y
+      by_place : (a : ClassName) (x : Declaration) (y : Method) → slice_get (declarations tree) method.class ≡ Some (a, x) → slice_get x.methods method.place ≡ Some y → stands_at method ≡ Some (a, y) → Tells rows class method d a y
       by_place a x y h g stands =
           let number : class_number tree a ≡ Some method.class = number_of_place tree legal method.class (a, x) h in
           let found : FoundAt tree a method.class = found_at tree a method.class number in
           let both : Some (a, found.0) ≡ Some (a, x) = sym found.2 ∙ h in
-          let same : found.0 ≡ x = cc in
+          let pairs : (a, found.0) ≡ (a, x) = cc in
+          let same : found.0 ≡ x = ap (λ (z : ClassName × Declaration). z.1) pairs in
           let own : slice_get (methods_in tree a) method.place ≡ Some y =
           ap (λ o. slice_get (listed_by (λ (z : Declaration). z.methods) o) method.place) found.1 ∙ ap (λ (z : Declaration). slice_get z.methods method.place) same ∙ g in
           let row : unwrap_or (slice_get (map (map targets_of) rows) method.class) [] ≡ target_rows tree a =
@@ -288,13 +286,13 @@ module _ (tree : Tree) where
           slice_get-map (target_row tree a) (methods_in tree a) method.place ∙ ap (option_map (target_row tree a)) own in
           ap (λ o. option_map stands_at (option_and_then (target_in class method) o)) entry ∙ row_tells a d method.class class y method number named stands
 
-      by_entry : (o : Option (ClassName × Declaration)) → slice_get (declarations tree) method.class ≡ o → option_and_then (λ (e : ClassName × Declaration). option_map (λ x. (e.0, x)) (slice_get e.1.methods method.place)) o ≡ Some (c, m) → Tells c m
+      by_entry : (o : Option (ClassName × Declaration)) → slice_get (declarations tree) method.class ≡ o → option_and_then (λ (e : ClassName × Declaration). option_map (λ x. (e.0, x)) (slice_get e.1.methods method.place)) o ≡ Some (c, m) → Tells rows class method d c m
       by_entry None h g = absurd (none_is_some (c, m) g)
       by_entry (Some (a, x)) h g = by_method (slice_get x.methods method.place) refl g
         where
-          by_method : (o : Option Method) → slice_get x.methods method.place ≡ o → option_map (λ y. (a, y)) o ≡ Some (c, m) → Tells c m
+          by_method : (o : Option Method) → slice_get x.methods method.place ≡ o → option_map (λ y. (a, y)) o ≡ Some (c, m) → Tells rows class method d c m
           by_method None p z = absurd (none_is_some (c, m) z)
           by_method (Some y) p z =
               let pairs : (a, y) ≡ (c, m) = cc in
-              let P : ClassName × Method → Type 0 = λ q. Tells q.0 q.1 in
+              let P : ClassName × Method → Type 0 = λ q. Tells rows class method d q.0 q.1 in
               subst P pairs (by_place a x y h p (at ∙ ap Some (sym pairs)))
