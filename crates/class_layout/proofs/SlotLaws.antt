@@ -1,6 +1,6 @@
 -- Numbered fields have the slots of their keys.
-use Rattle.std.proofs.Common.{◌≡◌, ◌+◌, ◌-◌, ℕ, zero, suc, Bool, true, false, ◌||◌, ◌&&◌, cond, IsTrue, List, [], ◌∷◌, ◌++◌, length, map, reverse, slice_get, unwrap_or, Option, Some, None, option_map, option_and_then, if◌then◌else◌, refl, sym, ap, subst, ◌∙◌, arith}
-use Rattle.std.specs.Prelude.{filter, filter_map, flat_map}
+use Rattle.std.proofs.Common.{◌≡◌, ◌+◌, ◌-◌, ℕ, zero, suc, Bool, true, false, ◌&&◌, cond, List, [], ◌∷◌, ◌++◌, length, map, reverse, slice_get, unwrap_or, Option, Some, None, option_map, option_and_then, if◌then◌else◌, refl, sym, ap, subst, ◌∙◌, arith}
+use Rattle.std.specs.Prelude.{filter, flat_map}
 use Rattle.std.specs.List.{list_any, position_from}
 use Rattle.std.specs.Option.{option_map_or}
 use Rattle.std.proofs.lemmas.Bool.{or_parts, or_from}
@@ -16,15 +16,15 @@ use Rattle.cil_model.specs.declared.trees.ClassKind.{ClassKind}
 use Rattle.cil_model.specs.declared.trees.ClassKind.TheVariants.{Interface, Class as PlainClass}
 use Rattle.cil_model.specs.declared.trees.Field.{Field}
 use Rattle.cil_model.specs.Same.{same_text, same_flag, same_class}
-use Rattle.cil_model.specs.Declarations.{Declaration, declaration_of, source_name, fields_of, fields_of_kind}
-use Rattle.cil_model.specs.Chains.{base_of, chain_within, chain_of, longest_chain, fields_in, listed_by}
+use Rattle.cil_model.specs.Declarations.{Declaration, source_name, fields_of, fields_of_kind}
+use Rattle.cil_model.specs.Chains.{base_of, chain_within, fields_in, listed_by}
 use Rattle.cil_model.specs.Fields.{FieldKey, same_key, own_fields, instance_fields, static_fields, hidden_slots, slot_types, instance_slot, static_slot}
-use Rattle.cil_model.specs.Legality.{IsLegal, has_repeat, doubles_name, class_doubles, lacks_name, has_cycle, is_own_base}
+use Rattle.cil_model.specs.Legality.{IsLegal, has_repeat, doubles_name, class_doubles, has_cycle, is_own_base}
 use Rattle.cil_model.proofs.SameLaws.{same_text_itself, same_class_itself, class_equivalence}
 use Rattle.metadata.proofs.Repeats.{has_repeat-map}
 use Rattle.name_tables.specs.Numbers.{declarations, field_at, source_entry}
-use Rattle.name_tables.proofs.NumberLaws.{none_is_some, position_from-map}
-use Rattle.class_layout.specs.Kinds.{own_kinds, slot_kinds, instance_kind, kind_of}
+use Rattle.name_tables.proofs.NumberLaws.{none_is_some}
+use Rattle.class_layout.specs.Kinds.{own_kinds, slot_kinds, kind_of}
 use Rattle.class_layout.specs.FieldSlots.{number_after, numbered_fields, statics_after, first_slot, field_rows, class_names}
 use Rattle.class_layout.proofs.Places.{passes_not}
 use Rattle.class_layout.proofs.ClassNumbers.{FoundAt, found_at, number_of_place, entries_stand_once, unbroken}

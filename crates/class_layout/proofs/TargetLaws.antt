@@ -1,27 +1,25 @@
 -- Targets by numbers are those by names.
-use Rattle.std.proofs.Common.{◌≡◌, ◌==◌, ℕ, Bool, true, false, cond, not, ◌&&◌, List, [], ◌∷◌, map, Option, Some, None, option_map, option_and_then, slice_get, unwrap_or, if◌then◌else◌, refl, sym, ap, subst, ◌∙◌}
+use Rattle.std.proofs.Common.{◌≡◌, ◌==◌, ℕ, Bool, true, false, cond, ◌&&◌, List, [], ◌∷◌, map, Option, Some, None, option_map, option_and_then, slice_get, unwrap_or, if◌then◌else◌, refl, sym, ap, subst, ◌∙◌}
 use Rattle.std.specs.Prelude.{find, filter_map}
-use Rattle.std.specs.List.{list_any, cons_option, position_from}
+use Rattle.std.specs.List.{list_any, cons_option}
 use Rattle.std.specs.Option.{option_map_or}
 use Rattle.std.proofs.lemmas.Option.{slice_get-map}
 use Rattle.cil_model.specs.declared.types.ClassName.{ClassName}
-use Rattle.cil_model.specs.declared.types.Signature.{Signature}
-use Rattle.cil_model.specs.declared.instructions.MethodName.{MethodName}
 use Rattle.cil_model.specs.declared.trees.Tree.{Tree}
 use Rattle.cil_model.specs.declared.trees.Method.{Method}
 use Rattle.cil_model.specs.declared.trees.MethodKind.{MethodKind}
 use Rattle.cil_model.specs.declared.trees.MethodKind.TheVariants.{Static, Instance, Virtual, Abstract}
 use Rattle.cil_model.specs.Same.{same_class, same_options, same_flag}
-use Rattle.cil_model.specs.Declarations.{Declaration, declaration_of}
+use Rattle.cil_model.specs.Declarations.{Declaration}
 use Rattle.cil_model.specs.Chains.{listed_by, chain_of, methods_in, method_in, interfaces_in, is_interface, nearest, is_static, is_virtual, is_new_slot_method}
-use Rattle.cil_model.specs.Slots.{slot_filled, slot_along, filler_along, class_target, virtual_in, lists, lister_along, interface_target, target}
+use Rattle.cil_model.specs.Slots.{slot_filled, slot_along, filler_along, class_target, virtual_in, lister_along, interface_target, target}
 use Rattle.cil_model.specs.Legality.{IsLegal}
 use Rattle.name_tables.specs.Sameness.{MethodIdentity, same_identity, identity_of, same_called, called_of}
 use Rattle.name_tables.specs.SamenessLaws.{identity_equivalence}
 use Rattle.name_tables.specs.Numbers.{declarations, class_number, chain_numbers, method_at, place_in, method_found}
 use Rattle.name_tables.specs.declared.lookups.MemberNumber.{MemberNumber}
 use Rattle.name_tables.proofs.NumberLaws.{none_is_some, in_present}
-use Rattle.name_tables.proofs.Lists.{map_of_map, option_map_of_map}
+use Rattle.name_tables.proofs.Lists.{option_map_of_map}
 use Rattle.metadata.specs.Found.{is_virtual_found, slot_numbered}
 use Rattle.metadata.proofs.NumberedMethods.{found_by_number, nothing_found}
 use Rattle.metadata.proofs.SlotLaws.{IsTied, tied, same_slot}

@@ -56,7 +56,11 @@ fn instance_kinds(alloc: Global, fields: &[&Field]) -> Result<Vec<SlotKind>, NoM
 }
 
 /// What the instance fields that a class itself declares hold.
-pub fn own_kinds(alloc: Global, names: &NameTables, class: ClassKey) -> Result<Vec<SlotKind>, NoMemory>
+pub fn own_kinds(
+    alloc: Global,
+    names: &NameTables,
+    class: ClassKey,
+) -> Result<Vec<SlotKind>, NoMemory>
     ensures { IfOk result (λ v. v.items ≡ own_kinds names.now.classes.tree.now (class_of_key class.entry)) }
 {
     match names.classes.declared(class) {

@@ -1,7 +1,6 @@
 // Which method runs where a method is called on an object of a class (ECMA-335 II.10.3 and II.12.2).
 
 ghost use Rattle.std.specs.Prelude.{◌≡◌, ◌==◌, [], IfOk, false, map, find, slice_get, unwrap_or, option_map, option_and_then, None};
-ghost use Rattle.std.specs.List.{list_any};
 ghost use Rattle.std.specs.Option.{option_map_or};
 ghost use Rattle.cil_model.specs.Chains.{methods_in};
 ghost use Rattle.metadata.specs.Found.{is_virtual_found, slot_filled_at, slot_over, slot_numbered};
@@ -98,12 +97,7 @@ fn filler_over(
 }
 
 /// The nearest class of a chain whose method fills a slot.
-fn filler_along(
-    names: &NameTables,
-    key: MethodKey,
-    chain: &[usize],
-    wanted: usize,
-) -> Option<usize>
+fn filler_along(names: &NameTables, key: MethodKey, chain: &[usize], wanted: usize) -> Option<usize>
     ensures { result ≡ filler_numbered names.now.classes.tree.now (method_of_key key.entry) wanted chain.now }
 {
     let mut slot = None;

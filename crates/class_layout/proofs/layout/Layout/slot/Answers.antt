@@ -1,11 +1,5 @@
-use Rattle.std.proofs.Common.{◌≡◌, [], Bool, if◌then◌else◌, List, map, slice_get, unwrap_or, Option, ℕ, ap, ◌∙◌}
-use Rattle.cil_model.specs.declared.types.ClassName.{ClassName}
-use Rattle.cil_model.specs.declared.trees.Field.{Field}
-use Rattle.cil_model.specs.declared.trees.Tree.{Tree}
+use Rattle.std.proofs.Common.{[], Bool, if◌then◌else◌, map, slice_get, unwrap_or, ap, ◌∙◌}
 use Rattle.cil_model.specs.Fields.{instance_slot, static_slot}
-use Rattle.name_tables.specs.Numbers.{field_at}
-use Rattle.class_layout.specs.Laid.{IsLayout}
-use Rattle.class_layout.specs.FieldSlots.{field_rows, class_names}
 use Rattle.class_layout.proofs.SlotLaws.{slot_found}
 use Rattle.class_layout.proofs.layout.Layout.slot.Goals as goal
 
