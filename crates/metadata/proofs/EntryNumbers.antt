@@ -38,11 +38,12 @@ never_none (Some x) h e = cc
 -- numbers behind one more class
 shifted : (n : ℕ) (es : List (ClassName × Declaration)) → entry_from (suc n) es ≡ option_map further (entry_from n es)
 shifted n [] = refl
-shifted n (e ∷ es) = by_place (position_from is_entry_point 0 e.1.methods)
+shifted n (e ∷ es) = by_place (position_from is_entry_point 0 e.1.methods) (shifted (suc n) es)
   where
-    by_place : (o : Option ℕ) → option_map_or (λ place. Some (suc n, place)) o (entry_from (suc (suc n)) es) ≡ option_map further (option_map_or (λ place. Some (n, place)) o (entry_from (suc n) es))
-    by_place None = shifted (suc n) es
-    by_place (Some place) = refl
+    by_place : (o : Option ℕ) → entry_from (suc (suc n)) es ≡ option_map further (entry_from (suc n) es) →
+        option_map_or (λ place. Some (suc n, place)) o (entry_from (suc (suc n)) es) ≡ option_map further (option_map_or (λ place. Some (n, place)) o (entry_from (suc n) es))
+    by_place None rest = rest
+    by_place (Some place) rest = refl
 
 -- the first number stands for the first entry point
 first_at : (es : List (ClassName × Declaration)) → option_map (at es) (entry_from 0 es) ≡ option_map Some (find is_entry (flat_map with_class es))
@@ -57,7 +58,7 @@ first_at (e ∷ es) =
 
     by_place : (o : Option ℕ) (f : Option Method) → option_map (slice_get e.1.methods) o ≡ option_map Some f →
         option_map (at es) (entry_from 0 es) ≡ option_map Some (find is_entry (flat_map with_class es)) →
-        option_map (at (e ∷ es)) (option_map_or (λ place. Some (0, place)) o (entry_from 1 es)) ≡
+        option_map (at (e ∷ es)) (option_map_or (λ place. Some (0, place)) o (entry_from (suc 0) es)) ≡
         option_map Some (cond (is_some (option_map (λ (m : Method). (e.0, m)) f)) (option_map (λ (m : Method). (e.0, m)) f) (find is_entry (flat_map with_class es)))
     by_place None None h rest = ap (option_map (at (e ∷ es))) (shifted 0 es) ∙ moved (entry_from 0 es) ∙ rest
     by_place (Some place) (Some m) h rest = ap (option_map (option_map (λ (x : Method). (e.0, x)))) h
