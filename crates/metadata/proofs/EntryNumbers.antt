@@ -1,5 +1,5 @@
 -- The first entry point by number is the only one of a legal tree.
-use Rattle.std.proofs.Common.{◌≡◌, ℕ, suc, ◌+◌, Bool, true, false, cond, is_some, List, [], ◌∷◌, ◌++◌, map, Option, Some, None, option_map, option_and_then, slice_get, refl, sym, ap, ◌∙◌, arith}
+use Rattle.std.proofs.Common.{◌≡◌, ℕ, suc, Bool, true, false, cond, is_some, List, [], ◌∷◌, ◌++◌, map, Option, Some, None, option_map, option_and_then, slice_get, refl, sym, ap, ◌∙◌}
 use Rattle.std.specs.Prelude.{find, filter, flat_map, option_to_list, IsSome, IfSome}
 use Rattle.std.specs.List.{position_from}
 use Rattle.std.specs.Option.{option_map_or}
@@ -11,7 +11,7 @@ use Rattle.cil_model.specs.declared.trees.Tree.{Tree}
 use Rattle.cil_model.specs.declared.trees.Class.{Class}
 use Rattle.cil_model.specs.declared.trees.Method.{Method}
 use Rattle.cil_model.specs.Declarations.{Declaration, built_ins, source_name, methods_of}
-use Rattle.cil_model.specs.Bodies.{is_entry_point, entry_points, source_methods}
+use Rattle.cil_model.specs.Bodies.{is_entry_point, entry_points}
 use Rattle.cil_model.specs.Legality.{IsLegal, is_entry_method}
 use Rattle.cil_model.proofs.Legal.{entry_alone}
 use Rattle.name_tables.specs.declared.lookups.MemberNumber.{MemberNumber}

@@ -1,15 +1,11 @@
 -- Lists whose items stand in a relation have such items at each place.
-use Rattle.std.proofs.Common.{◌≡◌, ℕ, zero, suc, List, [], ◌∷◌, Option, Some, None, option_map, option_and_then, slice_get, sym, subst}
+use Rattle.std.proofs.Common.{ℕ, zero, suc, List, [], ◌∷◌, Option, Some, None, option_map, option_and_then, slice_get}
 use Rattle.cil_model.specs.declared.types.ClassName.{ClassName}
 use Rattle.cil_model.specs.declared.trees.Tree.{Tree}
-use Rattle.cil_model.specs.declared.trees.Field.{Field}
-use Rattle.cil_model.specs.declared.trees.Method.{Method}
 use Rattle.cil_model.specs.Declarations.{Declaration}
-use Rattle.name_tables.specs.Numbers.{declarations, member_at, field_at, method_at}
+use Rattle.name_tables.specs.Numbers.{declarations, member_at}
 use Rattle.resolved_code.specs.declared.classes.ResolvedClass.{ResolvedClass}
-use Rattle.resolved_code.specs.declared.classes.ResolvedField.{ResolvedField}
-use Rattle.resolved_code.specs.declared.classes.ResolvedMethod.{ResolvedMethod}
-use Rattle.resolved_code.specs.Resolved.{AllAlike, AreResolved, IsResolvedClass, IsResolvedField, IsResolvedMethod}
+use Rattle.resolved_code.specs.Resolved.{AllAlike, AreResolved, IsResolvedClass}
 use Rattle.metadata.specs.Contents.{BothAlike}
 
 pub alike_at : {X Y : Type 0} (R : X → Y → Type 0) (xs : List X) (ys : List Y) → AllAlike R xs ys → (place : ℕ) → BothAlike R (slice_get xs place) (slice_get ys place)

@@ -24,7 +24,7 @@ pub(crate) struct Contents {
 
 impl Contents {
     /// What a legal tree is by numbers. Fails for want of memory alone.
-    pub fn new(alloc: Global, names: &NameTables) -> Result<Self, NoMemory>
+    pub fn of_legal(alloc: Global, names: &NameTables) -> Result<Self, NoMemory>
         requires { IsLegal names.now.classes.tree.now }
         ensures { IfOk result (λ c. IsContents names.now.classes.tree.now c) }
     {

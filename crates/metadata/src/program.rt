@@ -135,7 +135,7 @@ fn checked(alloc: Global, tree: &Tree) -> Result<Contents, MetaError>
     let table = BuiltInClass::all(alloc)?;
     let names = NameTables::new(alloc, tree, table.as_slice())?;
     match least_broken(alloc, &names)? {
-        None => Ok(Contents::new(alloc, &names)?),
+        None => Ok(Contents::of_legal(alloc, &names)?),
         Some(rule) => Err(MetaError::Broken {
             rule,
             culprit: culprit(alloc, &names, rule)?,

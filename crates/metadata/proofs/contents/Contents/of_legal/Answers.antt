@@ -6,7 +6,7 @@ use Rattle.name_tables.specs.Numbers.{declarations}
 use Rattle.resolved_code.specs.Resolved.{AreResolved}
 use Rattle.metadata.specs.Contents.{entry_from, IsEntryPoint}
 use Rattle.metadata.proofs.EntryNumbers.{never_none, entry_found}
-use Rattle.metadata.proofs.contents.Contents.new.Goals as goal
+use Rattle.metadata.proofs.contents.Contents.of_legal.Goals as goal
 
 pub unreachable-requires : goal.unreachable-requires
 unreachable-requires c =
