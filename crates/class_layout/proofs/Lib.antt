@@ -5,3 +5,4 @@ pub mod Marks
 pub mod BracketLaws
 pub mod NumberedLaws
 pub mod KindLaws
+pub mod SlotLaws

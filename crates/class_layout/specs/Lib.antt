@@ -1,4 +1,5 @@
 pub mod ByClass
 pub mod Tested
+pub mod FieldSlots
 pub mod Kinds
 pub mod Laid
