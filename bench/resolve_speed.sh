@@ -10,12 +10,12 @@ work=$(mktemp -d)
 trap 'rm -rf "$work"' EXIT
 
 mkdir "$work/crates"
-for crate in cil_model ilasm_tokens ilasm_reader name_tables metadata; do
+for crate in cil_model ilasm_tokens ilasm_reader name_tables resolved_code metadata; do
     cp -r "$top/crates/$crate" "$work/crates"
 done
 cp "$top/HANDLES" "$work"
 cd "$work"
-grep -E '^(cil_model|ilasm_tokens|ilasm_reader|name_tables|metadata):' "$top/crates.txt" > crates.txt
+grep -E '^(cil_model|ilasm_tokens|ilasm_reader|name_tables|resolved_code|metadata):' "$top/crates.txt" > crates.txt
 rt new crates/resolve_speed start_io > made.txt
 echo 'resolve_speed: ilasm_reader metadata' >> crates.txt
 rm -rf BUILD.bazel crates/resolve_speed/BUILD.bazel crates/resolve_speed/src crates/resolve_speed/specs crates/resolve_speed/proofs
