@@ -1,0 +1,6 @@
+use Rattle.metadata.proofs.Tests.{found_alike}
+use Rattle.std.proofs.Common.{◌∙◌, Some}
+use Rattle.metadata.proofs.unknown.finds_field.Goals as goal
+
+pub returns : goal.returns
+returns c = c.is_some.ensures ∙ found_alike _ Some c.find_field.result _ c.find_field.ensures.member

@@ -1,0 +1,6 @@
+use Rattle.metadata.proofs.Tests.{found_alike}
+use Rattle.std.proofs.Common.{◌∙◌, Some}
+use Rattle.metadata.proofs.unknown.finds_virtual.Goals as goal
+
+pub returns : goal.returns
+returns c = c.is_some.ensures ∙ found_alike _ Some c.find_virtual.result _ c.find_virtual.ensures.member
