@@ -6,8 +6,6 @@ mod limits;
 #[cfg(test)]
 mod memory;
 #[cfg(test)]
-mod resolved;
-#[cfg(test)]
 mod rules;
 #[cfg(test)]
 mod sources;
