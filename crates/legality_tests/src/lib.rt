@@ -6,6 +6,8 @@ mod limits;
 #[cfg(test)]
 mod memory;
 #[cfg(test)]
+mod resolved;
+#[cfg(test)]
 mod rules;
 #[cfg(test)]
 mod sources;

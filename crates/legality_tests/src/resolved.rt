@@ -1,0 +1,52 @@
+// What methods become by numbers. Classes 0 to 4 are the built-in ones.
+
+use ilasm_reader::read;
+use name_tables::built_in::BuiltInClass;
+use name_tables::lookups::NameTables;
+use resolved_code::literals::Literals;
+use resolved_code::resolved::resolve_classes;
+use std::test::Fail;
+
+const SOURCE: &str = ".assembly extern mscorlib {}
+.class public auto ansi A extends [mscorlib]System.Object {
+ .field public static string s
+ .field public int32 x
+ .method public virtual instance void f() cil managed { .maxstack 0 ret } }
+.class public auto ansi M extends A {
+ .method public specialname rtspecialname instance void .ctor() cil managed { .maxstack 0 ret }
+ .method public virtual instance void f() cil managed { .maxstack 0 ret }
+ .method public static void Main() cil managed { .entrypoint .maxstack 8
+  L: ldstr \"b\" pop ldstr \"a\" stsfld string A::s ldstr \"b\" pop
+  N: newobj instance void M::.ctor() dup ldfld int32 M::x brtrue L callvirt instance void M::f()
+  ldc.i4 1 newarr class M pop ldc.i4 0 switch (N, L) ret } }
+";
+
+const OPERATIONS: &str =
+    "Static(Body { max_stack: 8, locals: Sequence { items: [] }, operations: Sequence { items: [LoadString(0), Pop, LoadString(1), StoreStaticField(MemberNumber { class: 5, place: 0 }), LoadString(0), Pop, NewObject(MemberNumber { class: 6, place: 0 }), Duplicate, LoadField { owner: 6, field: MemberNumber { class: 5, place: 1 } }, BranchTrue(0), CallVirtual { owner: 6, method: MemberNumber { class: 6, place: 1 } }, LoadInt32(1), NewArray(NumberedType { element: Class(6), brackets: 0 }), Pop, LoadInt32(0), Switch(Sequence { items: [6, 0] }), Return] } })";
+
+/// The operations of `Main`.
+#[test]
+fn operands_are_numbers(rt: HostRuntime) -> Result<(), Fail> {
+    let alloc = rt.alloc();
+    let Ok(tree) = read(alloc, SOURCE.as_bytes()) else {
+        return Err(Fail::new("no tree"));
+    };
+    let table = BuiltInClass::all(alloc)?;
+    let names = NameTables::new(alloc, &tree, table.as_slice())?;
+    let literals = Literals::new(alloc, &tree)?;
+    let Some(classes) = resolve_classes(alloc, &names, &literals)? else {
+        return Err(Fail::new("a name is unknown"));
+    };
+    let Some(class) = classes.as_slice().get(6) else {
+        return Err(Fail::new("too few classes"));
+    };
+    let Some(method) = class.methods.as_slice().get(2) else {
+        return Err(Fail::new("too few methods"));
+    };
+    assert_eq!(rt;
+        format!(in alloc; "{:?}", method.kind)?.as_str(),
+        OPERATIONS
+    );
+    assert_eq!(rt; literals.texts(alloc)?.as_slice().len(), 2);
+    Ok(())
+}
