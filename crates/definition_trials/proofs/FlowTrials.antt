@@ -13,8 +13,8 @@ use Rattle.cil_model.specs.declared.instructions.Instruction.TheVariants.{NoOper
 use Rattle.cil_model.specs.Declarations.{object_name, plain}
 use Rattle.cil_model.specs.TypeTree.{StackType, Declared, NativeInt, Null, i4, i8}
 use Rattle.cil_model.specs.FlowRules.{flow}
-use Rattle.cil_model.proofs.Programs.{no_types, of_class, arrays_of, reference_to}
-use Rattle.cil_model.proofs.Farm.{farm, animal, dog, cat, runner, field_of_animal}
+use Rattle.definition_trials.proofs.Programs.{no_types, of_class, arrays_of, reference_to}
+use Rattle.definition_trials.proofs.Farm.{farm, animal, dog, cat, runner, field_of_animal}
 
 -- in a method of a Dog and a number, with a local Animal, that gives an Animal
 abbrev gives : Instruction → List StackType → Option (List StackType)

@@ -18,8 +18,8 @@ use Rattle.cil_model.specs.OwedWords.{cell_words}
 use Rattle.cil_model.specs.Ranges.{are_in_range}
 use Rattle.cil_model.specs.Sources.{is_too_long}
 use Rattle.cil_model.specs.Examples.{usual_limits, sum_source}
-use Rattle.cil_model.proofs.Programs.{named}
-use Rattle.cil_model.proofs.Farm.{farm, farm_state, idle_frame, animal_fields, dog, int, object}
+use Rattle.definition_trials.proofs.Programs.{named}
+use Rattle.definition_trials.proofs.Farm.{farm, farm_state, idle_frame, animal_fields, dog, int, object}
 
 -- ---- room: two spaces of 64 words, 40 of the old one and 20 of the new one in use
 

@@ -20,7 +20,7 @@ use Rattle.cil_model.specs.declared.trees.Tree.{Tree}
 use Rattle.cil_model.specs.Declarations.{mscorlib, object_name, string_name, console_name, thread_name, plain, void_method}
 use Rattle.cil_model.specs.Legality.{least_broken, passes_limit}
 use Rattle.cil_model.specs.Examples.{unlabelled}
-use Rattle.cil_model.proofs.Programs.{named, no_types, of_class, arrays_of, class_with, interface_with, code_with, constructor_over, virtual_f, abstract_f, reference_to, with_main, without_main}
+use Rattle.definition_trials.proofs.Programs.{named, no_types, of_class, arrays_of, class_with, interface_with, code_with, constructor_over, virtual_f, abstract_f, reference_to, with_main, without_main}
 
 -- ---- trees
 

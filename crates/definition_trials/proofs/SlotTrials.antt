@@ -17,7 +17,7 @@ use Rattle.cil_model.specs.Chains.{chain_of, find_field, find_method}
 use Rattle.cil_model.specs.Slots.{target}
 use Rattle.cil_model.specs.Fields.{FieldKey, static_slot, instance_slot, is_reference_slot, slot_types}
 use Rattle.cil_model.specs.FlowRules.{flow}
-use Rattle.cil_model.proofs.Programs.{named, class_with, interface_with, without_main, virtual_f, abstract_f, code_with, constructor_over, reference_to, thread_class}
+use Rattle.definition_trials.proofs.Programs.{named, class_with, interface_with, without_main, virtual_f, abstract_f, code_with, constructor_over, reference_to, thread_class}
 
 abbrev a : ClassName
 a = named (codes "A")

@@ -24,7 +24,7 @@ use Rattle.cil_model.specs.OwedWords.{cell_words}
 use Rattle.cil_model.specs.Runs.{StepRequest}
 use Rattle.cil_model.specs.Outcomes.{shown, Shows}
 use Rattle.cil_model.specs.Examples.{program_of, sum_program, unlabelled, usual_limits, write_line}
-use Rattle.cil_model.proofs.Programs.{named, of_class, with_main, thread_class, on_thread, class_with, constructor_over}
+use Rattle.definition_trials.proofs.Programs.{named, of_class, with_main, thread_class, on_thread, class_with, constructor_over}
 
 -- so many steps of a thread
 abbrev of : ℕ → ℕ → List StepRequest

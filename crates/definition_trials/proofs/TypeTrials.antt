@@ -6,8 +6,8 @@ use Rattle.cil_model.specs.Declarations.{thread_name, plain}
 use Rattle.cil_model.specs.Assignable.{is_assignable, type_of_class}
 use Rattle.cil_model.specs.TypeTree.{Declared, NativeInt, Null, i4, parent, ancestor, IsBelow, fits}
 use Rattle.cil_model.proofs.SameLaws.{never}
-use Rattle.cil_model.proofs.Programs.{of_class, arrays_of}
-use Rattle.cil_model.proofs.Farm.{farm}
+use Rattle.definition_trials.proofs.Programs.{of_class, arrays_of}
+use Rattle.definition_trials.proofs.Farm.{farm}
 
 -- ---- assignable
 

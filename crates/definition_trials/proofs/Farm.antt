@@ -22,7 +22,7 @@ use Rattle.cil_model.specs.States.{Monitor, Free, Held, Contents, Instance as Ob
 use Rattle.cil_model.specs.Effects.{Setting, Effect, Goes, Blocks, Raises, Sticks}
 use Rattle.cil_model.specs.Steps.{execute}
 use Rattle.cil_model.specs.Examples.{usual_limits, unlabelled}
-use Rattle.cil_model.proofs.Programs.{named, of_class, class_with, interface_with, thread_class, code_with, constructor_over, virtual_f, abstract_f}
+use Rattle.definition_trials.proofs.Programs.{named, of_class, class_with, interface_with, thread_class, code_with, constructor_over, virtual_f, abstract_f}
 
 -- ---- the program
 

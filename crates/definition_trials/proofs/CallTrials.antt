@@ -12,8 +12,8 @@ use Rattle.cil_model.specs.Declarations.{object_name, console_name, thread_name,
 use Rattle.cil_model.specs.Fields.{FieldKey}
 use Rattle.cil_model.specs.Values.{Value, Born, Literal, Null}
 use Rattle.cil_model.specs.States.{Free, Held, Instance}
-use Rattle.cil_model.proofs.Programs.{named, no_types, reference_to, call_monitor, on_thread}
-use Rattle.cil_model.proofs.Farm.{animal, dog, cat, runner, method_g, method_h, int, minus, long, object, text, key, heap_object, Leaves, Calls, Finishes, Waits, Faults, NoMeaning, does, does_refused, does_deep, returns, monitor_after, printed_after, born_after}
+use Rattle.definition_trials.proofs.Programs.{named, no_types, reference_to, call_monitor, on_thread}
+use Rattle.definition_trials.proofs.Farm.{animal, dog, cat, runner, method_g, method_h, int, minus, long, object, text, key, heap_object, Leaves, Calls, Finishes, Waits, Faults, NoMeaning, does, does_refused, does_deep, returns, monitor_after, printed_after, born_after}
 
 abbrev takes_int : Signature
 takes_int = record { parameters = plain Int32Element ∷ []; return_type = Some (plain Int32Element) }

@@ -8,8 +8,8 @@ use Rattle.cil_model.specs.declared.reports.Fault.TheVariants.{NullReference, In
 use Rattle.cil_model.specs.Declarations.{plain}
 use Rattle.cil_model.specs.Values.{Born, Native, Null}
 use Rattle.cil_model.specs.States.{Free, Array}
-use Rattle.cil_model.proofs.Programs.{of_class, arrays_of}
-use Rattle.cil_model.proofs.Farm.{int, minus, long, object, text, key, heap_object, Leaves, Faults, NoMeaning, does, does_refused, field_of_animal, field_after, elements_after, statics_after, born_after}
+use Rattle.definition_trials.proofs.Programs.{of_class, arrays_of}
+use Rattle.definition_trials.proofs.Farm.{int, minus, long, object, text, key, heap_object, Leaves, Faults, NoMeaning, does, does_refused, field_of_animal, field_after, elements_after, statics_after, born_after}
 
 abbrev age : Instruction
 age = LoadField (field_of_animal (plain Int32Element) (codes "age"))

@@ -7,7 +7,7 @@ use Rattle.cil_model.specs.Values.{ObjectName, Born, Reference}
 use Rattle.cil_model.specs.States.{Free, Array, State, object_at}
 use Rattle.cil_model.specs.Reachable.{IsReachable, from_root, from_member, members_of}
 use Rattle.cil_model.specs.OwedWords.{IsOwed, OwesWords}
-use Rattle.cil_model.proofs.Farm.{farm, idle_frame, heap_object, int, object}
+use Rattle.definition_trials.proofs.Farm.{farm, idle_frame, heap_object, int, object}
 
 -- thread 0 holds the first array, and nothing holds the second
 abbrev two_arrays : State

@@ -1,0 +1,17 @@
+mod Programs
+mod Farm
+mod ArithmeticTrials
+mod BranchTrials
+mod MemberTrials
+mod CallTrials
+mod FlowTrials
+mod LegalityTrials
+mod SlotTrials
+mod TypeTrials
+mod TokenTrials
+mod CollectorTrials
+mod RunTrials
+mod ObjectTrials
+mod StoryTrials
+mod NullTrial
+mod OwedTrial
