@@ -11,8 +11,6 @@ mod methods;
 mod operands;
 mod reading;
 mod single;
-#[cfg(test)]
-mod tests;
 mod types;
 
 pub use reading::{ReadError, read};

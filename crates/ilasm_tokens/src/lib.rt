@@ -8,6 +8,4 @@ mod lexemes;
 pub mod source;
 pub mod source_tokens;
 mod spaces;
-#[cfg(test)]
-mod tests;
 pub mod words;

@@ -10,6 +10,3 @@ mod writing;
 pub use errors::{MOST_EVENTS, ScheduleError};
 pub use reading::read_schedule;
 pub use writing::write_schedule;
-
-#[cfg(test)]
-mod tests;

@@ -13,6 +13,3 @@ pub use legality::resolve;
 pub use program::{Body, Operation, Program, Returned};
 pub use straight_line::TypedBody;
 pub use typing::{Verified, VerifyError, verify};
-
-#[cfg(test)]
-mod tests;

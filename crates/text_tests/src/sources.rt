@@ -1,8 +1,8 @@
-use crate::reading::{ReadError, read};
 use cil_model::instructions::{Instruction, MethodName};
 use cil_model::limits::MOST_SOURCE_BYTES;
 use cil_model::trees::{ClassKind, Code, Line, Member, MethodKind, Tree};
 use cil_model::types::Element;
+use ilasm_reader::{ReadError, read};
 use std::alloc::Global;
 use std::string::String;
 use std::test::Fail;

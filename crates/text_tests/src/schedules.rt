@@ -1,5 +1,5 @@
-use crate::{ScheduleError, read_schedule, write_schedule};
 use cil_model::events::Event;
+use schedule_text::{ScheduleError, read_schedule, write_schedule};
 use std::process::Abort;
 use std::test::Fail;
 

@@ -1,6 +1,6 @@
-use crate::failure::Failure;
-use crate::source::{token_offset, tokens};
-use crate::words::{Form, WordUse, use_of};
+use ilasm_tokens::failure::Failure;
+use ilasm_tokens::source::{token_offset, tokens};
+use ilasm_tokens::words::{Form, WordUse, use_of};
 use std::alloc::Global;
 use std::str;
 use std::string::String;
