@@ -8,8 +8,6 @@ pub mod members;
 pub mod method_types;
 pub mod mismatches;
 pub mod operators;
-#[cfg(test)]
-mod tests;
 pub mod type_stack;
 pub mod type_tree;
 pub mod variables;

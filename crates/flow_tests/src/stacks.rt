@@ -1,11 +1,11 @@
 // Instructions on stacks of types, one by one.
 
-use crate::arrays::{load_element_reference, store_element_reference};
-use crate::entries::StackEntry;
-use crate::mismatches::{FlowError, Mismatch};
-use crate::operators::{INT32, INT64, binary, compare, duplicate};
-use crate::type_stack::TypeStack;
 use cil_model::instructions::Comparison;
+use flow_rules::arrays::{load_element_reference, store_element_reference};
+use flow_rules::entries::StackEntry;
+use flow_rules::mismatches::{FlowError, Mismatch};
+use flow_rules::operators::{INT32, INT64, binary, compare, duplicate};
+use flow_rules::type_stack::TypeStack;
 use resolved_code::types::{NumberedElement, NumberedType};
 use std::test::Fail;
 

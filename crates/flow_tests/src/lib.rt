@@ -1,0 +1,5 @@
+//! What instructions do to stacks of types.
+#![tactic(auto)]
+
+#[cfg(test)]
+mod stacks;
