@@ -25,7 +25,7 @@ module _ (tree : Tree) where
   none_in_source a n [] = refl
   none_in_source a n (c ∷ cs) = none_in_source a n cs
 
-  unbroken : (b : Bool) (n : ℕ) (rest : Option ℕ) → (if b then Some n else rest) ≡ None → b ≡ false
+  pub unbroken : (b : Bool) (n : ℕ) (rest : Option ℕ) → (if b then Some n else rest) ≡ None → b ≡ false
   unbroken false n rest h = refl
   unbroken true n rest h = absurd (none_is_some n (sym h))
 
@@ -34,7 +34,7 @@ module _ (tree : Tree) where
       let h : doubles_name tree ≡ false = unbroken _ 201 _ legal in
       (or_parts _ _ (or_parts _ _ h).0).1
 
-  entries_stand_once : IsLegal tree → has_repeat same_entry (declarations tree) ≡ false
+  pub entries_stand_once : IsLegal tree → has_repeat same_entry (declarations tree) ≡ false
   entries_stand_once legal =
       let among : has_repeat same_entry (map source_entry tree.classes) ≡ false = has_repeat-map source_entry same_entry tree.classes ∙ names_stand_once legal in
       or_from _ _ (none_in_source mscorlib (codes "System.Object") tree.classes) (

@@ -34,7 +34,7 @@ keyed_append : (xs ys : List (FieldKey × DeclaredType)) → kinds_of_keyed (xs 
 keyed_append xs ys = ap (map kind_of) (map-append (λ (f : FieldKey × DeclaredType). Some f.1) xs ys) ∙ map-append kind_of (map (λ (f : FieldKey × DeclaredType). Some f.1) xs) (map (λ (f : FieldKey × DeclaredType). Some f.1) ys)
 
 -- fields of objects, filtered by their flag
-filtered : (fs : List Field) → filter_map instance_kind fs ≡ map (λ (f : Field). kind_of (Some f.field_type)) (filter (λ (f : Field). same_flag f.is_static false) fs)
+pub filtered : (fs : List Field) → filter_map instance_kind fs ≡ map (λ (f : Field). kind_of (Some f.field_type)) (filter (λ (f : Field). same_flag f.is_static false) fs)
 filtered [] = refl
 filtered (f ∷ fs) = by_flag f.is_static (filtered fs)
   where

@@ -7,6 +7,8 @@ mod kinds;
 mod layout;
 mod program;
 mod rows;
+mod slots;
+mod targets;
 mod tested;
 
 pub use kinds::SlotKind;
