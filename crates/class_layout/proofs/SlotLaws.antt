@@ -85,11 +85,11 @@ module _ {Y : Type 0} (flag : Bool) (key : Field → Y) (test : Y → Bool) (fur
 -- as many static fields are counted as there are
 statics_counted : (s : ℕ) (fs : List Field) → statics_after s fs ≡ s + length (of_flag true fs)
 statics_counted s [] = omega arith
-statics_counted s (f ∷ fs) = by_flag f.is_static
+statics_counted s (f ∷ fs) = by_flag f.is_static (λ t. statics_counted t fs)
   where
-    by_flag : (b : Bool) → statics_after (number_after b s) fs ≡ s + length (cond (same_flag b true) (f ∷ of_flag true fs) (of_flag true fs))
-    by_flag true = let e : statics_after (s + 1) fs ≡ s + 1 + length (of_flag true fs) = statics_counted (s + 1) fs in let k : s + 1 + length (of_flag true fs) ≡ s + suc (length (of_flag true fs)) = omega arith in e ∙ k
-    by_flag false = statics_counted s fs
+    by_flag : (b : Bool) → ((t : ℕ) → statics_after t fs ≡ t + length (of_flag true fs)) → statics_after (number_after b s) fs ≡ s + length (cond (same_flag b true) (f ∷ of_flag true fs) (of_flag true fs))
+    by_flag true rest = let k : s + 1 + length (of_flag true fs) ≡ s + suc (length (of_flag true fs)) = omega arith in rest (s + 1) ∙ k
+    by_flag false rest = rest s
 
 -- ---- keys
 
@@ -263,7 +263,7 @@ module _ (tree : Tree) where
       at_place = ap (λ xs. slice_get xs p) declared ∙ at
 
       once : has_repeat same_name (fields_in tree c) ≡ false
-      once = ap (has_repeat same_name) (declared ∙ ap (λ (y : ClassName × Declaration). y.1.fields) source.2.2.1) ∙ once_in legal source.0 source.1 source.2.2.0
+      once = ap (has_repeat same_name) (declared ∙ ap (λ (y : ClassName × Declaration). y.1.fields) source.3) ∙ once_in legal source.0 source.1 source.2
 
       named : slice_get (class_names tree) n ≡ Some c
       named = slice_get-map (λ (e : ClassName × Declaration). e.0) (declarations tree) n ∙ ap (option_map (λ (e : ClassName × Declaration). e.0)) h
@@ -271,7 +271,7 @@ module _ (tree : Tree) where
       lone : list_any (same_class c) (above c) ≡ false
       lone =
           let P : ClassName → Type 0 = λ x. is_own_base tree x ≡ false in
-          let apart : is_own_base tree c ≡ false = subst P (sym (ap (λ (y : ClassName × Declaration). y.0) source.2.2.1)) (passes_not (λ (k : Class). is_own_base tree (source_name k)) tree.classes source.1 source.0 (no_cycle legal) source.2.2.0) in
+          let apart : is_own_base tree c ≡ false = subst P (sym (ap (λ (y : ClassName × Declaration). y.0) source.3)) (passes_not (λ (k : Class). is_own_base tree (source_name k)) tree.classes source.1 source.0 (no_cycle legal) source.2) in
           shorter (same_class c) (suc (suc (length tree.classes))) (base_of tree c) apart
 
       row : slice_get (unwrap_or (slice_get (field_rows tree 0 (class_names tree)) n) []) p ≡ slice_get (numbered_fields (static_start 0 (class_names tree) n) (first_slot tree c) (fields_in tree c)) p
@@ -286,12 +286,12 @@ module _ (tree : Tree) where
       slice_get (unwrap_or (slice_get (field_rows tree 0 (class_names tree)) n) []) p ≡ slot_of f.is_static (record { declared_in = c; name = f.name })
   slot_found legal n p c f h = by_entry (slice_get (declarations tree) n) refl h
     where
-      by_entry : (o : Option (ClassName × Declaration)) → slice_get (declarations tree) n ≡ o → option_and_then (λ (e : ClassName × Declaration). option_map (λ x. (e.0, x)) (slice_get e.1.fields p)) o ≡ Some (c, f) →
+      by_entry : (o : Option (ClassName × Declaration)) → slice_get (declarations tree) n ≡ o → option_and_then {U = ClassName × Field} (λ (e : ClassName × Declaration). option_map (λ x. (e.0, x)) (slice_get e.1.fields p)) o ≡ Some (c, f) →
           slice_get (unwrap_or (slice_get (field_rows tree 0 (class_names tree)) n) []) p ≡ slot_of f.is_static (record { declared_in = c; name = f.name })
       by_entry None e k = absurd (none_is_some (c, f) k)
       by_entry (Some (a, d)) e k = by_field (slice_get d.fields p) refl k
         where
-          by_field : (o : Option Field) → slice_get d.fields p ≡ o → option_map (λ x. (a, x)) o ≡ Some (c, f) →
+          by_field : (o : Option Field) → slice_get d.fields p ≡ o → option_map {U = ClassName × Field} (λ x. (a, x)) o ≡ Some (c, f) →
               slice_get (unwrap_or (slice_get (field_rows tree 0 (class_names tree)) n) []) p ≡ slot_of f.is_static (record { declared_in = c; name = f.name })
           by_field None q z = absurd (none_is_some (c, f) z)
           by_field (Some g) q z =

@@ -46,19 +46,20 @@ virtual_not_static (Abstract is_new_slot) h = refl
 find_own : (k : MethodIdentity) (ms : List Method) (m : Method) → find (λ (x : Method). same_identity (identity_of x) k) ms ≡ Some m → is_static m.kind ≡ false →
     find (λ (x : Method). same_called (k, false) (called_of x)) ms ≡ Some m
 find_own k [] m h s = absurd (none_is_some m h)
-find_own k (x ∷ xs) m h s = by_test (same_identity (identity_of x) k) refl h
+find_own k (x ∷ xs) m h s = by_test (same_identity (identity_of x) k) refl h (λ g. find_own k xs m g s)
   where
     by_test : (b : Bool) → same_identity (identity_of x) k ≡ b → cond b (Some x) (find (λ (y : Method). same_identity (identity_of y) k) xs) ≡ Some m →
+        (find (λ (y : Method). same_identity (identity_of y) k) xs ≡ Some m → find (λ (y : Method). same_called (k, false) (called_of y)) xs ≡ Some m) →
         cond (same_identity k (identity_of x) && same_flag false (is_static x.kind)) (Some x) (find (λ (y : Method). same_called (k, false) (called_of y)) xs) ≡ Some m
-    by_test true e g =
+    by_test true e g further =
         let q : x ≡ m = cc in
         let own : same_identity k (identity_of x) ≡ true = identity_equivalence.symm k (identity_of x) ∙ e in
         let kind : is_static x.kind ≡ false = ap (λ (y : Method). is_static y.kind) q ∙ s in
         ap (λ b. cond (b && same_flag false (is_static x.kind)) (Some x) (find (λ (y : Method). same_called (k, false) (called_of y)) xs)) own ∙
         ap (λ b. cond (same_flag false b) (Some x) (find (λ (y : Method). same_called (k, false) (called_of y)) xs)) kind ∙ ap Some q
-    by_test false e g =
+    by_test false e g further =
         let other : same_identity k (identity_of x) ≡ false = identity_equivalence.symm k (identity_of x) ∙ e in
-        ap (λ b. cond (b && same_flag false (is_static x.kind)) (Some x) (find (λ (y : Method). same_called (k, false) (called_of y)) xs)) other ∙ find_own k xs m g s
+        ap (λ b. cond (b && same_flag false (is_static x.kind)) (Some x) (find (λ (y : Method). same_called (k, false) (called_of y)) xs)) other ∙ further g
 
 module _ (tree : Tree) where
   -- what a number of a method stands for
@@ -141,7 +142,7 @@ module _ (tree : Tree) where
       where
         by_filler : (o : Option (ClassName × Method)) (p : Option ℕ) → IsFiller o p → option_map stands_at (option_and_then (own_method tree k) p) ≡ option_map Some o
         by_filler None None h = refl
-        by_filler (Some f) (Some n) h = own_known f.0 n f.1 h.0 h.1.0 h.1.1
+        by_filler (Some f) (Some n) h = own_known f.0 n f.1 h.0 h.1 h.2
         by_filler None (Some n) h = absurd h
         by_filler (Some f) None h = absurd h
 
@@ -234,7 +235,7 @@ module _ (tree : Tree) where
 
   -- ---- the table
 
-  virtual_target : (c d : ClassName) (n : ℕ) (m : Method) → class_number tree c ≡ Some n → option_map stands_at (target_number tree c m d) ≡
+  virtual_target : (c d : ClassName) (n : ℕ) (m : Method) → class_number tree c ≡ Some n → option_map stands_at (target_number tree c (identity_of m) d) ≡
       option_map Some (if is_interface tree c then interface_target tree m.name m.signature d c else class_target tree m.name m.signature d c)
   virtual_target c d n m e = by_kind (is_interface tree c)
     where
@@ -248,9 +249,9 @@ module _ (tree : Tree) where
       option_map stands_at (target_in class method (target_row tree c m)) ≡ option_map Some (target tree d c m)
   row_tells c d n class m method e named at = by_kind (is_virtual m.kind)
     where
-      by_kind : (b : Bool) → option_map stands_at (target_in class method (if b then Some (by_class tree (target_number tree c m)) else None)) ≡
+      by_kind : (b : Bool) → option_map stands_at (target_in class method (if b then Some (by_class tree (target_number tree c (identity_of m))) else None)) ≡
           option_map Some (if b then (if is_interface tree c then interface_target tree m.name m.signature d c else class_target tree m.name m.signature d c) else Some (c, m))
-      by_kind true = ap (option_map stands_at) (answer_of tree (target_number tree c m) (by_class tree (target_number tree c m)) class d None refl named) ∙ virtual_target c d n m e
+      by_kind true = ap (option_map stands_at) (answer_of tree (target_number tree c (identity_of m)) (by_class tree (target_number tree c (identity_of m))) class d None refl named) ∙ virtual_target c d n m e
       by_kind false = ap Some at
 
   mapped_row : (rows : List (List Targets)) (n : ℕ) → map targets_of (unwrap_or (slice_get rows n) []) ≡ unwrap_or (slice_get (map (map targets_of) rows) n) []
@@ -284,11 +285,11 @@ module _ (tree : Tree) where
           slice_get-map (target_row tree a) (methods_in tree a) method.place ∙ ap (option_map (target_row tree a)) own in
           ap (λ o. option_map stands_at (option_and_then (target_in class method) o)) entry ∙ row_tells a d method.class class y method number named stands
 
-      by_entry : (o : Option (ClassName × Declaration)) → slice_get (declarations tree) method.class ≡ o → option_and_then (λ (e : ClassName × Declaration). option_map (λ x. (e.0, x)) (slice_get e.1.methods method.place)) o ≡ Some (c, m) → Tells rows class method d c m
+      by_entry : (o : Option (ClassName × Declaration)) → slice_get (declarations tree) method.class ≡ o → option_and_then {U = ClassName × Method} (λ (e : ClassName × Declaration). option_map (λ x. (e.0, x)) (slice_get e.1.methods method.place)) o ≡ Some (c, m) → Tells rows class method d c m
       by_entry None h g = absurd (none_is_some (c, m) g)
       by_entry (Some (a, x)) h g = by_method (slice_get x.methods method.place) refl g
         where
-          by_method : (o : Option Method) → slice_get x.methods method.place ≡ o → option_map (λ y. (a, y)) o ≡ Some (c, m) → Tells rows class method d c m
+          by_method : (o : Option Method) → slice_get x.methods method.place ≡ o → option_map {U = ClassName × Method} (λ y. (a, y)) o ≡ Some (c, m) → Tells rows class method d c m
           by_method None p z = absurd (none_is_some (c, m) z)
           by_method (Some y) p z =
               let pairs : (a, y) ≡ (c, m) = cc in

@@ -7,13 +7,17 @@ use Rattle.cil_model.specs.declared.trees.Tree.{Tree}
 use Rattle.cil_model.specs.declared.trees.Method.{Method}
 use Rattle.cil_model.specs.Declarations.{Declaration}
 use Rattle.cil_model.specs.Chains.{methods_in, is_interface, is_virtual}
-use Rattle.name_tables.specs.Sameness.{MethodIdentity, identity_of, same_called, called_of}
+use Rattle.name_tables.specs.Sameness.{MethodIdentity, identity_of, same_identity, same_called, called_of}
 use Rattle.name_tables.specs.Numbers.{declarations, class_number, chain_numbers, place_in, method_found}
 use Rattle.name_tables.specs.declared.lookups.MemberNumber.{MemberNumber}
 use Rattle.metadata.specs.Found.{is_virtual_found, slot_numbered}
 use Rattle.class_layout.specs.ByClass.{by_class, interface_numbers}
 use Rattle.class_layout.specs.declared.targets.Targets.{Targets}
 use Rattle.class_layout.specs.declared.targets.Targets.TheVariants.{Itself, ByClass}
+
+-- the first method of this name and signature of each class
+abbrev pub methods_named : Tree → MethodIdentity → List (Option Method)
+methods_named tree k = map (λ (e : ClassName × Declaration). find (λ m. same_identity k (identity_of m)) e.1.methods) (declarations tree)
 
 -- the numbers of the chain of a class, by its own
 abbrev pub chain_at : Tree → ℕ → List ℕ
@@ -45,16 +49,16 @@ abbrev pub interface_filler : Tree → List (List ℕ) → MethodIdentity → Li
 interface_filler tree listed k chain i =
     option_and_then (λ lister. option_and_then (λ found. class_filler tree k chain (chain_at tree found)) (find (is_virtual_found tree k) (chain_at tree lister))) (find (is_lister listed i) chain)
 
--- the method that runs where a virtual method of a class or interface is called on an object of a class
-abbrev pub target_number : Tree → ClassName → Method → ClassName → Option MemberNumber
-target_number tree c m d =
+-- the method that runs where the virtual method of a class or interface with this name and signature is called on an object of a class
+abbrev pub target_number : Tree → ClassName → MethodIdentity → ClassName → Option MemberNumber
+target_number tree c k d =
     if is_interface tree c
-    then option_and_then (interface_filler tree (by_class tree (interface_numbers tree)) (identity_of m) (chain_numbers tree d)) (class_number tree c)
-    else class_filler tree (identity_of m) (chain_numbers tree d) (chain_numbers tree c)
+    then option_and_then (interface_filler tree (by_class tree (interface_numbers tree)) k (chain_numbers tree d)) (class_number tree c)
+    else class_filler tree k (chain_numbers tree d) (chain_numbers tree c)
 
 -- for each class of objects the method that runs; none for a method that is not virtual
 abbrev pub target_row : Tree → ClassName → Method → Option (List (Option MemberNumber))
-target_row tree c m = if is_virtual m.kind then Some (by_class tree (target_number tree c m)) else None
+target_row tree c m = if is_virtual m.kind then Some (by_class tree (target_number tree c (identity_of m))) else None
 
 -- the rows of the methods that a class itself declares
 abbrev pub target_rows : Tree → ClassName → List (Option (List (Option MemberNumber)))

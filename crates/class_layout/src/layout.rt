@@ -96,6 +96,7 @@ impl Layout {
     {
         is_reference_at(row_at(self.kinds.as_slice(), class), slot)
     }
+
     /// The slot of an instance field, the same in objects of its class and of every class below, or the number of a static field among
     /// all static fields (this profile). None where no field has the number.
     pub fn slot(&self, field: MemberNumber) -> Option<usize>
@@ -104,6 +105,7 @@ impl Layout {
     {
         number_at(row_at(self.fields.as_slice(), field.class), field.place)
     }
+
     /// The method that runs where a method is called on an object of a class (ECMA-335 II.10.3, II.12.2; where an interface is listed
     /// again, this profile); a method that is not virtual is its own. None where no class or method has the number, or no method of
     /// the class fills the slot.

@@ -5,6 +5,7 @@ mod ancestry;
 mod fields;
 mod kinds;
 mod layout;
+mod namesakes;
 mod program;
 mod rows;
 mod slots;
