@@ -6,5 +6,4 @@ pub mod BracketLaws
 pub mod NumberedLaws
 pub mod KindLaws
 pub mod SlotLaws
-pub mod RowLaws
 pub mod TargetLaws

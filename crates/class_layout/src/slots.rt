@@ -83,13 +83,31 @@ fn first_slot(
     Ok(all.len().saturating_sub(own.len()))
 }
 
-/// The fields that a class itself declares.
-fn fields_of<'n, 'a>(names: &'n NameTables<'a>, class: ClassKey) -> &'n [&'a Field]
-    ensures { map (λ f. f.now) result.now ≡ fields_in names.now.classes.tree.now (class_of_key class.entry) }
+/// The fields that a class itself declares, from the first free number of a static field.
+fn class_fields(
+    alloc: Global,
+    names: &NameTables,
+    own: &[Vec<SlotKind>],
+    class: ClassKey,
+    first_static: usize,
+) -> Result<Vec<usize>, NoMemory>
+    requires { map (λ row. row.items) own.now ≡ by_class names.now.classes.tree.now (own_kinds names.now.classes.tree.now) }
+    ensures { IfOk result (λ v. v.items ≡ numbered_fields first_static (first_slot names.now.classes.tree.now (class_of_key class.entry)) (fields_in names.now.classes.tree.now (class_of_key class.entry))) }
+{
+    let slot = first_slot(alloc, names, own, class)?;
+    match names.classes.declared(class) {
+        None => Ok(Vec::new(alloc)),
+        Some(declared) => field_row(alloc, first_static, slot, declared.fields.as_slice()),
+    }
+}
+
+/// The first free number behind the static fields that a class declares.
+fn statics_behind(names: &NameTables, class: ClassKey, first: usize) -> Result<usize, NoMemory>
+    ensures { IfOk result (λ n. n ≡ statics_after first (fields_in names.now.classes.tree.now (class_of_key class.entry))) }
 {
     match names.classes.declared(class) {
-        None => &[],
-        Some(declared) => declared.fields.as_slice(),
+        None => Ok(first),
+        Some(declared) => statics_after(first, declared.fields.as_slice()),
     }
 }
 
@@ -101,10 +119,8 @@ pub fn all_fields(alloc: Global, names: &NameTables) -> Result<Vec<Vec<usize>>, 
     let mut rows = Vec::new(alloc);
     let mut next = 0;
     for class in names.classes.names() {
-        let fields = fields_of(names, *class);
-        let slot = first_slot(alloc, names, own.as_slice(), *class)?;
-        rows.push(field_row(alloc, next, slot, fields)?)?;
-        next = statics_after(next, fields)?;
+        rows.push(class_fields(alloc, names, own.as_slice(), *class, next)?)?;
+        next = statics_behind(names, *class, next)?;
     }
     Ok(rows)
 }

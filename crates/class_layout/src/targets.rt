@@ -1,7 +1,6 @@
 // Which method runs where a method is called on an object of a class (ECMA-335 II.10.3 and II.12.2).
 
 ghost use Rattle.std.specs.Prelude.{◌≡◌, [], IfOk, map, slice_get, unwrap_or, option_map, option_and_then};
-ghost use Rattle.cil_model.specs.Chains.{methods_in};
 ghost use Rattle.name_tables.specs.Keys.{class_of_key, method_of_key};
 ghost use Rattle.name_tables.specs.Sameness.{identity_of};
 ghost use Rattle.class_layout.specs.ByClass.{by_class, interface_numbers};
@@ -45,6 +44,23 @@ fn target_number(
     methods.interface_filler(listed, chain, interface)
 }
 
+/// The methods that run on objects of each class, where a virtual one of these methods is called.
+fn named_row(
+    alloc: Global,
+    methods: &Namesakes,
+    listed: &[Vec<usize>],
+    class: ClassKey,
+) -> Result<Vec<Option<MemberNumber>>, NoMemory>
+    requires { map (λ row. row.items) listed.now ≡ by_class methods.now.names.now.classes.tree.now (interface_numbers methods.now.names.now.classes.tree.now) }
+    ensures { IfOk result (λ v. v.items ≡ by_class methods.now.names.now.classes.tree.now (target_number methods.now.names.now.classes.tree.now (class_of_key class.entry) (method_of_key methods.now.key))) }
+{
+    let mut row = Vec::new(alloc);
+    for object in methods.names.classes.names() {
+        row.push(target_number(methods, listed, class, *object))?;
+    }
+    Ok(row)
+}
+
 fn class_row(
     alloc: Global,
     names: &NameTables,
@@ -57,11 +73,7 @@ fn class_row(
 {
     let key = MethodKey::new(&method.name, &method.signature);
     let methods = Namesakes::new(alloc, names, key)?;
-    let mut row = Vec::new(alloc);
-    for object in names.classes.names() {
-        row.push(target_number(&methods, listed, class, *object))?;
-    }
-    Ok(row)
+    named_row(alloc, &methods, listed, class)
 }
 
 fn method_targets(
@@ -81,16 +93,24 @@ fn method_targets(
     Ok(Targets::ByClass(row))
 }
 
-/// The methods that a class itself declares.
-fn methods_of<'n, 'a>(names: &'n NameTables<'a>, class: ClassKey) -> &'n [&'a Method]
-    ensures { map (λ m. m.now) result.now ≡ methods_in names.now.classes.tree.now (class_of_key class.entry) }
+fn rows_of(
+    alloc: Global,
+    names: &NameTables,
+    listed: &[Vec<usize>],
+    class: ClassKey,
+    methods: &[&Method],
+) -> Result<Vec<Targets>, NoMemory>
+    requires { map (λ row. row.items) listed.now ≡ by_class names.now.classes.tree.now (interface_numbers names.now.classes.tree.now) }
+    ensures { IfOk result (λ v. map targets_of v.items ≡ map (target_row names.now.classes.tree.now (class_of_key class.entry)) (map (λ m. m.now) methods.now)) }
 {
-    match names.classes.declared(class) {
-        None => &[],
-        Some(declared) => declared.methods.as_slice(),
+    let mut rows = Vec::new(alloc);
+    for method in methods {
+        rows.push(method_targets(alloc, names, listed, class, method)?)?;
     }
+    Ok(rows)
 }
 
+/// The methods that run where each method that a class itself declares is called.
 fn class_targets(
     alloc: Global,
     names: &NameTables,
@@ -100,11 +120,10 @@ fn class_targets(
     requires { map (λ row. row.items) listed.now ≡ by_class names.now.classes.tree.now (interface_numbers names.now.classes.tree.now) }
     ensures { IfOk result (λ v. map targets_of v.items ≡ target_rows names.now.classes.tree.now (class_of_key class.entry)) }
 {
-    let mut rows = Vec::new(alloc);
-    for method in methods_of(names, class) {
-        rows.push(method_targets(alloc, names, listed, class, method)?)?;
+    match names.classes.declared(class) {
+        None => Ok(Vec::new(alloc)),
+        Some(declared) => rows_of(alloc, names, listed, class, declared.methods.as_slice()),
     }
-    Ok(rows)
 }
 
 /// The methods that run where each method is called, by its class and its place.

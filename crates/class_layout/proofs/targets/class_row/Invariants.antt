@@ -1,8 +1,0 @@
-use Rattle.std.proofs.Common.{◌≡◌, map, take}
-use Rattle.name_tables.specs.Keys.{class_of_key}
-use Rattle.name_tables.specs.Sameness.{identity_of}
-use Rattle.class_layout.specs.Targets.{target_number}
-use Rattle.class_layout.proofs.targets.class_row.Given as goal
-
-abbrev pub invariant-loop-object : goal.invariant-loop-object
-invariant-loop-object l = l.row.items ≡ map (λ k. target_number l.names.classes.tree.now (class_of_key l.class) (identity_of l.method) (class_of_key k)) (take l.object-index l.object-items)
