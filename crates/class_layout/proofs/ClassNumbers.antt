@@ -1,5 +1,5 @@
 -- The numbers of a legal tree's classes.
-use Rattle.std.proofs.Common.{◌≡◌, ◌==◌, ℕ, Bool, true, false, ◌||◌, ◌&&◌, cond, IsTrue, if◌then◌else◌, List, [], ◌∷◌, ◌++◌, map, slice_get, Option, Some, None, option_map, option_and_then, refl, sym, ap, subst, ◌∙◌}
+use Rattle.std.proofs.Common.{◌≡◌, ◌==◌, ℕ, Bool, true, false, ◌||◌, if◌then◌else◌, List, [], ◌∷◌, map, slice_get, Option, Some, None, refl, sym, ap, subst, ◌∙◌}
 use Rattle.std.specs.Prelude.{filter_map, codes}
 use Rattle.std.specs.List.{list_any, cons_option}
 use Rattle.std.proofs.lemmas.Bool.{or_parts, or_from, eqb-true, eq-eqb}
@@ -8,7 +8,7 @@ use Rattle.cil_model.specs.declared.trees.Tree.{Tree}
 use Rattle.cil_model.specs.declared.trees.Class.{Class}
 use Rattle.cil_model.specs.Same.{same_class, same_text}
 use Rattle.cil_model.specs.Declarations.{Declaration, declaration_of, mscorlib, cilvm}
-use Rattle.cil_model.specs.Legality.{IsLegal, has_repeat, doubles_name, class_doubles}
+use Rattle.cil_model.specs.Legality.{IsLegal, has_repeat, doubles_name}
 use Rattle.cil_model.proofs.SameLaws.{same_class_equal, same_class_itself, class_equivalence}
 use Rattle.metadata.proofs.Repeats.{has_repeat-map}
 use Rattle.name_tables.specs.Numbers.{class_number, declarations, source_entry}
