@@ -1,5 +1,5 @@
 -- The numbers along a chain tell which classes a class is assignable to.
-use Rattle.std.proofs.Common.{◌≡◌, ◌<◌, ◌≤◌, ◌⊎◌, inl, inr, get_or, ◌==◌, ℕ, Bool, true, false, ◌||◌, List, [], ◌∷◌, ◌++◌, length, map, slice_get, Option, Some, None, option_map, option_and_then, unwrap_or, refl, sym, ap, ◌∙◌, arith}
+use Rattle.std.proofs.Common.{◌≡◌, ◌<◌, ◌≤◌, ◌⊎◌, inl, inr, get_or, ◌==◌, ℕ, Bool, false, ◌||◌, List, [], ◌∷◌, length, slice_get, Option, Some, None, option_map, unwrap_or, refl, sym, ap, ◌∙◌, arith}
 use Rattle.std.specs.Prelude.{filter_map, flat_map}
 use Rattle.std.specs.List.{list_any, cons_option}
 use Rattle.std.proofs.lemmas.Option.{slice_get-map, slice_get_past, slice_get_within, slice_get_cases}
@@ -18,7 +18,7 @@ use Rattle.class_layout.specs.ByClass.{by_class, interface_numbers, assignable_r
 use Rattle.resolved_code.specs.Numbered.{class_name}
 use Rattle.name_tables.proofs.Lists.{option_map_of_map}
 use Rattle.class_layout.proofs.Places.{same_elements}
-use Rattle.class_layout.proofs.ClassNumbers.{FoundAt, found_at, not_declared, known_apart, number_equal, among_numbers, number_of_place}
+use Rattle.class_layout.proofs.ClassNumbers.{found_at, not_declared, known_apart, number_equal, among_numbers, number_of_place}
 
 module _ (tree : Tree) where
   abbrev listed : List (List ℕ)

@@ -1,12 +1,11 @@
 -- Assignability by how many brackets two types have.
-use Rattle.std.proofs.Common.{◌≡◌, ◌==◌, ◌<◌, ℕ, zero, suc, Bool, true, false, ◌||◌, ◌&&◌, IsTrue, List, [], ◌∷◌, refl, sym, ap, ◌∙◌, subst, arith}
+use Rattle.std.proofs.Common.{◌≡◌, ◌==◌, ◌<◌, ℕ, zero, suc, Bool, true, false, ◌||◌, ◌&&◌, refl, sym, ap, ◌∙◌, arith}
 use Rattle.std.proofs.lemmas.Bool.{or_left, ne_eqb}
 use Rattle.cil_model.specs.declared.types.ClassName.{ClassName}
 use Rattle.cil_model.specs.declared.types.Element.{Element}
 use Rattle.cil_model.specs.declared.types.Element.TheVariants.{Int32, Int64, Object, String, Class}
 use Rattle.cil_model.specs.declared.trees.Tree.{Tree}
 use Rattle.cil_model.specs.Same.{same_class, same_element}
-use Rattle.cil_model.specs.Chains.{chain_of, chain_within, base_of, interfaces_in}
 use Rattle.cil_model.specs.Assignable.{is_reference_element, is_class_assignable, is_element_assignable, is_assignable_at}
 use Rattle.cil_model.proofs.SameLaws.{same_class_equal, same_class_itself, same_element_equal}
 

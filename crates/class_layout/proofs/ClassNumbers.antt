@@ -1,5 +1,5 @@
 -- The numbers of a legal tree's classes.
-use Rattle.std.proofs.Common.{◌≡◌, ◌==◌, ℕ, Bool, true, false, ◌||◌, ◌&&◌, cond, IsTrue, if◌then◌else◌, List, [], ◌∷◌, ◌++◌, map, slice_get, Option, Some, None, option_map, option_and_then, refl, sym, ap, subst, ◌∙◌}
+use Rattle.std.proofs.Common.{◌≡◌, ◌==◌, ℕ, Bool, true, false, ◌||◌, if◌then◌else◌, List, [], ◌∷◌, map, slice_get, Option, Some, None, refl, sym, ap, subst, ◌∙◌}
 use Rattle.std.specs.Prelude.{filter_map, codes}
 use Rattle.std.specs.List.{list_any, cons_option}
 use Rattle.std.proofs.lemmas.Bool.{or_parts, or_from, eqb-true, eq-eqb}
@@ -8,7 +8,7 @@ use Rattle.cil_model.specs.declared.trees.Tree.{Tree}
 use Rattle.cil_model.specs.declared.trees.Class.{Class}
 use Rattle.cil_model.specs.Same.{same_class, same_text}
 use Rattle.cil_model.specs.Declarations.{Declaration, declaration_of, mscorlib, cilvm}
-use Rattle.cil_model.specs.Legality.{IsLegal, has_repeat, doubles_name, class_doubles}
+use Rattle.cil_model.specs.Legality.{IsLegal, has_repeat, doubles_name}
 use Rattle.cil_model.proofs.SameLaws.{same_class_equal, same_class_itself, class_equivalence}
 use Rattle.metadata.proofs.Repeats.{has_repeat-map}
 use Rattle.name_tables.specs.Numbers.{class_number, declarations, source_entry}
@@ -25,7 +25,7 @@ module _ (tree : Tree) where
   none_in_source a n [] = refl
   none_in_source a n (c ∷ cs) = none_in_source a n cs
 
-  unbroken : (b : Bool) (n : ℕ) (rest : Option ℕ) → (if b then Some n else rest) ≡ None → b ≡ false
+  pub unbroken : (b : Bool) (n : ℕ) (rest : Option ℕ) → (if b then Some n else rest) ≡ None → b ≡ false
   unbroken false n rest h = refl
   unbroken true n rest h = absurd (none_is_some n (sym h))
 
@@ -34,7 +34,7 @@ module _ (tree : Tree) where
       let h : doubles_name tree ≡ false = unbroken _ 201 _ legal in
       (or_parts _ _ (or_parts _ _ h).0).1
 
-  entries_stand_once : IsLegal tree → has_repeat same_entry (declarations tree) ≡ false
+  pub entries_stand_once : IsLegal tree → has_repeat same_entry (declarations tree) ≡ false
   entries_stand_once legal =
       let among : has_repeat same_entry (map source_entry tree.classes) ≡ false = has_repeat-map source_entry same_entry tree.classes ∙ names_stand_once legal in
       or_from _ _ (none_in_source mscorlib (codes "System.Object") tree.classes) (

@@ -1,7 +1,7 @@
 -- What objects hold, by the numbers of a chain.
-use Rattle.std.proofs.Common.{◌≡◌, ◌==◌, ℕ, zero, suc, Bool, true, false, List, [], ◌∷◌, ◌++◌, length, map, reverse, slice_get, unwrap_or, Option, Some, None, option_map, if◌then◌else◌, cond, refl, sym, ap, ◌∙◌}
+use Rattle.std.proofs.Common.{◌≡◌, ℕ, zero, suc, Bool, true, false, List, [], ◌∷◌, ◌++◌, length, map, reverse, slice_get, unwrap_or, Option, Some, None, option_map, if◌then◌else◌, cond, refl, sym, ap, ◌∙◌}
 use Rattle.std.specs.Prelude.{filter, filter_map, flat_map}
-use Rattle.std.specs.List.{list_any, cons_option}
+use Rattle.std.specs.List.{cons_option}
 use Rattle.std.specs.Option.{option_map_or}
 use Rattle.std.proofs.lemmas.List.{map-append, append-nil, reverse-append, length-map}
 use Rattle.std.proofs.lemmas.Option.{slice_get-map}
@@ -12,7 +12,7 @@ use Rattle.cil_model.specs.declared.types.Element.TheVariants.{Int32, Int64, Obj
 use Rattle.cil_model.specs.declared.types.DeclaredType.{DeclaredType}
 use Rattle.cil_model.specs.declared.trees.Tree.{Tree}
 use Rattle.cil_model.specs.declared.trees.Field.{Field}
-use Rattle.cil_model.specs.Same.{same_flag, same_class}
+use Rattle.cil_model.specs.Same.{same_flag}
 use Rattle.cil_model.specs.Declarations.{Declaration, thread_name}
 use Rattle.cil_model.specs.Chains.{chain_of, is_thread_class, fields_in, listed_by}
 use Rattle.cil_model.specs.Assignable.{is_reference, is_reference_element}
@@ -34,7 +34,7 @@ keyed_append : (xs ys : List (FieldKey × DeclaredType)) → kinds_of_keyed (xs 
 keyed_append xs ys = ap (map kind_of) (map-append (λ (f : FieldKey × DeclaredType). Some f.1) xs ys) ∙ map-append kind_of (map (λ (f : FieldKey × DeclaredType). Some f.1) xs) (map (λ (f : FieldKey × DeclaredType). Some f.1) ys)
 
 -- fields of objects, filtered by their flag
-filtered : (fs : List Field) → filter_map instance_kind fs ≡ map (λ (f : Field). kind_of (Some f.field_type)) (filter (λ (f : Field). same_flag f.is_static false) fs)
+pub filtered : (fs : List Field) → filter_map instance_kind fs ≡ map (λ (f : Field). kind_of (Some f.field_type)) (filter (λ (f : Field). same_flag f.is_static false) fs)
 filtered [] = refl
 filtered (f ∷ fs) = by_flag f.is_static (filtered fs)
   where

@@ -5,3 +5,5 @@ pub mod Marks
 pub mod BracketLaws
 pub mod NumberedLaws
 pub mod KindLaws
+pub mod SlotLaws
+pub mod TargetLaws

@@ -1,5 +1,5 @@
 -- Places in lists.
-use Rattle.std.proofs.Common.{◌≡◌, ◌<◌, ◌+◌, ◌==◌, ℕ, zero, suc, Bool, true, false, ◌||◌, cond, IsTrue, List, [], ◌∷◌, ◌++◌, length, map, get_or, take, slice_get, Option, Some, None, option_map, refl, sym, ap, ◌∙◌, arith, append_assoc}
+use Rattle.std.proofs.Common.{◌≡◌, ◌<◌, ◌+◌, ℕ, zero, suc, Bool, false, cond, IsTrue, List, [], ◌∷◌, ◌++◌, length, map, get_or, take, slice_get, Option, Some, None, option_map, refl, sym, ap, ◌∙◌, append_assoc}
 use Rattle.std.proofs.Math.Seq.{take-length}
 use Rattle.std.specs.Prelude.{filter_map, flat_map}
 use Rattle.std.specs.List.{list_any, position_from, cons_option}
@@ -8,7 +8,7 @@ use Rattle.std.proofs.lemmas.Grind.{flat_map-append}
 use Rattle.std.proofs.lemmas.Bool.{or_parts}
 use Rattle.cil_model.specs.Legality.{has_repeat}
 use Rattle.name_tables.proofs.NumberLaws.{none_is_some, position_from-suc}
-use Rattle.name_tables.proofs.Lists.{map_of_map, filter_map-take_more}
+use Rattle.name_tables.proofs.Lists.{map_of_map, map-take_more, filter_map-take_more}
 
 -- two lists with the same element at each place
 pub same_elements : {X : Type 0} (xs ys : List X) → ((j : ℕ) → slice_get xs j ≡ slice_get ys j) → xs ≡ ys
@@ -54,6 +54,11 @@ filter_skips h xs i x ys l e before none =
 pub filter_takes : {X Y : Type 0} (h : X → Option Y) (xs : List X) (i : ℕ) (x : X) (ys zs : List Y) (y : Y) → i < length xs → x ≡ get_or xs i x → ys ≡ filter_map h (take i xs) → h x ≡ Some y → zs ≡ ys ++ y ∷ [] → zs ≡ filter_map h (take (i + 1) xs)
 filter_takes h xs i x ys zs y l e before some after =
     after ∙ ap (λ vs. vs ++ y ∷ []) before ∙ sym (filter_map-take_more h xs i x l e ∙ ap (λ o. filter_map h (take i xs) ++ cons_option o []) some)
+
+-- a loop that pushes one item for each
+pub push_takes : {X Z : Type 0} (f : X → Z) (xs : List X) (i : ℕ) (x : X) (ys zs : List Z) (y : Z) → i < length xs → x ≡ get_or xs i x → ys ≡ map f (take i xs) → y ≡ f x → zs ≡ ys ++ y ∷ [] → zs ≡ map f (take (i + 1) xs)
+push_takes f xs i x ys zs y l e before answered after =
+    after ∙ ap (λ vs. vs ++ y ∷ []) before ∙ ap (λ z. map f (take i xs) ++ z ∷ []) answered ∙ sym (map-take_more f xs i x l e)
 
 -- a loop that pushes a list for each item
 pub flat_takes : {X Y : Type 0} (f : X → List Y) (xs : List X) (i : ℕ) (d : X) (ys zs : List Y) → i < length xs → ys ≡ flat_map f (take i xs) → zs ≡ ys ++ f (get_or xs i d) → zs ≡ flat_map f (take (i + 1) xs)

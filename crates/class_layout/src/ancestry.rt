@@ -44,7 +44,8 @@ fn bases(alloc: Global, names: &NameTables) -> Result<Vec<Option<usize>>, NoMemo
     Ok(bases)
 }
 
-fn is_interface(names: &NameTables, class: ClassKey) -> bool
+/// Whether a class is an interface.
+pub fn is_interface(names: &NameTables, class: ClassKey) -> bool
     ensures { result ≡ is_interface names.now.classes.tree.now (class_of_key class.entry) }
 {
     match names.classes.declared(class) {
@@ -91,7 +92,8 @@ fn listed(alloc: Global, names: &NameTables, class: ClassKey) -> Result<Vec<usiz
     }
 }
 
-fn all_listed(alloc: Global, names: &NameTables) -> Result<Vec<Vec<usize>>, NoMemory>
+/// The numbers of the interfaces that each class lists.
+pub fn all_listed(alloc: Global, names: &NameTables) -> Result<Vec<Vec<usize>>, NoMemory>
     ensures { IfOk result (λ v. map (λ row. row.items) v.items ≡ by_class names.now.classes.tree.now (interface_numbers names.now.classes.tree.now)) }
 {
     let mut rows = Vec::new(alloc);

@@ -56,7 +56,11 @@ fn instance_kinds(alloc: Global, fields: &[&Field]) -> Result<Vec<SlotKind>, NoM
 }
 
 /// What the instance fields that a class itself declares hold.
-fn own_kinds(alloc: Global, names: &NameTables, class: ClassKey) -> Result<Vec<SlotKind>, NoMemory>
+pub fn own_kinds(
+    alloc: Global,
+    names: &NameTables,
+    class: ClassKey,
+) -> Result<Vec<SlotKind>, NoMemory>
     ensures { IfOk result (λ v. v.items ≡ own_kinds names.now.classes.tree.now (class_of_key class.entry)) }
 {
     match names.classes.declared(class) {
@@ -65,7 +69,8 @@ fn own_kinds(alloc: Global, names: &NameTables, class: ClassKey) -> Result<Vec<S
     }
 }
 
-fn all_own_kinds(alloc: Global, names: &NameTables) -> Result<Vec<Vec<SlotKind>>, NoMemory>
+/// What the instance fields that each class itself declares hold.
+pub fn all_own_kinds(alloc: Global, names: &NameTables) -> Result<Vec<Vec<SlotKind>>, NoMemory>
     ensures { IfOk result (λ v. map (λ row. row.items) v.items ≡ by_class names.now.classes.tree.now (own_kinds names.now.classes.tree.now)) }
 {
     let mut rows = Vec::new(alloc);
@@ -120,7 +125,7 @@ fn chain_kinds(
 }
 
 /// What each slot of an object of a class holds.
-fn class_kinds(
+pub fn class_kinds(
     alloc: Global,
     names: &NameTables,
     own: &[Vec<SlotKind>],

@@ -1,12 +1,16 @@
 // The layout of a program.
 
-ghost use Rattle.std.specs.Prelude.{◌≡◌, IfOk, Some, length, option_map, slice_get};
+ghost use Rattle.std.specs.Prelude.{◌≡◌, IfOk, Some, true, false, length, option_map, slice_get};
 ghost use Rattle.cil_model.specs.declared.trees.Tree.{Tree};
 ghost use Rattle.cil_model.specs.declared.types.ClassName.{ClassName};
 ghost use Rattle.cil_model.specs.declared.types.DeclaredType.{DeclaredType};
 ghost use Rattle.cil_model.specs.Assignable.{is_assignable};
 ghost use Rattle.cil_model.specs.Chains.{is_interface};
-ghost use Rattle.cil_model.specs.Fields.{slot_types, is_reference_slot};
+ghost use Rattle.cil_model.specs.Fields.{slot_types, is_reference_slot, instance_slot, static_slot};
+ghost use Rattle.cil_model.specs.declared.trees.Field.{Field};
+ghost use Rattle.cil_model.specs.declared.trees.Method.{Method};
+ghost use Rattle.cil_model.specs.Slots.{target};
+ghost use Rattle.name_tables.specs.Numbers.{field_at, method_at};
 ghost use Rattle.cil_model.specs.Legality.{IsLegal};
 ghost use Rattle.resolved_code.specs.Numbered.{class_name, type_at};
 ghost use Rattle.class_layout.specs.ByClass.{base_number};
@@ -15,9 +19,11 @@ use crate::ancestry::Ancestry;
 use crate::fields::{all_kinds, is_reference_at, kind_at};
 use crate::kinds::SlotKind;
 use crate::rows::row_at;
+use crate::slots::{all_fields, number_at};
+use crate::targets::{Targets, all_targets, target_at};
 use crate::tested::is_tested;
 use cil_model::memory::NoMemory;
-use name_tables::lookups::NameTables;
+use name_tables::lookups::{MemberNumber, NameTables};
 use resolved_code::types::NumberedType;
 use std::alloc::Global;
 
@@ -27,6 +33,8 @@ use std::alloc::Global;
 pub struct Layout {
     ancestry: Ancestry,
     kinds: Vec<Vec<SlotKind>>,
+    fields: Vec<Vec<usize>>,
+    targets: Vec<Vec<Targets>>,
 }
 
 impl Layout {
@@ -41,6 +49,8 @@ impl Layout {
         Ok(Layout {
             ancestry: Ancestry::new(alloc, names)?,
             kinds: all_kinds(alloc, names)?,
+            fields: all_fields(alloc, names)?,
+            targets: all_targets(alloc, names)?,
         })
     }
 
@@ -85,5 +95,23 @@ impl Layout {
         ensures { (tree : Tree) → IsLayout tree self.now → (c : ClassName) → class_name tree class ≡ Some c → result ≡ is_reference_slot tree c slot }
     {
         is_reference_at(row_at(self.kinds.as_slice(), class), slot)
+    }
+
+    /// The slot of an instance field, the same in objects of its class and of every class below, or the number of a static field among
+    /// all static fields (this profile). None where no field has the number.
+    pub fn slot(&self, field: MemberNumber) -> Option<usize>
+        ensures instance { (tree : Tree) → IsLayout tree self.now → (c : ClassName) (f : Field) → field_at tree (field.class, field.place) ≡ Some (c, f) → f.is_static ≡ false → result ≡ instance_slot tree (record { declared_in = c; name = f.name }) }
+        ensures static_field { (tree : Tree) → IsLayout tree self.now → (c : ClassName) (f : Field) → field_at tree (field.class, field.place) ≡ Some (c, f) → f.is_static ≡ true → result ≡ static_slot tree (record { declared_in = c; name = f.name }) }
+    {
+        number_at(row_at(self.fields.as_slice(), field.class), field.place)
+    }
+
+    /// The method that runs where a method is called on an object of a class (ECMA-335 II.10.3, II.12.2; where an interface is listed
+    /// again, this profile); a method that is not virtual is its own. None where no class or method has the number, or no method of
+    /// the class fills the slot.
+    pub fn target(&self, class: usize, method: MemberNumber) -> Option<MemberNumber>
+        ensures { (tree : Tree) → IsLayout tree self.now → (c d : ClassName) (m : Method) → class_name tree class ≡ Some d → method_at tree (method.class, method.place) ≡ Some (c, m) → option_map (λ n. method_at tree (n.class, n.place)) result ≡ option_map Some (target tree d c m) }
+    {
+        target_at(self.targets.as_slice(), class, method)
     }
 }

@@ -5,8 +5,11 @@ mod ancestry;
 mod fields;
 mod kinds;
 mod layout;
+mod namesakes;
 mod program;
 mod rows;
+mod slots;
+mod targets;
 mod tested;
 
 pub use kinds::SlotKind;

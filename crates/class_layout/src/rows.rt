@@ -23,7 +23,7 @@ pub fn flag_at(flags: &[bool], number: usize) -> bool
 }
 
 /// The entry of a number.
-pub fn entry_at(entries: &[Option<usize>], number: usize) -> Option<usize>
+pub fn entry_at<T: Copy>(entries: &[Option<T>], number: usize) -> Option<T>
     ensures { result ≡ unwrap_or (slice_get entries.now number) None }
 {
     match entries.get(number).copied() {

@@ -3,6 +3,7 @@
 use class_layout::{Layout, SlotKind, lay_out};
 use ilasm_reader::read;
 use metadata::resolve;
+use name_tables::lookups::MemberNumber;
 use resolved_code::types::{NumberedElement, NumberedType};
 use std::alloc::Global;
 use std::process::Abort;
@@ -14,6 +15,19 @@ const SOURCE: &str = ".assembly extern mscorlib {} .assembly extern cilvm {}
 .class public auto ansi Dog extends [mscorlib]System.Object implements IRun { .field public int32 size }
 .class interface public abstract auto ansi IRun { }
 .class public auto ansi Work extends [cilvm]Cilvm.Thread { .field public object result }
+.class public auto ansi A extends [mscorlib]System.Object { .field public int32 x .field public static object all .field public int32 y }
+.class public auto ansi B extends A { .field public int32 x }
+";
+
+const CALLS: &str = ".assembly extern mscorlib {}
+.class public auto ansi M extends [mscorlib]System.Object { .method public static void Main() cil managed { .entrypoint .maxstack 1 ret } }
+.class public auto ansi A extends [mscorlib]System.Object { .method public newslot virtual instance void f() cil managed { .maxstack 1 ret } }
+.class public auto ansi B extends A { .method public newslot virtual instance void f() cil managed { .maxstack 1 ret } }
+.class public auto ansi C extends B { .method public virtual instance void f() cil managed { .maxstack 1 ret } }
+.class interface public abstract auto ansi I { .method public newslot abstract virtual instance void f() cil managed { } }
+.class public auto ansi D extends [mscorlib]System.Object implements I { .method public newslot virtual instance void f() cil managed { .maxstack 1 ret } }
+.class public auto ansi E extends D { .method public newslot virtual instance void f() cil managed { .maxstack 1 ret } }
+.class public auto ansi F extends D implements I { .method public newslot virtual instance void f() cil managed { .maxstack 1 ret } }
 ";
 
 const PUPPY: NumberedElement = NumberedElement::Class(6);
@@ -23,7 +37,11 @@ const DOG: NumberedElement = NumberedElement::Class(7);
 const RUN: NumberedElement = NumberedElement::Class(8);
 
 fn layout(rt: &impl Abort, alloc: Global) -> Layout {
-    let tree = read(alloc, SOURCE.as_bytes()).expect(rt, "tree");
+    layout_of(rt, alloc, SOURCE)
+}
+
+fn layout_of(rt: &impl Abort, alloc: Global, source: &str) -> Layout {
+    let tree = read(alloc, source.as_bytes()).expect(rt, "tree");
     let program = resolve(alloc, tree).expect(rt, "legal");
     lay_out(alloc, &program).expect(rt, "memory")
 }
@@ -90,5 +108,45 @@ fn the_hidden_field_is_no_reference(rt: HostRuntime) -> Result<(), Fail> {
     assert_eq!(rt; layout.kind(9, 0), Some(SlotKind::Hidden));
     assert!(rt; !layout.is_reference(9, 0));
     assert!(rt; layout.is_reference(9, 1));
+    Ok(())
+}
+
+#[test]
+fn fields_have_slots(rt: HostRuntime) -> Result<(), Fail> {
+    let layout = layout(&rt, rt.alloc());
+    for (class, place, slot) in [
+        (7, 0, 0),
+        (6, 0, 1),
+        (6, 1, 0),
+        (6, 2, 2),
+        (9, 0, 1),
+        (10, 0, 0),
+        (10, 1, 1),
+        (10, 2, 1),
+        (11, 0, 2),
+    ] {
+        assert_eq!(rt; layout.slot(MemberNumber { class, place }), Some(slot));
+    }
+    Ok(())
+}
+
+#[test]
+fn virtual_calls_have_targets(rt: HostRuntime) -> Result<(), Fail> {
+    let layout = layout_of(&rt, rt.alloc(), CALLS);
+    for (object, called, target) in [
+        (8, 6, Some(6)),
+        (8, 7, Some(8)),
+        (6, 7, None),
+        (11, 9, Some(10)),
+        (12, 9, Some(12)),
+        (8, 5, Some(5)),
+    ] {
+        let method = MemberNumber {
+            class: called,
+            place: 0,
+        };
+        let expected = target.map(|class| MemberNumber { class, place: 0 });
+        assert_eq!(rt; layout.target(object, method), expected);
+    }
     Ok(())
 }

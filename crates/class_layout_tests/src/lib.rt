@@ -3,3 +3,5 @@
 
 #[cfg(test)]
 mod layouts;
+#[cfg(test)]
+mod memory;

@@ -46,7 +46,7 @@ module _ (tree : Tree) where
       by_tests false true p q = let P : ClassName → Type 0 = λ y. same_class a y ≡ true in sym p ∙ subst P (one_name (eqb-true n m q)) (same_class_itself a)
 
   -- a class and its number, or neither
-  abbrev IsTied : Option ClassName → Option ℕ → Type 0
+  abbrev pub IsTied : Option ClassName → Option ℕ → Type 0
   IsTied None None = Unit {0}
   IsTied (Some c) (Some n) = class_number tree c ≡ Some n
   IsTied None (Some n) = ⊥
@@ -86,7 +86,7 @@ module _ (tree : Tree) where
             subst P (found_by_number tree k c n e) (tied_over c n (method_found tree k n) (along cs) (slot_numbered tree k (numbers cs)) e h)
 
     -- the test of one slot
-    same_slot : (s : ClassName) (i : ℕ) → class_number tree s ≡ Some i → (o : Option ClassName) (p : Option ℕ) → IsTied o p → same_options same_class o (Some s) ≡ option_map_or (λ x. x == i) p false
+    pub same_slot : (s : ClassName) (i : ℕ) → class_number tree s ≡ Some i → (o : Option ClassName) (p : Option ℕ) → IsTied o p → same_options same_class o (Some s) ≡ option_map_or (λ x. x == i) p false
     same_slot s i e None None h = refl
     same_slot s i e (Some c) (Some n) h = same_by_number c s n i h e
     same_slot s i e None (Some n) h = absurd h

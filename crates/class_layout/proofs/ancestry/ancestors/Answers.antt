@@ -1,4 +1,4 @@
-use Rattle.std.proofs.Common.{◌≡◌, ◌++◌, ◌∷◌, [], map, get_or, refl, ap, ◌∙◌, arith, append_assoc}
+use Rattle.std.proofs.Common.{◌≡◌, ◌++◌, ◌∷◌, [], map, get_or, ap, ◌∙◌, arith, append_assoc}
 use Rattle.class_layout.specs.ByClass.{with_interfaces}
 use Rattle.class_layout.proofs.Places.{flat_takes}
 use Rattle.class_layout.proofs.ancestry.ancestors.Goals as goal

@@ -1,6 +1,5 @@
-use Rattle.std.proofs.Common.{◌≡◌, ◌==◌, ◌<◌, ℕ, List, Some, map, length, slice_get, ap, ◌∙◌}
+use Rattle.std.proofs.Common.{◌≡◌, ℕ, List, ap, ◌∙◌}
 use Rattle.std.specs.Prelude.{flat_map}
-use Rattle.std.specs.List.{list_any}
 use Rattle.metadata.proofs.Repeats.{if_ok_then}
 use Rattle.name_tables.specs.Keys.{class_of_key}
 use Rattle.name_tables.specs.Numbers.{chain_numbers}

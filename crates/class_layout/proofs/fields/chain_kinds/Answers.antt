@@ -1,4 +1,4 @@
-use Rattle.std.proofs.Common.{◌≡◌, ◌++◌, [], ℕ, List, map, take, length, reverse, slice_get, unwrap_or, sym, ap, ◌∙◌, arith}
+use Rattle.std.proofs.Common.{◌≡◌, ◌++◌, [], ℕ, List, map, take, length, reverse, slice_get, unwrap_or, ap, ◌∙◌, arith}
 use Rattle.std.specs.List.{flat_map}
 use Rattle.std.proofs.Math.Seq.{take-length}
 use Rattle.class_layout.specs.Kinds.{hidden_kinds}

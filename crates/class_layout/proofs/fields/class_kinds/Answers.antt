@@ -1,4 +1,4 @@
-use Rattle.std.proofs.Common.{◌≡◌, List, map, ap, ◌∙◌}
+use Rattle.std.proofs.Common.{◌≡◌, List, ap, ◌∙◌}
 use Rattle.metadata.proofs.Repeats.{if_ok_then}
 use Rattle.name_tables.specs.Keys.{class_of_key}
 use Rattle.class_layout.specs.declared.kinds.SlotKind.{SlotKind}

@@ -1,4 +1,4 @@
-use Rattle.std.proofs.Common.{◌≡◌, [], List, map, length, slice_get, unwrap_or, false, ap, ◌∙◌}
+use Rattle.std.proofs.Common.{◌≡◌, [], List, map, slice_get, unwrap_or, false, ap, ◌∙◌}
 use Rattle.std.specs.Option.{option_map_or}
 use Rattle.class_layout.specs.declared.kinds.SlotKind.{SlotKind}
 use Rattle.class_layout.specs.Kinds.{slot_kinds, is_reference_kind}

@@ -1,7 +1,6 @@
-use Rattle.std.proofs.Common.{◌≡◌, [], List, map, length, slice_get, unwrap_or, false, ap, ◌∙◌}
-use Rattle.std.specs.Option.{option_map_or}
+use Rattle.std.proofs.Common.{◌≡◌, [], List, map, slice_get, unwrap_or, ap, ◌∙◌}
 use Rattle.class_layout.specs.declared.kinds.SlotKind.{SlotKind}
-use Rattle.class_layout.specs.Kinds.{slot_kinds, is_reference_kind}
+use Rattle.class_layout.specs.Kinds.{slot_kinds}
 use Rattle.class_layout.proofs.AncestorLaws.{answer_of}
 use Rattle.class_layout.proofs.KindLaws.{kind_found}
 use Rattle.class_layout.proofs.layout.Layout.kind.Goals as goal

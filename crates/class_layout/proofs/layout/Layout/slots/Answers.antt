@@ -1,7 +1,5 @@
-use Rattle.std.proofs.Common.{◌≡◌, [], List, map, length, slice_get, unwrap_or, false, ap, ◌∙◌}
-use Rattle.std.specs.Option.{option_map_or}
-use Rattle.class_layout.specs.declared.kinds.SlotKind.{SlotKind}
-use Rattle.class_layout.specs.Kinds.{slot_kinds, is_reference_kind}
+use Rattle.std.proofs.Common.{◌≡◌, [], map, length, slice_get, unwrap_or, ap, ◌∙◌}
+use Rattle.class_layout.specs.Kinds.{slot_kinds}
 use Rattle.class_layout.proofs.AncestorLaws.{answer_of}
 use Rattle.class_layout.proofs.KindLaws.{slots_counted}
 use Rattle.class_layout.proofs.layout.Layout.slots.Goals as goal

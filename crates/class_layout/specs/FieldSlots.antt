@@ -1,0 +1,37 @@
+-- Numbers of static fields and slots of instance fields (II.16; this profile).
+use Rattle.std.specs.Prelude.{ℕ, ◌+◌, ◌-◌, Bool, if◌then◌else◌, List, [], ◌∷◌, length, map}
+use Rattle.cil_model.specs.declared.types.ClassName.{ClassName}
+use Rattle.cil_model.specs.declared.trees.Tree.{Tree}
+use Rattle.cil_model.specs.declared.trees.Field.{Field}
+use Rattle.cil_model.specs.Declarations.{Declaration}
+use Rattle.cil_model.specs.Chains.{fields_in}
+use Rattle.name_tables.specs.Numbers.{declarations}
+use Rattle.class_layout.specs.Kinds.{own_kinds, slot_kinds}
+
+-- the first free number behind a field that is counted, or one that is not
+abbrev pub number_after : Bool → ℕ → ℕ
+number_after is_counted next = if is_counted then next + 1 else next
+
+-- the fields of one class in source order, from the first free number of a static field and the first free slot of an object
+abbrev pub numbered_fields : ℕ → ℕ → List Field → List ℕ
+numbered_fields next_static next_slot [] = []
+numbered_fields next_static next_slot (f ∷ fs) =
+    (if f.is_static then next_static else next_slot) ∷ numbered_fields (number_after f.is_static next_static) (if f.is_static then next_slot else next_slot + 1) fs
+
+-- the first free number behind the static ones among some fields
+abbrev pub statics_after : ℕ → List Field → ℕ
+statics_after next [] = next
+statics_after next (f ∷ fs) = statics_after (number_after f.is_static next) fs
+
+-- the slot of the first instance field that a class itself declares
+abbrev pub first_slot : Tree → ClassName → ℕ
+first_slot tree c = length (slot_kinds tree c) - length (own_kinds tree c)
+
+-- the fields of each class, the static ones numbered through all classes
+abbrev pub field_rows : Tree → ℕ → List ClassName → List (List ℕ)
+field_rows tree next [] = []
+field_rows tree next (c ∷ cs) = numbered_fields next (first_slot tree c) (fields_in tree c) ∷ field_rows tree (statics_after next (fields_in tree c)) cs
+
+-- the names of all classes, by number
+abbrev pub class_names : Tree → List ClassName
+class_names tree = map (λ (e : ClassName × Declaration). e.0) (declarations tree)
