@@ -1,5 +1,5 @@
 -- Where each abstract method of a chain is overridden by the next nearer one, none fills a slot.
-use Rattle.std.proofs.Common.{◌≡◌, ◌==◌, ℕ, Bool, true, false, cond, not, ◌&&◌, ◌||◌, List, [], ◌∷◌, Option, Some, None, option_and_then, slice_get, refl, sym, ap, ◌∙◌}
+use Rattle.std.proofs.Common.{◌≡◌, ◌==◌, ℕ, Bool, true, false, cond, not, ◌&&◌, ◌||◌, List, [], ◌∷◌, ◌++◌, Option, Some, None, option_and_then, slice_get, refl, sym, ap, ◌∙◌}
 use Rattle.std.specs.Prelude.{find, unwrap_or}
 use Rattle.std.specs.List.{list_any}
 use Rattle.std.specs.Option.{option_map_or}
@@ -12,7 +12,7 @@ use Rattle.cil_model.specs.Chains.{is_virtual, is_new_slot_method, is_abstract_m
 use Rattle.name_tables.specs.Sameness.{MethodIdentity, same_identity, identity_of}
 use Rattle.name_tables.specs.SamenessLaws.{same_identity_equal}
 use Rattle.name_tables.specs.Numbers.{declarations, chain_numbers, method_found}
-use Rattle.metadata.specs.Found.{slot_filled_at, slot_numbered, open_numbered, is_left_open, class_leaves_open, is_override, top_open, hidden_open, stays_open, class_stays_open}
+use Rattle.metadata.specs.Found.{slot_filled_at, slot_numbered, open_numbered, is_left_open, class_leaves_open, is_override, top_over, top_open, hidden_over, hidden_open, stays_open, class_stays_open, IsSettled}
 use Rattle.metadata.proofs.Tests.{and_false, and_true}
 
 abbrev is_abstract : Method → Bool
@@ -77,7 +77,7 @@ module _ (tree : Tree) where
         by_hidden true e = refl
         by_hidden false e = (shown ns p e).0
 
-  -- ---- an open slot's abstract method is declared in the chain
+  -- ---- what stays open is declared in the chain
 
   found_concrete : (k : MethodIdentity) (chain : List ℕ) (ms : List Method) → stays_open tree k chain ≡ true → list_any (λ (m : Method). is_abstract m && stays_open tree (identity_of m) chain) ms ≡ false →
       option_map_or is_abstract (find (λ m. same_identity k (identity_of m)) ms) false ≡ false
@@ -99,31 +99,56 @@ module _ (tree : Tree) where
       by_entry None h' = refl
       by_entry (Some e) h' = found_concrete k chain e.1.methods stays h'
 
-  over_concrete : (f : Option Method) (fills rest : Bool) → option_map_or is_abstract f false ≡ false → rest ≡ false → cond fills (option_map_or is_abstract f rest) rest ≡ false
-  over_concrete None true rest h k = k
-  over_concrete (Some m) true rest h k = h
-  over_concrete f false rest h k = k
+  -- ---- chains that leave nothing open
 
-  never_open : (k : MethodIdentity) (slot : ℕ) (chain ns : List ℕ) → stays_open tree k chain ≡ true → list_any (class_stays_open tree chain) ns ≡ false → open_numbered tree k slot ns ≡ false
-  never_open k slot chain [] stays h = refl
-  never_open k slot chain (n ∷ ns) stays h =
-      over_concrete (method_found tree k n) (option_map_or (λ s. s == slot) (slot_numbered tree k (n ∷ ns)) false) (open_numbered tree k slot ns) (method_concrete k chain n stays (or_parts _ _ h).0)
-      (never_open k slot chain ns stays (or_parts _ _ h).1)
+  top_concrete : (f : Option Method) (top : Bool) → option_map_or is_abstract f false ≡ false → top ≡ false → option_map_or is_abstract f top ≡ false
+  top_concrete None top h k = k
+  top_concrete (Some m) top h k = h
+
+  none_hidden : (f : Option Method) (hidden top : Bool) → hidden ≡ false → top ≡ false → option_map_or (λ (m : Method). hidden || (not (is_override m) && top)) f hidden ≡ false
+  none_hidden None hidden top h k = h
+  none_hidden (Some m) hidden top h k = or_from _ _ h (ap (λ b. not (is_override m) && b) k ∙ and_false (not (is_override m)))
+
+  neither : (k : MethodIdentity) (chain : List ℕ) → stays_open tree k chain ≡ true → (ns : List ℕ) → list_any (class_stays_open tree chain) ns ≡ false → (top_open tree k ns ≡ false) × (hidden_open tree k ns ≡ false)
+  neither k chain stays [] h = (refl, refl)
+  neither k chain stays (n ∷ ns) h =
+      let rest : (top_open tree k ns ≡ false) × (hidden_open tree k ns ≡ false) = neither k chain stays ns (or_parts _ _ h).1 in
+      (top_concrete (method_found tree k n) (top_open tree k ns) (method_concrete k chain n stays (or_parts _ _ h).0) rest.0, none_hidden (method_found tree k n) (hidden_open tree k ns) (top_open tree k ns) rest.1 rest.0)
+
+  -- where no class of a part declares what stays open in it, nothing does
+  pub part_settled : (ns : List ℕ) → list_any (class_stays_open tree ns) ns ≡ false → IsSettled tree ns
+  part_settled ns h k = by_stays (stays_open tree k ns) refl
+    where
+      by_stays : (b : Bool) → stays_open tree k ns ≡ b → stays_open tree k ns ≡ false
+      by_stays false e = e
+      by_stays true e = let rest : (top_open tree k ns ≡ false) × (hidden_open tree k ns ≡ false) = neither k ns e ns h in or_from _ _ rest.1 rest.0
+
+  -- a part before another that leaves nothing open
+  pub more_settled : (part rest : List ℕ) → IsSettled tree part → IsSettled tree rest → IsSettled tree (part ++ rest)
+  more_settled part rest h g k =
+      let same : (top_open tree k (part ++ rest) ≡ top_open tree k part) × (hidden_open tree k (part ++ rest) ≡ hidden_open tree k part) = over part in
+      ap (λ b. b || top_open tree k (part ++ rest)) same.1 ∙ ap (λ b. hidden_open tree k part || b) same.0 ∙ h k
+    where
+      over : (ns : List ℕ) → (top_open tree k (ns ++ rest) ≡ top_open tree k ns) × (hidden_open tree k (ns ++ rest) ≡ hidden_open tree k ns)
+      over [] = let both : (hidden_open tree k rest ≡ false) × (top_open tree k rest ≡ false) = or_parts (hidden_open tree k rest) (top_open tree k rest) (g k) in (both.1, both.0)
+      over (n ∷ ns) =
+          let further : (top_open tree k (ns ++ rest) ≡ top_open tree k ns) × (hidden_open tree k (ns ++ rest) ≡ hidden_open tree k ns) = over ns in
+          (ap (top_over tree k n) further.0, ap (λ b. hidden_over tree k n b (hidden_open tree k (ns ++ rest))) further.0 ∙ ap (hidden_over tree k n (top_open tree k ns)) further.1)
 
   -- ---- whole chains
 
-  never_left : (k : MethodIdentity) (chain ms : List ℕ) → list_any (class_stays_open tree chain) chain ≡ false → is_left_open tree k chain ms ≡ false
+  never_left : (k : MethodIdentity) (chain ms : List ℕ) → IsSettled tree chain → is_left_open tree k chain ms ≡ false
   never_left k chain ms h = by_slot (slot_numbered tree k ms)
     where
       by_open : (slot : ℕ) (b : Bool) → open_numbered tree k slot chain ≡ b → open_numbered tree k slot chain ≡ false
       by_open slot false e = e
-      by_open slot true e = never_open k slot chain chain (open_stays k slot chain e) h
+      by_open slot true e = absurd (not_both (sym (open_stays k slot chain e) ∙ h k))
 
       by_slot : (o : Option ℕ) → option_map_or (λ slot. open_numbered tree k slot chain) o false ≡ false
       by_slot None = refl
       by_slot (Some slot) = by_open slot (open_numbered tree k slot chain) refl
 
-  class_leaves_none : (chain : List ℕ) → list_any (class_stays_open tree chain) chain ≡ false → (n : ℕ) → class_leaves_open tree chain n ≡ false
+  class_leaves_none : (chain : List ℕ) → IsSettled tree chain → (n : ℕ) → class_leaves_open tree chain n ≡ false
   class_leaves_none chain h n = by_entry (slice_get (declarations tree) n)
     where
       by_entry : (o : Option (ClassName × Declaration)) → option_map_or (λ (e : ClassName × Declaration). list_any (λ (m : Method). is_virtual m.kind && is_left_open tree (identity_of m) chain (chain_numbers tree e.0)) e.1.methods) o false ≡ false
@@ -131,5 +156,5 @@ module _ (tree : Tree) where
       by_entry (Some e) =
           none_passes (λ (m : Method). is_virtual m.kind && is_left_open tree (identity_of m) chain (chain_numbers tree e.0)) (λ m. ap (λ b. is_virtual m.kind && b) (never_left (identity_of m) chain (chain_numbers tree e.0) h) ∙ and_false (is_virtual m.kind)) e.1.methods
 
-  pub none_left_open : (chain ms : List ℕ) → list_any (class_stays_open tree chain) chain ≡ false → list_any (class_leaves_open tree chain) ms ≡ false
+  pub none_left_open : (chain ms : List ℕ) → IsSettled tree chain → list_any (class_leaves_open tree chain) ms ≡ false
   none_left_open chain ms h = none_passes (class_leaves_open tree chain) (class_leaves_none chain h) ms

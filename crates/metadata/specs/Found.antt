@@ -1,5 +1,5 @@
 -- What the methods found by the numbers of classes are, and the slots that they fill (II.10.3), told as the rules on names tell them.
-use Rattle.std.specs.Prelude.{ℕ, ◌==◌, Bool, false, not, ◌&&◌, ◌||◌, if◌then◌else◌, List, [], ◌∷◌, Option, Some, None, unwrap_or, slice_get}
+use Rattle.std.specs.Prelude.{◌≡◌, ℕ, ◌==◌, Bool, false, not, ◌&&◌, ◌||◌, if◌then◌else◌, List, [], ◌∷◌, Option, Some, None, unwrap_or, slice_get}
 use Rattle.std.specs.List.{list_any}
 use Rattle.std.specs.Option.{option_map_or}
 use Rattle.cil_model.specs.declared.types.ClassName.{ClassName}
@@ -75,6 +75,10 @@ stays_open tree k ns = hidden_open tree k ns || top_open tree k ns
 abbrev pub class_stays_open : Tree → List ℕ → ℕ → Bool
 class_stays_open tree chain n =
     option_map_or (λ (e : ClassName × Declaration). list_any (λ (m : Method). is_abstract_method m.kind && stays_open tree (identity_of m) chain) e.1.methods) (slice_get (declarations tree) n) false
+
+-- each abstract method along a chain is overridden by the next nearer one (II.15.4.2)
+abbrev pub IsSettled : Tree → List ℕ → Type 0
+IsSettled tree ns = (k : MethodIdentity) → stays_open tree k ns ≡ false
 
 -- whether the nearest method of this name and signature along a chain is not virtual (this profile)
 abbrev pub plain_numbered : Tree → MethodIdentity → List ℕ → Bool

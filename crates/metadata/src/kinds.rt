@@ -1,12 +1,12 @@
 // Methods whose kinds do not fit.
 
-ghost use Rattle.std.specs.Prelude.{◌≡◌, ◌==◌, ◌&&◌, ◌||◌, not, if◌then◌else◌, false, IfOk, map, filter_map, slice_get};
+ghost use Rattle.std.specs.Prelude.{◌≡◌, ◌==◌, ◌&&◌, ◌||◌, not, if◌then◌else◌, false, true, IfOk, map, filter_map, slice_get};
 ghost use Rattle.std.specs.List.{list_any, list_all};
 ghost use Rattle.std.specs.Option.{option_map_or};
 ghost use Rattle.cil_model.specs.Chains.{base_of, chain_within, longest_chain, is_virtual, is_abstract_method};
 ghost use Rattle.cil_model.specs.Declarations.{source_name};
 ghost use Rattle.cil_model.specs.Legality.{is_interface_method, has_abstract_slot, overrides_no_virtual, kinds_fit, misfits_kind};
-ghost use Rattle.metadata.specs.Found.{slot_filled_at, slot_over, slot_numbered, open_over, open_numbered, is_left_open, class_leaves_open, is_override, top_over, hidden_over, stays_open, class_stays_open, plain_numbered};
+ghost use Rattle.metadata.specs.Found.{slot_filled_at, slot_over, slot_numbered, open_over, open_numbered, is_left_open, class_leaves_open, is_override, top_over, hidden_over, stays_open, class_stays_open, IsSettled, plain_numbered};
 ghost use Rattle.name_tables.specs.Keys.{class_of_key, method_of_key};
 ghost use Rattle.name_tables.specs.Numbers.{class_number, declarations};
 ghost use Rattle.name_tables.specs.Sameness.{identity_of};
@@ -255,13 +255,42 @@ fn some_stays_open(names: &NameTables, chain: &[usize], classes: &[usize]) -> bo
     false
 }
 
+/// Whether the class of a number is marked abstract (ECMA-335 II.10.1.4).
+fn is_marked_abstract(names: &NameTables, class: usize) -> bool
+    ensures { result ≡ option_map_or (λ e. e.1.is_abstract) (slice_get (declarations names.now.classes.tree.now) class) false }
+{
+    match names.classes.class(class) {
+        None => false,
+        Some(declared) => declared.is_abstract,
+    }
+}
+
+/// Whether each abstract method of a chain is seen to be overridden. The chain is gone through from its last base on, in parts, each
+/// of which ends with a class that leaves nothing open; only methods of the part are looked at, so that what was overridden once
+/// isn't looked at again for the classes below.
+fn is_settled(names: &NameTables, chain: &[usize]) -> bool
+    ensures { result ≡ true → IsSettled names.now.classes.tree.now chain.now }
+{
+    let mut end = chain.len();
+    for place in (0..chain.len()).rev() {
+        if is_marked_abstract(names, chain[place]) {
+            continue;
+        }
+        let part = &chain[place..end];
+        if !some_stays_open(names, part, part) {
+            end = place;
+        }
+    }
+    end == 0
+}
+
 /// Whether an abstract method fills a slot of the class (ECMA-335 II.15.4.2). Where each abstract method of the chain is
 /// overridden, none does, and no slot is looked at: so it is for each class of a legal program that is not abstract.
 fn has_abstract_slot(names: &NameTables, class: ClassKey) -> bool
     ensures { result ≡ has_abstract_slot names.now.classes.tree.now (class_of_key class.entry) }
 {
     let chain = names.chain(class);
-    if !some_stays_open(names, chain, chain) {
+    if is_settled(names, chain) {
         return false;
     }
     some_leaves_open(names, chain, chain)
