@@ -45,23 +45,27 @@ shifted n (e ∷ es) = by_place (position_from is_entry_point 0 e.1.methods) (sh
     by_place None rest = rest
     by_place (Some place) rest = refl
 
+abbrev naming : ClassName × Declaration → Method → ClassName × Method
+naming e m = (e.0, m)
+
+abbrev either : Option (ClassName × Method) → Option (ClassName × Method) → Option (ClassName × Method)
+either o p = cond (is_some o) o p
+
 -- the first number stands for the first entry point
 first_at : (es : List (ClassName × Declaration)) → option_map (at es) (entry_from 0 es) ≡ option_map Some (find is_entry (flat_map with_class es))
 first_at [] = refl
 first_at (e ∷ es) =
     by_place (position_from is_entry_point 0 e.1.methods) (find is_entry_point e.1.methods) (found_at_place is_entry_point e.1.methods) (first_at es) ∙
-    sym (ap (option_map Some) (find-append is_entry (with_class e) (flat_map with_class es) ∙ ap (λ o. cond (is_some o) o (find is_entry (flat_map with_class es))) (find-map (λ (m : Method). (e.0, m)) is_entry e.1.methods)))
+    sym (ap (option_map Some) (find-append is_entry (with_class e) (flat_map with_class es) ∙ ap (λ o. either o (find is_entry (flat_map with_class es))) (find-map (naming e) is_entry e.1.methods)))
   where
     moved : (o : Option (ℕ × ℕ)) → option_map (at (e ∷ es)) (option_map further o) ≡ option_map (at es) o
     moved None = refl
     moved (Some number) = refl
 
-    by_place : (o : Option ℕ) (f : Option Method) → option_map (slice_get e.1.methods) o ≡ option_map Some f →
-        option_map (at es) (entry_from 0 es) ≡ option_map Some (find is_entry (flat_map with_class es)) →
-        option_map (at (e ∷ es)) (option_map_or (λ place. Some (0, place)) o (entry_from (suc 0) es)) ≡
-        option_map Some (cond (is_some (option_map (λ (m : Method). (e.0, m)) f)) (option_map (λ (m : Method). (e.0, m)) f) (find is_entry (flat_map with_class es)))
+    by_place : (o : Option ℕ) (f : Option Method) → option_map (slice_get e.1.methods) o ≡ option_map Some f → option_map (at es) (entry_from 0 es) ≡ option_map Some (find is_entry (flat_map with_class es)) →
+        option_map (at (e ∷ es)) (option_map_or (λ place. Some (0, place)) o (entry_from (suc 0) es)) ≡ option_map Some (either (option_map (naming e) f) (find is_entry (flat_map with_class es)))
     by_place None None h rest = ap (option_map (at (e ∷ es))) (shifted 0 es) ∙ moved (entry_from 0 es) ∙ rest
-    by_place (Some place) (Some m) h rest = ap (option_map (option_map (λ (x : Method). (e.0, x)))) h
+    by_place (Some place) (Some m) h rest = ap (option_map (option_map (naming e))) h
     by_place None (Some m) h rest = absurd (none_is_some _ h)
     by_place (Some place) None h rest = absurd (none_is_some _ (sym h))
 
