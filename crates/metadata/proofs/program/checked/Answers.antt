@@ -1,4 +1,4 @@
-use Rattle.std.proofs.Common.{◌≡◌, sym, ap, subst, ◌∙◌, option_map}
+use Rattle.std.proofs.Common.{sym, ap, subst, ◌∙◌, option_map}
 use Rattle.cil_model.specs.Legality.{IsLegal, least_broken}
 use Rattle.metadata.specs.Contents.{IsContents}
 use Rattle.metadata.specs.RuleNumbers.{rule_number}
