@@ -1,8 +1,9 @@
 // What methods become by numbers. Classes 0 to 4 are the built-in ones.
 
 use ilasm_reader::read;
+use metadata::resolve;
 use name_tables::built_in::BuiltInClass;
-use name_tables::lookups::NameTables;
+use name_tables::lookups::{MemberNumber, NameTables};
 use resolved_code::literals::Literals;
 use resolved_code::resolved::resolve_classes;
 use std::test::Fail;
@@ -48,5 +49,24 @@ fn operands_are_numbers(rt: HostRuntime) -> Result<(), Fail> {
         OPERATIONS
     );
     assert_eq!(rt; literals.texts(alloc)?.as_slice().len(), 2);
+    Ok(())
+}
+
+/// The entry point, the literals and the members of a program.
+#[test]
+fn program_tells_numbers(rt: HostRuntime) -> Result<(), Fail> {
+    let alloc = rt.alloc();
+    let Ok(tree) = read(alloc, SOURCE.as_bytes()) else {
+        return Err(Fail::new("no tree"));
+    };
+    let Ok(program) = resolve(alloc, tree) else {
+        return Err(Fail::new("not legal"));
+    };
+    let entry_point = program.entry_point();
+    assert_eq!(rt; entry_point, MemberNumber { class: 6, place: 2 });
+    assert_eq!(rt; program.classes().len(), 7);
+    assert_eq!(rt; program.literals().len(), 2);
+    assert_eq!(rt; program.method(entry_point).is_some(), true);
+    assert_eq!(rt; program.field(entry_point).is_some(), false);
     Ok(())
 }

@@ -204,6 +204,14 @@ fn kinds_fit(rt: HostRuntime) -> Result<(), Fail> {
             "205 the kind of a method does not fit: A",
         ),
         (
+            ".class public abstract auto ansi D extends B { .method public newslot virtual instance void f() cil managed { .maxstack 0 ret } } .class public auto ansi A extends D { .method public virtual instance void f() cil managed { .maxstack 0 ret } }",
+            "205 the kind of a method does not fit: A",
+        ),
+        (
+            ".class public abstract auto ansi D extends B { .method public virtual instance void f() cil managed { .maxstack 0 ret } } .class public auto ansi C extends D { } .class public auto ansi A extends C { .method public newslot virtual instance void f() cil managed { .maxstack 0 ret } }",
+            "legal",
+        ),
+        (
             ".class public auto ansi A extends M { .method public abstract virtual instance void g() cil managed { } }",
             "205 the kind of a method does not fit: A",
         ),

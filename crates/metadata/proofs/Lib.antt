@@ -1,6 +1,7 @@
 pub mod Repeats
 pub mod CycleLaws
 pub mod EntryLaws
+pub mod EntryNumbers
 pub mod Tests
 pub mod UnknownLaws
 pub mod MentionLaws
@@ -9,3 +10,4 @@ pub mod ImplementLaws
 pub mod SlotLaws
 pub mod CountLaws
 pub mod OpenLaws
+pub mod MemberLaws

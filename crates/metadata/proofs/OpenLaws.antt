@@ -1,64 +1,160 @@
--- Where no class of a chain declares an abstract method, none fills a slot.
-use Rattle.std.proofs.Common.{◌≡◌, ◌==◌, ℕ, Bool, true, false, cond, ◌&&◌, List, [], ◌∷◌, Option, Some, None, option_and_then, slice_get, refl, ap, ◌∙◌}
-use Rattle.std.specs.Prelude.{find}
+-- Where each abstract method of a chain is overridden by the next nearer one, none fills a slot.
+use Rattle.std.proofs.Common.{◌≡◌, ◌==◌, ℕ, Bool, true, false, cond, not, ◌&&◌, ◌||◌, List, [], ◌∷◌, ◌++◌, Option, Some, None, option_and_then, slice_get, refl, sym, ap, ◌∙◌}
+use Rattle.std.specs.Prelude.{find, unwrap_or}
 use Rattle.std.specs.List.{list_any}
 use Rattle.std.specs.Option.{option_map_or}
-use Rattle.std.proofs.lemmas.Bool.{or_parts, or_from}
+use Rattle.std.proofs.lemmas.Bool.{or_parts, or_from, eqb-true, eq-eqb}
 use Rattle.cil_model.specs.declared.types.ClassName.{ClassName}
 use Rattle.cil_model.specs.declared.trees.Tree.{Tree}
 use Rattle.cil_model.specs.declared.trees.Method.{Method}
 use Rattle.cil_model.specs.Declarations.{Declaration}
-use Rattle.cil_model.specs.Chains.{is_virtual, is_abstract_method}
+use Rattle.cil_model.specs.Chains.{is_virtual, is_new_slot_method, is_abstract_method}
 use Rattle.name_tables.specs.Sameness.{MethodIdentity, same_identity, identity_of}
+use Rattle.name_tables.specs.SamenessLaws.{same_identity_equal}
 use Rattle.name_tables.specs.Numbers.{declarations, chain_numbers, method_found}
-use Rattle.metadata.specs.Found.{slot_numbered, open_numbered, is_left_open, class_leaves_open, declares_abstract}
-use Rattle.metadata.proofs.Tests.{and_false}
+use Rattle.metadata.specs.Found.{slot_filled_at, slot_numbered, open_numbered, is_left_open, class_leaves_open, is_override, top_over, top_open, hidden_over, hidden_open, stays_open, class_stays_open, IsSettled}
+use Rattle.metadata.proofs.Tests.{and_false, and_true}
 
 abbrev is_abstract : Method → Bool
 is_abstract m = is_abstract_method m.kind
 
--- what is found is none of the methods that there are not
-found_concrete : (test : Method → Bool) (ms : List Method) → list_any is_abstract ms ≡ false → option_map_or is_abstract (find test ms) false ≡ false
-found_concrete test [] h = refl
-found_concrete test (m ∷ ms) h = elim (test m) as (λ b. option_map_or is_abstract (cond b (Some m) (find test ms)) false ≡ false) [ true ↦ (or_parts _ _ h).0 | false ↦ found_concrete test ms (or_parts _ _ h).1 ]
+not_both : true ≡ false → ⊥
+not_both e = cc
+
+same_arms : (b o : Bool) → cond b o o ≡ true → o ≡ true
+same_arms true o h = h
+same_arms false o h = h
+
+-- an abstract method behind one that is no override is hidden, so this one is an override
+overrides_it : (v w : Bool) → not (v && not w) && true ≡ false → (v ≡ true) × (w ≡ false)
+overrides_it true false h = (refl, refl)
+overrides_it true true h = absurd (not_both h)
+overrides_it false w h = absurd (not_both h)
+
+is_that : (slot : ℕ) (o : Option ℕ) → option_map_or (λ x. x == slot) o false ≡ true → o ≡ Some slot
+is_that slot None h = absurd (not_both (sym h))
+is_that slot (Some x) h = ap Some (eqb-true x slot h)
 
 none_passes : {X : Type 0} (p : X → Bool) → ((x : X) → p x ≡ false) → (xs : List X) → list_any p xs ≡ false
 none_passes p none [] = refl
 none_passes p none (x ∷ xs) = or_from _ _ (none x) (none_passes p none xs)
 
 module _ (tree : Tree) where
-  method_concrete : (k : MethodIdentity) (n : ℕ) → declares_abstract tree n ≡ false → option_map_or is_abstract (method_found tree k n) false ≡ false
-  method_concrete k n h = by_entry (slice_get (declarations tree) n) h
+  -- ---- an open slot shows an abstract method that is not overridden
+
+  module _ (k : MethodIdentity) (slot : ℕ) where
+    -- one more class of a chain, whose method is m
+    over_method : (n : ℕ) (m : Method) (s : Option ℕ) (o hidden top : Bool) → (o ≡ true → hidden ≡ false → (top ≡ true) × (s ≡ Some slot)) →
+        hidden || (not (is_override m) && top) ≡ false → (fills : Bool) → option_map_or (λ x. x == slot) (slot_filled_at n s m) false ≡ fills → cond fills (is_abstract m) o ≡ true →
+        (is_abstract m ≡ true) × (slot_filled_at n s m ≡ Some slot)
+    over_method n m s o hidden top rest q true e p = (p, is_that slot (slot_filled_at n s m) e)
+    over_method n m s o hidden top rest q false e p =
+        let parts : (hidden ≡ false) × (not (is_override m) && top ≡ false) = or_parts hidden (not (is_override m) && top) q in
+        let seen : (top ≡ true) × (s ≡ Some slot) = rest p parts.0 in
+        let kind : (is_virtual m.kind ≡ true) × (is_new_slot_method m.kind ≡ false) =
+        overrides_it (is_virtual m.kind) (is_new_slot_method m.kind) (sym (ap (λ b. not (is_override m) && b) seen.0) ∙ parts.1) in
+        let inherits : slot_filled_at n s m ≡ Some slot =
+        ap (λ b. cond b (Some (cond (is_new_slot_method m.kind) n (unwrap_or s n))) None) kind.0 ∙ ap (λ b. Some (cond b n (unwrap_or s n))) kind.1 ∙ ap (λ z. Some (unwrap_or z n)) seen.1 in
+        let fills : option_map_or (λ x. x == slot) (slot_filled_at n s m) false ≡ true = ap (λ z. option_map_or (λ x. x == slot) z false) inherits ∙ eq-eqb slot slot refl in
+        absurd (not_both (sym fills ∙ e))
+
+    over_found : (n : ℕ) (f : Option Method) (s : Option ℕ) (o hidden top : Bool) → (o ≡ true → hidden ≡ false → (top ≡ true) × (s ≡ Some slot)) →
+        cond (option_map_or (λ x. x == slot) (option_map_or (slot_filled_at n s) f s) false) (option_map_or is_abstract f o) o ≡ true →
+        option_map_or (λ (m : Method). hidden || (not (is_override m) && top)) f hidden ≡ false →
+        (option_map_or is_abstract f top ≡ true) × (option_map_or (slot_filled_at n s) f s ≡ Some slot)
+    over_found n None s o hidden top rest p q = rest (same_arms _ o p) q
+    over_found n (Some m) s o hidden top rest p q = over_method n m s o hidden top rest q (option_map_or (λ x. x == slot) (slot_filled_at n s m) false) refl p
+
+    -- where none is hidden, the nearest is abstract, and fills the slot
+    shown : (ns : List ℕ) → open_numbered tree k slot ns ≡ true → hidden_open tree k ns ≡ false → (top_open tree k ns ≡ true) × (slot_numbered tree k ns ≡ Some slot)
+    shown [] p q = absurd (not_both (sym p))
+    shown (n ∷ ns) p q = over_found n (method_found tree k n) (slot_numbered tree k ns) (open_numbered tree k slot ns) (hidden_open tree k ns) (top_open tree k ns) (shown ns) p q
+
+    open_stays : (ns : List ℕ) → open_numbered tree k slot ns ≡ true → stays_open tree k ns ≡ true
+    open_stays ns p = by_hidden (hidden_open tree k ns) refl
+      where
+        by_hidden : (b : Bool) → hidden_open tree k ns ≡ b → b || top_open tree k ns ≡ true
+        by_hidden true e = refl
+        by_hidden false e = (shown ns p e).0
+
+  -- ---- what stays open is declared in the chain
+
+  found_concrete : (k : MethodIdentity) (chain : List ℕ) (ms : List Method) → stays_open tree k chain ≡ true → list_any (λ (m : Method). is_abstract m && stays_open tree (identity_of m) chain) ms ≡ false →
+      option_map_or is_abstract (find (λ m. same_identity k (identity_of m)) ms) false ≡ false
+  found_concrete k chain [] stays h = refl
+  found_concrete k chain (m ∷ ms) stays h = by_test (same_identity k (identity_of m)) refl (found_concrete k chain ms stays (or_parts _ _ h).1)
     where
-      by_entry : (o : Option (ClassName × Declaration)) → option_map_or (λ (e : ClassName × Declaration). list_any is_abstract e.1.methods) o false ≡ false →
+      by_test : (b : Bool) → same_identity k (identity_of m) ≡ b → option_map_or is_abstract (find (λ x. same_identity k (identity_of x)) ms) false ≡ false →
+          option_map_or is_abstract (cond b (Some m) (find (λ x. same_identity k (identity_of x)) ms)) false ≡ false
+      by_test false e rest = rest
+      by_test true e rest =
+          let own : stays_open tree (identity_of m) chain ≡ true = sym (ap (λ x. stays_open tree x chain) (same_identity_equal k (identity_of m) e)) ∙ stays in
+          sym (and_true (is_abstract m)) ∙ sym (ap (λ b. is_abstract m && b) own) ∙ (or_parts _ _ h).0
+
+  method_concrete : (k : MethodIdentity) (chain : List ℕ) (n : ℕ) → stays_open tree k chain ≡ true → class_stays_open tree chain n ≡ false → option_map_or is_abstract (method_found tree k n) false ≡ false
+  method_concrete k chain n stays h = by_entry (slice_get (declarations tree) n) h
+    where
+      by_entry : (o : Option (ClassName × Declaration)) → option_map_or (λ (e : ClassName × Declaration). list_any (λ (m : Method). is_abstract m && stays_open tree (identity_of m) chain) e.1.methods) o false ≡ false →
           option_map_or is_abstract (option_and_then (λ (e : ClassName × Declaration). find (λ m. same_identity k (identity_of m)) e.1.methods) o) false ≡ false
       by_entry None h' = refl
-      by_entry (Some e) h' = found_concrete (λ m. same_identity k (identity_of m)) e.1.methods h'
+      by_entry (Some e) h' = found_concrete k chain e.1.methods stays h'
 
-  over_concrete : (f : Option Method) (fills rest : Bool) → option_map_or is_abstract f false ≡ false → rest ≡ false → cond fills (option_map_or is_abstract f rest) rest ≡ false
-  over_concrete None true rest h k = k
-  over_concrete (Some m) true rest h k = h
-  over_concrete f false rest h k = k
+  -- ---- chains that leave nothing open
 
-  never_open : (k : MethodIdentity) (slot : ℕ) (ns : List ℕ) → list_any (declares_abstract tree) ns ≡ false → open_numbered tree k slot ns ≡ false
-  never_open k slot [] h = refl
-  never_open k slot (n ∷ ns) h =
-      over_concrete (method_found tree k n) (option_map_or (λ s. s == slot) (slot_numbered tree k (n ∷ ns)) false) (open_numbered tree k slot ns) (method_concrete k n (or_parts _ _ h).0) (never_open k slot ns (or_parts _ _ h).1)
+  top_concrete : (f : Option Method) (top : Bool) → option_map_or is_abstract f false ≡ false → top ≡ false → option_map_or is_abstract f top ≡ false
+  top_concrete None top h k = k
+  top_concrete (Some m) top h k = h
 
-  never_left : (k : MethodIdentity) (ns ms : List ℕ) → list_any (declares_abstract tree) ns ≡ false → is_left_open tree k ns ms ≡ false
-  never_left k ns ms h = by_slot (slot_numbered tree k ms)
+  none_hidden : (f : Option Method) (hidden top : Bool) → hidden ≡ false → top ≡ false → option_map_or (λ (m : Method). hidden || (not (is_override m) && top)) f hidden ≡ false
+  none_hidden None hidden top h k = h
+  none_hidden (Some m) hidden top h k = or_from _ _ h (ap (λ b. not (is_override m) && b) k ∙ and_false (not (is_override m)))
+
+  neither : (k : MethodIdentity) (chain : List ℕ) → stays_open tree k chain ≡ true → (ns : List ℕ) → list_any (class_stays_open tree chain) ns ≡ false → (top_open tree k ns ≡ false) × (hidden_open tree k ns ≡ false)
+  neither k chain stays [] h = (refl, refl)
+  neither k chain stays (n ∷ ns) h =
+      let rest : (top_open tree k ns ≡ false) × (hidden_open tree k ns ≡ false) = neither k chain stays ns (or_parts _ _ h).1 in
+      (top_concrete (method_found tree k n) (top_open tree k ns) (method_concrete k chain n stays (or_parts _ _ h).0) rest.0, none_hidden (method_found tree k n) (hidden_open tree k ns) (top_open tree k ns) rest.1 rest.0)
+
+  -- where no class of a part declares what stays open in it, nothing does
+  pub part_settled : (ns : List ℕ) → list_any (class_stays_open tree ns) ns ≡ false → IsSettled tree ns
+  part_settled ns h k = by_stays (stays_open tree k ns) refl
     where
-      by_slot : (o : Option ℕ) → option_map_or (λ slot. open_numbered tree k slot ns) o false ≡ false
+      by_stays : (b : Bool) → stays_open tree k ns ≡ b → stays_open tree k ns ≡ false
+      by_stays false e = e
+      by_stays true e = let rest : (top_open tree k ns ≡ false) × (hidden_open tree k ns ≡ false) = neither k ns e ns h in or_from _ _ rest.1 rest.0
+
+  -- a part before another that leaves nothing open
+  pub more_settled : (part rest : List ℕ) → IsSettled tree part → IsSettled tree rest → IsSettled tree (part ++ rest)
+  more_settled part rest h g k =
+      let same : (top_open tree k (part ++ rest) ≡ top_open tree k part) × (hidden_open tree k (part ++ rest) ≡ hidden_open tree k part) = over part in
+      ap (λ b. b || top_open tree k (part ++ rest)) same.1 ∙ ap (λ b. hidden_open tree k part || b) same.0 ∙ h k
+    where
+      over : (ns : List ℕ) → (top_open tree k (ns ++ rest) ≡ top_open tree k ns) × (hidden_open tree k (ns ++ rest) ≡ hidden_open tree k ns)
+      over [] = let both : (hidden_open tree k rest ≡ false) × (top_open tree k rest ≡ false) = or_parts (hidden_open tree k rest) (top_open tree k rest) (g k) in (both.1, both.0)
+      over (n ∷ ns) =
+          let further : (top_open tree k (ns ++ rest) ≡ top_open tree k ns) × (hidden_open tree k (ns ++ rest) ≡ hidden_open tree k ns) = over ns in
+          (ap (top_over tree k n) further.0, ap (λ b. hidden_over tree k n b (hidden_open tree k (ns ++ rest))) further.0 ∙ ap (hidden_over tree k n (top_open tree k ns)) further.1)
+
+  -- ---- whole chains
+
+  never_left : (k : MethodIdentity) (chain ms : List ℕ) → IsSettled tree chain → is_left_open tree k chain ms ≡ false
+  never_left k chain ms h = by_slot (slot_numbered tree k ms)
+    where
+      by_open : (slot : ℕ) (b : Bool) → open_numbered tree k slot chain ≡ b → open_numbered tree k slot chain ≡ false
+      by_open slot false e = e
+      by_open slot true e = absurd (not_both (sym (open_stays k slot chain e) ∙ h k))
+
+      by_slot : (o : Option ℕ) → option_map_or (λ slot. open_numbered tree k slot chain) o false ≡ false
       by_slot None = refl
-      by_slot (Some slot) = never_open k slot ns h
+      by_slot (Some slot) = by_open slot (open_numbered tree k slot chain) refl
 
-  class_leaves_none : (ns : List ℕ) → list_any (declares_abstract tree) ns ≡ false → (n : ℕ) → class_leaves_open tree ns n ≡ false
-  class_leaves_none ns h n = by_entry (slice_get (declarations tree) n)
+  class_leaves_none : (chain : List ℕ) → IsSettled tree chain → (n : ℕ) → class_leaves_open tree chain n ≡ false
+  class_leaves_none chain h n = by_entry (slice_get (declarations tree) n)
     where
-      by_entry : (o : Option (ClassName × Declaration)) → option_map_or (λ (e : ClassName × Declaration). list_any (λ (m : Method). is_virtual m.kind && is_left_open tree (identity_of m) ns (chain_numbers tree e.0)) e.1.methods) o false ≡ false
+      by_entry : (o : Option (ClassName × Declaration)) → option_map_or (λ (e : ClassName × Declaration). list_any (λ (m : Method). is_virtual m.kind && is_left_open tree (identity_of m) chain (chain_numbers tree e.0)) e.1.methods) o false ≡ false
       by_entry None = refl
       by_entry (Some e) =
-          none_passes (λ (m : Method). is_virtual m.kind && is_left_open tree (identity_of m) ns (chain_numbers tree e.0)) (λ m. ap (λ b. is_virtual m.kind && b) (never_left (identity_of m) ns (chain_numbers tree e.0) h) ∙ and_false (is_virtual m.kind)) e.1.methods
+          none_passes (λ (m : Method). is_virtual m.kind && is_left_open tree (identity_of m) chain (chain_numbers tree e.0)) (λ m. ap (λ b. is_virtual m.kind && b) (never_left (identity_of m) chain (chain_numbers tree e.0) h) ∙ and_false (is_virtual m.kind)) e.1.methods
 
-  pub none_left_open : (ns ms : List ℕ) → list_any (declares_abstract tree) ns ≡ false → list_any (class_leaves_open tree ns) ms ≡ false
-  none_left_open ns ms h = none_passes (class_leaves_open tree ns) (class_leaves_none ns h) ms
+  pub none_left_open : (chain ms : List ℕ) → IsSettled tree chain → list_any (class_leaves_open tree chain) ms ≡ false
+  none_left_open chain ms h = none_passes (class_leaves_open tree chain) (class_leaves_none chain h) ms

@@ -1,5 +1,5 @@
 -- What the methods found by the numbers of classes are, and the slots that they fill (II.10.3), told as the rules on names tell them.
-use Rattle.std.specs.Prelude.{ℕ, ◌==◌, Bool, false, not, ◌&&◌, if◌then◌else◌, List, [], ◌∷◌, Option, Some, None, unwrap_or, slice_get}
+use Rattle.std.specs.Prelude.{◌≡◌, ℕ, ◌==◌, Bool, false, not, ◌&&◌, ◌||◌, if◌then◌else◌, List, [], ◌∷◌, Option, Some, None, unwrap_or, slice_get}
 use Rattle.std.specs.List.{list_any}
 use Rattle.std.specs.Option.{option_map_or}
 use Rattle.cil_model.specs.declared.types.ClassName.{ClassName}
@@ -45,9 +45,40 @@ abbrev pub class_leaves_open : Tree → List ℕ → ℕ → Bool
 class_leaves_open tree chain n =
     option_map_or (λ (e : ClassName × Declaration). list_any (λ (m : Method). is_virtual m.kind && is_left_open tree (identity_of m) chain (chain_numbers tree e.0)) e.1.methods) (slice_get (declarations tree) n) false
 
--- whether the class of a number declares an abstract method (II.15.4.2)
-abbrev pub declares_abstract : Tree → ℕ → Bool
-declares_abstract tree n = option_map_or (λ (e : ClassName × Declaration). list_any (λ (m : Method). is_abstract_method m.kind) e.1.methods) (slice_get (declarations tree) n) false
+-- a virtual method without newslot fills the slot of the next virtual one behind it (II.10.3.1)
+abbrev pub is_override : Method → Bool
+is_override m = is_virtual m.kind && not (is_new_slot_method m.kind)
+
+-- whether the nearest method of this name and signature is abstract as seen from a class, by what is so as seen from its base (II.15.4.2)
+abbrev pub top_over : Tree → MethodIdentity → ℕ → Bool → Bool
+top_over tree k n is_top = option_map_or (λ (m : Method). is_abstract_method m.kind) (method_found tree k n) is_top
+
+-- whether the nearest method of this name and signature along a chain is abstract (II.15.4.2)
+abbrev pub top_open : Tree → MethodIdentity → List ℕ → Bool
+top_open tree k [] = false
+top_open tree k (n ∷ ns) = top_over tree k n (top_open tree k ns)
+
+-- whether an abstract method has its next nearer one, which is no override of it, as seen from a class, by what is so as seen from its base (II.10.3.1)
+abbrev pub hidden_over : Tree → MethodIdentity → ℕ → Bool → Bool → Bool
+hidden_over tree k n is_top is_hidden = option_map_or (λ (m : Method). is_hidden || (not (is_override m) && is_top)) (method_found tree k n) is_hidden
+
+-- whether an abstract method along a chain has its next nearer one, which is no override of it (II.10.3.1)
+abbrev pub hidden_open : Tree → MethodIdentity → List ℕ → Bool
+hidden_open tree k [] = false
+hidden_open tree k (n ∷ ns) = hidden_over tree k n (top_open tree k ns) (hidden_open tree k ns)
+
+-- whether an abstract method of this name and signature along a chain is not overridden by the next nearer one (II.15.4.2)
+abbrev pub stays_open : Tree → MethodIdentity → List ℕ → Bool
+stays_open tree k ns = hidden_open tree k ns || top_open tree k ns
+
+-- whether a method with the name and signature of an abstract one of a class stays open along a chain (II.15.4.2)
+abbrev pub class_stays_open : Tree → List ℕ → ℕ → Bool
+class_stays_open tree chain n =
+    option_map_or (λ (e : ClassName × Declaration). list_any (λ (m : Method). is_abstract_method m.kind && stays_open tree (identity_of m) chain) e.1.methods) (slice_get (declarations tree) n) false
+
+-- each abstract method along a chain is overridden by the next nearer one (II.15.4.2)
+abbrev pub IsSettled : Tree → List ℕ → Type 0
+IsSettled tree ns = (k : MethodIdentity) → stays_open tree k ns ≡ false
 
 -- whether the nearest method of this name and signature along a chain is not virtual (this profile)
 abbrev pub plain_numbered : Tree → MethodIdentity → List ℕ → Bool

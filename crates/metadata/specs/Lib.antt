@@ -2,3 +2,4 @@ pub mod Named
 pub mod Found
 pub mod Counts
 pub mod RuleNumbers
+pub mod Contents

@@ -1,12 +1,12 @@
 // Methods whose kinds do not fit.
 
-ghost use Rattle.std.specs.Prelude.{◌≡◌, ◌==◌, ◌&&◌, ◌||◌, not, if◌then◌else◌, false, IfOk, map, filter_map, slice_get};
+ghost use Rattle.std.specs.Prelude.{◌≡◌, ◌==◌, ◌&&◌, ◌||◌, not, if◌then◌else◌, false, true, IfOk, map, filter_map, slice_get};
 ghost use Rattle.std.specs.List.{list_any, list_all};
 ghost use Rattle.std.specs.Option.{option_map_or};
 ghost use Rattle.cil_model.specs.Chains.{base_of, chain_within, longest_chain, is_virtual, is_abstract_method};
 ghost use Rattle.cil_model.specs.Declarations.{source_name};
 ghost use Rattle.cil_model.specs.Legality.{is_interface_method, has_abstract_slot, overrides_no_virtual, kinds_fit, misfits_kind};
-ghost use Rattle.metadata.specs.Found.{slot_filled_at, slot_over, slot_numbered, open_over, open_numbered, is_left_open, class_leaves_open, declares_abstract, plain_numbered};
+ghost use Rattle.metadata.specs.Found.{slot_filled_at, slot_over, slot_numbered, open_over, open_numbered, is_left_open, class_leaves_open, is_override, top_over, hidden_over, stays_open, class_stays_open, IsSettled, plain_numbered};
 ghost use Rattle.name_tables.specs.Keys.{class_of_key, method_of_key};
 ghost use Rattle.name_tables.specs.Numbers.{class_number, declarations};
 ghost use Rattle.name_tables.specs.Sameness.{identity_of};
@@ -163,34 +163,134 @@ fn some_leaves_open(names: &NameTables, chain: &[usize], classes: &[usize]) -> b
     false
 }
 
-/// Whether the class of a number declares an abstract method.
-fn declares_abstract(names: &NameTables, class: usize) -> bool
-    ensures { result ≡ declares_abstract names.now.classes.tree.now class }
+// ---- abstract methods that are not overridden: where there is none along a chain, no slot is open along it
+
+/// Whether a virtual method is without newslot, so that it fills the slot of the next virtual one behind it (ECMA-335 II.10.3.1).
+fn is_override(method: &Method) -> bool
+    ensures { result ≡ is_override method.now }
 {
-    match names.classes.class(class) {
-        None => false,
-        Some(declared) => has_abstract_method(declared.methods.as_slice()),
+    is_virtual(&method.kind) && !is_new_slot_method(&method.kind)
+}
+
+/// Whether the nearest method of this name and signature is abstract as seen from a class, where it is known as seen from its
+/// base.
+fn top_over(names: &NameTables, key: MethodKey, class: usize, is_top: bool) -> bool
+    ensures { result ≡ top_over names.now.classes.tree.now (method_of_key key.entry) class is_top }
+{
+    match names.classes.method(class, key) {
+        None => is_top,
+        Some(method) => is_abstract_method(&method.kind),
     }
 }
 
-fn some_declares_abstract(names: &NameTables, chain: &[usize]) -> bool
-    ensures { result ≡ list_any (declares_abstract names.now.classes.tree.now) chain.now }
+/// Whether an abstract method has its next nearer one, which is no override, as seen from a class, where it is known as seen
+/// from its base. `is_top` tells whether the nearest one as seen from the base is abstract.
+fn hidden_over(
+    names: &NameTables,
+    key: MethodKey,
+    class: usize,
+    is_top: bool,
+    is_hidden: bool,
+) -> bool
+    ensures { result ≡ hidden_over names.now.classes.tree.now (method_of_key key.entry) class is_top is_hidden }
 {
-    for class in chain {
-        if declares_abstract(names, *class) {
+    match names.classes.method(class, key) {
+        None => is_hidden,
+        Some(method) => is_hidden || (!is_override(method) && is_top),
+    }
+}
+
+/// Whether an abstract method of this name and signature along a chain is not overridden by the next nearer one.
+fn stays_open(names: &NameTables, key: MethodKey, chain: &[usize]) -> bool
+    ensures { result ≡ stays_open names.now.classes.tree.now (method_of_key key.entry) chain.now }
+{
+    let mut is_top = false;
+    let mut is_hidden = false;
+    for place in (0..chain.len()).rev() {
+        is_hidden = hidden_over(names, key, chain[place], is_top, is_hidden);
+        is_top = top_over(names, key, chain[place], is_top);
+    }
+    is_hidden || is_top
+}
+
+fn method_stays_open(names: &NameTables, chain: &[usize], method: &Method) -> bool
+    ensures { result ≡ (is_abstract_method method.now.kind && stays_open names.now.classes.tree.now (identity_of method.now) chain.now) }
+{
+    if !is_abstract_method(&method.kind) {
+        return false;
+    }
+    let key = MethodKey::new(&method.name, &method.signature);
+    stays_open(names, key, chain)
+}
+
+fn methods_stay_open(names: &NameTables, chain: &[usize], methods: &[&Method]) -> bool
+    ensures { result ≡ list_any (λ m. is_abstract_method m.kind && stays_open names.now.classes.tree.now (identity_of m) chain.now) (map (λ m. m.now) methods.now) }
+{
+    for method in methods {
+        if method_stays_open(names, chain, method) {
             return true;
         }
     }
     false
 }
 
-/// Whether an abstract method fills a slot of the class (ECMA-335 II.15.4.2). Where no class of the chain declares one, none
-/// does, and no slot is looked at.
+/// Whether a method with the name and signature of an abstract one of a class stays open along a chain.
+fn class_stays_open(names: &NameTables, chain: &[usize], class: usize) -> bool
+    ensures { result ≡ class_stays_open names.now.classes.tree.now chain.now class }
+{
+    match names.classes.class(class) {
+        None => false,
+        Some(declared) => methods_stay_open(names, chain, declared.methods.as_slice()),
+    }
+}
+
+fn some_stays_open(names: &NameTables, chain: &[usize], classes: &[usize]) -> bool
+    ensures { result ≡ list_any (class_stays_open names.now.classes.tree.now chain.now) classes.now }
+{
+    for class in classes {
+        if class_stays_open(names, chain, *class) {
+            return true;
+        }
+    }
+    false
+}
+
+/// Whether the class of a number is marked abstract (ECMA-335 II.10.1.4).
+fn is_marked_abstract(names: &NameTables, class: usize) -> bool
+    ensures { result ≡ option_map_or (λ e. e.1.is_abstract) (slice_get (declarations names.now.classes.tree.now) class) false }
+{
+    match names.classes.class(class) {
+        None => false,
+        Some(declared) => declared.is_abstract,
+    }
+}
+
+/// Whether each abstract method of a chain is seen to be overridden. The chain is gone through from its last base on, in parts, each
+/// of which ends with a class that leaves nothing open; only methods of the part are looked at, so that what was overridden once
+/// isn't looked at again for the classes below.
+fn is_settled(names: &NameTables, chain: &[usize]) -> bool
+    ensures { result ≡ true → IsSettled names.now.classes.tree.now chain.now }
+{
+    let mut end = chain.len();
+    for place in (0..chain.len()).rev() {
+        if is_marked_abstract(names, chain[place]) {
+            continue;
+        }
+        let part = &chain[place..end];
+        if !some_stays_open(names, part, part) {
+            end = place;
+        }
+    }
+    end == 0
+}
+
+/// Whether an abstract method fills a slot of the class (ECMA-335 II.15.4.2). Where each abstract method of the chain is
+/// overridden, none does, and no slot is looked at: so it is for each class of a legal program that is not abstract.
 fn has_abstract_slot(names: &NameTables, class: ClassKey) -> bool
     ensures { result ≡ has_abstract_slot names.now.classes.tree.now (class_of_key class.entry) }
 {
     let chain = names.chain(class);
-    if !some_declares_abstract(names, chain) {
+    if is_settled(names, chain) {
         return false;
     }
     some_leaves_open(names, chain, chain)

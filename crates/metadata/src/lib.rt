@@ -1,6 +1,7 @@
 // Which trees are legal programs.
 #![tactic(auto)]
 
+mod contents;
 mod culprits;
 mod cycles;
 mod doubled;

@@ -1,4 +1,5 @@
--- Which numbers names become, by the look-ups of the tables. None where a name finds nothing.
+-- Which numbers names become, by the look-ups of the tables. None where a name finds nothing. Functions within the crate speak of
+-- these; what they promise to other crates stands in Resolved.
 use Rattle.std.specs.Prelude.{ℕ, Bool, true, false, List, [], ◌∷◌, map, Option, Some, None, option_map, option_and_then}
 use Rattle.std.specs.List.{position_from}
 use Rattle.cil_model.specs.declared.types.ClassName.{ClassName}

@@ -2,11 +2,11 @@
 #![tactic(auto)]
 
 pub mod classes;
-pub mod instructions;
-pub mod labels;
+mod instructions;
+mod labels;
 pub mod literals;
-pub mod members;
-pub mod numbering;
+mod members;
+mod numbering;
 pub mod operations;
 pub mod resolved;
 pub mod types;

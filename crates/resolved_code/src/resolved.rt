@@ -5,7 +5,7 @@ ghost use Rattle.cil_model.specs.Legality.{IsLegal};
 ghost use Rattle.name_tables.specs.Entries.{declaration_in, entry_of};
 ghost use Rattle.name_tables.specs.Numbers.{declarations};
 ghost use Rattle.resolved_code.specs.Resolved.{AreResolved};
-ghost use Rattle.resolved_code.specs.Rules.{all_some, class_rule, classes_rule};
+ghost use Rattle.resolved_code.specs.Rules.{all_some, class_rule};
 
 use crate::classes::ResolvedClass;
 use crate::instructions::Resolver;
@@ -75,7 +75,6 @@ pub fn resolve_classes(
     requires { literals.now.tree.now ≡ names.now.classes.tree.now }
     ensures resolved { IfOk result (λ r. IfSome r (AreResolved names.now.classes.tree.now)) }
     ensures legal { IfOk result (λ r. IsLegal names.now.classes.tree.now → IsSome r) }
-    ensures exact { IfOk result (λ r. r ≡ classes_rule names.now.classes.tree.now) }
 {
     let resolver = Resolver { names, literals };
     let resolved = resolver.classes(alloc, names.classes.all())?;

@@ -13,4 +13,4 @@ returns c =
     let t = c.args.names.now.classes.tree.now in
     let rule : ClassName × Declaration → _ = λ e. class_rule t e.1 in
     let exact = c.in_ok-resolved.ensures ∙ ap all_some (sym (map_of_map (λ (x : ClassTable). entry_of x.class) rule c.all.result.now) ∙ ap (map rule) c.all.ensures) in
-    record { resolved = all_resolved t c.in_ok-resolved.resolved exact; legal = all_found t c.in_ok-resolved.resolved exact; exact = exact }
+    record { resolved = all_resolved t c.in_ok-resolved.resolved exact; legal = all_found t c.in_ok-resolved.resolved exact }
