@@ -1,0 +1,2 @@
+pub mod OwnFields
+pub mod Entries
