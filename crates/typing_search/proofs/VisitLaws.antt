@@ -24,7 +24,7 @@ use Rattle.flow_rules.proofs.Classes.{alike_at, alike_beyond, alike_length}
 use Rattle.typing_search.specs.Rises.{table_rises, most_values, natural}
 use Rattle.typing_search.specs.Ways.{ways_on}
 use Rattle.typing_search.specs.Tables.{HasRisen, CannotRise, AreWays}
-use Rattle.typing_search.specs.Answers.{typing_of, work_left, IsResultAt, IsRise, IsRisen, AreOf, IsOnTheWay, IsVisit, IsTypingAnswer}
+use Rattle.typing_search.specs.Answers.{typing_of, work_left, IsResultAt, IsRise, IsRisen, AreOf, IsOnTheWay, IsVisit, IsLeastTyping, IsTypingAnswer}
 use Rattle.typing_search.specs.declared.refusals.TypingError.{TypingError}
 use Rattle.typing_search.specs.declared.refusals.TypingError.TheVariants.{Untyped, OutOfMemory}
 use Rattle.typing_search.specs.declared.search.Search.{Search}
@@ -144,14 +144,17 @@ module _ (m : MethodTypes) (operations : List Operation) (max_stack : ℤ) (code
   stopped T (Untyped at reason) new h = h
   stopped T OutOfMemory new h = tt
 
-  pub arrived : (rows : List (Option (List StackEntry))) (pending : List ℕ) → IsOnTheWay m code rows pending → pending ≡ [] → IsCodeTyping m.types.now arguments return_type code (typing_of m.types.now rows)
-  arrived rows pending u e = finished m.types.now arguments return_type code (typing_of m.types.now rows) (subst (λ (p : List ℕ). IsOnTheWay m code rows p) e u)
+  arrived : (rows : List (Option (List StackEntry))) (pending : List ℕ) → IsOnTheWay m code rows pending → pending ≡ [] → IsLeastTyping m.types.now arguments return_type code (typing_of m.types.now rows)
+  arrived rows pending u e = record {
+    is_typing = finished m.types.now arguments return_type code (typing_of m.types.now rows) (subst (λ (p : List ℕ). IsOnTheWay m code rows p) e u);
+    under = u.under;
+  }
 
   pub taken : (rows later : List (Option (List StackEntry))) (pending rest : List ℕ) (place : ℕ) → IsOnTheWay m code rows pending → later ≡ rows → pending ≡ rest ++ place ∷ [] → IsOnTheWay m code later (rest ++ place ∷ [])
   taken rows later pending rest place u same left = subst (λ (v : List (Option (List StackEntry))). IsOnTheWay m code v (rest ++ place ∷ [])) (sym same) (subst (λ (p : List ℕ). IsOnTheWay m code rows p) left u)
 
-  pub settled_all : (rows later result : List (Option (List StackEntry))) (pending : List ℕ) → IsOnTheWay m code rows pending → pending ≡ [] → later ≡ rows → result ≡ later → IsCodeTyping m.types.now arguments return_type code (typing_of m.types.now result)
-  settled_all rows later result pending u e same made = subst (λ (v : List (Option (List StackEntry))). IsCodeTyping m.types.now arguments return_type code (typing_of m.types.now v)) (sym (made ∙ same)) (arrived rows pending u e)
+  pub settled_all : (rows later result : List (Option (List StackEntry))) (pending : List ℕ) → IsOnTheWay m code rows pending → pending ≡ [] → later ≡ rows → result ≡ later → IsLeastTyping m.types.now arguments return_type code (typing_of m.types.now result)
+  settled_all rows later result pending u e same made = subst (λ (v : List (Option (List StackEntry))). IsLeastTyping m.types.now arguments return_type code (typing_of m.types.now v)) (sym (made ∙ same)) (arrived rows pending u e)
 
 pub work_taken : (tree : Tree) (max_stack : ℤ) (old new : Search) (place : ℕ) → new.rows.items ≡ old.rows.items → old.pending.items ≡ new.pending.items ++ place ∷ [] → work_left tree max_stack new < work_left tree max_stack old
 work_taken tree max_stack old new place rows pending =

@@ -16,7 +16,7 @@ use Rattle.flow_rules.specs.declared.entries.StackEntry.{StackEntry}
 use Rattle.flow_rules.specs.declared.mismatches.FlowError.{FlowError}
 use Rattle.flow_rules.specs.declared.mismatches.FlowError.TheVariants as OfFlow
 use Rattle.typing_search.specs.Rises.{table_rises, most_values}
-use Rattle.typing_search.specs.Tables.{HasRisen, CannotRise, IsUnfinished}
+use Rattle.typing_search.specs.Tables.{IsUnder, HasRisen, CannotRise, IsUnfinished}
 use Rattle.typing_search.specs.declared.refusals.TypingError.{TypingError}
 use Rattle.typing_search.specs.declared.refusals.TypingError.TheVariants.{Untyped, OutOfMemory}
 use Rattle.typing_search.specs.declared.search.Search.{Search}
@@ -90,8 +90,13 @@ IsVisit m code s (Ok done) = IsOnTheWay m code s.rows.items s.pending.items
 IsVisit m code s (Err (Untyped place reason)) = HasNone m code
 IsVisit m code s (Err OutOfMemory) = Unit {0}
 
--- A typing, or that there is none. Of want of memory nothing is said.
+-- a typing that lies below every other
+pub record IsLeastTyping (tree : Tree) (arguments : List DeclaredType) (return_type : Option DeclaredType) (code : Code) (found : Typing) : Type 0 where
+  pub is_typing : IsCodeTyping tree arguments return_type code found
+  pub under : (typing : Typing) → IsCodeTyping tree arguments return_type code typing → IsUnder tree found typing
+
+-- The least typing, or that there is none. Of want of memory nothing is said.
 abbrev pub IsTypingAnswer : Tree → List DeclaredType → Option DeclaredType → Code → Result (List (Option (List StackEntry))) TypingError → Type 0
-IsTypingAnswer tree arguments return_type code (Ok rows) = IsCodeTyping tree arguments return_type code (typing_of tree rows)
+IsTypingAnswer tree arguments return_type code (Ok rows) = IsLeastTyping tree arguments return_type code (typing_of tree rows)
 IsTypingAnswer tree arguments return_type code (Err (Untyped place reason)) = (typing : Typing) → IsCodeTyping tree arguments return_type code typing → ⊥
 IsTypingAnswer tree arguments return_type code (Err OutOfMemory) = Unit {0}
