@@ -24,6 +24,7 @@ use resolved_code::types::{NumberedElement, NumberedType};
 use std::marker::Model;
 
 /// The types of a legal program, each below its parent. Contracts see it as the program's tree.
+#[derive(Drop)]
 pub struct TypeTree<'a> {
     tree: &'a Tree,
     classes: &'a [ResolvedClass],

@@ -1,0 +1,6 @@
+pub mod RiseLaws
+pub mod StackLaws
+pub mod TableLaws
+pub mod WayLaws
+pub mod SearchLaws
+pub mod VisitLaws

@@ -1,0 +1,176 @@
+-- One visit of a search by numbers, its beginning and its end.
+use Rattle.std.proofs.Common.{◌≡◌, ◌≤◌, ◌<◌, ◌+◌, ℕ, zero, suc, ℤ, pos, negsuc, ◌≤ℤ◌, List, [], ◌∷◌, ◌++◌, length, replicate, Option, Some, None, option_map, slice_get, refl, sym, ap, ◌∙◌, subst, arith}
+use Rattle.std.specs.Prelude.{Result, Ok, Err, OnOk}
+use Rattle.std.proofs.lemmas.List.{length-map, length-append}
+use Rattle.std.proofs.lemmas.Int.{ints}
+use Rattle.std.proofs.lemmas.Option.{slice_get-map, slice_get_within}
+use Rattle.cil_model.specs.declared.types.DeclaredType.{DeclaredType}
+use Rattle.cil_model.specs.declared.instructions.Instruction.{Instruction}
+use Rattle.cil_model.specs.declared.trees.Tree.{Tree}
+use Rattle.cil_model.specs.declared.trees.Code.{Code}
+use Rattle.cil_model.specs.declared.trees.Line.{Line}
+use Rattle.cil_model.specs.TypeTree.{StackType}
+use Rattle.cil_model.specs.FlowRules.{StackAfter, flow}
+use Rattle.cil_model.specs.Typings.{Typing, IsCodeTyping}
+use Rattle.cil_model.specs.Legality.{IsLegal}
+use Rattle.cil_model.proofs.BelowLaws.{none_is_some, same_some}
+use Rattle.resolved_code.specs.Resolved.{IsOperation}
+use Rattle.resolved_code.specs.declared.operations.Operation.{Operation}
+use Rattle.flow_rules.specs.Named.{type_named, types_named, stack_types}
+use Rattle.flow_rules.specs.Flow.{flow_of}
+use Rattle.flow_rules.specs.declared.entries.StackEntry.{StackEntry}
+use Rattle.flow_rules.specs.declared.method_types.MethodTypes.{MethodTypes}
+use Rattle.flow_rules.proofs.Classes.{alike_at, alike_beyond, alike_length}
+use Rattle.typing_search.specs.Rises.{table_rises, most_values, natural}
+use Rattle.typing_search.specs.Ways.{ways_on}
+use Rattle.typing_search.specs.Tables.{HasRisen, CannotRise, AreWays}
+use Rattle.typing_search.specs.Answers.{typing_of, work_left, IsResultAt, IsRise, IsRisen, AreOf, IsOnTheWay, IsVisit, IsLeastTyping, IsTypingAnswer}
+use Rattle.typing_search.specs.declared.refusals.TypingError.{TypingError}
+use Rattle.typing_search.specs.declared.refusals.TypingError.TheVariants.{Untyped, OutOfMemory}
+use Rattle.typing_search.specs.declared.search.Search.{Search}
+use Rattle.typing_search.proofs.TableLaws.{finished, begun, not_begun, passed_over, no_result, visited, not_visited}
+use Rattle.typing_search.proofs.WayLaws.{are_ways}
+use Rattle.typing_search.proofs.SearchLaws.{past_the_end, row_at}
+
+pub work_falls : {T : Type 0} (tree : Tree) (max_stack : ℤ) (after : List StackEntry) (ways : List ℕ) (old new : Search) (r : Result T TypingError) → IsRise tree max_stack after ways old new r → OnOk r (work_left tree max_stack new ≤ work_left tree max_stack old)
+work_falls tree max_stack after ways old new (Ok done) h = h.1
+work_falls tree max_stack after ways old new (Err e) h = tt
+
+module _ (m : MethodTypes) (operations : List Operation) (max_stack : ℤ) (code : Code) (of : AreOf m operations max_stack code) where
+  abbrev arguments : List DeclaredType
+  arguments = types_named m.types.now m.arguments.now
+
+  abbrev return_type : Option DeclaredType
+  return_type = option_map (type_named m.types.now) m.return_type
+
+  abbrev Alike : Line → Operation → Type 0
+  Alike line operation = IsOperation m.types.now code.lines line.instruction operation
+
+  unmapped : (rows : List (Option (List StackEntry))) (place : ℕ) → ((stack : List StackEntry) → slice_get rows place ≡ Some (Some stack) → ⊥) → (stack : List StackType) → slice_get (typing_of m.types.now rows) place ≡ Some (Some stack) → ⊥
+  unmapped rows place none stack e = by_row (slice_get rows place) refl (sym (slice_get-map (option_map (stack_types m.types.now)) rows place) ∙ e)
+    where
+      by_row : (o : Option (Option (List StackEntry))) → slice_get rows place ≡ o → option_map (option_map (stack_types m.types.now)) o ≡ Some (Some stack) → ⊥
+      by_row None h f = none_is_some (Some stack) f
+      by_row (Some None) h f = none_is_some stack (same_some None (Some stack) f)
+      by_row (Some (Some known)) h f = none known h
+
+  pub visit_unmapped : (rows : List (Option (List StackEntry))) (pending : List ℕ) (place : ℕ) → IsOnTheWay m code rows (pending ++ place ∷ []) → ((stack : List StackEntry) → slice_get rows place ≡ Some (Some stack) → ⊥) → IsOnTheWay m code rows pending
+  visit_unmapped rows pending place u none = passed_over m.types.now arguments return_type code (typing_of m.types.now rows) pending place u (unmapped rows place none)
+
+  pub visit_beyond : (rows : List (Option (List StackEntry))) (pending : List ℕ) (place : ℕ) → IsOnTheWay m code rows (pending ++ place ∷ []) → slice_get operations place ≡ None → IsOnTheWay m code rows pending
+  visit_beyond rows pending place u e = passed_over m.types.now arguments return_type code (typing_of m.types.now rows) pending place u outside
+    where
+      outside : (stack : List StackType) → slice_get (typing_of m.types.now rows) place ≡ Some (Some stack) → ⊥
+      outside stack f =
+          let past : length code.lines ≤ place = past_the_end code.lines place (alike_beyond Alike code.lines operations of.resolved place e) in
+          let inside : place < length (typing_of m.types.now rows) = slice_get_within (typing_of m.types.now rows) place (Some stack) f in
+          let whole : length (typing_of m.types.now rows) ≡ length code.lines = u.whole in
+          omega (arith, past, inside, whole)
+
+  module _ (legal : IsLegal m.types.now) (old : Search) (place : ℕ) (u : IsOnTheWay m code old.rows.items (old.pending.items ++ place ∷ [])) (op : Operation) (at : slice_get operations place ≡ Some op)
+      (before : List StackEntry) (held : slice_get old.rows.items place ≡ Some (Some before)) where
+    line : (line : Line) × (slice_get code.lines place ≡ Some line) × IsOperation m.types.now code.lines line.instruction op
+    line = alike_at Alike code.lines operations of.resolved place op at
+
+    named : slice_get (typing_of m.types.now old.rows.items) place ≡ Some (Some (stack_types m.types.now before))
+    named = row_at m.types.now old.rows.items place (Some before) held
+
+    -- the rule's answer with the code's own locals
+    in_code : (answer : StackAfter) (i : Instruction) → flow_of m i before ≡ answer → flow m.types.now arguments code.locals return_type i (stack_types m.types.now before) ≡ answer
+    in_code answer i e = subst (λ (ls : List DeclaredType). flow m.types.now arguments ls return_type i (stack_types m.types.now before) ≡ answer) of.locals e
+
+    pub visit_no_result : (T U : Type 0) (e : TypingError) (new : Search) → ((lines : List Line) (i : Instruction) → IsOperation m.types.now lines i op → IsResultAt m.types.now (Err e) (flow_of m i before)) → IsVisit {T = U} m code new (Err e)
+    visit_no_result T U (Untyped at' reason) new h =
+        no_result m.types.now arguments return_type code legal (typing_of m.types.now old.rows.items) old.pending.items place u line.0 line.1 (stack_types m.types.now before) named
+        (in_code None line.0.instruction (h code.lines line.0.instruction line.2))
+    visit_no_result T U OutOfMemory new h = tt
+
+    pub visit_goes_on : {T : Type 0} (r : Result T TypingError) (new : Search) (after : List StackEntry) (ways : List ℕ) →
+        ((lines : List Line) (i : Instruction) → IsOperation m.types.now lines i op → flow_of m i before ≡ Some (stack_types m.types.now after)) → ways ≡ ways_on op (place + 1) →
+        IsRise m.types.now max_stack after ways old new r → IsVisit m code new r
+    visit_goes_on r new after ways h along rise = by_answer r rise
+      where
+        result : flow m.types.now arguments code.locals return_type line.0.instruction (stack_types m.types.now before) ≡ Some (stack_types m.types.now after)
+        result = in_code (Some (stack_types m.types.now after)) line.0.instruction (h code.lines line.0.instruction line.2)
+
+        are : AreWays code place line.0 ways
+        are = subst (λ (w : List ℕ). AreWays code place line.0 w) (sym along) (are_ways m.types.now code place line.0 op line.2)
+
+        by_answer : {T : Type 0} (r : Result T TypingError) → IsRise m.types.now max_stack after ways old new r → IsVisit m code new r
+        by_answer (Ok done) k =
+            visited m.types.now arguments return_type code legal (typing_of m.types.now old.rows.items) old.pending.items place u line.0 line.1 (stack_types m.types.now before) named
+            (stack_types m.types.now after) result ways are (typing_of m.types.now new.rows.items) new.pending.items
+            (subst (λ (z : ℤ). HasRisen m.types.now z (stack_types m.types.now after) ways (typing_of m.types.now old.rows.items) old.pending.items (typing_of m.types.now new.rows.items) new.pending.items) of.same_max k.0)
+        by_answer (Err (Untyped at' reason)) k =
+            not_visited m.types.now arguments return_type code legal (typing_of m.types.now old.rows.items) old.pending.items place u line.0 line.1 (stack_types m.types.now before) named
+            (stack_types m.types.now after) result ways are
+            (subst (λ (z : ℤ). CannotRise m.types.now z (stack_types m.types.now after) ways (typing_of m.types.now old.rows.items)) of.same_max k)
+        by_answer (Err OutOfMemory) k = tt
+
+  -- ---- the beginning and the end
+
+  none_there : (n place : ℕ) (stack : List StackEntry) → slice_get (replicate n None) place ≡ Some (Some stack) → ⊥
+  none_there zero place stack e = none_is_some (Some stack) e
+  none_there (suc n) zero stack e = none_is_some stack (same_some None (Some stack) e)
+  none_there (suc n) (suc place) stack e = none_there n place stack e
+
+  length_none : (n : ℕ) (xs : List (Option (List StackEntry))) → xs ≡ replicate n None → length xs ≡ n
+  length_none n xs e = ap length e ∙ counted n
+    where
+      counted : (k : ℕ) → length {A = Option (List StackEntry)} (replicate k None) ≡ k
+      counted zero = refl
+      counted (suc k) = ap suc (counted k)
+
+  module _ (old : Search) (rows : old.rows.items ≡ replicate (length operations) None) where
+    nothing : (place : ℕ) (stack : List StackType) → slice_get (typing_of m.types.now old.rows.items) place ≡ Some (Some stack) → ⊥
+    nothing place stack e = unmapped old.rows.items place (λ s h. none_there (length operations) place s (sym (ap (λ (v : List (Option (List StackEntry))). slice_get v place) rows) ∙ h)) stack e
+
+    as_long : length (typing_of m.types.now old.rows.items) ≡ length code.lines
+    as_long = length-map old.rows.items (option_map (stack_types m.types.now)) ∙ length_none (length operations) old.rows.items rows ∙ sym (alike_length Alike code.lines operations of.resolved)
+
+    pub on_the_way : (new : Search) → old.pending.items ≡ [] → IsRisen m.types.now max_stack [] (0 ∷ []) old new → IsOnTheWay m code new.rows.items new.pending.items
+    on_the_way new pending h =
+        begun m.types.now arguments return_type code (typing_of m.types.now old.rows.items) (typing_of m.types.now new.rows.items) new.pending.items as_long nothing
+        (subst (λ (z : ℤ). HasRisen m.types.now z [] (0 ∷ []) (typing_of m.types.now old.rows.items) [] (typing_of m.types.now new.rows.items) new.pending.items) of.same_max
+        (subst (λ (p : List ℕ). HasRisen m.types.now max_stack [] (0 ∷ []) (typing_of m.types.now old.rows.items) p (typing_of m.types.now new.rows.items) new.pending.items) pending h.0))
+
+    pub never_begun : (T : Type 0) (e : TypingError) (new : Search) → IsRise {T = T} m.types.now max_stack [] (0 ∷ []) old new (Err e) → IsTypingAnswer m.types.now arguments return_type code (Err e)
+    never_begun T (Untyped at reason) new h =
+        not_begun m.types.now arguments return_type code (typing_of m.types.now old.rows.items) as_long nothing
+        (subst (λ (z : ℤ). CannotRise m.types.now z [] (0 ∷ []) (typing_of m.types.now old.rows.items)) of.same_max h)
+    never_begun T OutOfMemory new h = tt
+
+  pub stopped : (T : Type 0) (e : TypingError) (new : Search) → IsVisit {T = T} m code new (Err e) → IsTypingAnswer m.types.now arguments return_type code (Err e)
+  stopped T (Untyped at reason) new h = h
+  stopped T OutOfMemory new h = tt
+
+  arrived : (rows : List (Option (List StackEntry))) (pending : List ℕ) → IsOnTheWay m code rows pending → pending ≡ [] → IsLeastTyping m.types.now arguments return_type code (typing_of m.types.now rows)
+  arrived rows pending u e = record {
+    is_typing = finished m.types.now arguments return_type code (typing_of m.types.now rows) (subst (λ (p : List ℕ). IsOnTheWay m code rows p) e u);
+    under = u.under;
+  }
+
+  pub taken : (rows later : List (Option (List StackEntry))) (pending rest : List ℕ) (place : ℕ) → IsOnTheWay m code rows pending → later ≡ rows → pending ≡ rest ++ place ∷ [] → IsOnTheWay m code later (rest ++ place ∷ [])
+  taken rows later pending rest place u same left = subst (λ (v : List (Option (List StackEntry))). IsOnTheWay m code v (rest ++ place ∷ [])) (sym same) (subst (λ (p : List ℕ). IsOnTheWay m code rows p) left u)
+
+  pub settled_all : (rows later result : List (Option (List StackEntry))) (pending : List ℕ) → IsOnTheWay m code rows pending → pending ≡ [] → later ≡ rows → result ≡ later → IsLeastTyping m.types.now arguments return_type code (typing_of m.types.now result)
+  settled_all rows later result pending u e same made = subst (λ (v : List (Option (List StackEntry))). IsLeastTyping m.types.now arguments return_type code (typing_of m.types.now v)) (sym (made ∙ same)) (arrived rows pending u e)
+
+pub work_taken : (tree : Tree) (max_stack : ℤ) (old new : Search) (place : ℕ) → new.rows.items ≡ old.rows.items → old.pending.items ≡ new.pending.items ++ place ∷ [] → work_left tree max_stack new < work_left tree max_stack old
+work_taken tree max_stack old new place rows pending =
+    let same : table_rises tree (most_values max_stack) (typing_of tree new.rows.items) ≡ table_rises tree (most_values max_stack) (typing_of tree old.rows.items) = ap (λ v. table_rises tree (most_values max_stack) (typing_of tree v)) rows in
+    let longer : length old.pending.items ≡ length new.pending.items + 1 = ap length pending ∙ length-append new.pending.items (place ∷ []) in
+    omega (arith, same, longer)
+
+-- ---- .maxstack
+
+pub natural_is : (z : ℤ) (n : ℕ) → natural z ≡ Some n → pos n ≡ z
+natural_is (pos k) n e = ap pos (sym (same_some k n e))
+natural_is (negsuc k) n e = none_is_some n e
+
+pub no_natural : (z : ℤ) (n : ℕ) → natural z ≡ None → pos n ≤ℤ z → ⊥
+no_natural (pos k) n e h = none_is_some k (sym e)
+no_natural (negsuc k) n e h = grind (arith, ints, h)
+
+pub none_is_low : (tree : Tree) (taken_types : List DeclaredType) (given : Option DeclaredType) (code : Code) (z : ℤ) → z ≡ code.max_stack → natural z ≡ None → (typing : Typing) → IsCodeTyping tree taken_types given code typing → ⊥
+none_is_low tree taken_types given code z same e typing t = no_natural z 0 e (subst (λ (k : ℤ). pos 0 ≤ℤ k) (sym same) (t.height 0 [] t.start))

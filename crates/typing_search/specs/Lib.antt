@@ -1,0 +1,5 @@
+pub mod StackMerges
+pub mod Rises
+pub mod Ways
+pub mod Tables
+pub mod Answers

@@ -1,0 +1,368 @@
+// The least typing of a method, by a list of places whose ways on are still to be looked at (ECMA-335 III.1.8.1.3).
+
+ghost use Rattle.std.specs.Prelude.{◌≡◌, ◌+◌, ◌<◌, ◌≤◌, pos, ◌++◌, ◌∷◌, [], List, IfOk, IfErr, IfSome, OnOk, length, replicate, slice_get, slice_set, true, false, Some, None, option_map};
+ghost use Rattle.cil_model.specs.declared.trees.Tree.{Tree};
+ghost use Rattle.cil_model.specs.declared.trees.Code.{Code};
+ghost use Rattle.cil_model.specs.declared.trees.Line.{Line};
+ghost use Rattle.cil_model.specs.declared.instructions.Instruction.{Instruction};
+ghost use Rattle.flow_rules.specs.Named.{type_named, types_named, stack_types};
+ghost use Rattle.flow_rules.specs.Flow.{flow_of};
+ghost use Rattle.flow_rules.specs.declared.entries.StackEntry as entries;
+ghost use Rattle.resolved_code.specs.Resolved.{IsBody, IsOperation};
+ghost use Rattle.typing_search.specs.Rises.{stack_rises, natural};
+ghost use Rattle.typing_search.specs.Ways.{ways_on};
+ghost use Rattle.typing_search.specs.Answers.{IsRow, IsResultAt, IsMergeAt, IsRise, AreOf, IsOnTheWay, IsVisit, IsTypingAnswer, work_left};
+ghost use Rattle.typing_search.specs.declared.refusals.TypingError.TheVariants.{OutOfMemory};
+
+use crate::merging::{MergeError, StackMerge, merge_stacks};
+use crate::refusals::{Reason, TypingError};
+use crate::stacks::stack_after;
+use crate::ways::ways_on;
+use cil_model::sequences::Sequence;
+use flow_rules::entries::StackEntry;
+use flow_rules::method_types::MethodTypes;
+use flow_rules::mismatches::FlowError;
+use flow_rules::type_tree::TypeTree;
+use resolved_code::classes::Body;
+use resolved_code::operations::Operation;
+use resolved_code::types::NumberedType;
+use std::alloc::Global;
+
+/// The stacks found so far, one a place where control was found to go, and the places whose ways on are still to be looked at.
+#[derive(Drop)]
+struct Search {
+    rows: Vec<Option<Sequence<StackEntry>>>,
+    pending: Vec<usize>,
+}
+
+/// Whether so many values are no more than that.
+fn is_low(height: usize, most: usize) -> bool
+    ensures low { result ≡ true → height ≤ most }
+    ensures high { result ≡ false → most < height }
+{
+    height <= most
+}
+
+/// The most values that a stack may hold. None where that is negative.
+fn most_values(max_stack: i64) -> Option<usize>
+    ensures { result ≡ natural max_stack }
+{
+    usize::try_from(max_stack).ok()
+}
+
+/// What a search knows of a place.
+#[derive(Clone, Copy)]
+enum Row<'a> {
+    /// There is no such place.
+    Absent,
+    /// Control was not found to go there.
+    Unmapped,
+    /// It goes there with this stack, or one below it.
+    Mapped(&'a [StackEntry]),
+}
+
+/// What is known of a place.
+fn row_at(rows: &[Option<Sequence<StackEntry>>], place: usize) -> Row<'_>
+    ensures { IsRow rows.now place result }
+{
+    match rows.get(place) {
+        None => Row::Absent,
+        Some(None) => Row::Unmapped,
+        Some(Some(stack)) => Row::Mapped(stack.as_slice()),
+    }
+}
+
+/// The stack of a place, where control was found to go there.
+fn mapped_at(rows: &[Option<Sequence<StackEntry>>], place: usize) -> Option<&[StackEntry]>
+    ensures mapped { IfSome result (λ stack. slice_get rows.now place ≡ Some (Some stack.now)) }
+    ensures none { result ≡ None → (stack : List entries.StackEntry) → slice_get rows.now place ≡ Some (Some stack) → ⊥ }
+{
+    match rows.get(place) {
+        None => None,
+        Some(None) => None,
+        Some(Some(stack)) => Some(stack.as_slice()),
+    }
+}
+
+/// The operation at a place.
+fn operation_at(operations: &[Operation], place: usize) -> Option<&Operation>
+    ensures found { IfSome result (λ operation. slice_get operations.now place ≡ Some operation.now) }
+    ensures beyond { result ≡ None → slice_get operations.now place ≡ None }
+{
+    operations.get(place)
+}
+
+/// The place behind an operation.
+fn place_behind(operations: &[Operation], place: usize) -> usize
+    requires { place < length operations.now }
+    ensures { result ≡ place + 1 }
+{
+    let places = operations.len();
+    if place < places { place + 1 } else { places }
+}
+
+/// A copy. Fails for want of memory alone.
+fn copied(entries: &[StackEntry], alloc: Global) -> Result<Sequence<StackEntry>, TypingError>
+    ensures copied { IfOk result (λ copy. copy ≡ entries.now) }
+    ensures err { IfErr result (λ e. e ≡ OutOfMemory) }
+{
+    match entries.to_vec(alloc) {
+        Ok(copy) => Ok(Sequence::new(copy)),
+        Err(_) => Err(TypingError::OutOfMemory),
+    }
+}
+
+/// The merge of the stack that a place has with one that comes there.
+fn merged(
+    types: &TypeTree,
+    place: usize,
+    known: &[StackEntry],
+    coming: &[StackEntry],
+    alloc: Global,
+) -> Result<StackMerge, TypingError>
+    ensures merged { IsMergeAt types.now known.now coming.now result }
+    ensures same { IfOk result (λ m. m.is_higher ≡ false → m.stack ≡ known.now) }
+    ensures higher { IfOk result (λ m. m.is_higher ≡ true → stack_rises types.now (stack_types types.now m.stack) < stack_rises types.now (stack_types types.now known.now)) }
+{
+    match merge_stacks(types, known, coming, alloc) {
+        Ok(merge) => Ok(merge),
+        Err(MergeError::Apart(mismatch)) => Err(TypingError::Untyped {
+            place,
+            reason: Reason::NoMerge(mismatch),
+        }),
+        Err(MergeError::OutOfMemory) => Err(TypingError::OutOfMemory),
+    }
+}
+
+/// The stack behind the instruction at a place, by the flow rule.
+fn result_at(
+    method: &MethodTypes,
+    operation: &Operation,
+    place: usize,
+    before: &[StackEntry],
+    alloc: Global,
+) -> Result<Sequence<StackEntry>, TypingError>
+    ensures { (lines : List Line) (i : Instruction) → IsOperation method.now.types.now lines i operation.now → IsResultAt method.now.types.now result (flow_of method.now i before.now) }
+{
+    match stack_after(method, operation, before, alloc) {
+        Ok(after) => Ok(after),
+        Err(FlowError::Mismatch(mismatch)) => Err(TypingError::Untyped {
+            place,
+            reason: Reason::NoResult(mismatch),
+        }),
+        Err(FlowError::OutOfMemory) => Err(TypingError::OutOfMemory),
+    }
+}
+
+/// Where control goes on to. Fails for want of memory alone.
+fn ways_behind(operation: &Operation, next: usize, alloc: Global) -> Result<Vec<usize>, TypingError>
+    ensures ways { IfOk result (λ ways. ways.items ≡ ways_on operation.now next) }
+    ensures err { IfErr result (λ e. e ≡ OutOfMemory) }
+{
+    match ways_on(operation, next, alloc) {
+        Ok(ways) => Ok(ways),
+        Err(_) => Err(TypingError::OutOfMemory),
+    }
+}
+
+impl Search {
+    /// Nothing is found of so many places. Fails for want of memory alone.
+    fn new(places: usize, alloc: Global) -> Result<Self, TypingError>
+        ensures rows { IfOk result (λ s. s.rows.items ≡ replicate places None) }
+        ensures pending { IfOk result (λ s. s.pending.items ≡ []) }
+        ensures err { IfErr result (λ e. e ≡ OutOfMemory) }
+    {
+        let mut rows = Vec::new(alloc);
+        for place in 0..places {
+            if rows.push(None).is_err() {
+                return Err(TypingError::OutOfMemory);
+            }
+        }
+        Ok(Search {
+            rows,
+            pending: Vec::new(alloc),
+        })
+    }
+
+    /// Sets the stack of a place, which is then pending. Fails for want of memory alone.
+    fn set(&mut self, place: usize, stack: Sequence<StackEntry>) -> Result<(), TypingError>
+        requires { place < length self.old.rows.items }
+        ensures rows { OnOk result (self.new.rows.items ≡ slice_set self.old.rows.items place (Some stack)) }
+        ensures pending { OnOk result (self.new.pending.items ≡ self.old.pending.items ++ place ∷ []) }
+        ensures err { IfErr result (λ e. e ≡ OutOfMemory) }
+    {
+        if self.pending.push(place).is_err() {
+            return Err(TypingError::OutOfMemory);
+        }
+        self.rows[place] = Some(stack);
+        Ok(())
+    }
+
+    /// Takes the first stack to a place.
+    fn map(
+        &mut self,
+        place: usize,
+        after: &[StackEntry],
+        most: usize,
+        alloc: Global,
+    ) -> Result<(), TypingError>
+        requires { slice_get self.old.rows.items place ≡ Some None }
+        ensures { (tree : Tree) → IsRise tree (pos most) after.now (place ∷ []) self.old self.new result }
+    {
+        if is_low(after.len(), most) {
+            let stack = copied(after, alloc)?;
+            return self.set(place, stack);
+        }
+        let reason = Reason::TooHigh(after.len());
+        Err(TypingError::Untyped { place, reason })
+    }
+
+    /// Takes a further stack to a place.
+    fn merge(&mut self, place: usize, merge: StackMerge) -> Result<(), TypingError>
+        requires { place < length self.old.rows.items }
+        ensures same { OnOk result (merge.is_higher ≡ false → self.new ≡ self.old) }
+        ensures rows { OnOk result (merge.is_higher ≡ true → self.new.rows.items ≡ slice_set self.old.rows.items place (Some merge.stack)) }
+        ensures pending { OnOk result (merge.is_higher ≡ true → self.new.pending.items ≡ self.old.pending.items ++ place ∷ []) }
+        ensures err { IfErr result (λ e. e ≡ OutOfMemory) }
+    {
+        if merge.is_higher {
+            return self.set(place, merge.stack);
+        }
+        Ok(())
+    }
+
+    /// Takes a stack to a place.
+    fn raise(
+        &mut self,
+        types: &TypeTree,
+        place: usize,
+        after: &[StackEntry],
+        most: usize,
+        alloc: Global,
+    ) -> Result<(), TypingError>
+        ensures { IsRise types.now (pos most) after.now (place ∷ []) self.old self.new result }
+    {
+        match row_at(self.rows.as_slice(), place) {
+            Row::Absent => {
+                let reason = Reason::NoInstruction;
+                Err(TypingError::Untyped { place, reason })
+            }
+            Row::Unmapped => self.map(place, after, most, alloc),
+            Row::Mapped(known) => {
+                let merge = merged(types, place, known, after, alloc)?;
+                self.merge(place, merge)
+            }
+        }
+    }
+
+    /// Takes a stack to all these places.
+    fn raise_all(
+        &mut self,
+        types: &TypeTree,
+        ways: &[usize],
+        after: &[StackEntry],
+        most: usize,
+        alloc: Global,
+    ) -> Result<(), TypingError>
+        ensures { IsRise types.now (pos most) after.now ways.now self.old self.new result }
+    {
+        for index in 0..ways.len() {
+            self.raise(types, ways[index], after, most, alloc)?;
+        }
+        Ok(())
+    }
+
+    /// Takes a pending place. At None there is none.
+    fn next(&mut self) -> Option<usize>
+        ensures taken { IfSome result (λ place. self.old.pending.items ≡ self.new.pending.items ++ place ∷ []) }
+        ensures empty { result ≡ None → self.old.pending.items ≡ [] }
+        ensures rows { self.new.rows ≡ self.old.rows }
+    {
+        self.pending.pop()
+    }
+
+    /// Takes the stack behind the instruction at a place to where control goes on.
+    fn visit(
+        &mut self,
+        method: &MethodTypes,
+        operations: &[Operation],
+        most: usize,
+        place: usize,
+        alloc: Global,
+    ) -> Result<(), TypingError>
+        ensures found { (code : Code) → AreOf method.now operations.now (pos most) code → IsOnTheWay method.now code self.old.rows.items (self.old.pending.items ++ place ∷ []) → IsVisit method.now code self.new result }
+        ensures work { OnOk result (work_left method.now.types.now (pos most) self.new ≤ work_left method.now.types.now (pos most) self.old) }
+    {
+        let Some(operation) = operation_at(operations, place) else {
+            return Ok(());
+        };
+        let Some(stack) = mapped_at(self.rows.as_slice(), place) else {
+            return Ok(());
+        };
+        // That class System.Object is looked up shows that the program is legal.
+        let _object = method.types.class(0);
+        let after = result_at(method, operation, place, stack, alloc)?;
+        let ways = ways_behind(operation, place_behind(operations, place), alloc)?;
+        self.raise_all(method.types, ways.as_slice(), after.as_slice(), most, alloc)
+    }
+}
+
+/// The least typing of the code of a method with these types.
+fn least_typing(
+    method: &MethodTypes,
+    operations: &[Operation],
+    most: usize,
+    alloc: Global,
+) -> Result<Sequence<Option<Sequence<StackEntry>>>, TypingError>
+    ensures { (code : Code) → AreOf method.now operations.now (pos most) code → IsTypingAnswer method.now.types.now (types_named method.now.types.now method.now.arguments.now) (option_map (type_named method.now.types.now) method.now.return_type) code result }
+{
+    let mut search = Search::new(operations.len(), alloc)?;
+    search.raise(method.types, 0, [].as_slice(), most, alloc)?;
+    while let Some(place) = search.next() {
+        search.visit(method, operations, most, place, alloc)?;
+    }
+    let Search { rows, pending: _ } = search;
+    Ok(Sequence::new(rows))
+}
+
+/// The same of a body. No stack is low enough where `.maxstack` is negative.
+fn typing_of_body(
+    method: &MethodTypes,
+    body: &Body,
+    alloc: Global,
+) -> Result<Sequence<Option<Sequence<StackEntry>>>, TypingError>
+    ensures { (code : Code) → IsBody method.now.types.now code body.now → types_named method.now.types.now method.now.locals.now ≡ code.locals → IsTypingAnswer method.now.types.now (types_named method.now.types.now method.now.arguments.now) (option_map (type_named method.now.types.now) method.now.return_type) code result }
+{
+    let Some(most) = most_values(body.max_stack) else {
+        let reason = Reason::TooHigh(0);
+        return Err(TypingError::Untyped { place: 0, reason });
+    };
+    least_typing(method, body.operations.as_slice(), most, alloc)
+}
+
+/// The least typing of a method's code, the top of each stack first; none at a place that control never reaches. An `Untyped` error
+/// comes exactly where the code has no typing (ECMA-335 III.1.8.1.3).
+pub fn find_typing(
+    types: &TypeTree,
+    arguments: &[NumberedType],
+    return_type: Option<NumberedType>,
+    body: &Body,
+    alloc: Global,
+) -> Result<Sequence<Option<Sequence<StackEntry>>>, TypingError>
+    ensures { (code : Code) → IsBody types.now code body.now → IsTypingAnswer types.now (types_named types.now arguments.now) (option_map (type_named types.now) return_type) code result }
+{
+    let method = MethodTypes {
+        types,
+        arguments,
+        locals: body.locals.as_slice(),
+        return_type,
+    };
+    let typing = typing_of_body(&method, body, alloc);
+    let MethodTypes {
+        types: _,
+        arguments: _,
+        locals: _,
+        return_type: _,
+    } = method;
+    typing
+}
