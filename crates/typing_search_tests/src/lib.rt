@@ -1,0 +1,5 @@
+//! Least typings of the methods of sources.
+#![tactic(auto)]
+
+#[cfg(test)]
+mod typings;
