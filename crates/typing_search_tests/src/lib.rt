@@ -1,5 +1,0 @@
-//! Least typings of the methods of sources.
-#![tactic(auto)]
-
-#[cfg(test)]
-mod typings;
