@@ -1,0 +1,3 @@
+pub mod Outcomes
+pub mod Machines
+pub mod Entries

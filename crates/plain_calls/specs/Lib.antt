@@ -1,0 +1,3 @@
+pub mod OwnFields
+pub mod Taken
+pub mod Actions

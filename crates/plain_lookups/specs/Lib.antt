@@ -1,0 +1,4 @@
+pub mod Members
+pub mod Elements
+pub mod BuiltInMethods
+pub mod MethodNames

@@ -1,0 +1,6 @@
+pub mod Names
+pub mod Values
+pub mod Contents
+pub mod Monitors
+pub mod Stores
+pub mod Started
