@@ -20,12 +20,15 @@ use Rattle.cil_model.specs.declared.trees.Tree.{Tree}
 use Rattle.interleaving_core.specs.declared.machine.Refused.TheVariants.{Limits as BadLimits}
 use Rattle.schedule_text.specs.Items.{words}
 use Rattle.schedule_text.specs.Readings.{AreRead}
-use Rattle.verifier.specs.Typed.{AllTyped, first_refused}
-use Rattle.verifier.specs.declared.typing.VerifyError.{VerifyError}
-use Rattle.verifier.specs.declared.typing.VerifyError.TheVariants.{NoTyping}
-use Rattle.cilvm.specs.Failures.{failure_of_verifying}
+use Rattle.cil_model.specs.Typings.{IsAccepted}
+use Rattle.first_path.specs.Typed.{first_beyond}
+use Rattle.first_path.specs.declared.path.PathError.{PathError}
+use Rattle.first_path.specs.declared.path.PathError.TheVariants.{NotYet}
+use Rattle.verifier.specs.Verdicts.{IsVerdict}
+use Rattle.verifier.specs.declared.refusals.VerifyError.{VerifyError}
+use Rattle.cilvm.specs.Failures.{failure_of_path, failure_of_verifying}
 use Rattle.cilvm.specs.declared.drive.Failure.{Failure}
-use Rattle.cilvm.specs.Outcomes.{HasRun, IsAcceptedSource, IsNotAccepted, IsRunBy, IsShown}
+use Rattle.cilvm.specs.Outcomes.{HasNotRun, HasRun, IsAcceptedSource, IsNotAccepted, IsRunBy, IsShown}
 use Rattle.cilvm.specs.Threads.{ends_of}
 
 pub handed_on : {T E : Type 0} {P gives : E → Type 0} (r : Result T E) → IsErrAnd r gives → ((e : E) → gives e → P e) → IfErr r P
@@ -85,12 +88,17 @@ has_run source tree limits text c out out' err err' status accepted run shown =
     }
 
 -- a program that was verified
-pub accepted_source : (source : List ℕ) (tree program verified : Tree) → IsAnswer source (HasTree tree) → program ≡ tree → IsLegal tree → verified ≡ program → AllTyped program → IsAcceptedSource source verified
-accepted_source source tree program verified read same legal kept typed =
-    subst (IsAcceptedSource source) (sym (kept ∙ same)) (record { read = read; accepted = record { legal = legal; typed = subst AllTyped same typed } })
+pub accepted_source : (source : List ℕ) (tree program verified : Tree) → IsAnswer source (HasTree tree) → program ≡ tree → IsVerdict program (Ok verified) → IsAcceptedSource source verified
+accepted_source source tree program verified read same verdict =
+    subst (IsAcceptedSource source) (sym (verdict.0 ∙ same)) (record { read = read; accepted = subst IsAccepted same verdict.1 })
 
 -- a program that was not
-pub untyped_source : {T : Type 0} (source : List ℕ) (tree program : Tree) (error : VerifyError) (failure : Failure) → IsAnswer source (HasTree tree) → program ≡ tree → IsLegal tree
-    → ((method : ℕ) → ◌≡◌ {A = Result T VerifyError} (Err error) (Err (NoTyping method)) → first_refused program ≡ Some method) → failure ≡ failure_of_verifying error → IsNotAccepted source failure
-untyped_source source tree program error failure read same legal refused told =
-    inr (tree, read, inr (inl (legal, (error, (λ method e. ap first_refused (sym same) ∙ refused method (ap Err e)), told))))
+pub untyped_source : (source : List ℕ) (tree program : Tree) (error : VerifyError) (failure : Failure) → IsAnswer source (HasTree tree) → program ≡ tree → IsLegal tree
+    → IsVerdict program (Err error) → failure ≡ failure_of_verifying error → IsNotAccepted source failure
+untyped_source source tree program error failure read same legal verdict told =
+    inr (tree, read, inr (inl (legal, (error, subst (λ (t : Tree). IsVerdict t (Err error)) same verdict, told))))
+
+-- an accepted program that does not run yet
+pub beyond : {T : Type 0} (source : List ℕ) (limits : Limits) (text : List ℕ) (tree : Tree) (error : PathError) (failure : Failure) → IsAcceptedSource source tree
+    → ((method : ℕ) → ◌≡◌ {A = Result T PathError} (Err error) (Err (NotYet method)) → first_beyond tree ≡ Some method) → failure ≡ failure_of_path error → HasNotRun source limits text failure
+beyond source limits text tree error failure accepted refused told = inr (tree, accepted, inl (error, (λ method e. refused method (ap Err e)), told))

@@ -21,16 +21,18 @@ use Rattle.cil_model.specs.declared.reports.End.{End}
 use Rattle.metadata.specs.RuleNumbers.{number_of as legality_number_of}
 use Rattle.metadata.specs.declared.program.MetaError.{MetaError}
 use Rattle.metadata.specs.declared.program.MetaError.TheVariants.{OutOfMemory as NoMemoryForNames}
-use Rattle.verifier.specs.Typed.{first_refused}
-use Rattle.verifier.specs.declared.typing.VerifyError.TheVariants.{NoTyping}
-use Rattle.verifier.specs.declared.typing.VerifyError.{VerifyError}
+use Rattle.first_path.specs.Typed.{first_beyond}
+use Rattle.first_path.specs.declared.path.PathError.{PathError}
+use Rattle.first_path.specs.declared.path.PathError.TheVariants.{NotYet}
+use Rattle.verifier.specs.Verdicts.{IsVerdict}
+use Rattle.verifier.specs.declared.refusals.VerifyError.{VerifyError}
 use Rattle.cil_model.specs.MachineContents.{Content}
 use Rattle.interleaving_core.specs.declared.machine.Refused.TheVariants.{Limits as BadLimits}
 use Rattle.schedule_text.specs.Items.{words}
 use Rattle.schedule_text.specs.Readings.{AreRead, IsFirstFault}
 use Rattle.schedule_text.specs.declared.errors.ScheduleError.{ScheduleError}
 use Rattle.cilvm.specs.Failures.{failure_of_making, failure_of_reading, failure_of_resolving}
-use Rattle.cilvm.specs.Failures.{failure_of_schedule, failure_of_verifying, is_refusal, message_of}
+use Rattle.cilvm.specs.Failures.{failure_of_path, failure_of_schedule, failure_of_verifying, is_refusal, message_of}
 use Rattle.cilvm.specs.Failures.{IsStatusOf, status_of_failure}
 use Rattle.cilvm.specs.Threads.{ends_of, lines_from, status_of}
 use Rattle.cilvm.specs.declared.drive.Failure.{Failure}
@@ -53,17 +55,21 @@ IsLetIn source = (tree : Tree) × IsAcceptedSource source tree
 abbrev pub IsIllegal : Tree → Failure → Type 0
 IsIllegal tree failure = (error : MetaError) × (error ≢ NoMemoryForNames → least_broken tree ≡ Some (legality_number_of error)) × (failure ≡ failure_of_resolving error)
 
--- a legal program is not verified: this is the first method that is refused, but for want of memory
+-- a legal program is not accepted: this is the first method without a typing, but for want of memory
 abbrev pub IsUntyped : Tree → Failure → Type 0
-IsUntyped tree failure = IsLegal tree × ((error : VerifyError) × ((method : ℕ) → error ≡ NoTyping method → first_refused tree ≡ Some method) × (failure ≡ failure_of_verifying error))
+IsUntyped tree failure = IsLegal tree × ((error : VerifyError) × IsVerdict tree (Err error) × (failure ≡ failure_of_verifying error))
 
--- why a source is not accepted: its bytes have no tree, or the tree is no legal program, or a method of it is refused; or memory is wanted
+-- why a source is not accepted: its bytes have no tree, or the tree is no legal program, or a method of it has no typing; or memory is wanted
 abbrev pub IsNotAccepted : List ℕ → Failure → Type 0
 IsNotAccepted source failure =
     ((error : ReadError) × IsReadAnswer source (Err error) × (failure ≡ failure_of_reading error))
     ⊎ ((tree : Tree) × IsAnswer source (HasTree tree) × (IsIllegal tree failure ⊎ (IsUntyped tree failure ⊎ (failure ≡ Memory))))
 
 -- ---- the run
+
+-- an accepted program does not run yet: this is its first method with an instruction that does not, but for want of memory
+abbrev pub IsBeyond : Tree → Failure → Type 0
+IsBeyond tree failure = (error : PathError) × ((method : ℕ) → error ≡ NotYet method → first_beyond tree ≡ Some method) × (failure ≡ failure_of_path error)
 
 -- a machine has its limits in range, and stands after the events that the text of a schedule writes
 abbrev pub IsRunBy : Tree → Limits → List ℕ → Content → Type 0
@@ -127,7 +133,7 @@ pub record HasRun (source : List ℕ) (limits : Limits) (text : List ℕ) (out o
 -- why a run is not done
 abbrev pub HasNotRun : List ℕ → Limits → List ℕ → Failure → Type 0
 HasNotRun source limits text failure = IsNotAccepted source failure
-    ⊎ (IsLetIn source × (IsNotRunBy limits text failure ⊎ IsOfWriting failure))
+    ⊎ ((tree : Tree) × IsAcceptedSource source tree × (IsBeyond tree failure ⊎ (IsNotRunBy limits text failure ⊎ IsOfWriting failure)))
 
 -- an order is carried out: a run takes its schedule from the command line, a replay from the file
 abbrev pub IsDone : Order → List ℕ → List ℕ → Option (List ℕ) → Option (List ℕ) → Option (List ℕ) → Option (List ℕ) → ℕ → Type 0

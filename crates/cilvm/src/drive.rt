@@ -4,7 +4,7 @@ ghost use Rattle.std.specs.List.{list_all, list_any};
 ghost use Rattle.std.specs.Io.KnownBytes.{Appends};
 ghost use Rattle.cilvm.specs.Failures.{IsFailureOfDevice, IsStatusOf, failure_of_making};
 ghost use Rattle.cilvm.specs.Failures.{failure_of_reading, failure_of_resolving};
-ghost use Rattle.cilvm.specs.Failures.{failure_of_schedule, failure_of_verifying};
+ghost use Rattle.cilvm.specs.Failures.{failure_of_path, failure_of_schedule, failure_of_verifying};
 ghost use Rattle.cilvm.specs.Failures.{is_refusal, message_of, status_of_failure};
 ghost use Rattle.cilvm.specs.Outcomes.{HasNotRun, HasRun, IsAcceptedSource, IsChecked, IsDone, IsNotAccepted};
 ghost use Rattle.cilvm.specs.Outcomes.{IsNotChecked, IsNotDone, IsNotRunBy, IsOfWriting};
@@ -17,6 +17,8 @@ use crate::orders::Order;
 use cil_model::limits::Limits;
 use cil_model::memory::NoMemory;
 use cil_model::reports::End;
+use class_layout::lay_out;
+use first_path::{FirstPath, PathError, first_path};
 use flip_trial::{Outcome, Sizes};
 use ilasm_reader::ReadError;
 use interleaving_core::{Machine, Refused};
@@ -26,7 +28,7 @@ use std::alloc::{AllocError, Global};
 use std::io;
 use std::io::{ErrorKind, Write};
 use std::thread::Threads;
-use verifier::{Verified, VerifyError};
+use verifier::{Verified, VerifyError, verify};
 
 /// Why an order was not carried out.
 #[derive(Clone, Copy, Debug, PartialEq, Eq)]
@@ -97,6 +99,17 @@ impl From<VerifyError> for Failure {
     fn from(error: VerifyError) -> Failure {
         match error {
             VerifyError::OutOfMemory => Failure::Memory,
+            _ => Failure::Refused(error.number()),
+        }
+    }
+}
+
+impl From<PathError> for Failure {
+    ghost from_gives = { λ error failure. failure ≡ failure_of_path error };
+
+    fn from(error: PathError) -> Failure {
+        match error {
+            PathError::OutOfMemory => Failure::Memory,
             _ => Failure::Refused(error.number()),
         }
     }
@@ -269,7 +282,8 @@ fn show_run<W: Write, E: Write>(
         → (W.contents out.new ≡ W.contents out.old) × (E.contents err.new ≡ E.contents err.old)) }
 {
     let verified = accept(alloc, source)?;
-    let machine = run(alloc, verified, limits, text)?;
+    let program = first_path(alloc, verified)?;
+    let machine = run(alloc, program, limits, text)?;
     show(alloc, &machine, out, err)
 }
 
@@ -279,17 +293,17 @@ fn accept(alloc: Global, source: &[u8]) -> Result<Verified, Failure>
     ensures refused { IfErr result (IsNotAccepted source.now) }
 {
     let tree = ilasm_reader::read(alloc, source)?;
-    let program = verifier::resolve(alloc, tree)?;
-    let layout = verifier::lay_out(alloc, &program)?;
-    Ok(verifier::verify(alloc, program, layout)?)
+    let program = metadata::resolve(alloc, tree)?;
+    let layout = lay_out(alloc, &program)?;
+    Ok(verify(alloc, program, layout)?)
 }
 
 /// The machine of a program after the events of a schedule.
-fn run(alloc: Global, verified: Verified, limits: Limits, text: &[u8]) -> Result<Machine, Failure>
-    ensures ran { IfOk result (IsRunBy verified limits text.now) }
+fn run(alloc: Global, program: FirstPath, limits: Limits, text: &[u8]) -> Result<Machine, Failure>
+    ensures ran { IfOk result (IsRunBy program limits text.now) }
     ensures refused { IfErr result (IsNotRunBy limits text.now) }
 {
-    let mut machine = Machine::new(alloc, verified, limits)?;
+    let mut machine = Machine::new(alloc, program, limits)?;
     let events = read_schedule(alloc, text)?;
     let mut reports = Vec::new(alloc);
     machine.run(events.as_slice(), &mut reports)?;

@@ -15,9 +15,9 @@ use Rattle.cil_model.specs.Steps.{Outcome, Answers, effect_of, with_thread_at as
 use Rattle.cil_model.specs.MachineContents.{Int32, Frame, Thread, Content, with_thread_at}
 use Rattle.cil_model.specs.Turns.{Move, Goes, move_of, printing, ended_as, settled, goes_on, step_of, turn}
 use Rattle.cil_model.specs.StandsFor.{Names, Agree, IsValue, IsObject, IsFrame, IsThread, StandsBy}
-use Rattle.verifier.specs.declared.program.Operation.{Operation}
-use Rattle.verifier.specs.declared.program.Returned.TheVariants.{Nothing}
-use Rattle.verifier.specs.StraightLine.{is_typed}
+use Rattle.first_path.specs.declared.operations.Operation.{Operation}
+use Rattle.first_path.specs.declared.operations.Returned.TheVariants.{Nothing}
+use Rattle.first_path.specs.StraightLine.{is_typed}
 use Rattle.interleaving_core.specs.Sound.{IsReady, IsLiveReady, IsSound}
 use Rattle.cil_model.proofs.StandsLaws.{BothAt, agree_get, agree_set}
 use Rattle.interleaving_core.proofs.Lists.{same_numbers}

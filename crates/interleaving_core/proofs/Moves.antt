@@ -17,11 +17,11 @@ use Rattle.cil_model.specs.Steps.{effect_of, execute as execute_state}
 use Rattle.cil_model.specs.MachineContents.{Word, Int32, Frame, Content}
 use Rattle.cil_model.specs.Turns.{given, Move, Goes, move_of, execute, instruction_at}
 use Rattle.cil_model.specs.StandsFor.{Names, Agree, IsValue, IsFrame}
-use Rattle.verifier.specs.declared.program.Operation.{Operation}
-use Rattle.verifier.specs.declared.program.Operation.TheVariants.{LoadInt32, Add, WriteInt32, Return}
-use Rattle.verifier.specs.declared.program.Returned.TheVariants.{Nothing}
-use Rattle.verifier.specs.Resolved.{instruction_of}
-use Rattle.verifier.specs.StraightLine.{is_typed}
+use Rattle.first_path.specs.declared.operations.Operation.{Operation}
+use Rattle.first_path.specs.declared.operations.Operation.TheVariants.{LoadInt32, Add, WriteInt32, Return}
+use Rattle.first_path.specs.declared.operations.Returned.TheVariants.{Nothing}
+use Rattle.first_path.specs.Resolved.{instruction_of}
+use Rattle.first_path.specs.StraightLine.{is_typed}
 use Rattle.interleaving_core.specs.Sound.{IsReady}
 use Rattle.interleaving_core.proofs.Lists.{numbers_agree, get_of_map, first_left, rest_left, one_more}
 

@@ -17,8 +17,8 @@ use Rattle.cil_model.specs.States.{State}
 use Rattle.cil_model.specs.Values.{Null as NullValue, zero_of, integer_zero as integer_zero_value}
 use Rattle.cil_model.specs.MachineContents.{Word, Null, Frame, Content, zero_word, integer_zero}
 use Rattle.cil_model.specs.StandsFor.{Names, Agree, IsValue, int32, int64, null, StandsFor}
-use Rattle.verifier.specs.declared.straight_line.TypedBody.{TypedBody}
-use Rattle.verifier.specs.Typed.{IsEntry}
+use Rattle.first_path.specs.declared.straight_line.TypedBody.{TypedBody}
+use Rattle.first_path.specs.Typed.{IsEntry}
 use Rattle.interleaving_core.specs.declared.thread.Thread.{Thread}
 use Rattle.interleaving_core.specs.Views.{words_of, frames_of, content}
 

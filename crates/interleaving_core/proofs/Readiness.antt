@@ -7,7 +7,7 @@ use Rattle.cil_model.specs.declared.trees.Line.{Line}
 use Rattle.cil_model.specs.Bodies.{entry_points}
 use Rattle.cil_model.specs.Budgets.{steps_left_of}
 use Rattle.cil_model.specs.MachineContents.{Frame, Thread as ThreadContent, Content, is_live}
-use Rattle.verifier.specs.StraightLine.{is_typed}
+use Rattle.first_path.specs.StraightLine.{is_typed}
 use Rattle.interleaving_core.specs.declared.engine.Engine.{Engine}
 use Rattle.interleaving_core.specs.Sound.{IsReady as IsReadyFrame, IsLiveReady, IsSound}
 use Rattle.interleaving_core.specs.Threads.{IsReady}

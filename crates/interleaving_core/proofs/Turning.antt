@@ -17,12 +17,12 @@ use Rattle.cil_model.specs.Chains.{is_static}
 use Rattle.cil_model.specs.Legality.{is_entry_method}
 use Rattle.cil_model.specs.MachineContents.{Frame, Thread as ThreadContent, Content}
 use Rattle.cil_model.specs.Turns.{Goes, given, execute, instruction_at, move_of, settled, turn}
-use Rattle.verifier.specs.declared.program.Operation.{Operation}
-use Rattle.verifier.specs.declared.straight_line.TypedBody.{TypedBody}
-use Rattle.verifier.specs.declared.program.Returned.{Returned}
-use Rattle.verifier.specs.StraightLine.{is_typed}
-use Rattle.verifier.specs.Typed.{IsEntry}
-use Rattle.verifier.specs.Resolved.{instruction_of}
+use Rattle.first_path.specs.declared.operations.Operation.{Operation}
+use Rattle.first_path.specs.declared.straight_line.TypedBody.{TypedBody}
+use Rattle.first_path.specs.declared.operations.Returned.{Returned}
+use Rattle.first_path.specs.StraightLine.{is_typed}
+use Rattle.first_path.specs.Typed.{IsEntry}
+use Rattle.first_path.specs.Resolved.{instruction_of}
 use Rattle.interleaving_core.specs.declared.thread.Thread.{Thread}
 use Rattle.interleaving_core.specs.Contents.{next_instruction, report_of, running}
 use Rattle.interleaving_core.specs.Threads.{end_after}

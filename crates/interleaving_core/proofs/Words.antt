@@ -7,9 +7,9 @@ use Rattle.std.specs.Option.{option_map_or}
 use Rattle.cil_model.specs.declared.reports.End.TheVariants.{Done}
 use Rattle.cil_model.specs.MachineContents.{Word, Int32, Frame, Content}
 use Rattle.cil_model.specs.Turns.{Goes, leave, leave_word, execute}
-use Rattle.verifier.specs.Resolved.{instruction_of}
-use Rattle.verifier.specs.declared.program.Operation.{Operation}
-use Rattle.verifier.specs.declared.program.Operation.TheVariants.{LoadInt32, Add, WriteInt32, Return}
+use Rattle.first_path.specs.Resolved.{instruction_of}
+use Rattle.first_path.specs.declared.operations.Operation.{Operation}
+use Rattle.first_path.specs.declared.operations.Operation.TheVariants.{LoadInt32, Add, WriteInt32, Return}
 use Rattle.interleaving_core.specs.declared.thread.Thread.{Thread}
 use Rattle.interleaving_core.specs.Views.{words_of, shown, moved, left_by}
 

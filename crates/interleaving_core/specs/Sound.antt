@@ -3,10 +3,10 @@ use Rattle.std.specs.Prelude.{◌≡◌, ◌<◌, ℕ, ℤ, true, List, [], ◌�
 use Rattle.cil_model.specs.declared.trees.Line.{Line}
 use Rattle.cil_model.specs.Bodies.{lines_of}
 use Rattle.cil_model.specs.MachineContents.{Int32, Frame, Thread, Content}
-use Rattle.verifier.specs.declared.program.Operation.{Operation}
-use Rattle.verifier.specs.declared.program.Returned.TheVariants.{Nothing}
-use Rattle.verifier.specs.Resolved.{instruction_of}
-use Rattle.verifier.specs.StraightLine.{is_typed}
+use Rattle.first_path.specs.declared.operations.Operation.{Operation}
+use Rattle.first_path.specs.declared.operations.Returned.TheVariants.{Nothing}
+use Rattle.first_path.specs.Resolved.{instruction_of}
+use Rattle.first_path.specs.StraightLine.{is_typed}
 
 -- The code of the frame's method is straight, and what is left of it has a typing on the frame's stack, of 32-bit integers alone.
 pub record IsReady (f : Frame) : Type 0 where

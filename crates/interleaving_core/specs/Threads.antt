@@ -2,9 +2,9 @@
 use Rattle.std.specs.Prelude.{◌≡◌, ◌≤◌, ◌<◌, ◌==◌, ℕ, true, drop, Option, Some, None, if◌then◌else◌, vec_len, vec_capacity}
 use Rattle.cil_model.specs.declared.reports.End.{End}
 use Rattle.cil_model.specs.declared.reports.End.TheVariants.{Budget}
-use Rattle.verifier.specs.StraightLine.{is_typed}
-use Rattle.verifier.specs.declared.straight_line.TypedBody.{TypedBody}
-use Rattle.verifier.specs.Typed.{IsEntry}
+use Rattle.first_path.specs.StraightLine.{is_typed}
+use Rattle.first_path.specs.declared.straight_line.TypedBody.{TypedBody}
+use Rattle.first_path.specs.Typed.{IsEntry}
 use Rattle.interleaving_core.specs.declared.engine.Engine.{Engine}
 use Rattle.interleaving_core.specs.declared.thread.Thread.{Thread}
 

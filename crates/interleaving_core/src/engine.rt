@@ -14,12 +14,13 @@ use cil_model::events::Event;
 use cil_model::limits::Limits;
 use cil_model::memory::NoMemory;
 use cil_model::reports::{End, Report};
-use verifier::{Program, TypedBody};
+use first_path::TypedBody;
+use verifier::Verified;
 
 /// A program with the code that its one thread runs, and what it has printed.
 #[derive(Debug, Drop)]
 pub struct Engine {
-    pub program: Program,
+    pub program: Verified,
     pub limits: Limits,
     pub body: TypedBody,
     pub thread: Thread,

@@ -10,7 +10,7 @@ ghost use Rattle.cil_model.specs.Budgets.{KeepsBudgets};
 ghost use Rattle.cil_model.specs.StandsFor.{FollowsReference, StandsFor};
 ghost use Rattle.cil_model.specs.States.{State};
 ghost use Rattle.cil_model.specs.Turns.{run_of, turn};
-ghost use Rattle.verifier.specs.Typed.{IsEntry};
+ghost use Rattle.first_path.specs.Typed.{IsEntry};
 ghost use Rattle.cil_model.specs.Examples.{write_line};
 ghost use Rattle.interleaving_core.specs.Contents.{next_instruction};
 ghost use Rattle.interleaving_core.specs.Refusals.{number_of};
@@ -22,10 +22,11 @@ use cil_model::events::Event;
 use cil_model::limits::{LEAST_WORDS, Limits, MOST_BUDGET, MOST_DEPTH, MOST_WORDS};
 use cil_model::memory::NoMemory;
 use cil_model::reports::{End, Report};
+use first_path::{FirstPath, TypedBody};
 use std::alloc::{AllocError, Global};
 use std::marker::Model;
 use thiserror::Error;
-use verifier::{Program, TypedBody, Verified};
+use verifier::Verified;
 
 /// Why a machine was not made.
 #[derive(Clone, Copy, Debug, PartialEq, Eq, Error)]
@@ -80,22 +81,22 @@ impl Machine {
     ///
     /// The memory of thread 0's frames is taken here. Limits beyond their ranges are refused before that;
     /// the program is dropped where a machine is refused.
-    pub fn new(alloc: Global, verified: Verified, limits: Limits) -> Result<Machine, Refused>
+    pub fn new(alloc: Global, program: FirstPath, limits: Limits) -> Result<Machine, Refused>
         ensures limits { (result ≡ Err BadLimits) ↔ (are_in_range limits ≡ false) }
-        ensures program { IfOk result (λ m. (m.tree ≡ verified) × (m.limits ≡ limits)) }
-        ensures opening { IfOk result (λ m. (s : State) × (opening verified limits ≡ Some s) × StandsFor m s) }
+        ensures program { IfOk result (λ m. (m.tree ≡ program) × (m.limits ≡ limits)) }
+        ensures opening { IfOk result (λ m. (s : State) × (opening program limits ≡ Some s) × StandsFor m s) }
     {
         if !are_in_range(limits) {
             return Err(Refused::Limits);
         }
-        let (program, body) = verified.into_parts();
+        let (program, body) = program.into_parts();
         Ok(Machine::begin(alloc, program, body, limits)?)
     }
 
     /// A machine before its first event, within limits that are in range.
     fn begin(
         alloc: Global,
-        program: Program,
+        program: Verified,
         body: TypedBody,
         limits: Limits,
     ) -> Result<Machine, AllocError>

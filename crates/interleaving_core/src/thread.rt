@@ -5,9 +5,9 @@ ghost use Rattle.std.specs.Prelude.{if◌then◌else◌, is_ok, drop, slice_get,
 ghost use Rattle.std.specs.Fmt.{signed_decimal};
 ghost use Rattle.cil_model.specs.MachineContents.{Content, Frame};
 ghost use Rattle.cil_model.specs.Turns.{Goes, execute};
-ghost use Rattle.verifier.specs.Resolved.{instruction_of};
-ghost use Rattle.verifier.specs.declared.program.Operation.{Operation};
-ghost use Rattle.verifier.specs.declared.program.Operation.TheVariants.{LoadInt32, Add, WriteInt32, Return};
+ghost use Rattle.first_path.specs.Resolved.{instruction_of};
+ghost use Rattle.first_path.specs.declared.operations.Operation.{Operation};
+ghost use Rattle.first_path.specs.declared.operations.Operation.TheVariants.{LoadInt32, Add, WriteInt32, Return};
 ghost use Rattle.interleaving_core.specs.Threads.{CanGoOn, IsSound, end_after};
 ghost use Rattle.interleaving_core.specs.Views.{left_by, moved, shown};
 ghost use Rattle.interleaving_core.specs.Contents.{report_of};
@@ -17,7 +17,7 @@ use cil_model::memory::NoMemory;
 use cil_model::reports::{End, Report};
 use itoa::Buffer;
 use std::alloc::AllocError;
-use verifier::{Operation, TypedBody};
+use first_path::{Operation, TypedBody};
 
 /// A thread with one frame, whose memory is taken whole before its first step.
 #[derive(Debug, Drop)]

@@ -1,7 +1,4 @@
-pub mod BodyLemmas
-pub mod Cases
-pub mod EntryLemmas
-pub mod FirstLemmas
-pub mod OperationLemmas
-pub mod RefusalLemmas
-pub mod TypingLemmas
+pub mod MemberNumbers
+pub mod ArgumentLaws
+pub mod MethodLaws
+pub mod TypingLaws

@@ -1,5 +1,3 @@
+pub mod Members
+pub mod Verdicts
 pub mod Numbers
-pub mod Printing
-pub mod Resolved
-pub mod StraightLine
-pub mod Typed

@@ -1,8 +1,8 @@
 -- The numbers under which the program prints refusals (this profile).
 use Rattle.std.specs.Prelude.{ℕ}
-use Rattle.verifier.specs.declared.typing.VerifyError.{VerifyError}
-use Rattle.verifier.specs.declared.typing.VerifyError.TheVariants.{NoTyping, OutOfMemory as NoMemory}
+use Rattle.verifier.specs.declared.refusals.VerifyError.{VerifyError}
+use Rattle.verifier.specs.declared.refusals.VerifyError.TheVariants.{NoTyping, OutOfMemory}
 
 abbrev pub typing_number_of : VerifyError → ℕ
-typing_number_of (NoTyping method) = 301
-typing_number_of NoMemory = 302
+typing_number_of (NoTyping method place reason explanation) = 301
+typing_number_of OutOfMemory = 302

@@ -1,15 +1,12 @@
-//! From the tree of a source to code that is known to run: names and legality, layout, typing.
+// Which programs are accepted: each method of a legal program has a typing (ECMA-335 III.1.8).
 #![tactic(auto)]
 
-pub mod laws;
-mod layout;
-mod legality;
-mod program;
-mod straight_line;
-mod typing;
+mod arguments;
+mod members;
+mod refusals;
+mod typings;
+mod verified;
 
-pub use layout::{Layout, lay_out};
-pub use legality::resolve;
-pub use program::{Body, Operation, Program, Returned};
-pub use straight_line::TypedBody;
-pub use typing::{Verified, VerifyError, verify};
+pub use refusals::VerifyError;
+pub use typings::Typing;
+pub use verified::{Verified, verify};

@@ -1,5 +1,5 @@
-//! Sources with what the verifier says of their code.
+//! Sources with the verdict on their methods.
 #![tactic(auto)]
 
 #[cfg(test)]
-mod sums;
+mod verdicts;

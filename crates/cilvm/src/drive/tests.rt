@@ -291,6 +291,14 @@ fn accepts_a_sum(rt: HostRuntime) {
 }
 
 #[test]
+fn accepts_what_does_not_run_yet(rt: HostRuntime) {
+    let source = SUM.replace(rt.alloc(), " add", " sub").expect(&rt, "memory");
+    let words = ["cilvm", "check", "add.il"];
+    assert_driven(&rt, words.as_slice(), source.as_bytes(), (0, "accepted\n", ""));
+    assert_run(&rt, source.as_bytes(), "x", (1, "", "error 301\n"));
+}
+
+#[test]
 fn looks_at_the_limits_after_the_source(rt: HostRuntime) {
     let limits = Limits {
         words: 63,
@@ -323,7 +331,10 @@ fn machine(
         depth: 64,
     };
     match accept(alloc, SUM.as_bytes()) {
-        Ok(verified) => Machine::new(alloc, verified, limits),
+        Ok(verified) => match first_path(alloc, verified) {
+            Ok(program) => Machine::new(alloc, program, limits),
+            Err(_) => panic!(rt; "the sum does not run"),
+        },
         Err(_) => panic!(rt; "the sum is refused"),
     }
 }

@@ -9,6 +9,6 @@ returns-in_err-events-clause-refused c =
 
 pub returns-clause-ran : goal.returns-clause-ran
 returns-clause-ran c =
-    ran c.args.verified c.args.limits c.args.text.now c.in_ok-machine.machine c.run.new.self c.in_ok-events.events.items c.as_slice.result.now c.new-reports.result.items c.run.new.reports.items
+    ran c.args.program c.args.limits c.args.text.now c.in_ok-machine.machine c.run.new.self c.in_ok-events.events.items c.as_slice.result.now c.new-reports.result.items c.run.new.reports.items
     (made_in_range c.args.limits c.in_ok-machine.machine c.in_ok-machine.ensures.limits) c.in_ok-events.ensures c.as_slice.ensures.value c.new-reports.ensures.items
     c.in_ok-machine.ensures.opening c.in_ok-machine.ensures.program.0 c.in_ok-machine.ensures.program.1 c.in_ok-run.ensures.each c.in_ok-run.ensures.follows c.in_ok-run.ensures.budgets

@@ -7,7 +7,7 @@ pub returns-in_err-machine-clause-failed : goal.returns-in_err-machine-clause-fa
 returns-in_err-machine-clause-failed g c =
     handed_on c.from_residual-in_err-machine.result c.from_residual-in_err-machine.ensures.1 (λ failure same.
     subst (HasNotRun c.args.source.now c.args.limits c.args.text.now) (sym same)
-    (inr ((c.in_ok-verified.verified, c.in_ok-verified.ensures.accepted), inl c.in_err-machine.ensures.refused)))
+    (inr (c.in_ok-verified.verified, (c.in_ok-verified.ensures.accepted, inr (inl c.in_err-machine.ensures.refused)))))
 
 pub returns-in_err-verified-clause-failed : goal.returns-in_err-verified-clause-failed
 returns-in_err-verified-clause-failed g c =

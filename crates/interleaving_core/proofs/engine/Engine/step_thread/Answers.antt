@@ -1,4 +1,4 @@
-use Rattle.verifier.specs.declared.program.Operation.TheVariants.{WriteInt32}
+use Rattle.first_path.specs.declared.operations.Operation.TheVariants.{WriteInt32}
 use Rattle.interleaving_core.proofs.Turning.{engine_turns, next_is}
 use Rattle.interleaving_core.proofs.WholeRuns.{on_err}
 use Rattle.interleaving_core.proofs.engine.Engine.step_thread.Goals as goal

@@ -1,6 +1,6 @@
 use Rattle.std.proofs.Math.Facts.{to_z-of_z}
 use Rattle.std.proofs.Common.{rules, w32, to_z, of_z, ◌≡◌, sym, ◌∙◌, ap}
-use Rattle.verifier.specs.declared.program.Operation.TheVariants.{LoadInt32, Add, WriteInt32}
+use Rattle.first_path.specs.declared.operations.Operation.TheVariants.{LoadInt32, Add, WriteInt32}
 use Rattle.interleaving_core.proofs.Words.{goes_on_by, returns_by, same_operation}
 use Rattle.interleaving_core.proofs.thread.Thread.execute.Goals.{in-LoadInt32, in-Add, in-WriteInt32+in_ok-write-in-WriteInt32, in-Return}
 use Rattle.interleaving_core.proofs.thread.Thread.execute.Goals as goal

@@ -1,0 +1,67 @@
+-- The numbers of the methods of a source.
+use Rattle.std.proofs.Common.{◌≡◌, ◌<◌, ◌+◌, ℕ, List, [], ◌∷◌, ◌++◌, map, length, drop, drop-cons, add-one, get_or, Option, Some, None, option_map, option_and_then, slice_get, refl, sym, ap, ◌∙◌}
+use Rattle.std.specs.List.{flat_map}
+use native.Mathlib.Numerals.{unary_clauses}
+use Rattle.std.proofs.lemmas.List.{map-append, append_assoc}
+use Rattle.std.proofs.lemmas.Option.{slice_get-map, slice_get_read}
+use Rattle.cil_model.specs.declared.types.ClassName.{ClassName}
+use Rattle.cil_model.specs.declared.trees.Tree.{Tree}
+use Rattle.cil_model.specs.declared.trees.Class.{Class}
+use Rattle.cil_model.specs.declared.trees.Method.{Method}
+use Rattle.cil_model.specs.Declarations.{Declaration, source_name, methods_of}
+use Rattle.name_tables.specs.declared.lookups.MemberNumber.{MemberNumber}
+use Rattle.name_tables.specs.Numbers.{declarations, source_entry, method_at}
+use Rattle.verifier.specs.Members.{methods_at, own_methods}
+
+-- the method at a place of a class of the source
+pub next_of_class : (tree : Tree) (c : Class) (class place : ℕ) (m : Method) → slice_get (declarations tree) class ≡ Some (source_entry c) → slice_get (methods_of c) place ≡ Some m → method_at tree (class, place) ≡ Some (source_name c, m)
+next_of_class tree c class place m here there =
+    ap (option_and_then {U = ClassName × Method} (λ (e : ClassName × Declaration). option_map {U = ClassName × Method} (λ x. (e.0, x)) (slice_get e.1.methods place))) here
+    ∙ ap (option_map {U = ClassName × Method} (λ x. (source_name c, x))) there
+
+-- classes of the source come behind the five built-in ones
+pub source_class : (tree : Tree) (place : ℕ) (c : Class) → slice_get tree.classes place ≡ Some c → slice_get (declarations tree) (place + 5) ≡ Some (source_entry c)
+source_class tree place c there = simp unary_clauses (slice_get-map source_entry tree.classes place ∙ ap (option_map source_entry) there)
+
+-- one number more, and the methods that are left
+pub number_added : (tree : Tree) (c : Class) (class place : ℕ) (so_far : List MemberNumber) {X : Type 0} (shown : X → Method) (xs : List X) (x : X) (whole : List (Option (ClassName × Method))) →
+    slice_get (declarations tree) class ≡ Some (source_entry c) → map shown xs ≡ methods_of c → place < length xs → x ≡ get_or xs place x →
+    methods_at tree so_far ++ map Some (map (λ (m : Method). (source_name c, m)) (map shown (drop place xs))) ≡ whole →
+    methods_at tree (so_far ++ record { class = class; place = place } ∷ []) ++ map Some (map (λ (m : Method). (source_name c, m)) (map shown (drop (place + 1) xs))) ≡ whole
+number_added tree c class place so_far {X} shown xs x whole here all below at invariant =
+    ap (λ ns. ns ++ left (drop (place + 1) xs)) (map-append (λ (n : MemberNumber). method_at tree (n.class, n.place)) so_far (number ∷ []))
+    ∙ (append_assoc (methods_at tree so_far) (method_at tree (class, place) ∷ []) (left (drop (place + 1) xs))
+    ∙ (ap (λ o. methods_at tree so_far ++ o ∷ left (drop (place + 1) xs)) found
+    ∙ (ap (λ ys. methods_at tree so_far ++ left ys) (sym opened) ∙ invariant)))
+  where
+    number : MemberNumber
+    number = record { class = class; place = place }
+
+    left : List X → List (Option (ClassName × Method))
+    left ys = map Some (map (λ (m : Method). (source_name c, m)) (map shown ys))
+
+    opened : drop place xs ≡ x ∷ drop (place + 1) xs
+    opened = rw (add-one, at) (drop-cons xs place x below)
+
+    there : slice_get xs place ≡ Some x
+    there = slice_get_read xs (length xs) place x refl below at
+
+    found : method_at tree (class, place) ≡ Some (source_name c, shown x)
+    found = next_of_class tree c class place (shown x) here (ap (λ ms. slice_get ms place) (sym all) ∙ slice_get-map shown xs place ∙ ap (option_map shown) there)
+
+-- the methods of one class more, and those of the classes that are left
+pub class_added : (tree : Tree) (place : ℕ) (c : Class) (so_far more : List MemberNumber) (whole : List (Option (ClassName × Method))) → place < length tree.classes → c ≡ get_or tree.classes place c →
+    methods_at tree more ≡ methods_at tree so_far ++ map Some (own_methods c) →
+    methods_at tree so_far ++ map Some (flat_map own_methods (drop place tree.classes)) ≡ whole →
+    methods_at tree more ++ map Some (flat_map own_methods (drop (place + 1) tree.classes)) ≡ whole
+class_added tree place c so_far more whole below at added invariant =
+    ap (λ ms. ms ++ rest) added
+    ∙ (append_assoc (methods_at tree so_far) (map Some (own_methods c)) rest
+    ∙ (ap (λ ms. methods_at tree so_far ++ ms) (sym (map-append Some (own_methods c) (flat_map own_methods (drop (place + 1) tree.classes))))
+    ∙ (ap (λ cs. methods_at tree so_far ++ map Some (flat_map own_methods cs)) (sym opened) ∙ invariant)))
+  where
+    rest : List (Option (ClassName × Method))
+    rest = map Some (flat_map own_methods (drop (place + 1) tree.classes))
+
+    opened : drop place tree.classes ≡ c ∷ drop (place + 1) tree.classes
+    opened = rw (add-one, at) (drop-cons tree.classes place c below)

@@ -1,0 +1,64 @@
+// The numbers of the methods of a source.
+
+ghost use Rattle.std.specs.Prelude.{◌≡◌, ◌++◌, map, IfOk, OnOk, Some, slice_get};
+ghost use Rattle.cil_model.specs.declared.trees.Tree.{Tree as SourceTree};
+ghost use Rattle.cil_model.specs.declared.trees.Class.{Class as SourceClass};
+ghost use Rattle.cil_model.specs.Bodies.{source_methods};
+ghost use Rattle.cil_model.specs.Declarations.{methods_of};
+ghost use Rattle.name_tables.specs.Numbers.{declarations, source_entry};
+ghost use Rattle.verifier.specs.Members.{methods_at, own_methods};
+
+use cil_model::memory::NoMemory;
+use cil_model::trees::{Class, Method, Tree};
+use name_tables::classes::methods_of;
+use name_tables::lookups::MemberNumber;
+use std::alloc::Global;
+
+/// The number of the first class of the source: those before are the built-in ones.
+const FIRST_OF_SOURCE: usize = 5;
+
+/// Appends the numbers of the methods of a class.
+#[tactic(auto, using(crate::proofs::MemberNumbers::next_of_class))]
+fn add_numbers(
+    class: usize,
+    methods: &[&Method],
+    members: &mut Vec<MemberNumber>,
+) -> Result<(), NoMemory>
+    ensures { (tree : SourceTree) (c : SourceClass) → slice_get (declarations tree) class ≡ Some (source_entry c) → map (λ m. m.now) methods.now ≡ methods_of c →
+        OnOk result (methods_at tree members.new.items ≡ methods_at tree members.old.items ++ map Some (own_methods c)) }
+{
+    for (place, _method) in methods.iter().enumerate() {
+        members.push(MemberNumber { class, place })?;
+    }
+    Ok(())
+}
+
+/// Appends the numbers of the methods of the class at a place of the source.
+#[tactic(auto, using(crate::proofs::MemberNumbers::source_class))]
+fn add_class(
+    alloc: Global,
+    place: usize,
+    class: &Class,
+    members: &mut Vec<MemberNumber>,
+) -> Result<(), NoMemory>
+    ensures { (tree : SourceTree) → slice_get tree.classes place ≡ Some class.now →
+        OnOk result (methods_at tree members.new.items ≡ methods_at tree members.old.items ++ map Some (own_methods class.now)) }
+{
+    let Some(number) = place.checked_add(FIRST_OF_SOURCE) else {
+        return Err(NoMemory);
+    };
+    let methods = methods_of(alloc, class)?;
+    add_numbers(number, methods.as_slice(), members)
+}
+
+/// The number of each method of the source, in source order.
+
+pub(crate) fn source_members(alloc: Global, tree: &Tree) -> Result<Vec<MemberNumber>, NoMemory>
+    ensures { IfOk result (λ members. methods_at tree.now members.items ≡ map Some (source_methods tree.now)) }
+{
+    let mut members = Vec::new(alloc);
+    for (place, class) in tree.classes.as_slice().iter().enumerate() {
+        add_class(alloc, place, class, &mut members)?;
+    }
+    Ok(members)
+}

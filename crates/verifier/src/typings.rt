@@ -1,0 +1,96 @@
+// A typing of each method.
+
+ghost use Rattle.std.specs.Prelude.{◌≡◌, [], map, option_map, slice_get, Some};
+ghost use Rattle.cil_model.specs.declared.trees.Code.{Code};
+ghost use Rattle.cil_model.specs.declared.trees.Method.{Method};
+ghost use Rattle.cil_model.specs.declared.types.ClassName.{ClassName};
+ghost use Rattle.cil_model.specs.Bodies.{code_of, source_methods};
+ghost use Rattle.name_tables.specs.Numbers.{method_at};
+ghost use Rattle.resolved_code.specs.Numbered.{class_name};
+ghost use Rattle.resolved_code.specs.Resolved.{IsBody, IsResolvedMethod};
+ghost use Rattle.verifier.specs.Members.{methods_at};
+ghost use Rattle.verifier.specs.Verdicts.{AreVerdicts, IsMethodVerdict};
+
+use crate::arguments::{arguments_of, body_of};
+use crate::refusals::{VerifyError, refused};
+use cil_model::sequences::Sequence;
+use flow_rules::entries::StackEntry;
+use flow_rules::type_tree::TypeTree;
+use metadata::Program;
+use name_tables::lookups::MemberNumber;
+use resolved_code::classes::{Body, ResolvedMethod};
+use std::alloc::Global;
+use typing_search::refusals::TypingError;
+use typing_search::search::find_typing;
+
+/// The stacks before the instructions of a method, the top of each first; none where control never reaches an instruction.
+pub type Typing = Sequence<Option<Sequence<StackEntry>>>;
+
+/// The typing of a method without code.
+fn empty_typing(alloc: Global) -> Typing
+    ensures { result ≡ [] }
+{
+    Sequence::new(Vec::new(alloc))
+}
+
+/// The typing of a method's code.
+fn typing_of_body(
+    alloc: Global,
+    program: &Program,
+    class: usize,
+    method: &ResolvedMethod,
+    body: &Body,
+) -> Result<Typing, TypingError>
+    ensures { (owner : ClassName) (m : Method) (code : Code) → class_name program.now class ≡ Some owner → IsResolvedMethod program.now m method.now → code_of m.kind ≡ Some code → IsBody program.now code body.now → IsMethodVerdict program.now owner m result }
+{
+    let Ok(arguments) = arguments_of(alloc, class, method) else {
+        return Err(TypingError::OutOfMemory);
+    };
+    let types = TypeTree::new(program.tree(), program.classes());
+    find_typing(
+        &types,
+        arguments.as_slice(),
+        method.return_type,
+        body,
+        alloc,
+    )
+}
+
+/// The typing of the method of a number.
+#[tactic(auto, using(crate::proofs::MethodLaws::owner_named, crate::proofs::MethodLaws::not_absent, crate::proofs::MethodLaws::is_resolved, crate::proofs::MethodLaws::empty_verdict, crate::proofs::MethodLaws::code_there))]
+fn typing_of(alloc: Global, program: &Program, member: MemberNumber) -> Result<Typing, TypingError>
+    ensures { (owner : ClassName) (m : Method) → method_at program.now (member.class, member.place) ≡ Some (owner, m) → IsMethodVerdict program.now owner m result }
+{
+    let Some(method) = program.method(member) else {
+        return Ok(empty_typing(alloc));
+    };
+    match body_of(&method.kind) {
+        None => Ok(empty_typing(alloc)),
+        Some(body) => typing_of_body(alloc, program, member.class, method, body),
+    }
+}
+
+/// A typing of each method of these numbers.
+pub(crate) fn typings_of(
+    alloc: Global,
+    program: &Program,
+    members: &[MemberNumber],
+) -> Result<Sequence<Typing>, VerifyError>
+    ensures { methods_at program.now members.now ≡ map Some (source_methods program.now) → AreVerdicts program.now result }
+{
+    let mut typings = Vec::new(alloc);
+    for method in 0..members.len() {
+        match typing_of(alloc, program, members[method]) {
+            Ok(typing) => typings.push(typing)?,
+            Err(error) => return Err(refused(alloc, program, method, error)),
+        }
+    }
+    Ok(Sequence::new(typings))
+}
+
+/// The typing of a number.
+pub(crate) fn typing_at(typings: &[Typing], method: usize) -> Option<&Typing>
+    ensures { option_map (λ typing. typing.now) result ≡ slice_get typings.now method }
+{
+    typings.get(method)
+}

@@ -1,0 +1,82 @@
+// Programs that are accepted.
+
+ghost use Rattle.std.specs.Prelude.{◌≡◌, IfSome, Some, slice_get};
+ghost use Rattle.cil_model.specs.declared.trees.Method.{Method};
+ghost use Rattle.cil_model.specs.declared.types.ClassName.{ClassName};
+ghost use Rattle.cil_model.specs.Bodies.{source_methods};
+ghost use Rattle.cil_model.specs.Typings.{IsAccepted, IsTyping};
+ghost use Rattle.class_layout.specs.Laid.{IsLayout};
+ghost use Rattle.typing_search.specs.Answers.{typing_of};
+ghost use Rattle.verifier.specs.Verdicts.{IsVerdict};
+
+use crate::members::source_members;
+use crate::refusals::VerifyError;
+use crate::typings::{Typing, typing_at, typings_of};
+use cil_model::sequences::Sequence;
+use class_layout::Layout;
+use metadata::Program;
+use std::alloc::Global;
+use std::marker::Model;
+
+/// An accepted program with its layout and a typing of each method.
+#[derive(Debug, Drop)]
+pub struct Verified {
+    program: Program,
+    layout: Layout,
+    typings: Sequence<Typing>,
+}
+
+/// Contracts see the tree, which is accepted: at each place that is reached the operands of the instruction are there with their
+/// types, the stacks of ways on agree, and none is higher than `.maxstack`.
+impl Model for Verified {
+    ghost use Rattle.cil_model.specs.declared.trees.Tree.{Tree};
+    ghost use Rattle.class_layout.specs.Laid.{IsLayout};
+    ghost use Rattle.verifier.specs.Verdicts.{AreTypings};
+
+    ghost Value = { Tree };
+
+    ghost view = { λ v. v.program };
+
+    ghost invariant = { λ v. IsLayout v.program v.layout × AreTypings v.program v.typings };
+}
+
+impl Verified {
+    /// The program that was verified.
+    pub fn program(&self) -> &Program
+        ensures same { result.now ≡ self.now }
+        ensures accepted { IsAccepted self.now }
+    {
+        &self.program
+    }
+
+    /// Where its objects lie and which methods its calls run.
+    pub fn layout(&self) -> &Layout
+        ensures { IsLayout self.now result.now }
+    {
+        &self.layout
+    }
+
+    /// The typing of a method by its number among those of the source, from 0 in source order: the stack before each instruction, the
+    /// top first; none at an instruction that control never reaches. None where no method has the number.
+    pub fn typing(&self, method: usize) -> Option<&Typing>
+        ensures { (owner : ClassName) (m : Method) → slice_get (source_methods self.now) method ≡ Some (owner, m) → IfSome result (λ typing. IsTyping self.now owner m (typing_of self.now typing.now)) }
+    {
+        typing_at(self.typings.as_slice(), method)
+    }
+}
+
+/// Verifies each method of a program (ECMA-335 III.1.8.1): exactly a program whose methods all have a typing is accepted. Of another one
+/// the error names the first method in source order that has none, by its number from 0, those without code counted too. Program and
+/// layout are dropped where it refuses. Want of memory may be answered in place of either.
+pub fn verify(alloc: Global, program: Program, layout: Layout) -> Result<Verified, VerifyError>
+    requires { IsLayout program layout }
+    ensures { IsVerdict program result }
+{
+    let members = source_members(alloc, program.tree())?;
+    let typings = typings_of(alloc, &program, members.as_slice())?;
+    Ok(Verified {
+        program,
+        layout,
+        typings,
+    })
+}
