@@ -3,7 +3,7 @@
 ghost use Rattle.std.specs.Prelude.{◌≡◌, true};
 ghost use Rattle.first_path.specs.StraightLine.{is_typed, is_returned};
 
-use crate::program::{Operation, Returned};
+use crate::operations::{Operation, Returned};
 
 /// Code with the most that its stack holds; each operand is there when it runs.
 #[derive(Debug, Drop)]

@@ -15,9 +15,9 @@ ghost use Rattle.cil_model.specs.declared.reports.End.TheVariants.{Done};
 
 use cil_model::memory::NoMemory;
 use cil_model::reports::{End, Report};
+use first_path::{Operation, TypedBody};
 use itoa::Buffer;
 use std::alloc::AllocError;
-use first_path::{Operation, TypedBody};
 
 /// A thread with one frame, whose memory is taken whole before its first step.
 #[derive(Debug, Drop)]

@@ -1,5 +1,7 @@
-//! Sources with the verdict on their methods.
+//! Sources with the verdict on their methods, and which of them run.
 #![tactic(auto)]
 
+#[cfg(test)]
+mod sums;
 #[cfg(test)]
 mod verdicts;

@@ -20,7 +20,7 @@ static REST: &str = " }
 .class public auto ansi Dog extends Animal implements IRun { .method public virtual instance void run() cil managed { .maxstack 0 ret } }
 .class public auto ansi Cat extends Animal { }
 .class public abstract auto ansi Shape extends [mscorlib]System.Object {
- .method public instance void .ctor() cil managed { .maxstack 0 ret }
+ .method public specialname rtspecialname instance void .ctor() cil managed { .maxstack 0 ret }
  .method public newslot abstract virtual instance void draw() cil managed { } }
 ";
 
@@ -52,15 +52,42 @@ fn told(alloc: Global, signature: &str, code: &str) -> Result<String, Fail> {
 fn stacks_meet(rt: HostRuntime) -> Result<(), Fail> {
     let join = ".maxstack 1 ldarg 0 brtrue A ldarg 0 br B A: ldarg 1 B:";
     for (signature, rest, expected) in [
-        ("void f(class Dog[] d, class Cat[] c)", "call void M::keep_all(class Animal[]) ret", "accepted"),
-        ("void f(class IRun[] r, class Dog[] d)", "call void M::hold_all(object[]) ret", "accepted"),
-        ("void f(class IRun[] r, class Dog[] d)", "call void M::run_all(class IRun[]) ret", "error 301, method 0, instruction 5: object[] stands where IRun[] is wanted"),
-        ("void f(int32[] i, class Dog[] d)", "ldlen pop ret", "error 301, method 0, instruction 5: object is no operand of this instruction"),
-        ("void f(int32 i, class Dog d)", "pop ret", "error 301, method 0, instruction 5: int32 and Dog meet, and no type is above both"),
-        ("void f(class Dog d, class Cat c)", "callvirt instance void IRun::run() ret", "error 301, method 0, instruction 5: Animal stands where IRun is wanted"),
+        (
+            "void f(class Dog[] d, class Cat[] c)",
+            "call void M::keep_all(class Animal[]) ret",
+            "accepted",
+        ),
+        (
+            "void f(class IRun[] r, class Dog[] d)",
+            "call void M::hold_all(object[]) ret",
+            "accepted",
+        ),
+        (
+            "void f(class IRun[] r, class Dog[] d)",
+            "call void M::run_all(class IRun[]) ret",
+            "error 301, method 0, instruction 5: object[] stands where IRun[] is wanted",
+        ),
+        (
+            "void f(int32[] i, class Dog[] d)",
+            "ldlen pop ret",
+            "error 301, method 0, instruction 5: object is no operand of this instruction",
+        ),
+        (
+            "void f(int32 i, class Dog d)",
+            "pop ret",
+            "error 301, method 0, instruction 5: int32 and Dog meet, and no type is above both",
+        ),
+        (
+            "void f(class Dog d, class Cat c)",
+            "callvirt instance void IRun::run() ret",
+            "error 301, method 0, instruction 5: Animal stands where IRun is wanted",
+        ),
     ] {
         let code = format!(in rt.alloc(); "{join} {rest}")?;
-        assert_eq!(rt; told(rt.alloc(), signature, code.as_str())?.as_str(), expected);
+        assert_eq!(rt;
+            told(rt.alloc(), signature, code.as_str())?.as_str(),
+            expected
+        );
     }
     Ok(())
 }
@@ -68,9 +95,15 @@ fn stacks_meet(rt: HostRuntime) -> Result<(), Fail> {
 #[test]
 fn methods_are_typed(rt: HostRuntime) -> Result<(), Fail> {
     for (signature, code) in [
-        ("void f(class IRun r)", ".maxstack 1 ldarg 0 brtrue A ldnull br B A: ldarg 0 B: callvirt instance void IRun::run() ret"),
+        (
+            "void f(class IRun r)",
+            ".maxstack 1 ldarg 0 brtrue A ldnull br B A: ldarg 0 B: callvirt instance void IRun::run() ret",
+        ),
         ("void f()", ".maxstack 0 ret add"),
-        ("void f(int32 n)", ".maxstack 2 L: ldarg 0 ldc.i4 1 add starg 0 ldarg 0 brtrue L ret"),
+        (
+            "void f(int32 n)",
+            ".maxstack 2 L: ldarg 0 ldc.i4 1 add starg 0 ldarg 0 brtrue L ret",
+        ),
         ("int64 f()", ".maxstack 1 ldc.i4 1 conv.i8 ret"),
     ] {
         assert_eq!(rt; told(rt.alloc(), signature, code)?.as_str(), "accepted");
@@ -81,18 +114,66 @@ fn methods_are_typed(rt: HostRuntime) -> Result<(), Fail> {
 #[test]
 fn methods_have_no_typing(rt: HostRuntime) -> Result<(), Fail> {
     for (signature, code, expected) in [
-        ("void f()", ".maxstack 0", "instruction 0: control runs off the end"),
-        ("void f()", ".maxstack 0 nop", "instruction 1: control runs off the end"),
-        ("void f()", ".maxstack 0 L: ldc.i4.0 br L", "instruction 1: 1 values are more than .maxstack allows"),
-        ("void f()", ".maxstack 9 L: ldc.i4.0 br L", "instruction 0: stacks of 0 and of 1 values meet"),
-        ("void f(int32 a, int32 b)", ".maxstack 1 ldarg 3 pop ret", "instruction 0: there is no argument or local 3"),
-        ("void f()", ".maxstack 1 ldc.i4 1 add ret", "instruction 1: an operand is missing"),
-        ("void f()", ".maxstack 2 ldc.i4 1 ldc.i8 1 add pop ret", "instruction 2: int32 and int64 are no operands together"),
-        ("void f()", ".maxstack 1 ldc.i4 1 castclass Dog pop ret", "instruction 1: int32 stands where object is wanted"),
-        ("int32 f()", ".maxstack 2 ldc.i4 1 ldc.i4 1 ret", "instruction 2: int32 is left on the stack"),
-        ("void f()", ".maxstack 1 newobj instance void Shape::.ctor() pop ret", "instruction 0: Shape is abstract"),
-        ("void f(class Shape s)", ".maxstack 1 ldarg 0 call instance void Shape::draw() ret", "instruction 1: a method of Shape without code is called"),
-        ("void f()", ".maxstack 1 ldc.i4 1 call void [mscorlib]System.Console::WriteLine(string) ret", "instruction 1: int32 stands where string is wanted"),
+        (
+            "void f()",
+            ".maxstack 0",
+            "instruction 0: control runs off the end",
+        ),
+        (
+            "void f()",
+            ".maxstack 0 nop",
+            "instruction 1: control runs off the end",
+        ),
+        (
+            "void f()",
+            ".maxstack 0 L: ldc.i4.0 br L",
+            "instruction 1: 1 values are more than .maxstack allows",
+        ),
+        (
+            "void f()",
+            ".maxstack 9 L: ldc.i4.0 br L",
+            "instruction 0: stacks of 0 and of 1 values meet",
+        ),
+        (
+            "void f(int32 a, int32 b)",
+            ".maxstack 1 ldarg 3 pop ret",
+            "instruction 0: there is no argument or local 3",
+        ),
+        (
+            "void f()",
+            ".maxstack 1 ldc.i4 1 add ret",
+            "instruction 1: an operand is missing",
+        ),
+        (
+            "void f()",
+            ".maxstack 2 ldc.i4 1 ldc.i8 1 add pop ret",
+            "instruction 2: int32 and int64 are no operands together",
+        ),
+        (
+            "void f()",
+            ".maxstack 1 ldc.i4 1 castclass class Dog pop ret",
+            "instruction 1: int32 is no operand of this instruction",
+        ),
+        (
+            "int32 f()",
+            ".maxstack 2 ldc.i4 1 ldc.i4 1 ret",
+            "instruction 2: int32 is left on the stack",
+        ),
+        (
+            "void f()",
+            ".maxstack 1 newobj instance void Shape::.ctor() pop ret",
+            "instruction 0: Shape is abstract",
+        ),
+        (
+            "void f(class Shape s)",
+            ".maxstack 1 ldarg 0 call instance void Shape::draw() ret",
+            "instruction 1: a method of Shape without code is called",
+        ),
+        (
+            "void f()",
+            ".maxstack 1 ldc.i4 1 call void [mscorlib]System.Console::WriteLine(string) ret",
+            "instruction 1: int32 stands where string is wanted",
+        ),
     ] {
         let told = told(rt.alloc(), signature, code)?;
         let expected = format!(in rt.alloc(); "error 301, method 0, {expected}")?;
@@ -104,8 +185,10 @@ fn methods_have_no_typing(rt: HostRuntime) -> Result<(), Fail> {
 #[test]
 fn stacks_are_kept(rt: HostRuntime) -> Result<(), Fail> {
     let code = ".maxstack 1 ldarg 0 brtrue A ldarg 0 br B A: ldarg 1 B: pop ret nop";
-    let verified = verdict(rt.alloc(), "void f(class Dog d, class Cat c)", code)?.expect(&rt, "a typing");
-    let typing = verified.typing(0).expect(&rt, "a method");
+    let verified = verdict(rt.alloc(), "void f(class Dog d, class Cat c)", code)?.expect(
+        &rt, "a typing",
+    );
+    let typing = verified.typing(0).expect(&rt, "a method").as_slice();
     assert_eq!(rt; typing.len(), 8);
     let Some(Some(stack)) = typing.get(5) else {
         return Err(Fail::new("the join is reached"));
@@ -116,7 +199,7 @@ fn stacks_are_kept(rt: HostRuntime) -> Result<(), Fail> {
     };
     assert!(rt; stack.as_slice() == [StackEntry::Declared(animal)].as_slice());
     assert!(rt; typing.get(7).is_some_and(|stack| stack.is_none()));
-    assert!(rt; verified.typing(9).is_some());
-    assert!(rt; verified.typing(10).is_none());
+    assert!(rt; verified.typing(8).is_some());
+    assert!(rt; verified.typing(9).is_none());
     Ok(())
 }

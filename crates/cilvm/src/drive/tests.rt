@@ -292,9 +292,16 @@ fn accepts_a_sum(rt: HostRuntime) {
 
 #[test]
 fn accepts_what_does_not_run_yet(rt: HostRuntime) {
-    let source = SUM.replace(rt.alloc(), " add", " sub").expect(&rt, "memory");
+    let source = SUM
+        .replace(rt.alloc(), " add", " sub")
+        .expect(&rt, "memory");
     let words = ["cilvm", "check", "add.il"];
-    assert_driven(&rt, words.as_slice(), source.as_bytes(), (0, "accepted\n", ""));
+    assert_driven(
+        &rt,
+        words.as_slice(),
+        source.as_bytes(),
+        (0, "accepted\n", ""),
+    );
     assert_run(&rt, source.as_bytes(), "x", (1, "", "error 301\n"));
 }
 

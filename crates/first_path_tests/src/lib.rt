@@ -1,5 +1,0 @@
-//! Sources with what the verifier says of their code.
-#![tactic(auto)]
-
-#[cfg(test)]
-mod sums;
