@@ -176,7 +176,9 @@ fn unmapped(
     ensures rows { IfOk result (λ rows. rows.items ≡ replicate places None) }
     ensures err { IfErr result (λ e. e ≡ OutOfMemory) }
 {
-    let mut rows = Vec::new(alloc);
+    let Ok(mut rows) = Vec::with_capacity(alloc, places) else {
+        return Err(TypingError::OutOfMemory);
+    };
     for place in 0..places {
         if rows.push(None).is_err() {
             return Err(TypingError::OutOfMemory);
