@@ -1,6 +1,6 @@
 -- What a search does by numbers, in names.
 use Rattle.std.proofs.Common.{◌≡◌, ◌≤◌, ◌<◌, ◌+◌, ℕ, zero, suc, Bool, true, false, ℤ, pos, ◌≤ℤ◌, List, [], ◌∷◌, ◌++◌, length, map, take, drop, get_or, Option, Some, None, option_map, slice_get, slice_set, refl, sym, ap, ◌∙◌, subst, arith}
-use Rattle.std.specs.Prelude.{Contains, Result, Ok, Err, OnOk, IfErr}
+use Rattle.std.specs.Prelude.{Contains, Err}
 use Rattle.std.proofs.lemmas.List.{length-map, take_more, take_all, take-append-drop}
 use Rattle.std.proofs.lemmas.List.Elements.{Contains-append_left}
 use Rattle.std.proofs.lemmas.Bool.{false≢true}
@@ -20,7 +20,7 @@ use Rattle.typing_search.specs.declared.refusals.TypingError.TheVariants.{Untype
 use Rattle.typing_search.specs.declared.merging.StackMerge.{StackMerge}
 use Rattle.typing_search.specs.declared.search.Search.{Search}
 use Rattle.typing_search.proofs.RiseLaws.{table_falls, first_falls}
-use Rattle.typing_search.proofs.TableLaws.{set_length, no_ways, next_way, rise_first, rise_merged, rise_same, off_the_end, too_high, apart, no_next_way}
+use Rattle.typing_search.proofs.TableLaws.{no_ways, next_way, rise_first, rise_merged, rise_same, off_the_end, too_high, apart, no_next_way}
 
 map_set : {X Y : Type 0} (f : X → Y) (xs : List X) (n : ℕ) (x : X) → map f (slice_set xs n x) ≡ slice_set (map f xs) n (f x)
 map_set f [] n x = refl

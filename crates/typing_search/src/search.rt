@@ -169,10 +169,7 @@ fn ways_behind(operation: &Operation, next: usize, alloc: Global) -> Result<Vec<
 }
 
 /// Rows of which nothing is found. Fails for want of memory alone.
-fn unmapped(
-    places: usize,
-    alloc: Global,
-) -> Result<Vec<Option<Sequence<StackEntry>>>, TypingError>
+fn unmapped(places: usize, alloc: Global) -> Result<Vec<Option<Sequence<StackEntry>>>, TypingError>
     ensures rows { IfOk result (λ rows. rows.items ≡ replicate places None) }
     ensures err { IfErr result (λ e. e ≡ OutOfMemory) }
 {
