@@ -1,5 +1,5 @@
 -- One step of a search, and its end.
-use Rattle.std.proofs.Common.{◌≡◌, ◌≤◌, ◌<◌, ◌+◌, ◌⊎◌, ℕ, zero, suc, ℤ, pos, ◌≤ℤ◌, IsTrue, List, [], ◌∷◌, ◌++◌, length, Option, Some, None, slice_get, slice_set, refl, inl, inr, sym, ap, ◌∙◌, subst, arith}
+use Rattle.std.proofs.Common.{◌≡◌, ◌≤◌, ◌<◌, ◌+◌, ◌⊎◌, ℕ, zero, suc, ℤ, pos, ◌≤ℤ◌, Bool, true, IsTrue, List, [], ◌∷◌, ◌++◌, length, Option, Some, None, slice_get, slice_set, refl, inl, inr, sym, ap, ◌∙◌, subst, arith}
 use Rattle.std.specs.Prelude.{Contains}
 use Rattle.std.proofs.lemmas.List.Elements.{Contains-push, Contains-push_cases, Contains-append_left}
 use Rattle.std.proofs.lemmas.Option.{slice_get_within}
@@ -15,7 +15,7 @@ use Rattle.cil_model.specs.Legality.{IsLegal}
 use Rattle.cil_model.proofs.BelowLaws.{none_is_some, same_some}
 use Rattle.cil_model.proofs.FlowLaws.{flow_down}
 use Rattle.typing_search.specs.StackMerges.{AreMerged, AreApart}
-use Rattle.typing_search.specs.Tables.{AreLow, IsUnder, ReachesAll, HasRisen, CannotRise, AreWays, IsSettled, IsUnfinished}
+use Rattle.typing_search.specs.Tables.{IsPending, AreLow, IsUnder, ReachesAll, HasRisen, CannotRise, AreWays, IsSettled, IsUnfinished}
 use Rattle.typing_search.proofs.StackLaws.{below_itself, below_through, as_high}
 
 -- ---- lists
@@ -37,7 +37,7 @@ set_cases {X} (z ∷ zs) (suc n) x (suc k) = by_case (set_cases zs n x k)
     by_case (inl e) = inl (ap suc e)
     by_case (inr e) = inr e
 
-set_length : {X : Type 0} (xs : List X) (n : ℕ) (x : X) → length (slice_set xs n x) ≡ length xs
+pub set_length : {X : Type 0} (xs : List X) (n : ℕ) (x : X) → length (slice_set xs n x) ≡ length xs
 set_length [] n x = refl
 set_length (z ∷ zs) zero x = refl
 set_length (z ∷ zs) (suc n) x = ap suc (set_length zs n x)
@@ -57,21 +57,43 @@ one_contained {X} x y h = by_case (Contains-push_cases [] y x h)
     by_case (inl c) = nothing_contained x c
     by_case (inr e) = e
 
+-- ---- flags
+
+flag_set : (pending : List Bool) (place : ℕ) → place < length pending → IsPending (slice_set pending place true) place
+flag_set pending place inside =
+    let held : (b : Bool) × (slice_get pending place ≡ Some b) = present pending place inside in
+    set_own pending place true held.0 held.1
+
+flag_stays : (pending : List Bool) (way place : ℕ) → IsPending pending place → IsPending (slice_set pending way true) place
+flag_stays pending way place c = by_case (set_cases pending way true place)
+  where
+    by_case : (place ≡ way) ⊎ (slice_get (slice_set pending way true) place ≡ slice_get pending place) → IsPending (slice_set pending way true) place
+    by_case (inr f) = f ∙ c
+    by_case (inl same) = subst (λ v. IsPending (slice_set pending way true) v) (sym same) (set_own pending way true true (ap (slice_get pending) (sym same) ∙ c))
+
+flag_cases : (pending : List Bool) (way place : ℕ) → IsPending (slice_set pending way true) place → IsPending pending place ⊎ (way ≡ place)
+flag_cases pending way place c = by_case (set_cases pending way true place)
+  where
+    by_case : (place ≡ way) ⊎ (slice_get (slice_set pending way true) place ≡ slice_get pending place) → IsPending pending place ⊎ (way ≡ place)
+    by_case (inr f) = inl (sym f ∙ c)
+    by_case (inl same) = inr (sym same)
+
 -- ---- raising
 
 module _ (tree : Tree) (max_stack : ℤ) (after : List StackType) where
-  pub no_ways : (found : Typing) (pending : List ℕ) → HasRisen tree max_stack after [] found pending found pending
+  pub no_ways : (found : Typing) (pending : List Bool) → HasRisen tree max_stack after [] found pending found pending
   no_ways found pending = record {
     whole = refl;
     reached = λ way c. nothing_contained way c;
     kept = λ place stack r. r;
     others = λ place. inl refl;
     waiting = λ place c. c;
+    flags = refl;
     least = λ typing under ways. under;
     low = λ l. l;
   }
 
-  pub next_way : (ways : List ℕ) (way : ℕ) (found middle later : Typing) (pending mid_pending still_pending : List ℕ) →
+  pub next_way : (ways : List ℕ) (way : ℕ) (found middle later : Typing) (pending mid_pending still_pending : List Bool) →
       HasRisen tree max_stack after ways found pending middle mid_pending → HasRisen tree max_stack after (way ∷ []) middle mid_pending later still_pending →
       HasRisen tree max_stack after (ways ++ way ∷ []) found pending later still_pending
   next_way ways way found middle later pending mid_pending still_pending h k = record {
@@ -80,6 +102,7 @@ module _ (tree : Tree) (max_stack : ℤ) (after : List StackType) where
     kept = λ place stack r. k.kept place stack (h.kept place stack r);
     others = λ place. changed place (h.others place) (k.others place);
     waiting = λ place c. k.waiting place (h.waiting place c);
+    flags = k.flags ∙ h.flags;
     least = λ typing under all. k.least typing (h.least typing under (λ w c. all w (Contains-append_left ways (way ∷ []) w c)))
         (λ w c. all w (subst (λ v. Contains (ways ++ way ∷ []) v) (one_contained w way c) (Contains-push ways way)));
     low = λ l. k.low (h.low l);
@@ -89,36 +112,38 @@ module _ (tree : Tree) (max_stack : ℤ) (after : List StackType) where
       arrived w (inl c) = k.kept w after (h.reached w c)
       arrived w (inr e) = subst (λ v. Reaches tree later after v) e (k.reached way (Contains-push [] way))
 
-      changed : (place : ℕ) → (slice_get middle place ≡ slice_get found place) ⊎ Contains mid_pending place → (slice_get later place ≡ slice_get middle place) ⊎ Contains still_pending place →
-          (slice_get later place ≡ slice_get found place) ⊎ Contains still_pending place
+      changed : (place : ℕ) → (slice_get middle place ≡ slice_get found place) ⊎ IsPending mid_pending place → (slice_get later place ≡ slice_get middle place) ⊎ IsPending still_pending place →
+          (slice_get later place ≡ slice_get found place) ⊎ IsPending still_pending place
       changed place first (inr c) = inr c
       changed place (inr c) (inl f) = inr (k.waiting place c)
       changed place (inl e) (inl f) = inl (f ∙ e)
 
   -- what was found reaches so far already
-  pub rise_none : (found : Typing) (pending : List ℕ) (way : ℕ) → Reaches tree found after way → HasRisen tree max_stack after (way ∷ []) found pending found pending
+  pub rise_none : (found : Typing) (pending : List Bool) (way : ℕ) → Reaches tree found after way → HasRisen tree max_stack after (way ∷ []) found pending found pending
   rise_none found pending way r = record {
     whole = refl;
     reached = λ w c. subst (λ v. Reaches tree found after v) (one_contained w way c) r;
     kept = λ place stack s. s;
     others = λ place. inl refl;
     waiting = λ place c. c;
+    flags = refl;
     least = λ typing under ways. under;
     low = λ l. l;
   }
 
   -- one place rises to a stack
-  rise_to : (found : Typing) (pending : List ℕ) (way : ℕ) (row : Option (List StackType)) (stack : List StackType) → slice_get found way ≡ Some row →
+  rise_to : (found : Typing) (pending : List Bool) (way : ℕ) (row : Option (List StackType)) (stack : List StackType) → length pending ≡ length found → slice_get found way ≡ Some row →
       ((old : List StackType) → row ≡ Some old → AreBelow tree old stack) → AreBelow tree after stack →
       ((typing : Typing) → IsUnder tree found typing → Reaches tree typing after way → Reaches tree typing stack way) →
       (AreLow max_stack found → pos (length stack) ≤ℤ max_stack) →
-      HasRisen tree max_stack after (way ∷ []) found pending (slice_set found way (Some stack)) (pending ++ way ∷ [])
-  rise_to found pending way row stack at over above closest lower = record {
+      HasRisen tree max_stack after (way ∷ []) found pending (slice_set found way (Some stack)) (slice_set pending way true)
+  rise_to found pending way row stack flags at over above closest lower = record {
     whole = set_length found way (Some stack);
     reached = λ w c. subst (λ v. Reaches tree later after v) (one_contained w way c) (stack, here, above);
     kept = λ place old r. stays place old r (set_cases found way (Some stack) place);
     others = λ place. elsewhere place (set_cases found way (Some stack) place);
-    waiting = λ place c. Contains-append_left pending (way ∷ []) place c;
+    waiting = λ place c. flag_stays pending way place c;
+    flags = set_length pending way true;
     least = λ typing under all. λ place held e. below_typing typing under (all way (Contains-push [] way)) place held e (set_cases found way (Some stack) place);
     low = λ l. λ place held e. no_higher l place held e (set_cases found way (Some stack) place);
   }
@@ -129,6 +154,11 @@ module _ (tree : Tree) (max_stack : ℤ) (after : List StackType) where
       here : slice_get (slice_set found way (Some stack)) way ≡ Some (Some stack)
       here = set_own found way (Some stack) row at
 
+      flagged : IsPending (slice_set pending way true) way
+      flagged =
+          let inside : way < length found = slice_get_within found way row at in
+          flag_set pending way (omega (arith, flags, inside))
+
       stays : (place : ℕ) (old : List StackType) → Reaches tree found old place → (place ≡ way) ⊎ (slice_get (slice_set found way (Some stack)) place ≡ slice_get found place) → Reaches tree (slice_set found way (Some stack)) old place
       stays place old (held, e, under) (inr f) = (held, f ∙ e, under)
       stays place old (held, e, under) (inl same) =
@@ -136,9 +166,9 @@ module _ (tree : Tree) (max_stack : ℤ) (after : List StackType) where
           (stack, ap (slice_get (slice_set found way (Some stack))) same ∙ here, below_through tree old held stack under (over held own))
 
       elsewhere : (place : ℕ) → (place ≡ way) ⊎ (slice_get (slice_set found way (Some stack)) place ≡ slice_get found place) →
-          (slice_get (slice_set found way (Some stack)) place ≡ slice_get found place) ⊎ Contains (pending ++ way ∷ []) place
+          (slice_get (slice_set found way (Some stack)) place ≡ slice_get found place) ⊎ IsPending (slice_set pending way true) place
       elsewhere place (inr f) = inl f
-      elsewhere place (inl same) = inr (subst (λ v. Contains (pending ++ way ∷ []) v) (sym same) (Contains-push pending way))
+      elsewhere place (inl same) = inr (subst (λ v. IsPending (slice_set pending way true) v) (sym same) flagged)
 
       its_stack : (place : ℕ) (held : List StackType) → slice_get (slice_set found way (Some stack)) place ≡ Some (Some held) → place ≡ way → stack ≡ held
       its_stack place held e same = same_some stack held (same_some (Some stack) (Some held) (sym here ∙ ap (slice_get (slice_set found way (Some stack))) (sym same) ∙ e))
@@ -154,15 +184,15 @@ module _ (tree : Tree) (max_stack : ℤ) (after : List StackType) where
       no_higher l place held e (inr f) = l place held (sym f ∙ e)
       no_higher l place held e (inl same) = subst (λ (v : List StackType). pos (length v) ≤ℤ max_stack) (its_stack place held e same) (lower l)
 
-  pub rise_first : (found : Typing) (pending : List ℕ) (way : ℕ) → slice_get found way ≡ Some None → pos (length after) ≤ℤ max_stack →
-      HasRisen tree max_stack after (way ∷ []) found pending (slice_set found way (Some after)) (pending ++ way ∷ [])
-  rise_first found pending way at small =
-      rise_to found pending way None after at (λ old e. none_is_some old e) (below_itself tree after) (λ typing under r. r) (λ l. small)
+  pub rise_first : (found : Typing) (pending : List Bool) (way : ℕ) → length pending ≡ length found → slice_get found way ≡ Some None → pos (length after) ≤ℤ max_stack →
+      HasRisen tree max_stack after (way ∷ []) found pending (slice_set found way (Some after)) (slice_set pending way true)
+  rise_first found pending way flags at small =
+      rise_to found pending way None after flags at (λ old e. none_is_some old e) (below_itself tree after) (λ typing under r. r) (λ l. small)
 
-  pub rise_merged : (found : Typing) (pending : List ℕ) (way : ℕ) (old stack : List StackType) → slice_get found way ≡ Some (Some old) → AreMerged tree old after stack →
-      HasRisen tree max_stack after (way ∷ []) found pending (slice_set found way (Some stack)) (pending ++ way ∷ [])
-  rise_merged found pending way old stack at m =
-      rise_to found pending way (Some old) stack at (λ held e. subst (λ v. AreBelow tree v stack) (same_some old held e) m.above_first) m.above_second closest
+  pub rise_merged : (found : Typing) (pending : List Bool) (way : ℕ) (old stack : List StackType) → length pending ≡ length found → slice_get found way ≡ Some (Some old) → AreMerged tree old after stack →
+      HasRisen tree max_stack after (way ∷ []) found pending (slice_set found way (Some stack)) (slice_set pending way true)
+  rise_merged found pending way old stack flags at m =
+      rise_to found pending way (Some old) stack flags at (λ held e. subst (λ v. AreBelow tree v stack) (same_some old held e) m.above_first) m.above_second closest
       (λ l. subst (λ (n : ℕ). pos n ≤ℤ max_stack) (as_high tree old stack m.above_first) (l way old at))
     where
       over_both : (typing : Typing) → Reaches tree typing old way → Reaches tree typing after way → Reaches tree typing stack way
@@ -174,7 +204,7 @@ module _ (tree : Tree) (max_stack : ℤ) (after : List StackType) where
       closest typing under r = over_both typing (under way old at) r
 
   -- the merge is what was found
-  pub rise_same : (found : Typing) (pending : List ℕ) (way : ℕ) (old : List StackType) → slice_get found way ≡ Some (Some old) → AreMerged tree old after old → HasRisen tree max_stack after (way ∷ []) found pending found pending
+  pub rise_same : (found : Typing) (pending : List Bool) (way : ℕ) (old : List StackType) → slice_get found way ≡ Some (Some old) → AreMerged tree old after old → HasRisen tree max_stack after (way ∷ []) found pending found pending
   rise_same found pending way old at m = rise_none found pending way (old, at, m.above_second)
 
   -- ---- what can't rise
@@ -202,7 +232,7 @@ module _ (tree : Tree) (max_stack : ℤ) (after : List StackType) where
           none held below (subst (λ v. AreBelow tree after v) (sym same) beneath)
 
   -- along more ways it can't either
-  pub no_next_way : (ways rest : List ℕ) (way : ℕ) (found middle : Typing) (pending mid_pending : List ℕ) → HasRisen tree max_stack after ways found pending middle mid_pending →
+  pub no_next_way : (ways rest : List ℕ) (way : ℕ) (found middle : Typing) (pending mid_pending : List Bool) → HasRisen tree max_stack after ways found pending middle mid_pending →
       CannotRise tree max_stack after (way ∷ []) middle → ((w : ℕ) → Contains (ways ++ way ∷ []) w → Contains rest w) → CannotRise tree max_stack after rest found
   no_next_way ways rest way found middle pending mid_pending h refused among typing whole low under all =
       refused typing (whole ∙ sym h.whole) low (h.least typing under (λ w c. all w (among w (Contains-append_left ways (way ∷ []) w c))))
@@ -211,7 +241,7 @@ module _ (tree : Tree) (max_stack : ℤ) (after : List StackType) where
 -- ---- a whole search
 
 module _ (tree : Tree) (arguments : List DeclaredType) (return_type : Option DeclaredType) (code : Code) where
-  abbrev Unfinished : Typing → List ℕ → Type 0
+  abbrev Unfinished : Typing → List Bool → Type 0
   Unfinished = IsUnfinished tree arguments return_type code
 
   abbrev Settled : Typing → ℕ → Type 0
@@ -224,17 +254,17 @@ module _ (tree : Tree) (arguments : List DeclaredType) (return_type : Option Dec
   start_is_empty found ([], e, h) = e
   start_is_empty found (a ∷ rest, e, h) = absurd h
 
-  pub finished : (found : Typing) → Unfinished found [] → CodeTyping found
-  finished found u = record {
+  pub finished : (found : Typing) (pending : List Bool) → Unfinished found pending → ((place : ℕ) → IsPending pending place → ⊥) → CodeTyping found
+  finished found pending u none = record {
     whole = u.whole;
     start = start_is_empty found u.start;
     height = u.low;
     each = λ place line stack e f. all_settled place (u.settled place) line stack e f;
   }
     where
-      all_settled : (place : ℕ) → Settled found place ⊎ Contains [] place → Settled found place
+      all_settled : (place : ℕ) → Settled found place ⊎ IsPending pending place → Settled found place
       all_settled place (inl s) = s
-      all_settled place (inr c) = nothing_contained place c
+      all_settled place (inr c) = absurd (none place c)
 
   -- ---- the beginning
 
@@ -244,9 +274,9 @@ module _ (tree : Tree) (arguments : List DeclaredType) (return_type : Option Dec
   starts : (typing : Typing) → CodeTyping typing → ReachesAll tree typing [] (0 ∷ [])
   starts typing t way c = subst (λ v. Reaches tree typing [] v) (one_contained way 0 c) ([], t.start, tt)
 
-  pub begun : (found later : Typing) (pending : List ℕ) → length found ≡ length code.lines → ((place : ℕ) (stack : List StackType) → slice_get found place ≡ Some (Some stack) → ⊥) →
-      HasRisen tree code.max_stack [] (0 ∷ []) found [] later pending → Unfinished later pending
-  begun found later pending same none h = record {
+  pub begun : (found later : Typing) (pending still_pending : List Bool) → length found ≡ length code.lines → ((place : ℕ) (stack : List StackType) → slice_get found place ≡ Some (Some stack) → ⊥) →
+      HasRisen tree code.max_stack [] (0 ∷ []) found pending later still_pending → Unfinished later still_pending
+  begun found later pending still_pending same none h = record {
     whole = h.whole ∙ same;
     start = h.reached 0 (Contains-push [] 0);
     low = h.low (λ place stack e. absurd (none place stack e));
@@ -254,7 +284,7 @@ module _ (tree : Tree) (arguments : List DeclaredType) (return_type : Option Dec
     under = λ typing t. h.least typing (empty_under found none typing) (starts typing t);
   }
     where
-      unmapped : (place : ℕ) → (slice_get later place ≡ slice_get found place) ⊎ Contains pending place → Settled later place ⊎ Contains pending place
+      unmapped : (place : ℕ) → (slice_get later place ≡ slice_get found place) ⊎ IsPending still_pending place → Settled later place ⊎ IsPending still_pending place
       unmapped place (inr c) = inr c
       unmapped place (inl e) = inl (λ line stack at held. absurd (none place stack (sym e ∙ held)))
 
@@ -265,7 +295,7 @@ module _ (tree : Tree) (arguments : List DeclaredType) (return_type : Option Dec
   -- ---- a visit
 
   -- a place that is pending and mapped to nothing needs no visit
-  pub passed_over : (found : Typing) (pending : List ℕ) (place : ℕ) → Unfinished found (pending ++ place ∷ []) → ((stack : List StackType) → slice_get found place ≡ Some (Some stack) → ⊥) → Unfinished found pending
+  pub passed_over : (found : Typing) (pending : List Bool) (place : ℕ) → Unfinished found (slice_set pending place true) → ((stack : List StackType) → slice_get found place ≡ Some (Some stack) → ⊥) → Unfinished found pending
   passed_over found pending place u none = record {
     whole = u.whole;
     start = u.start;
@@ -274,13 +304,13 @@ module _ (tree : Tree) (arguments : List DeclaredType) (return_type : Option Dec
     under = u.under;
   }
     where
-      by_push : (p : ℕ) → Contains pending p ⊎ (place ≡ p) → Settled found p ⊎ Contains pending p
+      by_push : (p : ℕ) → IsPending pending p ⊎ (place ≡ p) → Settled found p ⊎ IsPending pending p
       by_push p (inl c) = inr c
       by_push p (inr e) = inl (λ line stack at held. absurd (none stack (ap (slice_get found) e ∙ held)))
 
-      by_case : (p : ℕ) → Settled found p ⊎ Contains (pending ++ place ∷ []) p → Settled found p ⊎ Contains pending p
+      by_case : (p : ℕ) → Settled found p ⊎ IsPending (slice_set pending place true) p → Settled found p ⊎ IsPending pending p
       by_case p (inl s) = inl s
-      by_case p (inr c) = by_push p (Contains-push_cases pending place p c)
+      by_case p (inr c) = by_push p (flag_cases pending place p c)
 
   along : (typing : Typing) (place : ℕ) (line : Line) (lower upper : List StackType) (ways : List ℕ) → AreWays code place line ways → AreBelow tree lower upper → FlowsOn tree code typing place line upper → ReachesAll tree typing lower ways
   along typing place line lower upper ways w below on way c = by_case (w.only way c)
@@ -312,7 +342,7 @@ module _ (tree : Tree) (arguments : List DeclaredType) (return_type : Option Dec
       at_label None r = r
       at_label (Some p) r = kept p after r
 
-  module _ (legal : IsLegal tree) (found : Typing) (pending : List ℕ) (place : ℕ) (u : IsUnfinished tree arguments return_type code found (pending ++ place ∷ []))
+  module _ (legal : IsLegal tree) (found : Typing) (pending : List Bool) (place : ℕ) (u : IsUnfinished tree arguments return_type code found (slice_set pending place true))
       (line : Line) (at : slice_get code.lines place ≡ Some line) (stack : List StackType) (held : slice_get found place ≡ Some (Some stack)) where
     -- a typing's stack at the place has a result, and what was found has one below it
     in_typing : (typing : Typing) → CodeTyping typing → (upper after : List StackType) × (flow tree arguments code.locals return_type line.instruction stack ≡ Some after) × AreBelow tree after upper × FlowsOn tree code typing place line upper
@@ -339,7 +369,7 @@ module _ (tree : Tree) (arguments : List DeclaredType) (return_type : Option Dec
       pub not_visited : CannotRise tree code.max_stack after ways found → (typing : Typing) → CodeTyping typing → ⊥
       not_visited refused typing t = refused typing (t.whole ∙ sym u.whole) t.height (u.under typing t) (all_reached typing t)
 
-      pub visited : (later : Typing) (still_pending : List ℕ) → HasRisen tree code.max_stack after ways found pending later still_pending → Unfinished later still_pending
+      pub visited : (later : Typing) (still_pending : List Bool) → HasRisen tree code.max_stack after ways found pending later still_pending → Unfinished later still_pending
       visited later still_pending h = record {
         whole = h.whole ∙ u.whole;
         start = h.kept 0 [] u.start;
@@ -362,11 +392,11 @@ module _ (tree : Tree) (arguments : List DeclaredType) (return_type : Option Dec
               let R : ℕ → Type 0 = λ n. (own : List StackType) × (flow tree arguments code.locals return_type line.instruction stack ≡ Some own) × FlowsOn tree code later n line own in
               subst P own_line (subst Q own_stack (subst R e (after, result, goes_on later place line after ways w h.reached)))
 
-          by_push : (p : ℕ) → slice_get later p ≡ slice_get found p → Contains pending p ⊎ (place ≡ p) → Settled later p ⊎ Contains still_pending p
+          by_push : (p : ℕ) → slice_get later p ≡ slice_get found p → IsPending pending p ⊎ (place ≡ p) → Settled later p ⊎ IsPending still_pending p
           by_push p same (inl c) = inr (h.waiting p c)
           by_push p same (inr e) = inl (here p same e)
 
-          by_change : (p : ℕ) → (slice_get later p ≡ slice_get found p) ⊎ Contains still_pending p → Settled found p ⊎ Contains (pending ++ place ∷ []) p → Settled later p ⊎ Contains still_pending p
+          by_change : (p : ℕ) → (slice_get later p ≡ slice_get found p) ⊎ IsPending still_pending p → Settled found p ⊎ IsPending (slice_set pending place true) p → Settled later p ⊎ IsPending still_pending p
           by_change p (inr c) s = inr c
           by_change p (inl same) (inl s) = inl (still p same s)
-          by_change p (inl same) (inr c) = by_push p same (Contains-push_cases pending place p c)
+          by_change p (inl same) (inr c) = by_push p same (flag_cases pending place p c)

@@ -1,7 +1,7 @@
 -- One visit of a search by numbers, its beginning and its end.
-use Rattle.std.proofs.Common.{◌≡◌, ◌≤◌, ◌<◌, ◌+◌, ℕ, zero, suc, ℤ, pos, negsuc, ◌≤ℤ◌, List, [], ◌∷◌, ◌++◌, length, replicate, Option, Some, None, option_map, slice_get, refl, sym, ap, ◌∙◌, subst, arith}
+use Rattle.std.proofs.Common.{◌≡◌, ◌≤◌, ◌<◌, ◌+◌, ℕ, zero, suc, ℤ, pos, negsuc, ◌≤ℤ◌, List, [], ◌∷◌, length, replicate, Option, Some, None, option_map, slice_get, slice_set, Bool, true, false, refl, sym, ap, ◌∙◌, subst, arith}
 use Rattle.std.specs.Prelude.{Result, Ok, Err, OnOk}
-use Rattle.std.proofs.lemmas.List.{length-map, length-append}
+use Rattle.std.proofs.lemmas.List.{length-map}
 use Rattle.std.proofs.lemmas.Int.{ints}
 use Rattle.std.proofs.lemmas.Option.{slice_get-map, slice_get_within}
 use Rattle.cil_model.specs.declared.types.DeclaredType.{DeclaredType}
@@ -23,14 +23,14 @@ use Rattle.flow_rules.specs.declared.method_types.MethodTypes.{MethodTypes}
 use Rattle.flow_rules.proofs.Classes.{alike_at, alike_beyond, alike_length}
 use Rattle.typing_search.specs.Rises.{table_rises, most_values, natural}
 use Rattle.typing_search.specs.Ways.{ways_on}
-use Rattle.typing_search.specs.Tables.{HasRisen, CannotRise, AreWays}
-use Rattle.typing_search.specs.Answers.{typing_of, work_left, IsResultAt, IsRise, IsRisen, AreOf, IsOnTheWay, IsVisit, IsLeastTyping, IsTypingAnswer}
+use Rattle.typing_search.specs.Tables.{IsPending, HasRisen, CannotRise, AreWays}
+use Rattle.typing_search.specs.Answers.{typing_of, work_left, count_pending, IsWhole, IsResultAt, IsRise, IsRisen, AreOf, IsOnTheWay, IsVisit, IsLeastTyping, IsTypingAnswer}
 use Rattle.typing_search.specs.declared.refusals.TypingError.{TypingError}
 use Rattle.typing_search.specs.declared.refusals.TypingError.TheVariants.{Untyped, OutOfMemory}
 use Rattle.typing_search.specs.declared.search.Search.{Search}
-use Rattle.typing_search.proofs.TableLaws.{finished, begun, not_begun, passed_over, no_result, visited, not_visited}
+use Rattle.typing_search.proofs.TableLaws.{set_length, finished, begun, not_begun, passed_over, no_result, visited, not_visited}
 use Rattle.typing_search.proofs.WayLaws.{are_ways}
-use Rattle.typing_search.proofs.SearchLaws.{past_the_end, row_at}
+use Rattle.typing_search.proofs.SearchLaws.{past_the_end, row_at, count_taken, taken_back, still_whole}
 
 pub work_falls : {T : Type 0} (tree : Tree) (max_stack : ℤ) (after : List StackEntry) (ways : List ℕ) (old new : Search) (r : Result T TypingError) → IsRise tree max_stack after ways old new r → OnOk r (work_left tree max_stack new ≤ work_left tree max_stack old)
 work_falls tree max_stack after ways old new (Ok done) h = h.1
@@ -54,10 +54,10 @@ module _ (m : MethodTypes) (operations : List Operation) (max_stack : ℤ) (code
       by_row (Some None) h f = none_is_some stack (same_some None (Some stack) f)
       by_row (Some (Some known)) h f = none known h
 
-  pub visit_unmapped : (rows : List (Option (List StackEntry))) (pending : List ℕ) (place : ℕ) → IsOnTheWay m code rows (pending ++ place ∷ []) → ((stack : List StackEntry) → slice_get rows place ≡ Some (Some stack) → ⊥) → IsOnTheWay m code rows pending
+  pub visit_unmapped : (rows : List (Option (List StackEntry))) (pending : List Bool) (place : ℕ) → IsOnTheWay m code rows (slice_set pending place true) → ((stack : List StackEntry) → slice_get rows place ≡ Some (Some stack) → ⊥) → IsOnTheWay m code rows pending
   visit_unmapped rows pending place u none = passed_over m.types.now arguments return_type code (typing_of m.types.now rows) pending place u (unmapped rows place none)
 
-  pub visit_beyond : (rows : List (Option (List StackEntry))) (pending : List ℕ) (place : ℕ) → IsOnTheWay m code rows (pending ++ place ∷ []) → slice_get operations place ≡ None → IsOnTheWay m code rows pending
+  pub visit_beyond : (rows : List (Option (List StackEntry))) (pending : List Bool) (place : ℕ) → IsOnTheWay m code rows (slice_set pending place true) → slice_get operations place ≡ None → IsOnTheWay m code rows pending
   visit_beyond rows pending place u e = passed_over m.types.now arguments return_type code (typing_of m.types.now rows) pending place u outside
     where
       outside : (stack : List StackType) → slice_get (typing_of m.types.now rows) place ≡ Some (Some stack) → ⊥
@@ -67,7 +67,7 @@ module _ (m : MethodTypes) (operations : List Operation) (max_stack : ℤ) (code
           let whole : length (typing_of m.types.now rows) ≡ length code.lines = u.whole in
           omega (arith, past, inside, whole)
 
-  module _ (legal : IsLegal m.types.now) (old : Search) (place : ℕ) (u : IsOnTheWay m code old.rows.items (old.pending.items ++ place ∷ [])) (op : Operation) (at : slice_get operations place ≡ Some op)
+  module _ (legal : IsLegal m.types.now) (old : Search) (place : ℕ) (u : IsOnTheWay m code old.rows.items (slice_set old.is_pending.items place true)) (op : Operation) (at : slice_get operations place ≡ Some op)
       (before : List StackEntry) (held : slice_get old.rows.items place ≡ Some (Some before)) where
     line : (line : Line) × (slice_get code.lines place ≡ Some line) × IsOperation m.types.now code.lines line.instruction op
     line = alike_at Alike code.lines operations of.resolved place op at
@@ -81,7 +81,7 @@ module _ (m : MethodTypes) (operations : List Operation) (max_stack : ℤ) (code
 
     pub visit_no_result : (T U : Type 0) (e : TypingError) (new : Search) → ((lines : List Line) (i : Instruction) → IsOperation m.types.now lines i op → IsResultAt m.types.now (Err e) (flow_of m i before)) → IsVisit {T = U} m code new (Err e)
     visit_no_result T U (Untyped at' reason) new h =
-        no_result m.types.now arguments return_type code legal (typing_of m.types.now old.rows.items) old.pending.items place u line.0 line.1 (stack_types m.types.now before) named
+        no_result m.types.now arguments return_type code legal (typing_of m.types.now old.rows.items) old.is_pending.items place u line.0 line.1 (stack_types m.types.now before) named
         (in_code None line.0.instruction (h code.lines line.0.instruction line.2))
     visit_no_result T U OutOfMemory new h = tt
 
@@ -98,11 +98,11 @@ module _ (m : MethodTypes) (operations : List Operation) (max_stack : ℤ) (code
 
         by_answer : {T : Type 0} (r : Result T TypingError) → IsRise m.types.now max_stack after ways old new r → IsVisit m code new r
         by_answer (Ok done) k =
-            visited m.types.now arguments return_type code legal (typing_of m.types.now old.rows.items) old.pending.items place u line.0 line.1 (stack_types m.types.now before) named
-            (stack_types m.types.now after) result ways are (typing_of m.types.now new.rows.items) new.pending.items
-            (subst (λ (z : ℤ). HasRisen m.types.now z (stack_types m.types.now after) ways (typing_of m.types.now old.rows.items) old.pending.items (typing_of m.types.now new.rows.items) new.pending.items) of.same_max k.0)
+            visited m.types.now arguments return_type code legal (typing_of m.types.now old.rows.items) old.is_pending.items place u line.0 line.1 (stack_types m.types.now before) named
+            (stack_types m.types.now after) result ways are (typing_of m.types.now new.rows.items) new.is_pending.items
+            (subst (λ (z : ℤ). HasRisen m.types.now z (stack_types m.types.now after) ways (typing_of m.types.now old.rows.items) old.is_pending.items (typing_of m.types.now new.rows.items) new.is_pending.items) of.same_max k.0)
         by_answer (Err (Untyped at' reason)) k =
-            not_visited m.types.now arguments return_type code legal (typing_of m.types.now old.rows.items) old.pending.items place u line.0 line.1 (stack_types m.types.now before) named
+            not_visited m.types.now arguments return_type code legal (typing_of m.types.now old.rows.items) old.is_pending.items place u line.0 line.1 (stack_types m.types.now before) named
             (stack_types m.types.now after) result ways are
             (subst (λ (z : ℤ). CannotRise m.types.now z (stack_types m.types.now after) ways (typing_of m.types.now old.rows.items)) of.same_max k)
         by_answer (Err OutOfMemory) k = tt
@@ -128,11 +128,10 @@ module _ (m : MethodTypes) (operations : List Operation) (max_stack : ℤ) (code
     as_long : length (typing_of m.types.now old.rows.items) ≡ length code.lines
     as_long = length-map old.rows.items (option_map (stack_types m.types.now)) ∙ length_none (length operations) old.rows.items rows ∙ sym (alike_length Alike code.lines operations of.resolved)
 
-    pub on_the_way : (new : Search) → old.pending.items ≡ [] → IsRisen m.types.now max_stack [] (0 ∷ []) old new → IsOnTheWay m code new.rows.items new.pending.items
-    on_the_way new pending h =
-        begun m.types.now arguments return_type code (typing_of m.types.now old.rows.items) (typing_of m.types.now new.rows.items) new.pending.items as_long nothing
-        (subst (λ (z : ℤ). HasRisen m.types.now z [] (0 ∷ []) (typing_of m.types.now old.rows.items) [] (typing_of m.types.now new.rows.items) new.pending.items) of.same_max
-        (subst (λ (p : List ℕ). HasRisen m.types.now max_stack [] (0 ∷ []) (typing_of m.types.now old.rows.items) p (typing_of m.types.now new.rows.items) new.pending.items) pending h.0))
+    pub on_the_way : (new : Search) → IsRisen m.types.now max_stack [] (0 ∷ []) old new → IsOnTheWay m code new.rows.items new.is_pending.items
+    on_the_way new h =
+        begun m.types.now arguments return_type code (typing_of m.types.now old.rows.items) (typing_of m.types.now new.rows.items) old.is_pending.items new.is_pending.items as_long nothing
+        (subst (λ (z : ℤ). HasRisen m.types.now z [] (0 ∷ []) (typing_of m.types.now old.rows.items) old.is_pending.items (typing_of m.types.now new.rows.items) new.is_pending.items) of.same_max h.0)
 
     pub never_begun : (T : Type 0) (e : TypingError) (new : Search) → IsRise {T = T} m.types.now max_stack [] (0 ∷ []) old new (Err e) → IsTypingAnswer m.types.now arguments return_type code (Err e)
     never_begun T (Untyped at reason) new h =
@@ -144,23 +143,45 @@ module _ (m : MethodTypes) (operations : List Operation) (max_stack : ℤ) (code
   stopped T (Untyped at reason) new h = h
   stopped T OutOfMemory new h = tt
 
-  arrived : (rows : List (Option (List StackEntry))) (pending : List ℕ) → IsOnTheWay m code rows pending → pending ≡ [] → IsLeastTyping m.types.now arguments return_type code (typing_of m.types.now rows)
-  arrived rows pending u e = record {
-    is_typing = finished m.types.now arguments return_type code (typing_of m.types.now rows) (subst (λ (p : List ℕ). IsOnTheWay m code rows p) e u);
+  arrived : (rows : List (Option (List StackEntry))) (pending : List Bool) → IsOnTheWay m code rows pending → ((place : ℕ) → IsPending pending place → ⊥) → IsLeastTyping m.types.now arguments return_type code (typing_of m.types.now rows)
+  arrived rows pending u none = record {
+    is_typing = finished m.types.now arguments return_type code (typing_of m.types.now rows) pending u none;
     under = u.under;
   }
 
-  pub taken : (rows later : List (Option (List StackEntry))) (pending rest : List ℕ) (place : ℕ) → IsOnTheWay m code rows pending → later ≡ rows → pending ≡ rest ++ place ∷ [] → IsOnTheWay m code later (rest ++ place ∷ [])
-  taken rows later pending rest place u same left = subst (λ (v : List (Option (List StackEntry))). IsOnTheWay m code v (rest ++ place ∷ [])) (sym same) (subst (λ (p : List ℕ). IsOnTheWay m code rows p) left u)
+  -- what is known before a place is visited, its flag taken
+  pub taken : (rows later : List (Option (List StackEntry))) (pending rest : List Bool) (place : ℕ) → IsOnTheWay m code rows pending → later ≡ rows → IsPending pending place → rest ≡ slice_set pending place false → IsOnTheWay m code later (slice_set rest place true)
+  taken rows later pending rest place u same flag left =
+      let again : slice_set rest place true ≡ pending = ap (λ v. slice_set v place true) left ∙ taken_back pending place flag in
+      subst (λ (v : List (Option (List StackEntry))). IsOnTheWay m code v (slice_set rest place true)) (sym same) (subst (λ (p : List Bool). IsOnTheWay m code rows p) (sym again) u)
 
-  pub settled_all : (rows later result : List (Option (List StackEntry))) (pending : List ℕ) → IsOnTheWay m code rows pending → pending ≡ [] → later ≡ rows → result ≡ later → IsLeastTyping m.types.now arguments return_type code (typing_of m.types.now result)
-  settled_all rows later result pending u e same made = subst (λ (v : List (Option (List StackEntry))). IsLeastTyping m.types.now arguments return_type code (typing_of m.types.now v)) (sym (made ∙ same)) (arrived rows pending u e)
+  pub settled_all : (rows later result : List (Option (List StackEntry))) (pending : List Bool) → IsOnTheWay m code rows pending → ((place : ℕ) → IsPending pending place → ⊥) → later ≡ rows → result ≡ later →
+      IsLeastTyping m.types.now arguments return_type code (typing_of m.types.now result)
+  settled_all rows later result pending u none same made = subst (λ (v : List (Option (List StackEntry))). IsLeastTyping m.types.now arguments return_type code (typing_of m.types.now v)) (sym (made ∙ same)) (arrived rows pending u none)
 
-pub work_taken : (tree : Tree) (max_stack : ℤ) (old new : Search) (place : ℕ) → new.rows.items ≡ old.rows.items → old.pending.items ≡ new.pending.items ++ place ∷ [] → work_left tree max_stack new < work_left tree max_stack old
-work_taken tree max_stack old new place rows pending =
+pub work_taken : (tree : Tree) (max_stack : ℤ) (old new : Search) (place : ℕ) → new.rows.items ≡ old.rows.items → IsPending old.is_pending.items place → new.is_pending.items ≡ slice_set old.is_pending.items place false →
+    work_left tree max_stack new < work_left tree max_stack old
+work_taken tree max_stack old new place rows flag pending =
     let same : table_rises tree (most_values max_stack) (typing_of tree new.rows.items) ≡ table_rises tree (most_values max_stack) (typing_of tree old.rows.items) = ap (λ v. table_rises tree (most_values max_stack) (typing_of tree v)) rows in
-    let longer : length old.pending.items ≡ length new.pending.items + 1 = ap length pending ∙ length-append new.pending.items (place ∷ []) in
-    omega (arith, same, longer)
+    let fewer : count_pending (slice_set old.is_pending.items place false) < count_pending old.is_pending.items = count_taken old.is_pending.items place flag in
+    let counted : count_pending new.is_pending.items ≡ count_pending (slice_set old.is_pending.items place false) = ap count_pending pending in
+    omega (arith, same, fewer, counted)
+
+-- ---- a flag a place
+
+pub begun_whole : (n : ℕ) (s : Search) → s.rows.items ≡ replicate n None → s.is_pending.items ≡ replicate n false → IsWhole s
+begun_whole n s rows flags = ap length flags ∙ as_many n ∙ ap length (sym rows)
+  where
+    as_many : (k : ℕ) → length {A = Bool} (replicate k false) ≡ length {A = Option (List StackEntry)} (replicate k None)
+    as_many zero = refl
+    as_many (suc k) = ap suc (as_many k)
+
+pub taken_whole : (old new : Search) (place : ℕ) → IsWhole old → new.rows.items ≡ old.rows.items → new.is_pending.items ≡ slice_set old.is_pending.items place false → IsWhole new
+taken_whole old new place w rows pending = ap length pending ∙ set_length old.is_pending.items place false ∙ w ∙ ap length (sym rows)
+
+pub rise_whole : {T : Type 0} (tree : Tree) (max_stack : ℤ) (after : List StackEntry) (ways : List ℕ) (old new : Search) (r : Result T TypingError) → IsWhole old → IsRise tree max_stack after ways old new r → OnOk r (IsWhole new)
+rise_whole tree max_stack after ways old new (Ok done) w h = still_whole tree max_stack after ways old new w h
+rise_whole tree max_stack after ways old new (Err e) w h = tt
 
 -- ---- .maxstack
 

@@ -1,5 +1,5 @@
 -- What the steps of a search answer.
-use Rattle.std.specs.Prelude.{◌≡◌, ◌≤◌, ◌+◌, ◌*◌, ℕ, ℤ, List, length, map, slice_get, Option, Some, None, option_map, Result, Ok, Err}
+use Rattle.std.specs.Prelude.{◌≡◌, ◌≤◌, ◌+◌, ◌*◌, ℕ, suc, ℤ, Bool, true, false, List, [], ◌∷◌, length, map, slice_get, Option, Some, None, option_map, Result, Ok, Err}
 use Rattle.cil_model.specs.declared.types.DeclaredType.{DeclaredType}
 use Rattle.cil_model.specs.declared.trees.Tree.{Tree}
 use Rattle.cil_model.specs.declared.trees.Code.{Code}
@@ -51,14 +51,24 @@ IsRow rows place (Mapped known) = slice_get rows place ≡ Some (Some known.now)
 abbrev pub typing_of : Tree → List (Option (List StackEntry)) → Typing
 typing_of tree rows = map (option_map (stack_types tree)) rows
 
+-- a search has one flag a place, so no place is pending twice
+abbrev pub IsWhole : Search → Type 0
+IsWhole s = length s.is_pending.items ≡ length s.rows.items
+
+-- how many places are pending
+abbrev pub count_pending : List Bool → ℕ
+count_pending [] = 0
+count_pending (true ∷ rest) = suc (count_pending rest)
+count_pending (false ∷ rest) = count_pending rest
+
 -- what falls with each step of a search
 abbrev pub work_left : Tree → ℤ → Search → ℕ
-work_left tree max_stack s = 2 * table_rises tree (most_values max_stack) (typing_of tree s.rows.items) + length s.pending.items
+work_left tree max_stack s = 2 * table_rises tree (most_values max_stack) (typing_of tree s.rows.items) + count_pending s.is_pending.items
 
 -- a stack was taken along these ways, and less is left to do
 abbrev pub IsRisen : Tree → ℤ → List StackEntry → List ℕ → Search → Search → Type 0
 IsRisen tree max_stack after ways old new =
-    HasRisen tree max_stack (stack_types tree after) ways (typing_of tree old.rows.items) old.pending.items (typing_of tree new.rows.items) new.pending.items × (work_left tree max_stack new ≤ work_left tree max_stack old)
+    HasRisen tree max_stack (stack_types tree after) ways (typing_of tree old.rows.items) old.is_pending.items (typing_of tree new.rows.items) new.is_pending.items × (work_left tree max_stack new ≤ work_left tree max_stack old)
 
 -- it can't be taken there
 abbrev pub IsRefused : Tree → ℤ → List StackEntry → List ℕ → Search → Type 0
@@ -77,7 +87,7 @@ pub record AreOf (m : MethodTypes) (operations : List Operation) (max_stack : �
   pub resolved : AllAlike (λ (line : Line) operation. IsOperation m.types.now code.lines line.instruction operation) code.lines operations
 
 -- what a search of a method's code has found is a typing but for pending places
-abbrev pub IsOnTheWay : MethodTypes → Code → List (Option (List StackEntry)) → List ℕ → Type 0
+abbrev pub IsOnTheWay : MethodTypes → Code → List (Option (List StackEntry)) → List Bool → Type 0
 IsOnTheWay m code rows pending = IsUnfinished m.types.now (types_named m.types.now m.arguments.now) (option_map (type_named m.types.now) m.return_type) code (typing_of m.types.now rows) pending
 
 -- the code has no typing
@@ -86,7 +96,7 @@ HasNone m code = (typing : Typing) → IsCodeTyping m.types.now (types_named m.t
 
 -- a step of a search goes on, or shows that there is no typing
 abbrev pub IsVisit : {T : Type 0} → MethodTypes → Code → Search → Result T TypingError → Type 0
-IsVisit m code s (Ok done) = IsOnTheWay m code s.rows.items s.pending.items
+IsVisit m code s (Ok done) = IsOnTheWay m code s.rows.items s.is_pending.items
 IsVisit m code s (Err (Untyped place reason)) = HasNone m code
 IsVisit m code s (Err OutOfMemory) = Unit {0}
 

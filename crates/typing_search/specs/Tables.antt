@@ -1,5 +1,5 @@
 -- The stacks that a search has found so far, and what a step of it does.
-use Rattle.std.specs.Prelude.{◌≡◌, ◌⊎◌, ◌+◌, ℕ, ℤ, pos, ◌≤ℤ◌, IsTrue, List, [], length, Option, Some, slice_get, Contains}
+use Rattle.std.specs.Prelude.{◌≡◌, ◌⊎◌, ◌+◌, ℕ, ℤ, pos, ◌≤ℤ◌, Bool, true, IsTrue, List, [], length, Option, Some, slice_get, Contains}
 use Rattle.cil_model.specs.declared.types.DeclaredType.{DeclaredType}
 use Rattle.cil_model.specs.declared.trees.Tree.{Tree}
 use Rattle.cil_model.specs.declared.trees.Code.{Code}
@@ -21,13 +21,19 @@ IsUnder tree found typing = (place : ℕ) (stack : List StackType) → slice_get
 abbrev pub ReachesAll : Tree → Typing → List StackType → List ℕ → Type 0
 ReachesAll tree typing after ways = (way : ℕ) → Contains ways way → Reaches tree typing after way
 
+-- a place's flag is set: where its stack goes on to is still to be looked at
+abbrev pub IsPending : List Bool → ℕ → Type 0
+IsPending pending place = slice_get pending place ≡ Some true
+
 -- A stack was taken along these ways: what was found rose where it had to, as little as it could, and places that changed are pending.
-pub record HasRisen (tree : Tree) (max_stack : ℤ) (after : List StackType) (ways : List ℕ) (found : Typing) (pending : List ℕ) (later : Typing) (still_pending : List ℕ) : Type 0 where
+-- There are as many flags as before.
+pub record HasRisen (tree : Tree) (max_stack : ℤ) (after : List StackType) (ways : List ℕ) (found : Typing) (pending : List Bool) (later : Typing) (still_pending : List Bool) : Type 0 where
   pub whole : length later ≡ length found
   pub reached : ReachesAll tree later after ways
   pub kept : (place : ℕ) (stack : List StackType) → Reaches tree found stack place → Reaches tree later stack place
-  pub others : (place : ℕ) → (slice_get later place ≡ slice_get found place) ⊎ Contains still_pending place
-  pub waiting : (place : ℕ) → Contains pending place → Contains still_pending place
+  pub others : (place : ℕ) → (slice_get later place ≡ slice_get found place) ⊎ IsPending still_pending place
+  pub waiting : (place : ℕ) → IsPending pending place → IsPending still_pending place
+  pub flags : length still_pending ≡ length pending
   pub least : (typing : Typing) → IsUnder tree found typing → ReachesAll tree typing after ways → IsUnder tree later typing
   pub low : AreLow max_stack found → AreLow max_stack later
 
@@ -49,9 +55,9 @@ module _ (tree : Tree) (arguments : List DeclaredType) (return_type : Option Dec
       (after : List StackType) × (flow tree arguments code.locals return_type line.instruction stack ≡ Some after) × FlowsOn tree code found place line after
 
   -- a typing but for places that are pending, which lies below every typing
-  pub record IsUnfinished (found : Typing) (pending : List ℕ) : Type 0 where
+  pub record IsUnfinished (found : Typing) (pending : List Bool) : Type 0 where
     pub whole : length found ≡ length code.lines
     pub start : Reaches tree found [] 0
     pub low : AreLow code.max_stack found
-    pub settled : (place : ℕ) → IsSettled found place ⊎ Contains pending place
+    pub settled : (place : ℕ) → IsSettled found place ⊎ IsPending pending place
     pub under : (typing : Typing) → IsCodeTyping tree arguments return_type code typing → IsUnder tree found typing

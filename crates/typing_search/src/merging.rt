@@ -184,7 +184,9 @@ pub fn merge_stacks(
         let heights = StackMismatch::Heights(known.len(), coming.len());
         return Err(MergeError::Apart(heights));
     }
-    let mut stack = Vec::new(alloc);
+    let Ok(mut stack) = Vec::with_capacity(alloc, known.len()) else {
+        return Err(MergeError::OutOfMemory);
+    };
     let mut is_higher = false;
     for index in 0..known.len() {
         let merge = merge_entries(types, known[index], coming[index])?;

@@ -1,6 +1,6 @@
-// The least typing of a method, by a list of places whose ways on are still to be looked at (ECMA-335 III.1.8.1.3).
+// The least typing of a method, by flags for the places whose ways on are still to be looked at (ECMA-335 III.1.8.1.3).
 
-ghost use Rattle.std.specs.Prelude.{◌≡◌, ◌+◌, ◌<◌, ◌≤◌, pos, ◌++◌, ◌∷◌, [], List, IfOk, IfErr, IfSome, OnOk, length, replicate, slice_get, slice_set, true, false, Some, None, option_map};
+ghost use Rattle.std.specs.Prelude.{◌≡◌, ◌+◌, ◌<◌, ◌≤◌, pos, ℕ, ◌∷◌, [], List, IfOk, IfErr, IfSome, OnOk, length, replicate, slice_get, slice_set, true, false, Some, None, option_map};
 ghost use Rattle.cil_model.specs.declared.trees.Tree.{Tree};
 ghost use Rattle.cil_model.specs.declared.trees.Code.{Code};
 ghost use Rattle.cil_model.specs.declared.trees.Line.{Line};
@@ -11,7 +11,8 @@ ghost use Rattle.flow_rules.specs.declared.entries.StackEntry as entries;
 ghost use Rattle.resolved_code.specs.Resolved.{IsBody, IsOperation};
 ghost use Rattle.typing_search.specs.Rises.{stack_rises, natural};
 ghost use Rattle.typing_search.specs.Ways.{ways_on};
-ghost use Rattle.typing_search.specs.Answers.{IsRow, IsResultAt, IsMergeAt, IsRise, AreOf, IsOnTheWay, IsVisit, IsTypingAnswer, work_left};
+ghost use Rattle.typing_search.specs.Tables.{IsPending};
+ghost use Rattle.typing_search.specs.Answers.{IsRow, IsResultAt, IsMergeAt, IsRise, AreOf, IsOnTheWay, IsVisit, IsTypingAnswer, IsWhole, work_left};
 ghost use Rattle.typing_search.specs.declared.refusals.TypingError.TheVariants.{OutOfMemory};
 
 use crate::merging::{MergeError, StackMerge, merge_stacks};
@@ -28,11 +29,13 @@ use resolved_code::operations::Operation;
 use resolved_code::types::NumberedType;
 use std::alloc::Global;
 
-/// The stacks found so far, one a place where control was found to go, and the places whose ways on are still to be looked at.
+/// The stacks found so far, one a place where control was found to go; a flag a place, set where its ways on are still to be looked at;
+/// and where the look for the next of these places begins.
 #[derive(Drop)]
 struct Search {
     rows: Vec<Option<Sequence<StackEntry>>>,
-    pending: Vec<usize>,
+    is_pending: Vec<bool>,
+    from: usize,
 }
 
 /// Whether so many values are no more than that.
@@ -165,37 +168,82 @@ fn ways_behind(operation: &Operation, next: usize, alloc: Global) -> Result<Vec<
     }
 }
 
+/// Rows of which nothing is found. Fails for want of memory alone.
+fn unmapped(places: usize, alloc: Global) -> Result<Vec<Option<Sequence<StackEntry>>>, TypingError>
+    ensures rows { IfOk result (λ rows. rows.items ≡ replicate places None) }
+    ensures err { IfErr result (λ e. e ≡ OutOfMemory) }
+{
+    let Ok(mut rows) = Vec::with_capacity(alloc, places) else {
+        return Err(TypingError::OutOfMemory);
+    };
+    for place in 0..places {
+        if rows.push(None).is_err() {
+            return Err(TypingError::OutOfMemory);
+        }
+    }
+    Ok(rows)
+}
+
+/// Flags of which none is set. Fails for want of memory alone.
+fn none_pending(places: usize, alloc: Global) -> Result<Vec<bool>, TypingError>
+    ensures flags { IfOk result (λ flags. flags.items ≡ replicate places false) }
+    ensures err { IfErr result (λ e. e ≡ OutOfMemory) }
+{
+    match vec![in alloc; false; places] {
+        Ok(flags) => Ok(flags),
+        Err(_) => Err(TypingError::OutOfMemory),
+    }
+}
+
+/// The first pending place that isn't before this one.
+fn pending_from(is_pending: &[bool], from: usize) -> Option<usize>
+    ensures found { IfSome result (λ place. IsPending is_pending.now place) }
+    ensures none { result ≡ None → (place : ℕ) → from ≤ place → IsPending is_pending.now place → ⊥ }
+{
+    for place in from..is_pending.len() {
+        if is_pending[place] {
+            return Some(place);
+        }
+    }
+    None
+}
+
+/// The next pending place: the first from here on, or else the first of all.
+fn pending_after(is_pending: &[bool], from: usize) -> Option<usize>
+    ensures found { IfSome result (λ place. IsPending is_pending.now place) }
+    ensures none { result ≡ None → (place : ℕ) → IsPending is_pending.now place → ⊥ }
+{
+    match pending_from(is_pending, from) {
+        Some(place) => Some(place),
+        None => pending_from(is_pending, 0),
+    }
+}
+
 impl Search {
     /// Nothing is found of so many places. Fails for want of memory alone.
     fn new(places: usize, alloc: Global) -> Result<Self, TypingError>
         ensures rows { IfOk result (λ s. s.rows.items ≡ replicate places None) }
-        ensures pending { IfOk result (λ s. s.pending.items ≡ []) }
+        ensures whole { IfOk result (λ s. IsWhole s) }
         ensures err { IfErr result (λ e. e ≡ OutOfMemory) }
     {
-        let mut rows = Vec::new(alloc);
-        for place in 0..places {
-            if rows.push(None).is_err() {
-                return Err(TypingError::OutOfMemory);
-            }
-        }
+        let is_pending = none_pending(places, alloc)?;
+        let rows = unmapped(places, alloc)?;
         Ok(Search {
             rows,
-            pending: Vec::new(alloc),
+            is_pending,
+            from: 0,
         })
     }
 
-    /// Sets the stack of a place, which is then pending. Fails for want of memory alone.
-    fn set(&mut self, place: usize, stack: Sequence<StackEntry>) -> Result<(), TypingError>
-        requires { place < length self.old.rows.items }
-        ensures rows { OnOk result (self.new.rows.items ≡ slice_set self.old.rows.items place (Some stack)) }
-        ensures pending { OnOk result (self.new.pending.items ≡ self.old.pending.items ++ place ∷ []) }
-        ensures err { IfErr result (λ e. e ≡ OutOfMemory) }
+    /// Sets the stack of a place, which is then pending.
+    fn set(&mut self, place: usize, stack: Sequence<StackEntry>)
+        requires inside { place < length self.old.rows.items }
+        requires whole { IsWhole self.old }
+        ensures rows { self.new.rows.items ≡ slice_set self.old.rows.items place (Some stack) }
+        ensures pending { self.new.is_pending.items ≡ slice_set self.old.is_pending.items place true }
     {
-        if self.pending.push(place).is_err() {
-            return Err(TypingError::OutOfMemory);
-        }
         self.rows[place] = Some(stack);
-        Ok(())
+        self.is_pending[place] = true;
     }
 
     /// Takes the first stack to a place.
@@ -206,29 +254,30 @@ impl Search {
         most: usize,
         alloc: Global,
     ) -> Result<(), TypingError>
-        requires { slice_get self.old.rows.items place ≡ Some None }
+        requires unmapped { slice_get self.old.rows.items place ≡ Some None }
+        requires whole { IsWhole self.old }
         ensures { (tree : Tree) → IsRise tree (pos most) after.now (place ∷ []) self.old self.new result }
     {
         if is_low(after.len(), most) {
             let stack = copied(after, alloc)?;
-            return self.set(place, stack);
+            self.set(place, stack);
+            return Ok(());
         }
         let reason = Reason::TooHigh(after.len());
         Err(TypingError::Untyped { place, reason })
     }
 
     /// Takes a further stack to a place.
-    fn merge(&mut self, place: usize, merge: StackMerge) -> Result<(), TypingError>
-        requires { place < length self.old.rows.items }
-        ensures same { OnOk result (merge.is_higher ≡ false → self.new ≡ self.old) }
-        ensures rows { OnOk result (merge.is_higher ≡ true → self.new.rows.items ≡ slice_set self.old.rows.items place (Some merge.stack)) }
-        ensures pending { OnOk result (merge.is_higher ≡ true → self.new.pending.items ≡ self.old.pending.items ++ place ∷ []) }
-        ensures err { IfErr result (λ e. e ≡ OutOfMemory) }
+    fn merge(&mut self, place: usize, merge: StackMerge)
+        requires inside { place < length self.old.rows.items }
+        requires whole { IsWhole self.old }
+        ensures same { merge.is_higher ≡ false → self.new ≡ self.old }
+        ensures rows { merge.is_higher ≡ true → self.new.rows.items ≡ slice_set self.old.rows.items place (Some merge.stack) }
+        ensures pending { merge.is_higher ≡ true → self.new.is_pending.items ≡ slice_set self.old.is_pending.items place true }
     {
         if merge.is_higher {
-            return self.set(place, merge.stack);
+            self.set(place, merge.stack);
         }
-        Ok(())
     }
 
     /// Takes a stack to a place.
@@ -240,6 +289,7 @@ impl Search {
         most: usize,
         alloc: Global,
     ) -> Result<(), TypingError>
+        requires whole { IsWhole self.old }
         ensures { IsRise types.now (pos most) after.now (place ∷ []) self.old self.new result }
     {
         match row_at(self.rows.as_slice(), place) {
@@ -250,7 +300,8 @@ impl Search {
             Row::Unmapped => self.map(place, after, most, alloc),
             Row::Mapped(known) => {
                 let merge = merged(types, place, known, after, alloc)?;
-                self.merge(place, merge)
+                self.merge(place, merge);
+                Ok(())
             }
         }
     }
@@ -264,6 +315,7 @@ impl Search {
         most: usize,
         alloc: Global,
     ) -> Result<(), TypingError>
+        requires whole { IsWhole self.old }
         ensures { IsRise types.now (pos most) after.now ways.now self.old self.new result }
     {
         for index in 0..ways.len() {
@@ -272,13 +324,17 @@ impl Search {
         Ok(())
     }
 
-    /// Takes a pending place. At None there is none.
+    /// Takes the next pending place, which is pending no longer. At None there is none.
     fn next(&mut self) -> Option<usize>
-        ensures taken { IfSome result (λ place. self.old.pending.items ≡ self.new.pending.items ++ place ∷ []) }
-        ensures empty { result ≡ None → self.old.pending.items ≡ [] }
+        ensures found { IfSome result (λ place. IsPending self.old.is_pending.items place) }
+        ensures taken { IfSome result (λ place. self.new.is_pending.items ≡ slice_set self.old.is_pending.items place false) }
+        ensures empty { result ≡ None → (place : ℕ) → IsPending self.old.is_pending.items place → ⊥ }
         ensures rows { self.new.rows ≡ self.old.rows }
     {
-        self.pending.pop()
+        let place = pending_after(self.is_pending.as_slice(), self.from)?;
+        self.is_pending[place] = false;
+        self.from = place;
+        Some(place)
     }
 
     /// Takes the stack behind the instruction at a place to where control goes on.
@@ -290,7 +346,9 @@ impl Search {
         place: usize,
         alloc: Global,
     ) -> Result<(), TypingError>
-        ensures found { (code : Code) → AreOf method.now operations.now (pos most) code → IsOnTheWay method.now code self.old.rows.items (self.old.pending.items ++ place ∷ []) → IsVisit method.now code self.new result }
+        requires whole { IsWhole self.old }
+        ensures found { (code : Code) → AreOf method.now operations.now (pos most) code → IsOnTheWay method.now code self.old.rows.items (slice_set self.old.is_pending.items place true) → IsVisit method.now code self.new result }
+        ensures whole { OnOk result (IsWhole self.new) }
         ensures work { OnOk result (work_left method.now.types.now (pos most) self.new ≤ work_left method.now.types.now (pos most) self.old) }
     {
         let Some(operation) = operation_at(operations, place) else {
@@ -321,7 +379,11 @@ fn least_typing(
     while let Some(place) = search.next() {
         search.visit(method, operations, most, place, alloc)?;
     }
-    let Search { rows, pending: _ } = search;
+    let Search {
+        rows,
+        is_pending: _,
+        from: _,
+    } = search;
     Ok(Sequence::new(rows))
 }
 

@@ -10,8 +10,8 @@ returns-in-Absent c =
     let same : slice_get c.as_slice.result.now c.args.place ≡ slice_get c.args.self.now.rows.items c.args.place = ap (λ (v : List (Option (List StackEntry))). slice_get v c.args.place) c.as_slice.ensures.value in
     rise_off c.args.types.now (pos c.args.most) c.args.after.now c.args.place c.args.self.now (sym same ∙ c.in-Absent.ensures)
 
-pub map-requires : goal.map-requires
-map-requires c =
+pub map-requires-clause-unmapped : goal.map-requires-clause-unmapped
+map-requires-clause-unmapped c =
     let same : slice_get c.as_slice.result.now c.args.place ≡ slice_get c.args.self.now.rows.items c.args.place = ap (λ (v : List (Option (List StackEntry))). slice_get v c.args.place) c.as_slice.ensures.value in
     sym same ∙ c.in-Unmapped.ensures
 
@@ -24,12 +24,12 @@ returns-in_err-merge-in-Mapped c =
     let p = err_from_is_err_and c.from_residual.result c.from_residual.ensures.1 in
     rw (p.1, p.2) (rise_refused c.args.types.now (pos c.args.most) c.args.after.now c.args.place c.args.self.now Unit Unit c.in_err-merge-in-Mapped.field-0.0 c.in-Mapped.known.now c.args.self.now (sym same ∙ c.in-Mapped.ensures) c.in_err-merge-in-Mapped.ensures.merged)
 
-pub merge-requires : goal.merge-requires
-merge-requires c =
+pub merge-requires-clause-inside : goal.merge-requires-clause-inside
+merge-requires-clause-inside c =
     let same : slice_get c.as_slice.result.now c.args.place ≡ slice_get c.args.self.now.rows.items c.args.place = ap (λ (v : List (Option (List StackEntry))). slice_get v c.args.place) c.as_slice.ensures.value in
     slice_get_within c.args.self.now.rows.items c.args.place (Some c.in-Mapped.known.now) (sym same ∙ c.in-Mapped.ensures)
 
 pub returns-in_ok-merge-in-Mapped : goal.returns-in_ok-merge-in-Mapped
 returns-in_ok-merge-in-Mapped c =
     let same : slice_get c.as_slice.result.now c.args.place ≡ slice_get c.args.self.now.rows.items c.args.place = ap (λ (v : List (Option (List StackEntry))). slice_get v c.args.place) c.as_slice.ensures.value in
-    rise_by_merge c.args.types.now (pos c.args.most) c.args.after.now c.args.place c.args.self.now c.merge.result c.merge.new.self c.in-Mapped.known.now c.in_ok-merge-in-Mapped.merge (sym same ∙ c.in-Mapped.ensures) c.in_ok-merge-in-Mapped.ensures.merged c.in_ok-merge-in-Mapped.ensures.same c.in_ok-merge-in-Mapped.ensures.higher c.merge.ensures.same c.merge.ensures.rows c.merge.ensures.pending c.merge.ensures.err
+    rise_by_merge c.args.types.now (pos c.args.most) c.args.after.now c.args.place c.args.self.now c.merge.new.self c.in-Mapped.known.now c.in_ok-merge-in-Mapped.merge c.requires.whole (sym same ∙ c.in-Mapped.ensures) c.in_ok-merge-in-Mapped.ensures.merged c.in_ok-merge-in-Mapped.ensures.same c.in_ok-merge-in-Mapped.ensures.higher c.merge.ensures.same c.merge.ensures.rows c.merge.ensures.pending

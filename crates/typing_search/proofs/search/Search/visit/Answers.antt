@@ -8,12 +8,12 @@ use Rattle.typing_search.proofs.VisitLaws.{visit_beyond, visit_unmapped, visit_n
 use Rattle.typing_search.proofs.search.Search.visit.Goals as goal
 
 pub returns-in_default-clause-found : goal.returns-in_default-clause-found
-returns-in_default-clause-found c = λ code of u. visit_beyond c.args.method.now c.args.operations.now (pos c.args.most) code of c.args.self.now.rows.items c.args.self.now.pending.items c.args.place u (c.operation_at.ensures.beyond c.in_default.is)
+returns-in_default-clause-found c = λ code of u. visit_beyond c.args.method.now c.args.operations.now (pos c.args.most) code of c.args.self.now.rows.items c.args.self.now.is_pending.items c.args.place u (c.operation_at.ensures.beyond c.in_default.is)
 
 pub returns-in_default-mapped_at-clause-found : goal.returns-in_default-mapped_at-clause-found
 returns-in_default-mapped_at-clause-found c =
     let same : slice_get c.as_slice.result.now c.args.place ≡ slice_get c.args.self.now.rows.items c.args.place = ap (λ (v : List (Option (List StackEntry))). slice_get v c.args.place) c.as_slice.ensures.value in
-    λ code of u. visit_unmapped c.args.method.now c.args.operations.now (pos c.args.most) code of c.args.self.now.rows.items c.args.self.now.pending.items c.args.place u (λ s e. c.mapped_at.ensures.none c.in_default-mapped_at.is s (same ∙ e))
+    λ code of u. visit_unmapped c.args.method.now c.args.operations.now (pos c.args.most) code of c.args.self.now.rows.items c.args.self.now.is_pending.items c.args.place u (λ s e. c.mapped_at.ensures.none c.in_default-mapped_at.is s (same ∙ e))
 
 pub returns-in_err-after-clause-found : goal.returns-in_err-after-clause-found
 returns-in_err-after-clause-found c =
