@@ -1,0 +1,6 @@
+//! The instructions of the reference machine that call no method, as plain code: what each plans, carried out, is exactly what the
+//! definition says that it does.
+#![tactic(auto)]
+
+pub mod fields;
+pub mod locals;
