@@ -2,5 +2,7 @@
 //! definition says that it does.
 #![tactic(auto)]
 
+pub mod branches;
 pub mod fields;
 pub mod locals;
+pub mod numbers;
