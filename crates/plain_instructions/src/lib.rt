@@ -2,7 +2,10 @@
 //! definition says that it does.
 #![tactic(auto)]
 
+pub mod arrays;
+pub mod births;
 pub mod branches;
+pub mod casts;
 pub mod fields;
 pub mod locals;
 pub mod numbers;
