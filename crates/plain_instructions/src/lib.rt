@@ -7,5 +7,6 @@ pub mod births;
 pub mod branches;
 pub mod casts;
 pub mod fields;
+pub mod groups;
 pub mod locals;
 pub mod numbers;
