@@ -3,6 +3,7 @@
 use cil_model::limits::Limits;
 use cil_model::memory::NoMemory;
 use cil_model::reports::{End, Report};
+use cil_model::trees::Tree;
 use cil_plain::machine::{PlainMachine, StepRequest};
 use ilasm_reader::read;
 use plain_lookups::built_ins::BuiltIns;
@@ -60,9 +61,15 @@ pub const fn refused(thread: u8) -> Stretch {
     }
 }
 
+/// What is done with a machine: stretches of steps, and then the console is told; or one run, and then its threads are.
+#[derive(Clone, Copy)]
+enum Work<'b> {
+    ByStep(&'b [Stretch]),
+    AtOnce(&'b [StepRequest]),
+}
+
 /// `r` where the thread ran, `b` where it was blocked, `a` where it is absent, and its end in brackets.
-fn with_report(text: String, report: Report) -> Result<String, NoMemory> {
-    let mut text = text;
+fn tell_report(text: &mut String, report: Report) -> Result<(), NoMemory> {
     match report {
         Report::Ran => text.push('r')?,
         Report::Blocked => text.push('b')?,
@@ -71,28 +78,26 @@ fn with_report(text: String, report: Report) -> Result<String, NoMemory> {
         Report::Ended(end) => write!(text, "[{end:?}]")?,
         other => write!(text, "[{other:?}]")?,
     }
-    Ok(text)
+    Ok(())
 }
 
-/// The text with the reports of these steps; with the state and `stuck` where one is stuck.
-fn with_steps(
-    text: String,
+/// The reports of these steps; the state and `stuck` where one is stuck.
+fn tell_steps(
+    text: &mut String,
     machine: &mut PlainMachine,
     stretch: Stretch,
-) -> Result<String, NoMemory> {
-    let mut text = text;
+) -> Result<(), NoMemory> {
     for _ in 0..stretch.count {
         match machine.step(stretch.thread, stretch.is_refused)? {
             None => write!(text, "stuck: {machine}")?,
-            Some(report) => text = with_report(text, report)?,
+            Some(report) => tell_report(text, report)?,
         }
     }
-    Ok(text)
+    Ok(())
 }
 
-/// The text with what was printed behind it, a line end as `;`.
-fn with_console(text: String, console: &[u8]) -> Result<String, NoMemory> {
-    let mut text = text;
+/// What was printed, a line end as `;`.
+fn tell_console(text: &mut String, console: &[u8]) -> Result<(), NoMemory> {
     text.push(' ')?;
     for byte in console {
         let character = if *byte == b'\n' {
@@ -102,37 +107,96 @@ fn with_console(text: String, console: &[u8]) -> Result<String, NoMemory> {
         };
         text.push(character)?;
     }
-    Ok(text)
+    Ok(())
 }
 
-/// The text with the reports of a run of the machine, and `stuck` where it is, and how many threads are live of how many.
-fn with_run(
-    text: String,
+/// The reports of a run of the machine, and `stuck` where it is.
+fn tell_run(
+    text: &mut String,
     machine: &mut PlainMachine,
     requests: &[StepRequest],
-) -> Result<String, NoMemory> {
-    let mut text = text;
+) -> Result<(), NoMemory> {
     let run = machine.run(requests)?;
     for report in &run.reports {
-        text = with_report(text, *report)?;
+        tell_report(text, *report)?;
     }
     if run.is_stuck {
         text.push_str("stuck")?;
     }
-    write!(text, " {} of {}", machine.live(), machine.started())?;
-    Ok(text)
+    Ok(())
 }
 
-/// The text with how the first thread stands.
-fn with_first_thread(text: String, machine: &PlainMachine) -> Result<String, NoMemory> {
-    let mut text = text;
+/// How many threads are live of how many, and how the first one stands.
+fn tell_threads(text: &mut String, machine: &PlainMachine) -> Result<(), NoMemory> {
+    write!(text, " {} of {}", machine.live(), machine.started())?;
     if machine.is_live(0) {
         text.push_str(" live")?;
     }
     if let Some(end) = machine.end_of(0) {
         write!(text, " {end:?}")?;
     }
-    Ok(text)
+    Ok(())
+}
+
+fn tell_work(text: &mut String, machine: &mut PlainMachine, work: Work) -> Result<(), NoMemory> {
+    match work {
+        Work::ByStep(schedule) => {
+            for stretch in schedule {
+                tell_steps(text, machine, *stretch)?;
+            }
+            tell_console(text, machine.console())
+        }
+        Work::AtOnce(requests) => {
+            tell_run(text, machine, requests)?;
+            tell_threads(text, machine)
+        }
+    }
+}
+
+fn tell_program<'a>(
+    text: &mut String,
+    program: &'a Program<'a>,
+    limits: Limits,
+    work: Work,
+) -> Result<(), NoMemory> {
+    match PlainMachine::new(program, limits)? {
+        None => text.push_str("no entry point")?,
+        Some(machine) => {
+            let mut machine = machine;
+            tell_work(text, &mut machine, work)?;
+        }
+    }
+    Ok(())
+}
+
+fn tell_tree(
+    text: &mut String,
+    alloc: Global,
+    tree: &Tree,
+    limits: Limits,
+    work: Work,
+) -> Result<(), NoMemory> {
+    let built_ins = BuiltIns::new(alloc)?;
+    let program = Program {
+        alloc,
+        tree,
+        built_ins: &built_ins,
+    };
+    tell_program(text, &program, limits, work)
+}
+
+fn tell_source(
+    text: &mut String,
+    alloc: Global,
+    source: &str,
+    limits: Limits,
+    work: Work,
+) -> Result<(), NoMemory> {
+    match read(alloc, source.as_bytes()) {
+        Err(_) => text.push_str("no tree")?,
+        Ok(tree) => tell_tree(text, alloc, &tree, limits, work)?,
+    }
+    Ok(())
 }
 
 /// The reports of one run of the source, and how its threads stand after it.
@@ -141,20 +205,9 @@ pub fn run_story(
     source: &str,
     requests: &[StepRequest],
 ) -> Result<String, NoMemory> {
-    let Ok(tree) = read(alloc, source.as_bytes()) else {
-        return Ok(String::from_str(alloc, "no tree")?);
-    };
-    let built_ins = BuiltIns::new(alloc)?;
-    let program = Program {
-        alloc,
-        tree: &tree,
-        built_ins: &built_ins,
-    };
-    let Some(mut machine) = PlainMachine::new(&program, LIMITS)? else {
-        return Ok(String::from_str(alloc, "no entry point")?);
-    };
-    let text = with_run(String::new(alloc), &mut machine, requests)?;
-    with_first_thread(text, &machine)
+    let mut text = String::new(alloc);
+    tell_source(&mut text, alloc, source, LIMITS, Work::AtOnce(requests))?;
+    Ok(text)
 }
 
 /// The reports of the steps of a run of the source, and then what it printed.
@@ -165,22 +218,8 @@ pub fn story(
     schedule: &[Stretch],
 ) -> Result<String, NoMemory> {
     let mut text = String::new(alloc);
-    let Ok(tree) = read(alloc, source.as_bytes()) else {
-        return Ok(String::from_str(alloc, "no tree")?);
-    };
-    let built_ins = BuiltIns::new(alloc)?;
-    let program = Program {
-        alloc,
-        tree: &tree,
-        built_ins: &built_ins,
-    };
-    let Some(mut machine) = PlainMachine::new(&program, limits)? else {
-        return Ok(String::from_str(alloc, "no entry point")?);
-    };
-    for stretch in schedule {
-        text = with_steps(text, &mut machine, *stretch)?;
-    }
-    with_console(text, machine.console())
+    tell_source(&mut text, alloc, source, limits, Work::ByStep(schedule))?;
+    Ok(text)
 }
 
 const HEAD: &str = ".assembly extern mscorlib {} .assembly extern cilvm {}
