@@ -55,6 +55,8 @@ fn new_array_of<'a>(
     Ok(Plan::NextWith(state, stack))
 }
 
+/// `newarr`: an array with as many elements as the operand says. A negative number raises `Overflow`, a refused birth
+/// `OutOfMemory`.
 pub fn new_array<'a>(turn: &Turn<'a>, t: &'a DeclaredType) -> Result<Plan<'a>, NoMemory>
     ensures { IfOk result (λ plan. carried_out turn.now plan ≡ execute turn.now.here turn.now.state turn.now.frame turn.now.below (NewArray t.now)) }
 {

@@ -16,12 +16,14 @@ use plain_states::values::{PlainValue, ValueKind};
 use plain_turns::plans::Plan;
 use plain_turns::turns::Turn;
 
+/// `br`: to the label.
 pub fn branch<'a>(turn: &Turn<'a>, label: &Text) -> Result<Plan<'a>, NoMemory>
     ensures { IfOk result (λ plan. carried_out turn.now plan ≡ execute turn.now.here turn.now.state turn.now.frame turn.now.below (Branch label.now)) }
 {
     Ok(turn.jump(label, turn.stack()?))
 }
 
+/// `brtrue`: to the label where the operand is neither zero nor null.
 pub fn branch_true<'a>(turn: &Turn<'a>, label: &Text) -> Result<Plan<'a>, NoMemory>
     ensures { IfOk result (λ plan. carried_out turn.now plan ≡ execute turn.now.here turn.now.state turn.now.frame turn.now.below (BranchTrue label.now)) }
 {
@@ -35,6 +37,7 @@ pub fn branch_true<'a>(turn: &Turn<'a>, label: &Text) -> Result<Plan<'a>, NoMemo
     }
 }
 
+/// `brfalse`: to the label where the operand is zero or null.
 pub fn branch_false<'a>(turn: &Turn<'a>, label: &Text) -> Result<Plan<'a>, NoMemory>
     ensures { IfOk result (λ plan. carried_out turn.now plan ≡ execute turn.now.here turn.now.state turn.now.frame turn.now.below (BranchFalse label.now)) }
 {
@@ -48,6 +51,7 @@ pub fn branch_false<'a>(turn: &Turn<'a>, label: &Text) -> Result<Plan<'a>, NoMem
     }
 }
 
+/// `beq` and the like: to the label where the two operands compare so.
 pub fn branch_compare<'a>(
     turn: &Turn<'a>,
     op: BranchComparison,

@@ -1,6 +1,6 @@
 // Casts, stores of references to elements, and lengths (ECMA-335 III.4.3, III.4.6, III.4.12, III.4.27).
 
-ghost use Rattle.std.specs.Prelude.{◌≡◌, IfOk, ℕ, if◌then◌else◌};
+ghost use Rattle.std.specs.Prelude.{◌≡◌, IfOk, if◌then◌else◌};
 ghost use Rattle.cil_model.specs.declared.instructions.Instruction.TheVariants.{CastClass, IsInstance, LoadLength, StoreElementReference};
 ghost use Rattle.cil_model.specs.declared.reports.Fault.TheVariants.{ArrayTypeMismatch};
 ghost use Rattle.cil_model.specs.Effects.{Raises, given, onward};
@@ -35,6 +35,7 @@ fn may_hold<'a>(
     }
 }
 
+/// `castclass`: an object that doesn't fit the type raises `InvalidCast`.
 pub fn cast_class<'a>(turn: &Turn<'a>, t: &DeclaredType) -> Result<Plan<'a>, NoMemory>
     ensures { IfOk result (λ plan. carried_out turn.now plan ≡ execute turn.now.here turn.now.state turn.now.frame turn.now.below (CastClass t.now)) }
 {
@@ -49,6 +50,7 @@ pub fn cast_class<'a>(turn: &Turn<'a>, t: &DeclaredType) -> Result<Plan<'a>, NoM
     }
 }
 
+/// `isinst`: null stands in place of an object that doesn't fit the type.
 pub fn is_instance<'a>(turn: &Turn<'a>, t: &DeclaredType) -> Result<Plan<'a>, NoMemory>
     ensures { IfOk result (λ plan. carried_out turn.now plan ≡ execute turn.now.here turn.now.state turn.now.frame turn.now.below (IsInstance t.now)) }
 {
@@ -63,7 +65,7 @@ pub fn is_instance<'a>(turn: &Turn<'a>, t: &DeclaredType) -> Result<Plan<'a>, No
     }
 }
 
-/// The length as a native int. A length beyond the largest `i64` is want of memory.
+/// `ldlen`: the length as a native int. Null raises `NullReference`. A length beyond the largest `i64` is want of memory.
 pub fn load_length<'a>(turn: &Turn<'a>) -> Result<Plan<'a>, NoMemory>
     ensures { IfOk result (λ plan. carried_out turn.now plan ≡ execute turn.now.here turn.now.state turn.now.frame turn.now.below LoadLength) }
 {
@@ -104,7 +106,8 @@ fn store_fitting<'a>(
     }
 }
 
-/// `stelem.ref`: the object's own class has to fit the array's own elements.
+/// `stelem.ref`: the object's own class has to fit the array's own elements, else `ArrayTypeMismatch` is raised, after a place
+/// out of range.
 pub fn store_reference<'a>(turn: &Turn<'a>) -> Result<Plan<'a>, NoMemory>
     ensures { IfOk result (λ plan. carried_out turn.now plan ≡ execute turn.now.here turn.now.state turn.now.frame turn.now.below StoreElementReference) }
 {

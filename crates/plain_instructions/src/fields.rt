@@ -47,6 +47,7 @@ fn load_from<'a>(
     }
 }
 
+/// `ldfld`: the field of the object that is on top. Null raises `NullReference`.
 pub fn load_field<'a>(turn: &Turn<'a>, r: &'a FieldReference) -> Result<Plan<'a>, NoMemory>
     ensures { IfOk result (λ plan. carried_out turn.now plan ≡ execute turn.now.here turn.now.state turn.now.frame turn.now.below (LoadField r.now)) }
 {
@@ -94,6 +95,7 @@ fn store_to<'a>(
     }
 }
 
+/// `stfld`: the value on top goes into the field of the object below it. Null raises `NullReference`.
 pub fn store_field<'a>(turn: &Turn<'a>, r: &'a FieldReference) -> Result<Plan<'a>, NoMemory>
     ensures { IfOk result (λ plan. carried_out turn.now plan ≡ execute turn.now.here turn.now.state turn.now.frame turn.now.below (StoreField r.now)) }
 {
@@ -110,6 +112,7 @@ pub fn store_field<'a>(turn: &Turn<'a>, r: &'a FieldReference) -> Result<Plan<'a
     }
 }
 
+/// `ldsfld`: the static field.
 pub fn load_static_field<'a>(turn: &Turn<'a>, r: &'a FieldReference) -> Result<Plan<'a>, NoMemory>
     ensures { IfOk result (λ plan. carried_out turn.now plan ≡ execute turn.now.here turn.now.state turn.now.frame turn.now.below (LoadStaticField r.now)) }
 {
@@ -140,6 +143,7 @@ fn store_static<'a>(
     }
 }
 
+/// `stsfld`: another value in the static field.
 pub fn store_static_field<'a>(turn: &Turn<'a>, r: &'a FieldReference) -> Result<Plan<'a>, NoMemory>
     ensures { IfOk result (λ plan. carried_out turn.now plan ≡ execute turn.now.here turn.now.state turn.now.frame turn.now.below (StoreStaticField r.now)) }
 {

@@ -10,6 +10,7 @@ use plain_states::values::PlainValue;
 use plain_turns::plans::Plan;
 use plain_turns::turns::Turn;
 
+/// `nop`.
 pub fn no_operation<'a>(turn: &Turn<'a>) -> Result<Plan<'a>, NoMemory>
     ensures { IfOk result (λ plan. carried_out turn.now plan ≡ execute turn.now.here turn.now.state turn.now.frame turn.now.below NoOperation) }
 {
@@ -23,6 +24,7 @@ pub fn load<'a>(turn: &Turn<'a>, value: PlainValue<'a>) -> Result<Plan<'a>, NoMe
     Plan::next_with_value(turn.stack()?, value)
 }
 
+/// `dup`: the topmost value once more.
 pub fn duplicate<'a>(turn: &Turn<'a>) -> Result<Plan<'a>, NoMemory>
     ensures { IfOk result (λ plan. carried_out turn.now plan ≡ execute turn.now.here turn.now.state turn.now.frame turn.now.below Duplicate) }
 {
@@ -33,6 +35,7 @@ pub fn duplicate<'a>(turn: &Turn<'a>) -> Result<Plan<'a>, NoMemory>
     }
 }
 
+/// `pop`: the topmost value comes off.
 pub fn pop<'a>(turn: &Turn<'a>) -> Result<Plan<'a>, NoMemory>
     ensures { IfOk result (λ plan. carried_out turn.now plan ≡ execute turn.now.here turn.now.state turn.now.frame turn.now.below Pop) }
 {
@@ -43,12 +46,14 @@ pub fn pop<'a>(turn: &Turn<'a>) -> Result<Plan<'a>, NoMemory>
     }
 }
 
+/// `ldarg`: the argument of that number.
 pub fn load_argument<'a>(turn: &Turn<'a>, place: i64) -> Result<Plan<'a>, NoMemory>
     ensures { IfOk result (λ plan. carried_out turn.now plan ≡ execute turn.now.here turn.now.state turn.now.frame turn.now.below (LoadArgument place)) }
 {
     turn.next_given(turn.stack()?, turn.frame.argument(place))
 }
 
+/// `ldloc`: the local of that number.
 pub fn load_local<'a>(turn: &Turn<'a>, place: i64) -> Result<Plan<'a>, NoMemory>
     ensures { IfOk result (λ plan. carried_out turn.now plan ≡ execute turn.now.here turn.now.state turn.now.frame turn.now.below (LoadLocal place)) }
 {
@@ -83,6 +88,7 @@ fn stored_local<'a>(
     }
 }
 
+/// `starg`: another value of its kind in the argument of that number.
 pub fn store_argument<'a>(turn: &Turn<'a>, place: i64) -> Result<Plan<'a>, NoMemory>
     ensures { IfOk result (λ plan. carried_out turn.now plan ≡ execute turn.now.here turn.now.state turn.now.frame turn.now.below (StoreArgument place)) }
 {
@@ -99,6 +105,7 @@ pub fn store_argument<'a>(turn: &Turn<'a>, place: i64) -> Result<Plan<'a>, NoMem
     }
 }
 
+/// `stloc`: another value of its kind in the local of that number.
 pub fn store_local<'a>(turn: &Turn<'a>, place: i64) -> Result<Plan<'a>, NoMemory>
     ensures { IfOk result (λ plan. carried_out turn.now plan ≡ execute turn.now.here turn.now.state turn.now.frame turn.now.below (StoreLocal place)) }
 {

@@ -73,6 +73,7 @@ pub fn compare<'a>(turn: &Turn<'a>, op: Comparison) -> Result<Plan<'a>, NoMemory
     }
 }
 
+/// `conv.i4`: the low 32 bits.
 pub fn convert_int32<'a>(turn: &Turn<'a>) -> Result<Plan<'a>, NoMemory>
     ensures { IfOk result (λ plan. carried_out turn.now plan ≡ execute turn.now.here turn.now.state turn.now.frame turn.now.below ConvertInt32) }
 {
@@ -83,6 +84,7 @@ pub fn convert_int32<'a>(turn: &Turn<'a>) -> Result<Plan<'a>, NoMemory>
     }
 }
 
+/// `conv.i8`: the same number in 64 bits.
 pub fn convert_int64<'a>(turn: &Turn<'a>) -> Result<Plan<'a>, NoMemory>
     ensures { IfOk result (λ plan. carried_out turn.now plan ≡ execute turn.now.here turn.now.state turn.now.frame turn.now.below ConvertInt64) }
 {
