@@ -1,0 +1,224 @@
+// Whole programs on one thread.
+
+use crate::sources::{ANIMALS, PROGRAM};
+use crate::stories::{LIMITS, budget, depth, main_story, refused, run_story, steps, story};
+use cil_plain::machine::StepRequest;
+use std::test::Fail;
+
+#[test]
+fn a_program_prints_and_ends_within_its_budget(rt: HostRuntime) -> Result<(), Fail> {
+    for (limits, count, expected) in [
+        (LIMITS, 5, "rrrr[Done] 5;"),
+        (LIMITS, 0, " "),
+        (budget(3), 9, "rr[Budget]aaaaaa "),
+        (budget(5), 5, "rrrr[Done] 5;"),
+    ] {
+        let told = story(rt.alloc(), PROGRAM, limits, &[steps(0, count)])?;
+        assert_eq!(rt; told.as_str(), expected);
+    }
+    let told = story(rt.alloc(), PROGRAM, LIMITS, &[steps(7, 1), steps(0, 5)])?;
+    assert_eq!(rt; told.as_str(), "arrrr[Done] 5;");
+    Ok(())
+}
+
+const STEP: StepRequest = StepRequest {
+    thread: 0,
+    is_refused: false,
+};
+
+const NO_ENTRY: &str =
+    ".assembly extern mscorlib {} .class public auto ansi P extends [mscorlib]System.Object {}";
+
+#[test]
+fn a_run_tells_its_reports(rt: HostRuntime) -> Result<(), Fail> {
+    let told = run_story(rt.alloc(), PROGRAM, &[STEP, STEP])?;
+    assert_eq!(rt; told.as_str(), "rr 1 of 1 live");
+    let told = run_story(rt.alloc(), PROGRAM, &[STEP, STEP, STEP, STEP, STEP])?;
+    assert_eq!(rt; told.as_str(), "rrrr[Done] 0 of 1 Done");
+    let told = run_story(rt.alloc(), NO_ENTRY, &[STEP])?;
+    assert_eq!(rt; told.as_str(), "no entry point");
+    Ok(())
+}
+
+#[test]
+fn numbers_and_branches(rt: HostRuntime) -> Result<(), Fail> {
+    for (code, count, expected) in [
+        (
+            "ldc.i4 -2147483648 ldc.i4.m1 div pop ret",
+            3,
+            "rr[Arithmetic] ",
+        ),
+        ("ldc.i4.1 ldc.i4.0 rem pop ret", 3, "rr[DivideByZero] "),
+        (
+            "ldc.i4 2147483647 ldc.i4.1 add.ovf pop ret",
+            3,
+            "rr[Overflow] ",
+        ),
+        (
+            "ldc.i4 2147483647 ldc.i4.1 add call void [mscorlib]System.Console::WriteLine(int32) ret",
+            5,
+            "rrrr[Done] -2147483648;",
+        ),
+        (
+            "ldc.i4.1 ldc.i4 33 shl call void [mscorlib]System.Console::WriteLine(int32) ret",
+            5,
+            "rrrr[Done] 2;",
+        ),
+        (
+            "ldc.i4.m1 switch (A) ldc.i4.7 call void [mscorlib]System.Console::WriteLine(int32) ret A: ret",
+            5,
+            "rrrr[Done] 7;",
+        ),
+        (
+            "ldc.i4.0 switch (A) ldc.i4.7 pop ret A: ret",
+            3,
+            "rr[Done] ",
+        ),
+        (
+            "ldc.i8 9223372036854775807 call void [mscorlib]System.Console::WriteLine(int64) ret",
+            3,
+            "rr[Done] 9223372036854775807;",
+        ),
+        (
+            "ldstr \"hello\" call void [mscorlib]System.Console::WriteLine(string) ret",
+            3,
+            "rr[Done] hello;",
+        ),
+        (
+            "ldnull call void [mscorlib]System.Console::WriteLine(string) ret",
+            3,
+            "rr[Done] ;",
+        ),
+        (
+            "ldstr \"a\" ldstr \"a\" ceq call void [mscorlib]System.Console::WriteLine(int32) ret",
+            5,
+            "rrrr[Done] 1;",
+        ),
+    ] {
+        let told = main_story(rt.alloc(), "", code, LIMITS, &[steps(0, count)])?;
+        assert_eq!(rt; told.as_str(), expected);
+    }
+    Ok(())
+}
+
+#[test]
+fn arrays_and_objects(rt: HostRuntime) -> Result<(), Fail> {
+    for (code, count, expected) in [
+        (
+            "ldc.i4.0 newarr int32 ldc.i4.0 ldelem.i4 pop ret",
+            4,
+            "rrr[IndexOutOfRange] ",
+        ),
+        (
+            "ldc.i4.0 newarr int32 ldc.i4.m1 ldelem.i4 pop ret",
+            4,
+            "rrr[IndexOutOfRange] ",
+        ),
+        ("ldc.i4.m1 newarr int32 pop ret", 2, "r[Overflow] "),
+        (
+            "ldc.i4.3 newarr int32 ldlen conv.i4 call void [mscorlib]System.Console::WriteLine(int32) ret",
+            6,
+            "rrrrr[Done] 3;",
+        ),
+        (
+            "ldc.i4.1 newarr class Dog newobj instance void Cat::.ctor() call void Animal::put(class Animal[], class Animal) ret",
+            15,
+            "rrrrrrrrrrrrr[ArrayTypeMismatch]a ",
+        ),
+        (
+            "ldc.i4.1 newarr class Dog ldnull call void Animal::put(class Animal[], class Animal) ret",
+            10,
+            "rrrrrrrrr[Done] ",
+        ),
+        ("ldnull ldlen pop ret", 2, "r[NullReference] "),
+        (
+            "newobj instance void Cat::.ctor() castclass class Dog pop ret",
+            9,
+            "rrrrrrr[InvalidCast]a ",
+        ),
+        (
+            "newobj instance void Cat::.ctor() callvirt instance int32 Animal::speak() call void [mscorlib]System.Console::WriteLine(int32) ret",
+            12,
+            "rrrrrrrrrrr[Done] 1;",
+        ),
+        (
+            "newobj instance void Dog::.ctor() callvirt instance int32 Animal::speak() call void [mscorlib]System.Console::WriteLine(int32) ret",
+            12,
+            "rrrrrrrrrrr[Done] 2;",
+        ),
+        (
+            "newobj instance void Dog::.ctor() callvirt instance int32 IRun::legs() call void [mscorlib]System.Console::WriteLine(int32) ret",
+            12,
+            "rrrrrrrrrrr[Done] 4;",
+        ),
+        (
+            "newobj instance void Dog::.ctor() dup ldc.i4 9 stfld int32 Animal::age ldfld int32 Animal::age call void [mscorlib]System.Console::WriteLine(int32) ret",
+            13,
+            "rrrrrrrrrrrr[Done] 9;",
+        ),
+        (
+            "ldnull callvirt instance int32 Animal::speak() pop ret",
+            2,
+            "r[NullReference] ",
+        ),
+    ] {
+        let told = main_story(rt.alloc(), ANIMALS, code, LIMITS, &[steps(0, count)])?;
+        assert_eq!(rt; told.as_str(), expected);
+    }
+    Ok(())
+}
+
+const Q: &str =
+    ".class public auto ansi Q extends [mscorlib]System.Object { .method public specialname rtspecialname instance void .ctor() cil managed { .maxstack 1 ldarg.0 call instance void [mscorlib]System.Object::.ctor() ret } }";
+
+#[test]
+fn births_within_the_depth_and_where_memory_is_refused(rt: HostRuntime) -> Result<(), Fail> {
+    let of_class = "newobj instance void Q::.ctor() pop ret";
+    let built_in = "newobj instance void [mscorlib]System.Object::.ctor() pop ret";
+    let array = "ldc.i4.1 newarr int32 pop ret";
+    let negative = "ldc.i4.m1 newarr int32 pop ret";
+    for (code, limits, schedule, expected) in [
+        (of_class, LIMITS, [steps(0, 6), steps(0, 0)], "rrrrr[Done] "),
+        (
+            of_class,
+            depth(1),
+            [steps(0, 1), steps(0, 0)],
+            "[StackOverflow] ",
+        ),
+        (built_in, depth(1), [steps(0, 3), steps(0, 0)], "rr[Done] "),
+        (
+            built_in,
+            LIMITS,
+            [refused(0), steps(0, 1)],
+            "[OutOfMemory]a ",
+        ),
+        (
+            of_class,
+            depth(1),
+            [refused(0), steps(0, 1)],
+            "[StackOverflow]a ",
+        ),
+        (array, LIMITS, [steps(0, 1), refused(0)], "r[OutOfMemory] "),
+        (negative, LIMITS, [steps(0, 1), refused(0)], "r[Overflow] "),
+    ] {
+        let told = main_story(rt.alloc(), Q, code, limits, schedule.as_slice())?;
+        assert_eq!(rt; told.as_str(), expected);
+    }
+    Ok(())
+}
+
+#[test]
+fn a_stuck_step_changes_nothing_and_the_state_prints(rt: HostRuntime) -> Result<(), Fail> {
+    let told = main_story(
+        rt.alloc(),
+        "",
+        "ldc.i4.1 ldc.i4.2 ldarg 3 ret",
+        LIMITS,
+        &[steps(0, 3)],
+    )?;
+    assert_eq!(rt;
+        told.as_str(),
+        "rrstuck: thread 0: 9998 steps left [2: LoadArgument(3) [int32 2, int32 1]]\n "
+    );
+    Ok(())
+}

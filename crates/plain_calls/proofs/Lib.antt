@@ -1,0 +1,2 @@
+mod Invoked
+mod Acted

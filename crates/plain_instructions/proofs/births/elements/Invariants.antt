@@ -1,0 +1,6 @@
+use Rattle.std.proofs.Common.{◌≡◌, replicate}
+use Rattle.cil_model.specs.Values.{zero_of}
+use Rattle.plain_instructions.proofs.births.elements.Given as goal
+
+abbrev pub invariant-loop-made : goal.invariant-loop-made
+invariant-loop-made l = l.elements.items ≡ replicate l.made (zero_of l.t)
