@@ -39,6 +39,10 @@ pub if_ok : {T E : Type 0} {P Q : T → Type 0} (r : Result T E) → IfOk r P �
 if_ok (Ok x) h f = f x h
 if_ok (Err e) h f = tt
 
+pub if_err : {T E : Type 0} {P Q : E → Type 0} (r : Result T E) → IfErr r P → ((e : E) → P e → Q e) → IfErr r Q
+if_err (Ok x) h f = tt
+if_err (Err e) h f = f e h
+
 -- limits that a machine was made with are in range
 pub made_in_range : {M : Type 0} (limits : Limits) (m : M) → (Ok m ≡ Err BadLimits) ↔ (are_in_range limits ≡ false) → are_in_range limits ≡ true
 made_in_range limits m iff = by_test (are_in_range limits) (λ e. lost (iff.1 e))

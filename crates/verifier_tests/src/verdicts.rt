@@ -5,8 +5,8 @@ use flow_rules::entries::StackEntry;
 use ilasm_reader::read;
 use metadata::resolve;
 use resolved_code::types::{NumberedElement, NumberedType};
-use std::alloc::Global;
-use std::test::Fail;
+use std::alloc::AllocGlobal;
+use std::process::Abort;
 use verifier::{Verified, VerifyError, verify};
 
 /// What each source has behind the method that is tried. The classes of a source follow the five built-in ones.
@@ -26,30 +26,33 @@ static REST: &str = " }
 
 /// The verdict on a source with a static method of this signature and code before all others.
 fn verdict(
-    alloc: Global,
+    rt: &(impl Abort + AllocGlobal),
     signature: &str,
     code: &str,
-) -> Result<Result<Verified, VerifyError>, Fail> {
+) -> Result<Verified, VerifyError> {
+    let alloc = rt.alloc();
     let source = format!(in alloc;
         ".assembly extern mscorlib {{}} .class public auto ansi M extends [mscorlib]System.Object {{
          .method public static {signature} cil managed {{ {code} {REST}"
-    )?;
-    let tree = read(alloc, source.as_bytes())?;
-    let program = resolve(alloc, tree)?;
-    let layout = lay_out(alloc, &program)?;
-    Ok(verify(alloc, program, layout))
+    )
+    .expect(rt, "memory");
+    let tree = read(alloc, source.as_bytes()).expect(rt, "a tree");
+    let program = resolve(alloc, tree).expect(rt, "a legal program");
+    let layout = lay_out(alloc, &program).expect(rt, "memory");
+    verify(alloc, program, layout)
 }
 
-/// What is told of the method.
-fn told(alloc: Global, signature: &str, code: &str) -> Result<String, Fail> {
-    match verdict(alloc, signature, code)? {
-        Ok(_) => Ok(String::from_str(alloc, "accepted")?),
-        Err(error) => Ok(format!(in alloc; "error {}, {error}", error.number())?),
-    }
+/// Asserts what is told of the method.
+fn assert_told(rt: &(impl Abort + AllocGlobal), signature: &str, code: &str, expected: &str) {
+    let told = match verdict(rt, signature, code) {
+        Ok(_) => String::from_str(rt.alloc(), "accepted"),
+        Err(error) => error.to_string(rt.alloc()),
+    };
+    assert_eq!(rt; told.expect(rt, "memory").as_str(), expected);
 }
 
 #[test]
-fn stacks_meet(rt: HostRuntime) -> Result<(), Fail> {
+fn stacks_meet(rt: HostRuntime) {
     let join = ".maxstack 1 ldarg 0 brtrue A ldarg 0 br B A: ldarg 1 B:";
     for (signature, rest, expected) in [
         (
@@ -65,35 +68,31 @@ fn stacks_meet(rt: HostRuntime) -> Result<(), Fail> {
         (
             "void f(class IRun[] r, class Dog[] d)",
             "call void M::run_all(class IRun[]) ret",
-            "error 301, method 0, instruction 5: object[] stands where IRun[] is wanted",
+            "method 0, instruction 5: object[] stands where IRun[] is wanted",
         ),
         (
             "void f(int32[] i, class Dog[] d)",
             "ldlen pop ret",
-            "error 301, method 0, instruction 5: object is no operand of this instruction",
+            "method 0, instruction 5: object is no operand of this instruction",
         ),
         (
             "void f(int32 i, class Dog d)",
             "pop ret",
-            "error 301, method 0, instruction 5: int32 and Dog meet, and no type is above both",
+            "method 0, instruction 5: int32 and Dog meet, and no type is above both",
         ),
         (
             "void f(class Dog d, class Cat c)",
             "callvirt instance void IRun::run() ret",
-            "error 301, method 0, instruction 5: Animal stands where IRun is wanted",
+            "method 0, instruction 5: Animal stands where IRun is wanted",
         ),
     ] {
-        let code = format!(in rt.alloc(); "{join} {rest}")?;
-        assert_eq!(rt;
-            told(rt.alloc(), signature, code.as_str())?.as_str(),
-            expected
-        );
+        let code = format!(in rt.alloc(); "{join} {rest}").expect(&rt, "memory");
+        assert_told(&rt, signature, code.as_str(), expected);
     }
-    Ok(())
 }
 
 #[test]
-fn methods_are_typed(rt: HostRuntime) -> Result<(), Fail> {
+fn methods_are_typed(rt: HostRuntime) {
     for (signature, code) in [
         (
             "void f(class IRun r)",
@@ -106,13 +105,12 @@ fn methods_are_typed(rt: HostRuntime) -> Result<(), Fail> {
         ),
         ("int64 f()", ".maxstack 1 ldc.i4 1 conv.i8 ret"),
     ] {
-        assert_eq!(rt; told(rt.alloc(), signature, code)?.as_str(), "accepted");
+        assert_told(&rt, signature, code, "accepted");
     }
-    Ok(())
 }
 
 #[test]
-fn methods_have_no_typing(rt: HostRuntime) -> Result<(), Fail> {
+fn methods_have_no_typing(rt: HostRuntime) {
     for (signature, code, expected) in [
         (
             "void f()",
@@ -175,23 +173,19 @@ fn methods_have_no_typing(rt: HostRuntime) -> Result<(), Fail> {
             "instruction 1: int32 stands where string is wanted",
         ),
     ] {
-        let told = told(rt.alloc(), signature, code)?;
-        let expected = format!(in rt.alloc(); "error 301, method 0, {expected}")?;
-        assert_eq!(rt; told.as_str(), expected.as_str());
+        let told = format!(in rt.alloc(); "method 0, {expected}").expect(&rt, "memory");
+        assert_told(&rt, signature, code, told.as_str());
     }
-    Ok(())
 }
 
 #[test]
-fn stacks_are_kept(rt: HostRuntime) -> Result<(), Fail> {
+fn stacks_are_kept(rt: HostRuntime) {
     let code = ".maxstack 1 ldarg 0 brtrue A ldarg 0 br B A: ldarg 1 B: pop ret nop";
-    let verified = verdict(rt.alloc(), "void f(class Dog d, class Cat c)", code)?.expect(
-        &rt, "a typing",
-    );
+    let verified = verdict(&rt, "void f(class Dog d, class Cat c)", code).expect(&rt, "a typing");
     let typing = verified.typing(0).expect(&rt, "a method").as_slice();
     assert_eq!(rt; typing.len(), 8);
     let Some(Some(stack)) = typing.get(5) else {
-        return Err(Fail::new("the join is reached"));
+        panic!(rt; "the join is not reached");
     };
     let animal = NumberedType {
         element: NumberedElement::Class(7),
@@ -201,5 +195,4 @@ fn stacks_are_kept(rt: HostRuntime) -> Result<(), Fail> {
     assert!(rt; typing.get(7).is_some_and(|stack| stack.is_none()));
     assert!(rt; verified.typing(8).is_some());
     assert!(rt; verified.typing(9).is_none());
-    Ok(())
 }

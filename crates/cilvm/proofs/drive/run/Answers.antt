@@ -7,6 +7,11 @@ returns-in_err-events-clause-refused c =
     handed_on c.from_residual-in_err-events.result c.from_residual-in_err-events.ensures.1 (λ failure same.
     inr (made_in_range c.args.limits c.in_ok-machine.machine c.in_ok-machine.ensures.limits, inr (c.in_err-events.field-0.0, c.in_err-events.ensures, same)))
 
+pub returns-in_err-run-clause-refused : goal.returns-in_err-run-clause-refused
+returns-in_err-run-clause-refused c =
+    handed_on c.from_residual-in_err-run.result c.from_residual-in_err-run.ensures.1 (λ failure same.
+    inr (made_in_range c.args.limits c.in_ok-machine.machine c.in_ok-machine.ensures.limits, inl same))
+
 pub returns-clause-ran : goal.returns-clause-ran
 returns-clause-ran c =
     ran c.args.program c.args.limits c.args.text.now c.in_ok-machine.machine c.run.new.self c.in_ok-events.events.items c.as_slice.result.now c.new-reports.result.items c.run.new.reports.items
