@@ -1,6 +1,14 @@
-//! Programs with what the reference machine answers for them.
+//! What the reference machine, its look-ups and its state answer for sources.
 #![tactic(auto)]
 
+#[cfg(test)]
+mod copies;
+#[cfg(test)]
+mod lookups;
+#[cfg(test)]
+mod numbers;
+#[cfg(test)]
+mod openings;
 #[cfg(test)]
 mod runs;
 #[cfg(test)]

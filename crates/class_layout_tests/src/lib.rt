@@ -1,7 +1,0 @@
-//! Layouts of sources.
-#![tactic(auto)]
-
-#[cfg(test)]
-mod layouts;
-#[cfg(test)]
-mod memory;

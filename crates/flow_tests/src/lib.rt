@@ -1,5 +1,0 @@
-//! What instructions do to stacks of types.
-#![tactic(auto)]
-
-#[cfg(test)]
-mod stacks;
