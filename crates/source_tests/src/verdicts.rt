@@ -5,7 +5,7 @@ use flow_rules::entries::StackEntry;
 use ilasm_reader::read;
 use metadata::resolve;
 use resolved_code::types::{NumberedElement, NumberedType};
-use std::alloc::AllocGlobal;
+use std::alloc::{AllocGlobal, Global};
 use std::process::Abort;
 use verifier::{Verified, VerifyError, verify};
 
@@ -16,7 +16,7 @@ static REST: &str = " }
  .method public static void keep_all(class Animal[] a) cil managed { .maxstack 0 ret }
  .method public static void hold_all(object[] o) cil managed { .maxstack 0 ret } }
 .class interface public abstract auto ansi IRun { .method public newslot abstract virtual instance void run() cil managed { } }
-.class public auto ansi Animal extends [mscorlib]System.Object { }
+.class public auto ansi Animal extends [mscorlib]System.Object { .method public newslot virtual instance void speak() cil managed { .maxstack 0 ret } }
 .class public auto ansi Dog extends Animal implements IRun { .method public virtual instance void run() cil managed { .maxstack 0 ret } }
 .class public auto ansi Cat extends Animal { }
 .class public abstract auto ansi Shape extends [mscorlib]System.Object {
@@ -59,6 +59,16 @@ fn stacks_meet(rt: HostRuntime) {
             "void f(class Dog[] d, class Cat[] c)",
             "call void M::keep_all(class Animal[]) ret",
             "accepted",
+        ),
+        (
+            "void f(class Dog d, class Cat c)",
+            "callvirt instance void Animal::speak() ret",
+            "accepted",
+        ),
+        (
+            "void f(class Dog d, class IRun r)",
+            "callvirt instance void IRun::run() ret",
+            "method 0, instruction 5: object stands where IRun is wanted",
         ),
         (
             "void f(class IRun[] r, class Dog[] d)",
@@ -193,6 +203,41 @@ fn stacks_are_kept(rt: HostRuntime) {
     };
     assert!(rt; stack.as_slice() == [StackEntry::Declared(animal)].as_slice());
     assert!(rt; typing.get(7).is_some_and(|stack| stack.is_none()));
-    assert!(rt; verified.typing(8).is_some());
-    assert!(rt; verified.typing(9).is_none());
+    assert!(rt; verified.typing(9).is_some());
+    assert!(rt; verified.typing(10).is_none());
+}
+
+/// Whether the verdict is the usual one, or memory was wanting.
+fn is_answered(alloc: Global, source: &str, is_accepted: bool) -> bool {
+    let Ok(tree) = read(alloc, source.as_bytes()) else {
+        return true;
+    };
+    let Ok(program) = resolve(alloc, tree) else {
+        return true;
+    };
+    let Ok(layout) = lay_out(alloc, &program) else {
+        return true;
+    };
+    match verify(alloc, program, layout) {
+        Ok(_) => is_accepted,
+        Err(VerifyError::NoTyping { method, .. }) => !is_accepted && method == 0,
+        Err(VerifyError::OutOfMemory) => true,
+    }
+}
+
+static JOINED: &str =
+    ".assembly extern mscorlib {} .class public auto ansi M extends [mscorlib]System.Object {
+ .method public static void f(object o, string s) cil managed { .maxstack 1 ldarg 0 brtrue A ldarg 1 br B A: ldarg 0 B: pop ret }
+ .method public static void Main() cil managed { .entrypoint .maxstack 0 ret } }";
+
+static UNJOINED: &str =
+    ".assembly extern mscorlib {} .class public auto ansi M extends [mscorlib]System.Object {
+ .method public static void f(object o, int32 s) cil managed { .maxstack 1 ldarg 0 brtrue A ldarg 1 br B A: ldarg 0 B: pop ret }
+ .method public static void Main() cil managed { .entrypoint .maxstack 0 ret } }";
+
+/// With each allocation refused in turn the answers are the usual ones or want of memory.
+#[test]
+fn want_of_memory_changes_no_verdict(rt: HostRuntime) {
+    assert!(rt; is_answered(rt.alloc(), JOINED, true));
+    assert!(rt; is_answered(rt.alloc(), UNJOINED, false));
 }

@@ -1,0 +1,5 @@
+//! The machine beside the reference machine.
+#![tactic(auto)]
+
+#[cfg(test)]
+mod schedules;
