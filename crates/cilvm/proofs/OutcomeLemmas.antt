@@ -28,7 +28,7 @@ use Rattle.verifier.specs.Verdicts.{IsVerdict}
 use Rattle.verifier.specs.declared.refusals.VerifyError.{VerifyError}
 use Rattle.cilvm.specs.Failures.{failure_of_path, failure_of_verifying}
 use Rattle.cilvm.specs.declared.drive.Failure.{Failure}
-use Rattle.cilvm.specs.Outcomes.{HasNotRun, HasRun, IsAcceptedSource, IsNotAccepted, IsRunBy, IsShown}
+use Rattle.cilvm.specs.Outcomes.{HasRun, IsAcceptedSource, IsNotAccepted, IsNotRun, IsRunBy, IsShown}
 use Rattle.cilvm.specs.Threads.{ends_of}
 
 pub handed_on : {T E : Type 0} {P gives : E → Type 0} (r : Result T E) → IsErrAnd r gives → ((e : E) → gives e → P e) → IfErr r P
@@ -104,5 +104,5 @@ untyped_source source tree program error failure read same legal verdict told =
 
 -- an accepted program that does not run yet
 pub beyond : {T : Type 0} (source : List ℕ) (limits : Limits) (text : List ℕ) (tree : Tree) (error : PathError) (failure : Failure) → IsAcceptedSource source tree
-    → ((method : ℕ) → ◌≡◌ {A = Result T PathError} (Err error) (Err (NotYet method)) → first_beyond tree ≡ Some method) → failure ≡ failure_of_path error → HasNotRun source limits text failure
+    → ((method : ℕ) → ◌≡◌ {A = Result T PathError} (Err error) (Err (NotYet method)) → first_beyond tree ≡ Some method) → failure ≡ failure_of_path error → IsNotRun source limits text failure
 beyond source limits text tree error failure accepted refused told = inr (tree, accepted, inl (error, (λ method e. refused method (ap Err e)), told))

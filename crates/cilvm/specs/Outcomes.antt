@@ -83,6 +83,15 @@ IsNotRunBy limits text failure =
     ⊎ ((are_in_range limits ≡ true) × ((failure ≡ Memory)
     ⊎ ((error : ScheduleError) × IsFirstFault (words text) error × (failure ≡ failure_of_schedule error))))
 
+-- a machine has run by a text: the bytes have a tree that is an accepted program, and it stands after the events that the text writes
+abbrev pub HasRunTo : List ℕ → Limits → List ℕ → Content → Type 0
+HasRunTo source limits text content = (tree : Tree) × IsAcceptedSource source tree × IsRunBy tree limits text content
+
+-- why no machine has: the source, then what does not run yet, then the limits and the text
+abbrev pub IsNotRun : List ℕ → Limits → List ℕ → Failure → Type 0
+IsNotRun source limits text failure = IsNotAccepted source failure
+    ⊎ ((tree : Tree) × IsAcceptedSource source tree × (IsBeyond tree failure ⊎ IsNotRunBy limits text failure))
+
 -- what is shown on the two outputs of bytes that were printed and of how the threads stand, and the status
 pub record IsShown (printed : List ℕ) (ends : List (Option End)) (out out' err err' : Option (List ℕ)) (status : ℕ) : Type 0 where
   pub output : Appends out out' printed
@@ -132,8 +141,7 @@ pub record HasRun (source : List ℕ) (limits : Limits) (text : List ℕ) (out o
 
 -- why a run is not done
 abbrev pub HasNotRun : List ℕ → Limits → List ℕ → Failure → Type 0
-HasNotRun source limits text failure = IsNotAccepted source failure
-    ⊎ ((tree : Tree) × IsAcceptedSource source tree × (IsBeyond tree failure ⊎ (IsNotRunBy limits text failure ⊎ IsOfWriting failure)))
+HasNotRun source limits text failure = IsNotRun source limits text failure ⊎ (IsLetIn source × IsOfWriting failure)
 
 -- an order is carried out: a run takes its schedule from the command line, a replay from the file
 abbrev pub IsDone : Order → List ℕ → List ℕ → Option (List ℕ) → Option (List ℕ) → Option (List ℕ) → Option (List ℕ) → ℕ → Type 0

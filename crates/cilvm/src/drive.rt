@@ -6,8 +6,8 @@ ghost use Rattle.cilvm.specs.Failures.{IsFailureOfDevice, IsStatusOf, failure_of
 ghost use Rattle.cilvm.specs.Failures.{failure_of_reading, failure_of_resolving};
 ghost use Rattle.cilvm.specs.Failures.{failure_of_path, failure_of_schedule, failure_of_verifying};
 ghost use Rattle.cilvm.specs.Failures.{is_refusal, message_of, status_of_failure};
-ghost use Rattle.cilvm.specs.Outcomes.{HasNotRun, HasRun, IsAcceptedSource, IsChecked, IsDone, IsNotAccepted};
-ghost use Rattle.cilvm.specs.Outcomes.{IsNotChecked, IsNotDone, IsNotRunBy, IsOfWriting};
+ghost use Rattle.cilvm.specs.Outcomes.{HasNotRun, HasRun, HasRunTo, IsAcceptedSource, IsChecked, IsDone, IsNotAccepted};
+ghost use Rattle.cilvm.specs.Outcomes.{IsNotChecked, IsNotDone, IsNotRun, IsNotRunBy, IsOfWriting};
 ghost use Rattle.cilvm.specs.Outcomes.{IsOutcome, IsRunBy, IsShown, IsTried, trial_text};
 ghost use Rattle.cilvm.specs.Threads.{is_done, is_live, line_of, lines_from};
 ghost use Rattle.cilvm.specs.Threads.{status_of};
@@ -281,14 +281,29 @@ fn show_run<W: Write, E: Write>(
     ensures untouched { IfErr result (λ failure. is_refusal failure ≡ true
         → (W.contents out.new ≡ W.contents out.old) × (E.contents err.new ≡ E.contents err.old)) }
 {
-    let verified = accept(alloc, source)?;
-    let program = first_path(alloc, verified)?;
-    let machine = run(alloc, program, limits, text)?;
+    let machine = run_source(alloc, source, limits, text)?;
     show(alloc, &machine, out, err)
 }
 
-/// The verified program of a source, whose tree is the one that the bytes have.
-fn accept(alloc: Global, source: &[u8]) -> Result<Verified, Failure>
+/// The machine of a source after the events of a schedule's text. The reference machine's run over the steps of these events is never
+/// stuck, and the machine stands for the state that it comes to. Faults are looked for in this order: the source, what does not run
+/// yet, the limits, the schedule, memory for what is printed.
+pub fn run_source(
+    alloc: Global,
+    source: &[u8],
+    limits: Limits,
+    text: &[u8],
+) -> Result<Machine, Failure>
+    ensures ran { IfOk result (HasRunTo source.now limits text.now) }
+    ensures refused { IfErr result (IsNotRun source.now limits text.now) }
+{
+    let verified = accept(alloc, source)?;
+    let program = first_path(alloc, verified)?;
+    run(alloc, program, limits, text)
+}
+
+/// The verified program of a source, whose tree is the one that the bytes have. It is legal, and each of its methods has a typing.
+pub fn accept(alloc: Global, source: &[u8]) -> Result<Verified, Failure>
     ensures accepted { IfOk result (IsAcceptedSource source.now) }
     ensures refused { IfErr result (IsNotAccepted source.now) }
 {
