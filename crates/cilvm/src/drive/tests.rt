@@ -4,6 +4,7 @@ use crate::orders::Order;
 use cil_model::events::Event;
 use cil_model::limits::Limits;
 use cil_model::reports::{End, Report};
+use first_path::first_path;
 use interleaving_core::{Machine, Refused};
 use std::alloc::Global;
 use std::io;
