@@ -124,7 +124,8 @@ fn assert_alike(rt: &(impl Abort + AllocGlobal), budget: u32, printing: usize) {
     };
     let mut printed = 0usize;
     for schedule in 0..SCHEDULES {
-        printed += usize::from(prints_sum(rt, &program, limits, schedule));
+        let prints = prints_sum(rt, &program, limits, schedule);
+        printed = printed.saturating_add(usize::from(prints));
     }
     assert_eq!(rt; printed, printing);
 }
