@@ -1,8 +1,8 @@
 -- The one entry point: found among the methods, and its body among the bodies.
-use Rattle.std.proofs.Common.{◌≡◌, ℕ, zero, suc, Bool, true, false, List, [], ◌∷◌, ◌++◌, map, Option, Some, None, refl, ap, sym, ◌∙◌, slice_get, slice_index_or, cond, ◌<◌, ◌+◌, length, get_or, is_some, drop, drop-cons, add-one}
+use Rattle.std.proofs.Common.{◌≡◌, ℕ, zero, suc, Bool, true, false, List, [], ◌∷◌, ◌++◌, map, Option, Some, None, refl, ap, sym, ◌∙◌, slice_get, slice_index_or, cond, ◌<◌, ◌+◌, length, get_or, drop, drop-cons, add-one}
 use Rattle.std.specs.List.{filter, flat_map}
 use Rattle.std.proofs.lemmas.List.{map-append}
-use Rattle.std.specs.Option.{option_map, ok_or}
+use Rattle.std.specs.Option.{option_map}
 use Rattle.std.proofs.lemmas.Option.{slice_get-map, slice_get_read, slice_get_within}
 use Rattle.cil_model.specs.declared.types.ClassName.{ClassName}
 use Rattle.cil_model.specs.declared.trees.Tree.{Tree}
@@ -12,7 +12,7 @@ use Rattle.cil_model.specs.declared.trees.MethodKind.{MethodKind}
 use Rattle.cil_model.specs.declared.trees.MethodKind.TheVariants.{Static, Instance, Virtual, Abstract}
 use Rattle.cil_model.specs.declared.trees.Class.{Class}
 use Rattle.cil_model.specs.Declarations.{source_name, methods_of}
-use Rattle.cil_model.specs.Bodies.{code_of, is_entry_point, entry_points, source_methods}
+use Rattle.cil_model.specs.Bodies.{code_of, is_entry_point, source_methods}
 use Rattle.cil_model.specs.Chains.{is_static}
 use Rattle.cil_model.specs.Legality.{is_entry_method, IsLegal}
 use Rattle.cil_model.proofs.Legal.{entry_alone}

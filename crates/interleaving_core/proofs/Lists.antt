@@ -1,5 +1,5 @@
 -- Lists of numbers that agree, and what is left of a list.
-use Rattle.std.proofs.Common.{◌≡◌, ◌+◌, ℕ, zero, suc, ℤ, List, [], ◌∷◌, map, drop, Option, Some, None, slice_get, slice_set, option_map, refl, ap, ◌∙◌, arith}
+use Rattle.std.proofs.Common.{◌≡◌, ◌+◌, ℕ, zero, suc, ℤ, List, [], ◌∷◌, map, drop, Some, slice_get, option_map, refl, ap, ◌∙◌, arith}
 use Rattle.cil_model.specs.Values.{Value, Int32 as Int32Value}
 use Rattle.cil_model.specs.MachineContents.{Word, Int32}
 use Rattle.cil_model.specs.StandsFor.{Names, Agree, IsValue, int32, int64, native, null, reference}

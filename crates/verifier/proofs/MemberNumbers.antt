@@ -1,5 +1,5 @@
 -- The numbers of the methods of a source.
-use Rattle.std.proofs.Common.{◌≡◌, ◌<◌, ◌+◌, ℕ, List, [], ◌∷◌, ◌++◌, map, length, drop, drop-cons, add-one, get_or, Option, Some, None, option_map, option_and_then, slice_get, refl, sym, ap, ◌∙◌}
+use Rattle.std.proofs.Common.{◌≡◌, ◌<◌, ◌+◌, ℕ, List, [], ◌∷◌, ◌++◌, map, length, drop, drop-cons, add-one, get_or, Option, Some, option_map, option_and_then, slice_get, refl, sym, ap, ◌∙◌}
 use Rattle.std.specs.List.{flat_map}
 use native.Mathlib.Numerals.{unary_clauses}
 use Rattle.std.proofs.lemmas.List.{map-append, append_assoc}

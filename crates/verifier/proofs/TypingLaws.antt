@@ -89,6 +89,18 @@ pub kept_at : {B : Type 0} (shown : B → List (Option (List StackEntry))) (tree
 kept_at shown tree typings n None owner m e kept here = tt
 kept_at shown tree typings n (Some b) owner m e kept here = kept n (shown b) owner m (sym e) here
 
+-- where none is found there is no method of the number
+pub absent_at : {B : Type 0} (shown : B → List (Option (List StackEntry))) (tree : Tree) (typings : List (List (Option (List StackEntry)))) (n : ℕ) (found : Option B) →
+    option_map shown found ≡ slice_get typings n → AreTypings tree typings → found ≡ None → slice_get (source_methods tree) n ≡ None
+absent_at shown tree typings n found e are absent = by_method (slice_get (source_methods tree) n) refl
+  where
+    missing : None ≡ slice_get typings n
+    missing = sym (ap (option_map shown) absent) ∙ e
+
+    by_method : (o : Option (ClassName × Method)) → slice_get (source_methods tree) n ≡ o → slice_get (source_methods tree) n ≡ None
+    by_method None h = h
+    by_method (Some x) h = none_is_some (missing ∙ slice_get-get_or typings n [] (subst (λ (z : ℕ). n < z) (sym are.whole) (slice_get_within (source_methods tree) n x h)))
+
 -- ---- one method after another
 
 module _ (tree : Tree) (members : List MemberNumber) (typings : List (List (Option (List StackEntry)))) (n : ℕ) (other : MemberNumber) (all : methods_at tree members ≡ map Some (source_methods tree))

@@ -1,6 +1,6 @@
 // Programs that are accepted.
 
-ghost use Rattle.std.specs.Prelude.{◌≡◌, IfSome, Some, slice_get};
+ghost use Rattle.std.specs.Prelude.{◌≡◌, IfSome, None, Some, slice_get};
 ghost use Rattle.cil_model.specs.declared.trees.Method.{Method};
 ghost use Rattle.cil_model.specs.declared.types.ClassName.{ClassName};
 ghost use Rattle.cil_model.specs.Bodies.{source_methods};
@@ -59,7 +59,8 @@ impl Verified {
     /// The typing of a method by its number among those of the source, from 0 in source order: the stack before each instruction, the
     /// top first; none at an instruction that control never reaches. None where no method has the number.
     pub fn typing(&self, method: usize) -> Option<&Typing>
-        ensures { (owner : ClassName) (m : Method) → slice_get (source_methods self.now) method ≡ Some (owner, m) → IfSome result (λ typing. IsTyping self.now owner m (typing_of self.now typing.now)) }
+        ensures found { (owner : ClassName) (m : Method) → slice_get (source_methods self.now) method ≡ Some (owner, m) → IfSome result (λ typing. IsTyping self.now owner m (typing_of self.now typing.now)) }
+        ensures absent { result ≡ None → slice_get (source_methods self.now) method ≡ None }
     {
         typing_at(self.typings.as_slice(), method)
     }

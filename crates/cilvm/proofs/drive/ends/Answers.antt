@@ -1,4 +1,4 @@
-use Rattle.std.proofs.Common.{[], ap, arith, map, sym, take, ◌++◌, ◌<◌, ◌∙◌, ◌∷◌, add-one, length, subst}
+use Rattle.std.proofs.Common.{[], ap, map, sym, take, ◌++◌, ◌<◌, ◌∙◌, ◌∷◌, add-one, length, subst}
 use Rattle.cilvm.proofs.ThreadLemmas.{ends_more}
 use Rattle.cilvm.proofs.drive.ends.Goals as goal
 

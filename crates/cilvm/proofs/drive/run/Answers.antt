@@ -1,4 +1,4 @@
-use Rattle.std.proofs.Common.{inl, inr, sym, ◌∙◌}
+use Rattle.std.proofs.Common.{inl, inr}
 use Rattle.cilvm.proofs.OutcomeLemmas.{handed_on, made_in_range, ran}
 use Rattle.cilvm.proofs.drive.run.Goals as goal
 

@@ -1,4 +1,4 @@
-use Rattle.std.proofs.Common.{drop, map, sym, ◌∙◌}
+use Rattle.std.proofs.Common.{map, sym, ◌∙◌}
 use Rattle.std.proofs.lemmas.List.{drop_all}
 use Rattle.first_path.proofs.EntryLemmas.{passes_at, entry_at, entry_there}
 use Rattle.first_path.proofs.bodies.entry_number.Goals as goal
