@@ -2,9 +2,9 @@
 use Rattle.std.proofs.Common.{◌≡◌, ℕ, ◌+◌, ◌<◌, ◌≤◌, List, [], ◌∷◌, ◌++◌, drop, get_or, length, refl, ap, sym, ◌∙◌}
 use Rattle.std.proofs.lemmas.List.{drop_all, drop_more}
 use Rattle.cil_model.specs.declared.reports.Report.{Report}
-use Rattle.cil_model.specs.States.{State}
-use Rattle.cil_model.specs.Steps.{Answers, Stuck}
-use Rattle.cil_model.specs.Runs.{Run, RunsTo, SticksAfter, StepRequest, preceded_by}
+use Rattle.reference_machine.specs.States.{State}
+use Rattle.reference_machine.specs.Steps.{Answers, Stuck}
+use Rattle.reference_machine.specs.Runs.{Run, RunsTo, SticksAfter, StepRequest, preceded_by}
 use Rattle.cil_plain.specs.Machines.{PlainContent, preceded_by_all, run_of_machine, step_of_machine}
 
 preceded_by_one : (rs : List Report) (r : Report) (later : Run) → preceded_by_all (rs ++ r ∷ []) later ≡ preceded_by_all rs (preceded_by r later)

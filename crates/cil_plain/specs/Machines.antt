@@ -3,9 +3,9 @@ use Rattle.std.specs.Prelude.{ℕ, Bool, true, false, List, [], ◌∷◌, Optio
 use Rattle.cil_model.specs.declared.trees.Tree.{Tree}
 use Rattle.cil_model.specs.declared.limits.Limits.{Limits}
 use Rattle.cil_model.specs.declared.reports.Report.{Report}
-use Rattle.cil_model.specs.States.{State}
-use Rattle.cil_model.specs.Steps.{Outcome, Answers, Stuck, step}
-use Rattle.cil_model.specs.Runs.{Run, RunsTo, SticksAfter, StepRequest, run, preceded_by}
+use Rattle.reference_machine.specs.States.{State}
+use Rattle.reference_machine.specs.Steps.{Outcome, Answers, Stuck, step}
+use Rattle.reference_machine.specs.Runs.{Run, RunsTo, SticksAfter, StepRequest, run, preceded_by}
 
 -- what contracts see of a machine
 pub record PlainContent : Type 0 where

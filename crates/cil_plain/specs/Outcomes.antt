@@ -1,5 +1,5 @@
 -- The outcomes of the program as outcomes of the reference machine.
-use Rattle.cil_model.specs.Steps.{Outcome, Answers as OutcomeAnswers, Stuck as OutcomeStuck}
+use Rattle.reference_machine.specs.Steps.{Outcome, Answers as OutcomeAnswers, Stuck as OutcomeStuck}
 use Rattle.cil_plain.specs.declared.steps.OutcomeKind.{OutcomeKind}
 use Rattle.cil_plain.specs.declared.steps.OutcomeKind.TheVariants.{Answers, Stuck}
 

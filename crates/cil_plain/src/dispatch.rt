@@ -1,8 +1,8 @@
 // What each instruction does (ECMA-335 III.3 and III.4).
 
 ghost use Rattle.std.specs.Prelude.{◌≡◌, ◌∷◌, IfOk, if◌then◌else◌};
-ghost use Rattle.cil_model.specs.Effects.{Sticks, given};
-ghost use Rattle.cil_model.specs.Steps.{execute, effect_of, instruction_at};
+ghost use Rattle.reference_machine.specs.Effects.{Sticks, given};
+ghost use Rattle.reference_machine.specs.Steps.{execute, effect_of, instruction_at};
 ghost use Rattle.plain_instructions.specs.Groups.{is_on_data};
 ghost use Rattle.plain_turns.specs.Plans.{carried_out};
 

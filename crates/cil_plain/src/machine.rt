@@ -1,8 +1,8 @@
 // The reference machine of a program, for tests.
 
 ghost use Rattle.std.specs.Prelude.{◌≡◌, IfOk, OnErr, Some, None, length, count_by, option_map};
-ghost use Rattle.cil_model.specs.Runs.{opening};
-ghost use Rattle.cil_model.specs.States.{is_live, is_live_thread};
+ghost use Rattle.reference_machine.specs.Runs.{opening};
+ghost use Rattle.reference_machine.specs.States.{is_live, is_live_thread};
 ghost use Rattle.plain_states.specs.Started.{end_in};
 ghost use Rattle.cil_plain.specs.Machines.{PlainContent, answer_of, run_of_machine, run_of_parts, step_of_machine};
 
@@ -24,7 +24,7 @@ pub struct StepRequest {
 }
 
 impl Model for StepRequest {
-    ghost use Rattle.cil_model.specs.Runs.{StepRequest as Request};
+    ghost use Rattle.reference_machine.specs.Runs.{StepRequest as Request};
 
     ghost Value = { Request };
 

@@ -2,8 +2,8 @@
 
 ghost use Rattle.std.specs.Prelude.{◌≡◌, ◌-◌, IfOk};
 ghost use Rattle.cil_model.specs.declared.reports.Report.TheVariants.{Absent};
-ghost use Rattle.cil_model.specs.Effects.{Goes, Blocks, Raises};
-ghost use Rattle.cil_model.specs.Steps.{Answers, Stuck, ended_as, goes_on, settled, step_of, step};
+ghost use Rattle.reference_machine.specs.Effects.{Goes, Blocks, Raises};
+ghost use Rattle.reference_machine.specs.Steps.{Answers, Stuck, ended_as, goes_on, settled, step_of, step};
 
 use crate::dispatch::effect_of;
 use cil_model::limits::Limits;
@@ -32,7 +32,7 @@ pub struct PlainOutcome<'a> {
 }
 
 impl<'a> Model for PlainOutcome<'a> {
-    ghost use Rattle.cil_model.specs.Steps.{Outcome};
+    ghost use Rattle.reference_machine.specs.Steps.{Outcome};
 
     ghost Value = { Outcome };
 

@@ -4,15 +4,15 @@ use Rattle.std.proofs.lemmas.Bool.{and_parts}
 use Rattle.std.proofs.lemmas.Bool.Decides.{nat_tests}
 use Rattle.std.specs.List.{zip}
 use Rattle.std.specs.Prelude.{IfErr, IfOk, IsErrAnd}
-use Rattle.cil_model.proofs.StandsLaws.{ends_stand, printed_stands, stands_after}
+use Rattle.machine_content.proofs.StandsLaws.{ends_stand, printed_stands, stands_after}
 use Rattle.cil_model.specs.Legality.{IsLegal}
-use Rattle.cil_model.specs.MachineContents.{Content, Thread}
-use Rattle.cil_model.specs.Budgets.{KeepsBudgets}
+use Rattle.machine_content.specs.MachineContents.{Content, Thread}
+use Rattle.machine_content.specs.Budgets.{KeepsBudgets}
 use Rattle.cil_model.specs.Ranges.{are_in_range}
-use Rattle.cil_model.specs.Runs.{opening}
-use Rattle.cil_model.specs.StandsFor.{FollowsReference, StandsAfter, StandsFor}
+use Rattle.reference_machine.specs.Runs.{opening}
+use Rattle.machine_content.specs.StandsFor.{FollowsReference, StandsAfter, StandsFor}
 use Rattle.cil_model.specs.Sources.{HasTree, IsAnswer}
-use Rattle.cil_model.specs.States.{State}
+use Rattle.reference_machine.specs.States.{State}
 use Rattle.cil_model.specs.declared.events.Event.{Event}
 use Rattle.cil_model.specs.declared.limits.Limits.{Limits}
 use Rattle.cil_model.specs.declared.reports.Report.{Report}

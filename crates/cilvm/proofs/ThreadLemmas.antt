@@ -2,7 +2,7 @@
 use Rattle.std.proofs.Common.{◌≡◌, ◌+◌, ◌<◌, ℕ, List, ◌∷◌, [], ◌++◌, length, take, get_or, Option, None, Some, arith, sym, ◌∙◌, ap, zero, suc, append_assoc, map, option_map, unwrap_or, slice_get, refl}
 use Rattle.std.proofs.lemmas.List.{append-nil}
 use Rattle.std.specs.Io.KnownBytes.{Appends}
-use Rattle.cil_model.specs.MachineContents.{Thread}
+use Rattle.machine_content.specs.MachineContents.{Thread}
 use Rattle.cil_model.specs.declared.reports.End.{End}
 use Rattle.cilvm.specs.Threads.{line_of, lines_from}
 

@@ -3,7 +3,7 @@ use Rattle.std.specs.Io.KnownBytes.{Appends}
 use Rattle.std.specs.Fmt.{decimal}
 use Rattle.std.specs.Prelude.{◌≡◌, ◌≢◌, ◌⊎◌, ◌*◌, ◌++◌, ◌∷◌, [], ℕ, true, false, List, Option, Some, Err, codes}
 use Rattle.std.specs.List.{zip}
-use Rattle.cil_model.specs.Budgets.{AreWithinBudget}
+use Rattle.machine_content.specs.Budgets.{AreWithinBudget}
 use Rattle.cil_model.specs.Ranges.{are_in_range}
 use Rattle.flip_trial.specs.Trial.{place_count}
 use Rattle.flip_trial.specs.declared.sizes.Sizes.{Sizes}
@@ -14,8 +14,8 @@ use Rattle.cil_model.specs.declared.trees.Tree.{Tree}
 use Rattle.ilasm_reader.specs.Answers.{IsReadAnswer}
 use Rattle.ilasm_reader.specs.declared.reading.ReadError.{ReadError}
 use Rattle.cil_model.specs.Legality.{IsLegal, least_broken}
-use Rattle.cil_model.specs.StandsFor.{IsRunOf, StandsAfter}
-use Rattle.cil_model.specs.States.{State}
+use Rattle.machine_content.specs.StandsFor.{IsRunOf, StandsAfter}
+use Rattle.reference_machine.specs.States.{State}
 use Rattle.cil_model.specs.Typings.{IsAccepted}
 use Rattle.cil_model.specs.declared.reports.End.{End}
 use Rattle.metadata.specs.RuleNumbers.{number_of as legality_number_of}
@@ -26,7 +26,7 @@ use Rattle.first_path.specs.declared.path.PathError.{PathError}
 use Rattle.first_path.specs.declared.path.PathError.TheVariants.{NotYet}
 use Rattle.verifier.specs.Verdicts.{IsVerdict}
 use Rattle.verifier.specs.declared.refusals.VerifyError.{VerifyError}
-use Rattle.cil_model.specs.MachineContents.{Content}
+use Rattle.machine_content.specs.MachineContents.{Content}
 use Rattle.interleaving_core.specs.declared.machine.Refused.TheVariants.{Limits as BadLimits}
 use Rattle.schedule_text.specs.Items.{words}
 use Rattle.schedule_text.specs.Readings.{AreRead, IsFirstFault}

@@ -6,7 +6,7 @@ use Rattle.cil_model.specs.declared.instructions.ShiftOperation.TheVariants.{Lef
 use Rattle.cil_model.specs.declared.instructions.Comparison.TheVariants.{Equal, Greater, Less}
 use Rattle.cil_model.specs.declared.instructions.Instruction.TheVariants.{NoOperation, LoadInt32, LoadInt64, LoadNull, LoadString, LoadArgument, StoreArgument, LoadLocal, StoreLocal, Duplicate, Pop, Binary, Unary, Shift, Compare, ConvertInt32, ConvertInt64}
 use Rattle.cil_model.specs.declared.reports.Fault.TheVariants.{DivideByZero, Arithmetic, Overflow}
-use Rattle.cil_model.specs.Values.{Value, Int32, Int64, Native, Null}
+use Rattle.reference_machine.specs.Values.{Value, Int32, Int64, Native, Null}
 use Rattle.definition_trials.proofs.Farm.{int, minus, long, object, text, Leaves, Faults, NoMeaning, does}
 
 abbrev most : Value

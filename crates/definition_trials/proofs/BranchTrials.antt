@@ -2,7 +2,7 @@
 use Rattle.std.proofs.Common.{◌≡◌, pos, [], ◌∷◌, Some, refl, codes}
 use Rattle.cil_model.specs.declared.instructions.BranchComparison.TheVariants.{Equal, NotEqual, GreaterOrEqual, Greater, LessOrEqual, Less}
 use Rattle.cil_model.specs.declared.instructions.Instruction.TheVariants.{NoOperation, Branch, BranchTrue, BranchFalse, BranchCompare, Switch}
-use Rattle.cil_model.specs.Values.{Native, Null}
+use Rattle.reference_machine.specs.Values.{Native, Null}
 use Rattle.definition_trials.proofs.Farm.{int, minus, long, object, Leaves, NoMeaning, does, place_after}
 
 -- ---- without a condition

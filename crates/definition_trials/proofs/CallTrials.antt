@@ -10,8 +10,8 @@ use Rattle.cil_model.specs.declared.instructions.Instruction.TheVariants.{Call, 
 use Rattle.cil_model.specs.declared.reports.Fault.TheVariants.{NullReference, OutOfMemory, StackOverflow, ArgumentNull, SynchronizationLock, ThreadState}
 use Rattle.cil_model.specs.Declarations.{object_name, console_name, thread_name, plain}
 use Rattle.cil_model.specs.Fields.{FieldKey}
-use Rattle.cil_model.specs.Values.{Value, Born, Literal, Null}
-use Rattle.cil_model.specs.States.{Free, Held, Instance}
+use Rattle.reference_machine.specs.Values.{Value, Born, Literal, Null}
+use Rattle.reference_machine.specs.States.{Free, Held, Instance}
 use Rattle.definition_trials.proofs.Programs.{named, no_types, reference_to, call_monitor, on_thread}
 use Rattle.definition_trials.proofs.Farm.{animal, dog, cat, runner, method_g, method_h, int, minus, long, object, text, key, heap_object, Leaves, Calls, Finishes, Waits, Faults, NoMeaning, does, does_refused, does_deep, returns, monitor_after, printed_after, born_after}
 

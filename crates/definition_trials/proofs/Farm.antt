@@ -17,10 +17,10 @@ use Rattle.cil_model.specs.declared.reports.Fault.{Fault}
 use Rattle.cil_model.specs.declared.reports.End.TheVariants.{Done}
 use Rattle.cil_model.specs.Declarations.{object_name, plain, void_method}
 use Rattle.cil_model.specs.Fields.{FieldKey}
-use Rattle.cil_model.specs.Values.{ObjectName, Born, Literal, Value, Int32, Int64, Null, Reference}
-use Rattle.cil_model.specs.States.{Monitor, Free, Held, Contents, Instance as Object_, Array, HeapObject, Frame, Thread, State, object_at, field_value, array_at, monitor_of}
-use Rattle.cil_model.specs.Effects.{Setting, Effect, Goes, Blocks, Raises, Sticks}
-use Rattle.cil_model.specs.Steps.{execute}
+use Rattle.reference_machine.specs.Values.{ObjectName, Born, Literal, Value, Int32, Int64, Null, Reference}
+use Rattle.reference_machine.specs.States.{Monitor, Free, Held, Contents, Instance as Object_, Array, HeapObject, Frame, Thread, State, object_at, field_value, array_at, monitor_of}
+use Rattle.reference_machine.specs.Effects.{Setting, Effect, Goes, Blocks, Raises, Sticks}
+use Rattle.reference_machine.specs.Steps.{execute}
 use Rattle.cil_model.specs.Examples.{usual_limits, unlabelled}
 use Rattle.definition_trials.proofs.Programs.{named, of_class, class_with, interface_with, thread_class, code_with, constructor_over, virtual_f, abstract_f}
 

@@ -6,8 +6,8 @@ use Rattle.cil_model.specs.declared.instructions.Instruction.{Instruction}
 use Rattle.cil_model.specs.declared.instructions.Instruction.TheVariants.{LoadField, StoreField, LoadStaticField, StoreStaticField, NewArray, LoadLength, LoadElementInt32, LoadElementInt64, LoadElementReference, StoreElementInt32, StoreElementInt64, StoreElementReference, CastClass, IsInstance}
 use Rattle.cil_model.specs.declared.reports.Fault.TheVariants.{NullReference, IndexOutOfRange, ArrayTypeMismatch, InvalidCast, Overflow, OutOfMemory}
 use Rattle.cil_model.specs.Declarations.{plain}
-use Rattle.cil_model.specs.Values.{Born, Native, Null}
-use Rattle.cil_model.specs.States.{Free, Array}
+use Rattle.reference_machine.specs.Values.{Born, Native, Null}
+use Rattle.reference_machine.specs.States.{Free, Array}
 use Rattle.definition_trials.proofs.Programs.{of_class, arrays_of}
 use Rattle.definition_trials.proofs.Farm.{int, minus, long, object, text, key, heap_object, Leaves, Faults, NoMeaning, does, does_refused, field_of_animal, field_after, elements_after, statics_after, born_after}
 

@@ -3,10 +3,10 @@ use Rattle.std.proofs.Common.{◌≡◌, ℕ, zero, suc, [], ◌∷◌, None, Co
 use Rattle.std.specs.List.{IsDistinct}
 use Rattle.cil_model.specs.declared.types.Element.TheVariants.{Int32 as Int32Element}
 use Rattle.cil_model.specs.Declarations.{plain}
-use Rattle.cil_model.specs.Values.{ObjectName, Born, Reference}
-use Rattle.cil_model.specs.States.{Free, Array, State, object_at}
-use Rattle.cil_model.specs.Reachable.{IsReachable, from_root, from_member, members_of}
-use Rattle.cil_model.specs.OwedWords.{IsOwed, OwesWords}
+use Rattle.reference_machine.specs.Values.{ObjectName, Born, Reference}
+use Rattle.reference_machine.specs.States.{Free, Array, State, object_at}
+use Rattle.reference_machine.specs.Reachable.{IsReachable, from_root, from_member, members_of}
+use Rattle.reference_machine.specs.OwedWords.{IsOwed, OwesWords}
 use Rattle.definition_trials.proofs.Farm.{farm, idle_frame, heap_object, int, object}
 
 -- thread 0 holds the first array, and nothing holds the second

@@ -17,12 +17,12 @@ use Rattle.cil_model.specs.declared.reports.Report.TheVariants.{Ran, Ended}
 use Rattle.cil_model.specs.declared.reports.End.TheVariants.{Done, Fault}
 use Rattle.cil_model.specs.Declarations.{object_name, plain}
 use Rattle.cil_model.specs.Legality.{least_broken}
-use Rattle.cil_model.specs.Values.{Int32 as Int32Value}
-use Rattle.cil_model.specs.States.{Array}
-use Rattle.cil_model.specs.Cycles.{is_refused}
-use Rattle.cil_model.specs.OwedWords.{cell_words}
-use Rattle.cil_model.specs.Runs.{StepRequest}
-use Rattle.cil_model.specs.Outcomes.{shown, Shows}
+use Rattle.reference_machine.specs.Values.{Int32 as Int32Value}
+use Rattle.reference_machine.specs.States.{Array}
+use Rattle.reference_machine.specs.Cycles.{is_refused}
+use Rattle.reference_machine.specs.OwedWords.{cell_words}
+use Rattle.reference_machine.specs.Runs.{StepRequest}
+use Rattle.reference_machine.specs.Outcomes.{shown, Shows}
 use Rattle.cil_model.specs.Examples.{program_of, sum_program, unlabelled, usual_limits, write_line}
 use Rattle.definition_trials.proofs.Programs.{named, of_class, with_main, thread_class, on_thread, class_with, constructor_over}
 

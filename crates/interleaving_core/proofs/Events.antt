@@ -4,8 +4,8 @@ use Rattle.std.specs.Option.{option_map_or}
 use Rattle.cil_model.specs.declared.events.Event.TheVariants.{Step, Ack}
 use Rattle.cil_model.specs.declared.reports.Report.{Report}
 use Rattle.cil_model.specs.declared.reports.Report.TheVariants.{Absent, NothingPosted}
-use Rattle.cil_model.specs.MachineContents.{Thread, Content, is_live}
-use Rattle.cil_model.specs.Turns.{step_of, turn, settled, move_of}
+use Rattle.machine_content.specs.MachineContents.{Thread, Content, is_live}
+use Rattle.machine_content.specs.Turns.{step_of, turn, settled, move_of}
 
 pub absent_step : (c : Content) (t : ℕ) → is_live c t ≡ false → ◌≡◌ {A = Content × Report} (c, Absent) (turn c (Step t))
 absent_step c t h = by_thread (slice_get c.threads t) h

@@ -8,18 +8,18 @@ use Rattle.cil_model.specs.declared.reports.Report.{Report}
 use Rattle.cil_model.specs.declared.reports.Report.TheVariants.{Ran, Absent}
 use Rattle.cil_model.specs.declared.types.ClassName.{ClassName}
 use Rattle.cil_model.specs.declared.trees.Method.{Method}
-use Rattle.cil_model.specs.Values.{ObjectName, Value, Int32 as Int32Value}
-use Rattle.cil_model.specs.States.{State, Frame as StateFrame, Thread as StateThread}
-use Rattle.cil_model.specs.Effects.{Setting, Effect, Goes as GoesOn}
-use Rattle.cil_model.specs.Steps.{Outcome, Answers, effect_of, with_thread_at as with_thread_at_state, ended_as as ended_as_state, settled as settled_state, goes_on as goes_on_state, step_of as step_of_state, step}
-use Rattle.cil_model.specs.MachineContents.{Int32, Frame, Thread, Content, with_thread_at}
-use Rattle.cil_model.specs.Turns.{Move, Goes, move_of, printing, ended_as, settled, goes_on, step_of, turn}
-use Rattle.cil_model.specs.StandsFor.{Names, Agree, IsValue, IsObject, IsFrame, IsThread, StandsBy}
+use Rattle.reference_machine.specs.Values.{ObjectName, Value, Int32 as Int32Value}
+use Rattle.reference_machine.specs.States.{State, Frame as StateFrame, Thread as StateThread}
+use Rattle.reference_machine.specs.Effects.{Setting, Effect, Goes as GoesOn}
+use Rattle.reference_machine.specs.Steps.{Outcome, Answers, effect_of, with_thread_at as with_thread_at_state, ended_as as ended_as_state, settled as settled_state, goes_on as goes_on_state, step_of as step_of_state, step}
+use Rattle.machine_content.specs.MachineContents.{Int32, Frame, Thread, Content, with_thread_at}
+use Rattle.machine_content.specs.Turns.{Move, Goes, move_of, printing, ended_as, settled, goes_on, step_of, turn}
+use Rattle.machine_content.specs.StandsFor.{Names, Agree, IsValue, IsObject, IsFrame, IsThread, StandsBy}
 use Rattle.first_path.specs.declared.operations.Operation.{Operation}
 use Rattle.first_path.specs.declared.operations.Returned.TheVariants.{Nothing}
 use Rattle.first_path.specs.StraightLine.{is_typed}
 use Rattle.interleaving_core.specs.Sound.{IsReady, IsLiveReady, IsSound}
-use Rattle.cil_model.proofs.StandsLaws.{BothAt, agree_get, agree_set}
+use Rattle.machine_content.proofs.StandsLaws.{BothAt, agree_get, agree_set}
 use Rattle.interleaving_core.proofs.Lists.{same_numbers}
 use Rattle.interleaving_core.proofs.Moves.{AreReady, MovesAlike, Alike, by_operation}
 

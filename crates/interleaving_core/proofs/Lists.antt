@@ -1,8 +1,8 @@
 -- Lists of numbers that agree, and what is left of a list.
 use Rattle.std.proofs.Common.{◌≡◌, ◌+◌, ℕ, zero, suc, ℤ, List, [], ◌∷◌, map, drop, Some, slice_get, option_map, refl, ap, ◌∙◌, arith}
-use Rattle.cil_model.specs.Values.{Value, Int32 as Int32Value}
-use Rattle.cil_model.specs.MachineContents.{Word, Int32}
-use Rattle.cil_model.specs.StandsFor.{Names, Agree, IsValue, int32, int64, native, null, reference}
+use Rattle.reference_machine.specs.Values.{Value, Int32 as Int32Value}
+use Rattle.machine_content.specs.MachineContents.{Word, Int32}
+use Rattle.machine_content.specs.StandsFor.{Names, Agree, IsValue, int32, int64, native, null, reference}
 
 same_int32 : (y z : ℤ) → Int32 y ≡ Int32 z → y ≡ z
 same_int32 y z e = cc e

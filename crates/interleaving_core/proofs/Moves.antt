@@ -10,13 +10,13 @@ use Rattle.cil_model.specs.declared.trees.Line.{Line}
 use Rattle.cil_model.specs.declared.trees.Method.{Method}
 use Rattle.cil_model.specs.Bodies.{lines_of}
 use Rattle.cil_model.specs.Examples.{write_line}
-use Rattle.cil_model.specs.Values.{Value, Int32 as Int32Value}
-use Rattle.cil_model.specs.States.{State, Frame as StateFrame}
-use Rattle.cil_model.specs.Effects.{Setting, Effect, Goes as GoesOn, given as given_state}
-use Rattle.cil_model.specs.Steps.{effect_of, execute as execute_state}
-use Rattle.cil_model.specs.MachineContents.{Word, Int32, Frame, Content}
-use Rattle.cil_model.specs.Turns.{given, Move, Goes, move_of, execute, instruction_at}
-use Rattle.cil_model.specs.StandsFor.{Names, Agree, IsValue, IsFrame}
+use Rattle.reference_machine.specs.Values.{Value, Int32 as Int32Value}
+use Rattle.reference_machine.specs.States.{State, Frame as StateFrame}
+use Rattle.reference_machine.specs.Effects.{Setting, Effect, Goes as GoesOn, given as given_state}
+use Rattle.reference_machine.specs.Steps.{effect_of, execute as execute_state}
+use Rattle.machine_content.specs.MachineContents.{Word, Int32, Frame, Content}
+use Rattle.machine_content.specs.Turns.{given, Move, Goes, move_of, execute, instruction_at}
+use Rattle.machine_content.specs.StandsFor.{Names, Agree, IsValue, IsFrame}
 use Rattle.first_path.specs.declared.operations.Operation.{Operation}
 use Rattle.first_path.specs.declared.operations.Operation.TheVariants.{LoadInt32, Add, WriteInt32, Return}
 use Rattle.first_path.specs.declared.operations.Returned.TheVariants.{Nothing}

@@ -12,11 +12,11 @@ use Rattle.cil_model.specs.declared.trees.Method.{Method}
 use Rattle.cil_model.specs.Assignable.{is_reference}
 use Rattle.cil_model.specs.Bodies.{code_of}
 use Rattle.cil_model.specs.declared.reports.End.{End}
-use Rattle.cil_model.specs.Runs.{opening, opening_at}
-use Rattle.cil_model.specs.States.{State}
-use Rattle.cil_model.specs.Values.{Null as NullValue, zero_of, integer_zero as integer_zero_value}
-use Rattle.cil_model.specs.MachineContents.{Word, Null, Frame, Content, zero_word, integer_zero}
-use Rattle.cil_model.specs.StandsFor.{Names, Agree, IsValue, int32, int64, null, StandsFor}
+use Rattle.reference_machine.specs.Runs.{opening, opening_at}
+use Rattle.reference_machine.specs.States.{State}
+use Rattle.reference_machine.specs.Values.{Null as NullValue, zero_of, integer_zero as integer_zero_value}
+use Rattle.machine_content.specs.MachineContents.{Word, Null, Frame, Content, zero_word, integer_zero}
+use Rattle.machine_content.specs.StandsFor.{Names, Agree, IsValue, int32, int64, null, StandsFor}
 use Rattle.first_path.specs.declared.straight_line.TypedBody.{TypedBody}
 use Rattle.first_path.specs.Typed.{IsEntry}
 use Rattle.interleaving_core.specs.declared.thread.Thread.{Thread}

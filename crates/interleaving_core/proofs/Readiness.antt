@@ -5,8 +5,8 @@ use Rattle.std.specs.Option.{option_map_or}
 use Rattle.cil_model.specs.declared.trees.Code.{Code}
 use Rattle.cil_model.specs.declared.trees.Line.{Line}
 use Rattle.cil_model.specs.Bodies.{entry_points}
-use Rattle.cil_model.specs.Budgets.{steps_left_of}
-use Rattle.cil_model.specs.MachineContents.{Frame, Thread as ThreadContent, Content, is_live}
+use Rattle.machine_content.specs.Budgets.{steps_left_of}
+use Rattle.machine_content.specs.MachineContents.{Frame, Thread as ThreadContent, Content, is_live}
 use Rattle.first_path.specs.StraightLine.{is_typed}
 use Rattle.interleaving_core.specs.declared.engine.Engine.{Engine}
 use Rattle.interleaving_core.specs.Sound.{IsReady as IsReadyFrame, IsLiveReady, IsSound}

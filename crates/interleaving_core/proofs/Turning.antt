@@ -15,8 +15,8 @@ use Rattle.cil_model.specs.declared.reports.Report.TheVariants.{Absent}
 use Rattle.cil_model.specs.Bodies.{entry_points, lines_of}
 use Rattle.cil_model.specs.Chains.{is_static}
 use Rattle.cil_model.specs.Legality.{is_entry_method}
-use Rattle.cil_model.specs.MachineContents.{Frame, Thread as ThreadContent, Content}
-use Rattle.cil_model.specs.Turns.{Goes, given, execute, instruction_at, move_of, settled, turn}
+use Rattle.machine_content.specs.MachineContents.{Frame, Thread as ThreadContent, Content}
+use Rattle.machine_content.specs.Turns.{Goes, given, execute, instruction_at, move_of, settled, turn}
 use Rattle.first_path.specs.declared.operations.Operation.{Operation}
 use Rattle.first_path.specs.declared.straight_line.TypedBody.{TypedBody}
 use Rattle.first_path.specs.declared.operations.Returned.{Returned}

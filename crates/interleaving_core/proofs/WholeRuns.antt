@@ -7,14 +7,14 @@ use Rattle.std.specs.Prelude.{IfOk, OnErr}
 use Rattle.cil_model.specs.declared.events.Event.{Event}
 use Rattle.cil_model.specs.declared.events.Event.TheVariants.{Step, Ack, Gc}
 use Rattle.cil_model.specs.declared.reports.Report.{Report}
-use Rattle.cil_model.specs.States.{State}
-use Rattle.cil_model.specs.Steps.{Answers, step}
-use Rattle.cil_model.specs.Runs.{RunsTo, run, is_refusal, followed_by, thread_part, step_reports, preceded_by}
-use Rattle.cil_model.specs.MachineContents.{Content}
-use Rattle.cil_model.specs.Turns.{turn, run_of}
-use Rattle.cil_model.specs.Budgets.{KeepsBudgets}
-use Rattle.cil_model.specs.StandsFor.{StandsFor, RunsAlike, FollowsReference}
-use Rattle.cil_model.proofs.BudgetLaws.{run_keeps, turn_keeps}
+use Rattle.reference_machine.specs.States.{State}
+use Rattle.reference_machine.specs.Steps.{Answers, step}
+use Rattle.reference_machine.specs.Runs.{RunsTo, run, is_refusal, followed_by, thread_part, step_reports, preceded_by}
+use Rattle.machine_content.specs.MachineContents.{Content}
+use Rattle.machine_content.specs.Turns.{turn, run_of}
+use Rattle.machine_content.specs.Budgets.{KeepsBudgets}
+use Rattle.machine_content.specs.StandsFor.{StandsFor, RunsAlike, FollowsReference}
+use Rattle.machine_content.proofs.BudgetLaws.{run_keeps, turn_keeps}
 use Rattle.interleaving_core.specs.Sound.{IsSound}
 use Rattle.interleaving_core.proofs.Follows.{step_alike}
 use Rattle.interleaving_core.proofs.Readiness.{steps_left}

@@ -5,8 +5,8 @@ use Rattle.std.specs.Fmt.{signed_decimal}
 use Rattle.std.specs.Int.{w32, int_wrapping_add}
 use Rattle.std.specs.Option.{option_map_or}
 use Rattle.cil_model.specs.declared.reports.End.TheVariants.{Done}
-use Rattle.cil_model.specs.MachineContents.{Word, Int32, Frame, Content}
-use Rattle.cil_model.specs.Turns.{Goes, leave, leave_word, execute}
+use Rattle.machine_content.specs.MachineContents.{Word, Int32, Frame, Content}
+use Rattle.machine_content.specs.Turns.{Goes, leave, leave_word, execute}
 use Rattle.first_path.specs.Resolved.{instruction_of}
 use Rattle.first_path.specs.declared.operations.Operation.{Operation}
 use Rattle.first_path.specs.declared.operations.Operation.TheVariants.{LoadInt32, Add, WriteInt32, Return}

@@ -4,8 +4,8 @@ use Rattle.cil_model.specs.declared.instructions.Instruction.{Instruction}
 use Rattle.cil_model.specs.declared.reports.End.{End}
 use Rattle.cil_model.specs.declared.reports.Report.{Report}
 use Rattle.cil_model.specs.declared.reports.Report.TheVariants.{Ran, Ended}
-use Rattle.cil_model.specs.MachineContents.{Frame, Thread, Content}
-use Rattle.cil_model.specs.Turns.{instruction_at}
+use Rattle.machine_content.specs.MachineContents.{Frame, Thread, Content}
+use Rattle.machine_content.specs.Turns.{instruction_at}
 
 -- how a live thread stands after a step
 abbrev pub report_of : Option End → Report

@@ -2,7 +2,7 @@
 use Rattle.std.specs.Prelude.{◌≡◌, ◌<◌, ℕ, ℤ, true, List, [], ◌∷◌, map, drop, length, None, slice_get, Some}
 use Rattle.cil_model.specs.declared.trees.Line.{Line}
 use Rattle.cil_model.specs.Bodies.{lines_of}
-use Rattle.cil_model.specs.MachineContents.{Int32, Frame, Thread, Content}
+use Rattle.machine_content.specs.MachineContents.{Int32, Frame, Thread, Content}
 use Rattle.first_path.specs.declared.operations.Operation.{Operation}
 use Rattle.first_path.specs.declared.operations.Returned.TheVariants.{Nothing}
 use Rattle.first_path.specs.Resolved.{instruction_of}

@@ -8,7 +8,7 @@ use Rattle.cil_model.specs.declared.trees.Code.{Code}
 use Rattle.cil_model.specs.declared.trees.Method.{Method}
 use Rattle.cil_model.specs.declared.reports.End.{End}
 use Rattle.cil_model.specs.Bodies.{code_of, entry_points}
-use Rattle.cil_model.specs.MachineContents.{Word, Int32, Frame, Content, Thread as ThreadContent, zero_word}
+use Rattle.machine_content.specs.MachineContents.{Word, Int32, Frame, Content, Thread as ThreadContent, zero_word}
 use Rattle.interleaving_core.specs.declared.engine.Engine.{Engine}
 use Rattle.interleaving_core.specs.declared.thread.Thread.{Thread}
 

@@ -1,10 +1,10 @@
 //! What a machine does on each event.
 
 ghost use Rattle.std.specs.Prelude.{◌≡◌, IfOk, OnErr, Some, None};
-ghost use Rattle.cil_model.specs.MachineContents.{end_of, is_live};
+ghost use Rattle.machine_content.specs.MachineContents.{end_of, is_live};
 ghost use Rattle.cil_model.specs.declared.events.Event.TheVariants.{Step, Ack};
 ghost use Rattle.cil_model.specs.Examples.{write_line};
-ghost use Rattle.cil_model.specs.Turns.{turn};
+ghost use Rattle.machine_content.specs.Turns.{turn};
 ghost use Rattle.interleaving_core.specs.Contents.{next_instruction};
 ghost use Rattle.interleaving_core.specs.Threads.{IsReady};
 ghost use Rattle.interleaving_core.specs.Views.{content_of};

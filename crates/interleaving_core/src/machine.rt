@@ -2,14 +2,14 @@
 
 ghost use Rattle.std.specs.Prelude.{◌≡◌, ◌↔◌, ◌∷◌, [], ◌++◌, ◌+◌, ◌<◌, ◌≤◌, Ok, Err, Some, None, IfOk, OnOk, OnErr, true, false, ℕ, length, take, drop, if◌then◌else◌};
 ghost use Rattle.std.specs.List.{zip};
-ghost use Rattle.cil_model.specs.MachineContents.{end_of, is_live};
+ghost use Rattle.machine_content.specs.MachineContents.{end_of, is_live};
 ghost use Rattle.cil_model.specs.Ranges.{are_in_range, is_between};
 ghost use Rattle.cil_model.specs.declared.limits.TheConstants.{MOST_THREADS};
-ghost use Rattle.cil_model.specs.Runs.{opening};
-ghost use Rattle.cil_model.specs.Budgets.{KeepsBudgets};
-ghost use Rattle.cil_model.specs.StandsFor.{FollowsReference, StandsFor};
-ghost use Rattle.cil_model.specs.States.{State};
-ghost use Rattle.cil_model.specs.Turns.{run_of, turn};
+ghost use Rattle.reference_machine.specs.Runs.{opening};
+ghost use Rattle.machine_content.specs.Budgets.{KeepsBudgets};
+ghost use Rattle.machine_content.specs.StandsFor.{FollowsReference, StandsFor};
+ghost use Rattle.reference_machine.specs.States.{State};
+ghost use Rattle.machine_content.specs.Turns.{run_of, turn};
 ghost use Rattle.first_path.specs.Typed.{IsEntry};
 ghost use Rattle.cil_model.specs.Examples.{write_line};
 ghost use Rattle.interleaving_core.specs.Contents.{next_instruction};
@@ -65,7 +65,7 @@ pub struct Machine {
 }
 
 impl Model for Machine {
-    ghost use Rattle.cil_model.specs.MachineContents.{Content};
+    ghost use Rattle.machine_content.specs.MachineContents.{Content};
     ghost use Rattle.interleaving_core.specs.Threads.{IsReady};
     ghost use Rattle.interleaving_core.specs.Views.{content_of};
 

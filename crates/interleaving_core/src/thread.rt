@@ -3,8 +3,8 @@
 ghost use Rattle.std.specs.Prelude.{◌≡◌, ◌⊎◌, ◌≤◌, ◌<◌, ◌+◌, ◌^◌, ◌∷◌, ◌++◌, [], vec_len, vec_capacity, OnOk, OnErr};
 ghost use Rattle.std.specs.Prelude.{if◌then◌else◌, is_ok, drop, slice_get, None, Some};
 ghost use Rattle.std.specs.Fmt.{signed_decimal};
-ghost use Rattle.cil_model.specs.MachineContents.{Content, Frame};
-ghost use Rattle.cil_model.specs.Turns.{Goes, execute};
+ghost use Rattle.machine_content.specs.MachineContents.{Content, Frame};
+ghost use Rattle.machine_content.specs.Turns.{Goes, execute};
 ghost use Rattle.first_path.specs.Resolved.{instruction_of};
 ghost use Rattle.first_path.specs.declared.operations.Operation.{Operation};
 ghost use Rattle.first_path.specs.declared.operations.Operation.TheVariants.{LoadInt32, Add, WriteInt32, Return};

@@ -1,10 +1,10 @@
 -- What an action does with operands that are not one.
 use Rattle.std.proofs.Common.{◌≡◌, List, [], ◌∷◌, Some, None, refl, sym, ap}
 use Rattle.cil_model.proofs.BelowLaws.{none_is_some}
-use Rattle.cil_model.specs.Values.{Value}
-use Rattle.cil_model.specs.States.{State, Frame}
-use Rattle.cil_model.specs.Effects.{Setting, Sticks}
-use Rattle.cil_model.specs.BuiltIn.{Action, Construct, Write, Enter, Exit, Start, Join, act}
+use Rattle.reference_machine.specs.Values.{Value}
+use Rattle.reference_machine.specs.States.{State, Frame}
+use Rattle.reference_machine.specs.Effects.{Setting, Sticks}
+use Rattle.reference_machine.specs.BuiltIn.{Action, Construct, Write, Enter, Exit, Start, Join, act}
 use Rattle.plain_members.specs.Actions.{only_item}
 
 pub only_one : {X : Type 0} (x : X) (xs : List X) → only_item xs ≡ Some x → xs ≡ x ∷ []

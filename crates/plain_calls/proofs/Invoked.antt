@@ -12,10 +12,10 @@ use Rattle.cil_model.specs.declared.reports.Fault.TheVariants.{NullReference}
 use Rattle.cil_model.specs.Assignable.{type_of_class}
 use Rattle.cil_model.specs.Bodies.{constructor_reference, reference_operands, virtual_reference}
 use Rattle.cil_model.specs.Chains.{find_method}
-use Rattle.cil_model.specs.Values.{Value}
-use Rattle.cil_model.specs.States.{State, Frame}
-use Rattle.cil_model.specs.Effects.{Setting, Effect, Sticks, given, not_null, are_of_kinds}
-use Rattle.cil_model.specs.Steps.{construct, execute, operands, method_for, run_method, run_virtual}
+use Rattle.reference_machine.specs.Values.{Value}
+use Rattle.reference_machine.specs.States.{State, Frame}
+use Rattle.reference_machine.specs.Effects.{Setting, Effect, Sticks, given, not_null, are_of_kinds}
+use Rattle.reference_machine.specs.Steps.{construct, execute, operands, method_for, run_method, run_virtual}
 use Rattle.plain_members.specs.Taken.{taken}
 
 -- the test of the depth, without the running frame

@@ -1,7 +1,7 @@
 // Calls of built-in members: one event, and no frame (ECMA-335 Partition IV; Cilvm.Thread is this profile's).
 
 ghost use Rattle.std.specs.Prelude.{◌≡◌, ◌∷◌, [], IfOk};
-ghost use Rattle.cil_model.specs.BuiltIn.{act, Construct, Write, Enter, Exit, Start, Join};
+ghost use Rattle.reference_machine.specs.BuiltIn.{act, Construct, Write, Enter, Exit, Start, Join};
 ghost use Rattle.plain_turns.specs.Plans.{carried_out};
 
 use crate::locks::{enter, exit};

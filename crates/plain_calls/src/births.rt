@@ -4,10 +4,10 @@ ghost use Rattle.std.specs.Prelude.{◌≡◌, ◌∷◌, IfOk, Some, true};
 ghost use Rattle.cil_model.specs.Bodies.{constructor_reference};
 ghost use Rattle.cil_model.specs.Chains.{find_method};
 ghost use Rattle.cil_model.specs.declared.instructions.Instruction.TheVariants.{NewObject};
-ghost use Rattle.cil_model.specs.Effects.{given, onward};
-ghost use Rattle.cil_model.specs.States.{new_instance, next_name, with_birth};
-ghost use Rattle.cil_model.specs.Steps.{execute, birth, frame_for, construct};
-ghost use Rattle.cil_model.specs.Values.{Reference};
+ghost use Rattle.reference_machine.specs.Effects.{given, onward};
+ghost use Rattle.reference_machine.specs.States.{new_instance, next_name, with_birth};
+ghost use Rattle.reference_machine.specs.Steps.{execute, birth, frame_for, construct};
+ghost use Rattle.reference_machine.specs.Values.{Reference};
 ghost use Rattle.plain_members.specs.Taken.{taken};
 ghost use Rattle.plain_turns.specs.Plans.{carried_out};
 

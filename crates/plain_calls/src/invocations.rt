@@ -5,8 +5,8 @@ ghost use Rattle.cil_model.specs.Bodies.{reference_operands, virtual_reference};
 ghost use Rattle.cil_model.specs.Chains.{find_method, is_virtual};
 ghost use Rattle.cil_model.specs.declared.instructions.Instruction.TheVariants.{Call, CallVirtual};
 ghost use Rattle.cil_model.specs.declared.reports.Fault.TheVariants.{NullReference};
-ghost use Rattle.cil_model.specs.Effects.{given, new_frame, not_null};
-ghost use Rattle.cil_model.specs.Steps.{execute, is_too_deep, frame_for, run_method, run_virtual, method_for};
+ghost use Rattle.reference_machine.specs.Effects.{given, new_frame, not_null};
+ghost use Rattle.reference_machine.specs.Steps.{execute, is_too_deep, frame_for, run_method, run_virtual, method_for};
 ghost use Rattle.plain_members.specs.Taken.{taken};
 ghost use Rattle.plain_turns.specs.Plans.{carried_out};
 

@@ -1,9 +1,9 @@
 // Entering and leaving monitors (ECMA-335 I.12.6.5).
 
 ghost use Rattle.std.specs.Prelude.{◌≡◌, ◌-◌, IfOk, if◌then◌else◌, nat_le};
-ghost use Rattle.cil_model.specs.BuiltIn.{enter, exit};
-ghost use Rattle.cil_model.specs.Effects.{onward};
-ghost use Rattle.cil_model.specs.States.{Free, Held, with_monitor};
+ghost use Rattle.reference_machine.specs.BuiltIn.{enter, exit};
+ghost use Rattle.reference_machine.specs.Effects.{onward};
+ghost use Rattle.reference_machine.specs.States.{Free, Held, with_monitor};
 ghost use Rattle.plain_turns.specs.Plans.{carried_out};
 
 use cil_model::memory::NoMemory;

@@ -2,7 +2,7 @@
 
 ghost use Rattle.std.specs.Prelude.{◌≡◌, IfOk};
 ghost use Rattle.cil_model.specs.declared.instructions.Instruction.TheVariants.{Return};
-ghost use Rattle.cil_model.specs.Steps.{execute, leave_value};
+ghost use Rattle.reference_machine.specs.Steps.{execute, leave_value};
 ghost use Rattle.plain_turns.specs.Plans.{carried_out};
 
 use cil_model::memory::NoMemory;

@@ -1,10 +1,10 @@
 // Starting threads and waiting for them (Cilvm.Thread is this profile's).
 
 ghost use Rattle.std.specs.Prelude.{◌≡◌, ◌∷◌, [], IfOk, None};
-ghost use Rattle.cil_model.specs.BuiltIn.{begin, start, join, thread_object, with_thread};
-ghost use Rattle.cil_model.specs.Effects.{Effect, given, new_frame, onward};
-ghost use Rattle.cil_model.specs.States.{HeapObject};
-ghost use Rattle.cil_model.specs.Values.{Reference};
+ghost use Rattle.reference_machine.specs.BuiltIn.{begin, start, join, thread_object, with_thread};
+ghost use Rattle.reference_machine.specs.Effects.{Effect, given, new_frame, onward};
+ghost use Rattle.reference_machine.specs.States.{HeapObject};
+ghost use Rattle.reference_machine.specs.Values.{Reference};
 ghost use Rattle.plain_turns.specs.Plans.{carried_out};
 
 use cil_model::limits::MOST_THREADS;

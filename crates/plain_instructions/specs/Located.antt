@@ -5,8 +5,8 @@ use Rattle.cil_model.specs.declared.types.Element.TheVariants.{Int32 as Int32Ele
 use Rattle.cil_model.specs.Same.{same_type}
 use Rattle.cil_model.specs.Declarations.{plain}
 use Rattle.cil_model.specs.Assignable.{is_reference}
-use Rattle.cil_model.specs.Values.{ObjectName, Value}
-use Rattle.cil_model.specs.Effects.{Effect, Raises as EffectRaises, Sticks as EffectSticks}
+use Rattle.reference_machine.specs.Values.{ObjectName, Value}
+use Rattle.reference_machine.specs.Effects.{Effect, Raises as EffectRaises, Sticks as EffectSticks}
 use Rattle.plain_instructions.specs.declared.arrays.ElementTest.{ElementTest}
 use Rattle.plain_instructions.specs.declared.arrays.ElementTest.TheVariants.{Int32, Int64, Reference}
 use Rattle.plain_instructions.specs.declared.arrays.Located.{Located}

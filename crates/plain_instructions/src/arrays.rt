@@ -2,10 +2,10 @@
 
 ghost use Rattle.std.specs.Prelude.{◌≡◌, ℕ, IfOk};
 ghost use Rattle.cil_model.specs.declared.types.DeclaredType.{DeclaredType as WholeType};
-ghost use Rattle.cil_model.specs.Effects.{Effect, given, onward};
-ghost use Rattle.cil_model.specs.States.{with_element};
-ghost use Rattle.cil_model.specs.Steps.{element, load_element, store_element};
-ghost use Rattle.cil_model.specs.Values.{ObjectName, Value};
+ghost use Rattle.reference_machine.specs.Effects.{Effect, given, onward};
+ghost use Rattle.reference_machine.specs.States.{with_element};
+ghost use Rattle.reference_machine.specs.Steps.{element, load_element, store_element};
+ghost use Rattle.reference_machine.specs.Values.{ObjectName, Value};
 ghost use Rattle.plain_instructions.specs.Located.{test_of, located_effect};
 ghost use Rattle.plain_turns.specs.Plans.{carried_out};
 

@@ -2,8 +2,8 @@
 
 ghost use Rattle.std.specs.Prelude.{◌≡◌, IfOk, replicate};
 ghost use Rattle.cil_model.specs.declared.instructions.Instruction.TheVariants.{NewArray};
-ghost use Rattle.cil_model.specs.Steps.{execute, new_array};
-ghost use Rattle.cil_model.specs.Values.{zero_of};
+ghost use Rattle.reference_machine.specs.Steps.{execute, new_array};
+ghost use Rattle.reference_machine.specs.Values.{zero_of};
 ghost use Rattle.plain_turns.specs.Plans.{carried_out};
 
 use cil_model::memory::NoMemory;

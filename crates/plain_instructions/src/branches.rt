@@ -3,7 +3,7 @@
 ghost use Rattle.std.specs.Prelude.{◌≡◌, IfOk, option_map, slice_get};
 ghost use Rattle.std.specs.Int.{w32, cast_unsigned};
 ghost use Rattle.cil_model.specs.declared.instructions.Instruction.TheVariants.{Branch, BranchTrue, BranchFalse, BranchCompare, Switch};
-ghost use Rattle.cil_model.specs.Steps.{execute, to_label, switch_on};
+ghost use Rattle.reference_machine.specs.Steps.{execute, to_label, switch_on};
 ghost use Rattle.plain_turns.specs.Plans.{carried_out};
 
 use cil_model::instructions::BranchComparison;

@@ -3,9 +3,9 @@
 ghost use Rattle.std.specs.Prelude.{◌≡◌, IfOk, if◌then◌else◌};
 ghost use Rattle.cil_model.specs.declared.instructions.Instruction.TheVariants.{CastClass, IsInstance, LoadLength, StoreElementReference};
 ghost use Rattle.cil_model.specs.declared.reports.Fault.TheVariants.{ArrayTypeMismatch};
-ghost use Rattle.cil_model.specs.Effects.{Raises, given, onward};
-ghost use Rattle.cil_model.specs.States.{with_element};
-ghost use Rattle.cil_model.specs.Steps.{execute, may_hold};
+ghost use Rattle.reference_machine.specs.Effects.{Raises, given, onward};
+ghost use Rattle.reference_machine.specs.States.{with_element};
+ghost use Rattle.reference_machine.specs.Steps.{execute, may_hold};
 ghost use Rattle.plain_turns.specs.Plans.{carried_out};
 
 use crate::arrays::{ElementTest, Located, locate, store_at};

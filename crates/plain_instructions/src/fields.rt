@@ -3,9 +3,9 @@
 ghost use Rattle.std.specs.Prelude.{◌≡◌, ◌∷◌, IfOk};
 ghost use Rattle.cil_model.specs.declared.instructions.Instruction.TheVariants.{LoadField, StoreField, LoadStaticField, StoreStaticField};
 ghost use Rattle.cil_model.specs.declared.reports.Fault.TheVariants.{NullReference};
-ghost use Rattle.cil_model.specs.Effects.{given, not_null, onward};
-ghost use Rattle.cil_model.specs.States.{field_value, with_field, replaced_entry};
-ghost use Rattle.cil_model.specs.Steps.{execute, key_of, next};
+ghost use Rattle.reference_machine.specs.Effects.{given, not_null, onward};
+ghost use Rattle.reference_machine.specs.States.{field_value, with_field, replaced_entry};
+ghost use Rattle.reference_machine.specs.Steps.{execute, key_of, next};
 ghost use Rattle.plain_turns.specs.Plans.{carried_out};
 
 use cil_model::instructions::FieldReference;

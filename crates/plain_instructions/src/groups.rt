@@ -2,8 +2,8 @@
 // sticks at the others.
 
 ghost use Rattle.std.specs.Prelude.{◌≡◌, IfOk, if◌then◌else◌};
-ghost use Rattle.cil_model.specs.Effects.{Sticks};
-ghost use Rattle.cil_model.specs.Steps.{execute};
+ghost use Rattle.reference_machine.specs.Effects.{Sticks};
+ghost use Rattle.reference_machine.specs.Steps.{execute};
 ghost use Rattle.plain_turns.specs.Plans.{carried_out};
 ghost use Rattle.plain_instructions.specs.Groups.{is_of_frame, is_of_numbers, is_of_branches, is_of_fields, is_of_elements, is_of_objects};
 

@@ -2,7 +2,7 @@
 
 ghost use Rattle.std.specs.Prelude.{◌≡◌, ◌∷◌, IfOk, option_map};
 ghost use Rattle.cil_model.specs.declared.instructions.Instruction.TheVariants.{NoOperation, LoadArgument, StoreArgument, LoadLocal, StoreLocal, Duplicate, Pop};
-ghost use Rattle.cil_model.specs.Steps.{execute, next, stored};
+ghost use Rattle.reference_machine.specs.Steps.{execute, next, stored};
 ghost use Rattle.plain_turns.specs.Plans.{carried_out};
 
 use cil_model::memory::NoMemory;

@@ -2,7 +2,7 @@
 
 ghost use Rattle.std.specs.Prelude.{◌≡◌, IfOk};
 ghost use Rattle.cil_model.specs.declared.instructions.Instruction.TheVariants.{Binary, Unary, Shift, Compare, ConvertInt32, ConvertInt64};
-ghost use Rattle.cil_model.specs.Steps.{execute};
+ghost use Rattle.reference_machine.specs.Steps.{execute};
 ghost use Rattle.plain_turns.specs.Plans.{carried_out};
 
 use cil_model::instructions::{BinaryOperation, Comparison, ShiftOperation, UnaryOperation};

@@ -3,7 +3,7 @@ use Rattle.std.proofs.Common.{◌≡◌, ℕ, zero, suc, ◌-◌, ◌<◌, Bool,
 use Rattle.std.specs.Prelude.{nat_le}
 use Rattle.std.proofs.lemmas.Bool.Decides.{nat_tests}
 use Rattle.std.proofs.lemmas.List.{reverse-append}
-use Rattle.cil_model.specs.Values.{Value}
+use Rattle.reference_machine.specs.Values.{Value}
 use Rattle.plain_members.specs.Taken.{popped}
 
 pub popped_nothing : (stack : List Value) → popped 0 stack ≡ Some ([], stack)

@@ -1,6 +1,6 @@
 -- The actions of the program as actions of the reference machine.
 use Rattle.std.specs.Prelude.{List, [], ◌∷◌, Option, Some, None}
-use Rattle.cil_model.specs.BuiltIn.{Action, Construct as ConstructAction, Write as WriteAction, Enter as EnterAction, Exit as ExitAction, Start as StartAction, Join as JoinAction}
+use Rattle.reference_machine.specs.BuiltIn.{Action, Construct as ConstructAction, Write as WriteAction, Enter as EnterAction, Exit as ExitAction, Start as StartAction, Join as JoinAction}
 use Rattle.plain_members.specs.declared.members.ActionKind.{ActionKind}
 use Rattle.plain_members.specs.declared.members.ActionKind.TheVariants.{Construct, Write, Enter, Exit, Start, Join}
 

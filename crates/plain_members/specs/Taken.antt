@@ -1,8 +1,8 @@
 -- The operands that a call takes off a stack, with what lies below them.
 use Rattle.std.specs.Prelude.{ℕ, if◌then◌else◌, nat_le, List, length, reverse, take, drop, Option, Some, None, option_and_then}
 use Rattle.cil_model.specs.declared.types.DeclaredType.{DeclaredType}
-use Rattle.cil_model.specs.Values.{Value}
-use Rattle.cil_model.specs.Effects.{are_of_kinds}
+use Rattle.reference_machine.specs.Values.{Value}
+use Rattle.reference_machine.specs.Effects.{are_of_kinds}
 
 -- so many, the first pushed first
 abbrev pub popped : ℕ → List Value → Option (List Value × List Value)

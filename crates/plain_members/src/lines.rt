@@ -2,7 +2,7 @@
 
 ghost use Rattle.std.specs.Prelude.{◌≡◌, ◌++◌, ◌∷◌, [], IfOk, option_map};
 ghost use Rattle.std.specs.Fmt.{signed_decimal};
-ghost use Rattle.cil_model.specs.BuiltIn.{line_of};
+ghost use Rattle.reference_machine.specs.BuiltIn.{line_of};
 ghost use Rattle.plain_members.specs.Actions.{only_item};
 
 use cil_model::memory::NoMemory;

@@ -1,7 +1,7 @@
 // Which built-in members do what (ECMA-335 Partition IV; Cilvm.Thread is this profile's).
 
 ghost use Rattle.std.specs.Prelude.{◌≡◌, ◌&&◌, option_map};
-ghost use Rattle.cil_model.specs.BuiltIn.{action_of};
+ghost use Rattle.reference_machine.specs.BuiltIn.{action_of};
 ghost use Rattle.cil_model.specs.declared.instructions.MethodName.TheVariants.{Constructor, Named};
 ghost use Rattle.cil_model.specs.Same.{same_class, same_method_name};
 ghost use Rattle.plain_members.specs.Actions.{action_of_kind};
@@ -30,7 +30,7 @@ pub struct PlainAction {
 }
 
 impl Model for PlainAction {
-    ghost use Rattle.cil_model.specs.BuiltIn.{Action};
+    ghost use Rattle.reference_machine.specs.BuiltIn.{Action};
 
     ghost Value = { Action };
 

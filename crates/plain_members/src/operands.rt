@@ -1,8 +1,8 @@
 // The operands that a call takes off the stack (ECMA-335 III.3.19, III.4.2, III.4.21).
 
 ghost use Rattle.std.specs.Prelude.{◌≡◌, ◌++◌, ◌∷◌, [], IfOk, option_to_list, slice_get};
-ghost use Rattle.cil_model.specs.Effects.{are_of_kinds};
-ghost use Rattle.cil_model.specs.Values.{zero_of, is_of_kind};
+ghost use Rattle.reference_machine.specs.Effects.{are_of_kinds};
+ghost use Rattle.reference_machine.specs.Values.{zero_of, is_of_kind};
 ghost use Rattle.plain_members.specs.Taken.{popped, taken};
 
 use cil_model::memory::NoMemory;
@@ -23,7 +23,7 @@ pub struct Operands<'a> {
 
 impl<'a> Model for Operands<'a> {
     ghost use Rattle.std.specs.Prelude.{List};
-    ghost use Rattle.cil_model.specs.Values.{Value as RuntimeValue};
+    ghost use Rattle.reference_machine.specs.Values.{Value as RuntimeValue};
 
     ghost Value = { List RuntimeValue × List RuntimeValue };
 

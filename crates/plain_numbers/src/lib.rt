@@ -4,7 +4,7 @@
 
 ghost use Rattle.std.specs.Prelude.{◌≡◌, ◌%◌, ◌^◌, ◌+ℤ◌, ◌-ℤ◌, ◌*ℤ◌, int_div, int_rem, int_lt, int_le};
 ghost use Rattle.std.specs.Int.{w32, w64, cast_signed, cast_unsigned};
-ghost use Rattle.cil_model.specs.Arithmetic.{exact, divided, ordered_values, binary, unary, shift, binary_value, unary_value, shift_value, equal_values, compare_values, branch_values, is_set, convert_32, convert_64, as_index, one_or_zero};
+ghost use Rattle.reference_machine.specs.Arithmetic.{exact, divided, ordered_values, binary, unary, shift, binary_value, unary_value, shift_value, equal_values, compare_values, branch_values, is_set, convert_32, convert_64, as_index, one_or_zero};
 
 use cil_model::instructions::{
     BinaryOperation, BranchComparison, Comparison, ShiftOperation, UnaryOperation,

@@ -4,7 +4,7 @@
 ghost use Rattle.std.specs.Prelude.{◌≡◌, ◌++◌, IfOk, flat_map, map, reverse, false, true};
 ghost use Rattle.cil_model.specs.Same.{same_flag};
 ghost use Rattle.cil_model.specs.Fields.{own_fields, instance_fields, static_fields};
-ghost use Rattle.cil_model.specs.States.{zeroed, new_instance};
+ghost use Rattle.reference_machine.specs.States.{zeroed, new_instance};
 ghost use Rattle.plain_openings.specs.OwnFields.{fields_among};
 
 use cil_model::memory::NoMemory;
@@ -35,7 +35,7 @@ impl<'a> Model for TypedField<'a> {
 }
 
 impl<'a> TypedField<'a> {
-    ghost use Rattle.cil_model.specs.Values.{zero_of as zero_at_first};
+    ghost use Rattle.reference_machine.specs.Values.{zero_of as zero_at_first};
 
     /// The field as an object or a class has it at first.
     fn at_first(&self) -> FieldEntry<'a>

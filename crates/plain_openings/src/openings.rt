@@ -4,9 +4,9 @@
 ghost use Rattle.std.specs.Prelude.{◌≡◌, ◌++◌, IfOk, map, filter, filter_map, not};
 ghost use Rattle.cil_model.specs.Bodies.{is_entry_point};
 ghost use Rattle.cil_model.specs.Mentions.{each_once, instructions_of, instructions_of_tree, literal_of, literals_of, methods_of_tree};
-ghost use Rattle.cil_model.specs.Runs.{opening, opening_at};
+ghost use Rattle.reference_machine.specs.Runs.{opening, opening_at};
 ghost use Rattle.cil_model.specs.Same.{same_text};
-ghost use Rattle.cil_model.specs.States.{Free};
+ghost use Rattle.reference_machine.specs.States.{Free};
 ghost use Rattle.plain_openings.specs.Entries.{first_entry, with_class, with_classes};
 
 use crate::instances::{static_fields, zeroed};

@@ -2,8 +2,8 @@
 use Rattle.std.proofs.Common.{◌≡◌, ℕ, List, Option, Some, None, option_map, option_and_then, refl, ◌∙◌}
 use Rattle.cil_model.specs.declared.types.DeclaredType.{DeclaredType}
 use Rattle.cil_model.specs.Fields.{FieldKey}
-use Rattle.cil_model.specs.Values.{ObjectName, Value}
-use Rattle.cil_model.specs.States.{State, HeapObject, Array, object_at, with_object, with_field, with_element, replaced_entry, replaced_at, fields_of_contents, elements_of_contents, with_fields}
+use Rattle.reference_machine.specs.Values.{ObjectName, Value}
+use Rattle.reference_machine.specs.States.{State, HeapObject, Array, object_at, with_object, with_field, with_element, replaced_entry, replaced_at, fields_of_contents, elements_of_contents, with_fields}
 use Rattle.plain_states.specs.Stores.{contents_with_field, contents_with_element}
 
 -- two changes, one after another, where the first may give nothing

@@ -1,5 +1,5 @@
 -- The contents of objects in the program as those of the reference machine.
-use Rattle.cil_model.specs.States.{Contents, Instance as InstanceContents, Array as ArrayContents}
+use Rattle.reference_machine.specs.States.{Contents, Instance as InstanceContents, Array as ArrayContents}
 use Rattle.plain_states.specs.declared.states.ContentsKind.{ContentsKind}
 use Rattle.plain_states.specs.declared.states.ContentsKind.TheVariants.{Instance, Array}
 

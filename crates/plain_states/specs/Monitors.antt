@@ -1,6 +1,6 @@
 -- The locks of the program as monitors of the reference machine.
 use Rattle.std.specs.Prelude.{Option, Some, None}
-use Rattle.cil_model.specs.States.{Monitor, Free, Held}
+use Rattle.reference_machine.specs.States.{Monitor, Free, Held}
 use Rattle.plain_states.specs.declared.states.Holding.{Holding}
 
 abbrev pub monitor_of_holding : Option Holding → Monitor

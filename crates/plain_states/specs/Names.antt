@@ -1,5 +1,5 @@
 -- The names of objects in the program as names of the reference machine.
-use Rattle.cil_model.specs.Values.{ObjectName, Born as BornName, Literal as LiteralName}
+use Rattle.reference_machine.specs.Values.{ObjectName, Born as BornName, Literal as LiteralName}
 use Rattle.plain_states.specs.declared.values.NameKind.{NameKind}
 use Rattle.plain_states.specs.declared.values.NameKind.TheVariants.{Born, Literal}
 

@@ -1,8 +1,8 @@
 -- A start of a thread, and the end of one.
 use Rattle.std.specs.Prelude.{ℕ, [], ◌∷◌, ◌++◌, length, Option, Some, slice_get, option_and_then}
 use Rattle.cil_model.specs.declared.reports.End.{End}
-use Rattle.cil_model.specs.Values.{ObjectName}
-use Rattle.cil_model.specs.States.{State, HeapObject, Thread, with_object}
+use Rattle.reference_machine.specs.Values.{ObjectName}
+use Rattle.reference_machine.specs.States.{State, HeapObject, Thread, with_object}
 
 -- the state after a start: the object names its thread, the last one
 abbrev pub started : State → ObjectName → HeapObject → Thread → State

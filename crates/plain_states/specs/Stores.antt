@@ -2,8 +2,8 @@
 use Rattle.std.specs.Prelude.{ℕ, List, Option, option_map, option_and_then}
 use Rattle.cil_model.specs.declared.types.DeclaredType.{DeclaredType}
 use Rattle.cil_model.specs.Fields.{FieldKey}
-use Rattle.cil_model.specs.Values.{Value}
-use Rattle.cil_model.specs.States.{Contents, Array, replaced_entry, replaced_at, fields_of_contents, elements_of_contents, with_fields}
+use Rattle.reference_machine.specs.Values.{Value}
+use Rattle.reference_machine.specs.States.{Contents, Array, replaced_entry, replaced_at, fields_of_contents, elements_of_contents, with_fields}
 
 -- another value in a field that they have
 abbrev pub contents_with_field : FieldKey → Value → Contents → Option Contents

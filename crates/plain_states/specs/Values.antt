@@ -1,5 +1,5 @@
 -- The values of the program as values of the reference machine.
-use Rattle.cil_model.specs.Values.{Value, Int32 as Int32Value, Int64 as Int64Value, Native as NativeValue, Null as NullValue, Reference as ReferenceValue}
+use Rattle.reference_machine.specs.Values.{Value, Int32 as Int32Value, Int64 as Int64Value, Native as NativeValue, Null as NullValue, Reference as ReferenceValue}
 use Rattle.plain_states.specs.declared.values.ValueKind.{ValueKind}
 use Rattle.plain_states.specs.declared.values.ValueKind.TheVariants.{Int32, Int64, Native, Null, Reference}
 

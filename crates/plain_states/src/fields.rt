@@ -2,7 +2,7 @@
 
 ghost use Rattle.std.specs.Prelude.{◌≡◌, ◌++◌, ◌∷◌, [], IfOk, option_map, flat_map, reverse};
 ghost use Rattle.cil_model.specs.Fields.{same_key};
-ghost use Rattle.cil_model.specs.States.{entry_at, with_entry, same_kind_or_none, replaced_entry, replaced_at};
+ghost use Rattle.reference_machine.specs.States.{entry_at, with_entry, same_kind_or_none, replaced_entry, replaced_at};
 
 use crate::values::PlainValue;
 use cil_model::memory::NoMemory;
@@ -55,7 +55,7 @@ pub struct FieldEntry<'a> {
 
 impl<'a> Model for FieldEntry<'a> {
     ghost use Rattle.cil_model.specs.Fields.{FieldKey};
-    ghost use Rattle.cil_model.specs.Values.{Value as RuntimeValue};
+    ghost use Rattle.reference_machine.specs.Values.{Value as RuntimeValue};
 
     ghost Value = { FieldKey × RuntimeValue };
 

@@ -2,10 +2,10 @@
 
 ghost use Rattle.std.specs.Prelude.{◌≡◌, IfOk, option_map, map};
 ghost use Rattle.cil_model.specs.Bodies.{at_place, lines_of};
-ghost use Rattle.cil_model.specs.Effects.{after, are_of_kinds, new_frame, returned};
-ghost use Rattle.cil_model.specs.States.{replaced_at};
-ghost use Rattle.cil_model.specs.Steps.{instruction_at};
-ghost use Rattle.cil_model.specs.Values.{zero_of};
+ghost use Rattle.reference_machine.specs.Effects.{after, are_of_kinds, new_frame, returned};
+ghost use Rattle.reference_machine.specs.States.{replaced_at};
+ghost use Rattle.reference_machine.specs.Steps.{instruction_at};
+ghost use Rattle.reference_machine.specs.Values.{zero_of};
 
 use crate::fields::replaced_at;
 use crate::stacks::Stack;

@@ -2,8 +2,8 @@
 
 ghost use Rattle.std.specs.Prelude.{◌≡◌, IfOk};
 ghost use Rattle.cil_model.specs.Same.{same_text};
-ghost use Rattle.cil_model.specs.Values.{Born};
-ghost use Rattle.cil_model.specs.States.{Free, Held, entry_at, with_entry, monitor_of, with_monitor};
+ghost use Rattle.reference_machine.specs.Values.{Born};
+ghost use Rattle.reference_machine.specs.States.{Free, Held, entry_at, with_entry, monitor_of, with_monitor};
 
 use crate::states::{Holding, LiteralMonitor, PlainMonitor, PlainObject, PlainState};
 use crate::values::{NameKind, PlainName};

@@ -2,7 +2,7 @@
 
 ghost use Rattle.std.specs.Prelude.{◌≡◌, IfOk, option_map, option_and_then, length, slice_set};
 ghost use Rattle.cil_model.specs.Fields.{same_key};
-ghost use Rattle.cil_model.specs.States.{entry_at, object_at, with_object, type_of_contents, type_of, class_of_contents, class_of, fields_of_contents, elements_of_contents, field_value, with_field, array_at, with_element, next_name, with_birth, monitor_of, with_monitor, is_live, is_live_thread};
+ghost use Rattle.reference_machine.specs.States.{entry_at, object_at, with_object, type_of_contents, type_of, class_of_contents, class_of, fields_of_contents, elements_of_contents, field_value, with_field, array_at, with_element, next_name, with_birth, monitor_of, with_monitor, is_live, is_live_thread};
 ghost use Rattle.plain_states.specs.Stores.{contents_with_field, contents_with_element};
 
 use crate::fields::{PlainKey, entry_at, replaced_at, replaced_entry};

@@ -29,7 +29,7 @@ pub struct PlainMonitor {
 }
 
 impl Model for PlainMonitor {
-    ghost use Rattle.cil_model.specs.States.{Monitor};
+    ghost use Rattle.reference_machine.specs.States.{Monitor};
 
     ghost Value = { Monitor };
 
@@ -52,7 +52,7 @@ pub struct PlainContents<'a> {
 }
 
 impl<'a> Model for PlainContents<'a> {
-    ghost use Rattle.cil_model.specs.States.{Contents};
+    ghost use Rattle.reference_machine.specs.States.{Contents};
 
     ghost Value = { Contents };
 
@@ -70,7 +70,7 @@ pub struct PlainObject<'a> {
 }
 
 impl<'a> Model for PlainObject<'a> {
-    ghost use Rattle.cil_model.specs.States.{HeapObject};
+    ghost use Rattle.reference_machine.specs.States.{HeapObject};
 
     ghost Value = { HeapObject };
 
@@ -90,7 +90,7 @@ pub struct PlainFrame<'a> {
 }
 
 impl<'a> Model for PlainFrame<'a> {
-    ghost use Rattle.cil_model.specs.States.{Frame};
+    ghost use Rattle.reference_machine.specs.States.{Frame};
 
     ghost Value = { Frame };
 
@@ -106,7 +106,7 @@ pub struct PlainThread<'a> {
 }
 
 impl<'a> Model for PlainThread<'a> {
-    ghost use Rattle.cil_model.specs.States.{Thread};
+    ghost use Rattle.reference_machine.specs.States.{Thread};
 
     ghost Value = { Thread };
 
@@ -122,7 +122,7 @@ pub struct LiteralMonitor<'a> {
 
 impl<'a> Model for LiteralMonitor<'a> {
     ghost use Rattle.std.specs.Prelude.{List, ℕ};
-    ghost use Rattle.cil_model.specs.States.{Monitor};
+    ghost use Rattle.reference_machine.specs.States.{Monitor};
 
     ghost Value = { List ℕ × Monitor };
 
@@ -140,7 +140,7 @@ pub struct PlainState<'a> {
 }
 
 impl<'a> Model for PlainState<'a> {
-    ghost use Rattle.cil_model.specs.States.{State};
+    ghost use Rattle.reference_machine.specs.States.{State};
 
     ghost Value = { State };
 

@@ -2,8 +2,8 @@
 
 ghost use Rattle.std.specs.Prelude.{◌≡◌, ◌++◌, ◌∷◌, ◌-◌, [], IfOk, Some, None, option_map, length, count_by};
 ghost use Rattle.cil_model.specs.Fields.{same_key};
-ghost use Rattle.cil_model.specs.States.{entry_at, replaced_entry, object_at, is_live_thread};
-ghost use Rattle.cil_model.specs.Steps.{with_thread_at};
+ghost use Rattle.reference_machine.specs.States.{entry_at, replaced_entry, object_at, is_live_thread};
+ghost use Rattle.reference_machine.specs.Steps.{with_thread_at};
 ghost use Rattle.plain_states.specs.Started.{started, end_in};
 
 use crate::fields::{FieldEntry, PlainKey, entry_at, replaced_entry};

@@ -19,7 +19,7 @@ pub struct PlainName<'a> {
 }
 
 impl<'a> Model for PlainName<'a> {
-    ghost use Rattle.cil_model.specs.Values.{ObjectName};
+    ghost use Rattle.reference_machine.specs.Values.{ObjectName};
 
     ghost Value = { ObjectName };
 
@@ -29,7 +29,7 @@ impl<'a> Model for PlainName<'a> {
 }
 
 impl<'a> PlainName<'a> {
-    ghost use Rattle.cil_model.specs.Values.{Born, Literal, same_object};
+    ghost use Rattle.reference_machine.specs.Values.{Born, Literal, same_object};
 
     pub fn born(number: usize) -> Self
         ensures { result ≡ Born number }
@@ -84,7 +84,7 @@ pub struct PlainValue<'a> {
 }
 
 impl<'a> Model for PlainValue<'a> {
-    ghost use Rattle.cil_model.specs.Values.{Value as RuntimeValue};
+    ghost use Rattle.reference_machine.specs.Values.{Value as RuntimeValue};
 
     ghost Value = { RuntimeValue };
 
@@ -94,7 +94,7 @@ impl<'a> Model for PlainValue<'a> {
 }
 
 impl<'a> PlainValue<'a> {
-    ghost use Rattle.cil_model.specs.Values.{Int32, Int64, Native, Null, Reference, same_kind};
+    ghost use Rattle.reference_machine.specs.Values.{Int32, Int64, Native, Null, Reference, same_kind};
 
     pub fn int32(number: i32) -> Self
         ensures { result ≡ Int32 number }
@@ -165,7 +165,7 @@ impl<'a> PlainValue<'a> {
 }
 
 ghost use Rattle.cil_model.specs.Assignable.{is_reference};
-ghost use Rattle.cil_model.specs.Values.{zero_of, is_of_kind};
+ghost use Rattle.reference_machine.specs.Values.{zero_of, is_of_kind};
 
 pub fn is_reference(t: &DeclaredType) -> bool
     ensures { result ≡ is_reference t.now }

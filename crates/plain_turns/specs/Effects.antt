@@ -1,5 +1,5 @@
 -- The effects of the program as effects of the reference machine.
-use Rattle.cil_model.specs.Effects.{Effect, Goes as EffectGoes, Blocks as EffectBlocks, Raises as EffectRaises, Sticks as EffectSticks}
+use Rattle.reference_machine.specs.Effects.{Effect, Goes as EffectGoes, Blocks as EffectBlocks, Raises as EffectRaises, Sticks as EffectSticks}
 use Rattle.plain_turns.specs.declared.effects.EffectKind.{EffectKind}
 use Rattle.plain_turns.specs.declared.effects.EffectKind.TheVariants.{Goes, Blocks, Raises, Sticks}
 

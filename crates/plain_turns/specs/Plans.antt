@@ -1,7 +1,7 @@
 -- What a plan comes to where it is carried out.
 use Rattle.std.specs.Prelude.{◌∷◌}
-use Rattle.cil_model.specs.Effects.{Effect, Goes, Blocks as EffectBlocks, Raises as EffectRaises, Sticks as EffectSticks, after, onward, returned}
-use Rattle.cil_model.specs.Steps.{next}
+use Rattle.reference_machine.specs.Effects.{Effect, Goes, Blocks as EffectBlocks, Raises as EffectRaises, Sticks as EffectSticks, after, onward, returned}
+use Rattle.reference_machine.specs.Steps.{next}
 use Rattle.plain_turns.specs.declared.turns.Turn.{Turn}
 use Rattle.plain_turns.specs.declared.plans.Plan.{Plan}
 use Rattle.plain_turns.specs.declared.plans.Plan.TheVariants.{Sticks, Raises, Blocks, Next, Jump, NextIn, NextWith, Calls, CallsWith, Returns}

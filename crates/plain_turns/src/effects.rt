@@ -1,7 +1,7 @@
 // What one instruction does to its thread's frames and to the state, and what it is done in.
 
 ghost use Rattle.std.specs.Prelude.{◌≡◌, ◌∷◌, IfOk};
-ghost use Rattle.cil_model.specs.Effects.{Goes, Blocks, Raises, Sticks, after, onward};
+ghost use Rattle.reference_machine.specs.Effects.{Goes, Blocks, Raises, Sticks, after, onward};
 
 use cil_model::memory::NoMemory;
 use cil_model::reports::Fault;
@@ -26,7 +26,7 @@ pub struct PlainEffect<'a> {
 }
 
 impl<'a> Model for PlainEffect<'a> {
-    ghost use Rattle.cil_model.specs.Effects.{Effect};
+    ghost use Rattle.reference_machine.specs.Effects.{Effect};
 
     ghost Value = { Effect };
 

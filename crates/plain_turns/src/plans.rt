@@ -53,8 +53,8 @@ impl<'a> Plan<'a> {
 }
 
 impl<'a> Turn<'a> {
-    ghost use Rattle.cil_model.specs.Effects.{given, Goes, onward, returned, after};
-    ghost use Rattle.cil_model.specs.Steps.{next, jump, branch_if};
+    ghost use Rattle.reference_machine.specs.Effects.{given, Goes, onward, returned, after};
+    ghost use Rattle.reference_machine.specs.Steps.{next, jump, branch_if};
     ghost use Rattle.plain_turns.specs.Plans.{carried_out};
 
     /// On to the next instruction with a value, or stuck where there is none.

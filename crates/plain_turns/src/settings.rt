@@ -5,7 +5,7 @@ ghost use Rattle.cil_model.specs.Assignable.{is_assignable, type_of_class};
 ghost use Rattle.cil_model.specs.Chains.{find_field, find_method, is_thread_class};
 ghost use Rattle.cil_model.specs.Declarations.{thread_name, run_method};
 ghost use Rattle.cil_model.specs.Slots.{target};
-ghost use Rattle.cil_model.specs.States.{class_of, type_of};
+ghost use Rattle.reference_machine.specs.States.{class_of, type_of};
 
 use cil_model::instructions::FieldReference;
 use cil_model::limits::Limits;
@@ -32,7 +32,7 @@ pub struct PlainSetting<'a> {
 }
 
 impl<'a> Model for PlainSetting<'a> {
-    ghost use Rattle.cil_model.specs.Effects.{Setting};
+    ghost use Rattle.reference_machine.specs.Effects.{Setting};
 
     ghost Value = { Setting };
 

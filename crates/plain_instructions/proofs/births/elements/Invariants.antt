@@ -1,5 +1,5 @@
 use Rattle.std.proofs.Common.{◌≡◌, replicate}
-use Rattle.cil_model.specs.Values.{zero_of}
+use Rattle.reference_machine.specs.Values.{zero_of}
 use Rattle.plain_instructions.proofs.births.elements.Given as goal
 
 abbrev pub invariant-loop-made : goal.invariant-loop-made

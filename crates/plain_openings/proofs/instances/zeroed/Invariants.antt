@@ -1,5 +1,5 @@
 use Rattle.std.proofs.Common.{◌≡◌, take}
-use Rattle.cil_model.specs.States.{zeroed}
+use Rattle.reference_machine.specs.States.{zeroed}
 use Rattle.plain_openings.proofs.instances.zeroed.Given as goal
 
 abbrev pub invariant-loop-field : goal.invariant-loop-field

@@ -1,5 +1,5 @@
 use Rattle.std.proofs.Common.{◌≡◌, map, take}
-use Rattle.cil_model.specs.States.{Free}
+use Rattle.reference_machine.specs.States.{Free}
 use Rattle.plain_openings.proofs.openings.free_monitors.Given as goal
 
 abbrev pub invariant-loop-characters : goal.invariant-loop-characters

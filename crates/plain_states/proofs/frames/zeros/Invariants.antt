@@ -1,5 +1,5 @@
 use Rattle.std.proofs.Common.{◌≡◌, map, take}
-use Rattle.cil_model.specs.Values.{zero_of}
+use Rattle.reference_machine.specs.Values.{zero_of}
 use Rattle.plain_states.proofs.frames.zeros.Given as goal
 
 abbrev pub invariant-loop-t : goal.invariant-loop-t

@@ -1,6 +1,6 @@
 use Rattle.std.proofs.Common.{[], ◌∷◌, subst}
 use Rattle.std.specs.Prelude.{IfOk}
-use Rattle.cil_model.specs.Budgets.{KeepsBudgets}
+use Rattle.machine_content.specs.Budgets.{KeepsBudgets}
 use Rattle.interleaving_core.specs.Views.{content_of}
 use Rattle.interleaving_core.proofs.Readiness.{sound_content}
 use Rattle.interleaving_core.proofs.WholeRuns.{step_budgets}

@@ -1,5 +1,0 @@
-use Rattle.cil_model.proofs.MethodLaws.{framed_has_typing}
-use Rattle.cil_model.proofs.laws.framed_methods_have_typings.Goals as goal
-
-pub returns : goal.returns
-returns c = framed_has_typing

@@ -1,0 +1,2 @@
+pub mod BudgetLaws
+pub mod StandsLaws

@@ -1,0 +1,4 @@
+pub mod MachineContents
+pub mod Turns
+pub mod Budgets
+pub mod StandsFor

@@ -1,0 +1,5 @@
+use Rattle.reference_machine.proofs.Trials.{sum_shown}
+use Rattle.reference_machine.proofs.laws.example_runs.Goals as goal
+
+pub returns : goal.returns
+returns c = sum_shown

@@ -1,0 +1,13 @@
+pub mod Values
+pub mod Arithmetic
+pub mod States
+pub mod Effects
+pub mod BuiltIn
+pub mod Steps
+pub mod Faults
+pub mod Growth
+pub mod Runs
+pub mod Reachable
+pub mod Cycles
+pub mod OwedWords
+pub mod Outcomes

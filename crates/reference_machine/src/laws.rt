@@ -1,0 +1,73 @@
+// Laws of the reference machine. Each function has an empty body, and its contract is the law.
+
+ghost use Rattle.std.specs.Prelude.{◌≡◌, ℕ, List, Some, None, slice_get, Bool, replicate, false, ◌∷◌, ◌++◌, [], codes};
+ghost use Rattle.cil_model.specs.declared.trees.Tree.{Tree};
+ghost use Rattle.cil_model.specs.declared.instructions.Instruction.{Instruction};
+ghost use Rattle.cil_model.specs.declared.instructions.MethodReference.{MethodReference};
+ghost use Rattle.cil_model.specs.declared.trees.Method.{Method};
+ghost use Rattle.cil_model.specs.declared.types.ClassName.{ClassName};
+ghost use Rattle.cil_model.specs.declared.types.DeclaredType.{DeclaredType};
+ghost use Rattle.cil_model.specs.declared.limits.Limits.{Limits};
+ghost use Rattle.cil_model.specs.declared.reports.Fault.{Fault};
+ghost use Rattle.cil_model.specs.declared.reports.Report.{Report};
+ghost use Rattle.cil_model.specs.declared.reports.Report.TheVariants.{Ran, Ended};
+ghost use Rattle.cil_model.specs.declared.reports.End.TheVariants.{Done};
+ghost use Rattle.cil_model.specs.Chains.{find_method, methods_in};
+ghost use Rattle.cil_model.specs.Slots.{target};
+ghost use Rattle.reference_machine.specs.BuiltIn.{action_of};
+ghost use Rattle.reference_machine.specs.Values.{ObjectName};
+ghost use Rattle.reference_machine.specs.States.{Frame, State, type_of, class_of};
+ghost use Rattle.reference_machine.specs.Effects.{Setting, Raises};
+ghost use Rattle.reference_machine.specs.Steps.{execute, step, Answers};
+ghost use Rattle.reference_machine.specs.Faults.{MayRaise};
+ghost use Rattle.reference_machine.specs.Growth.{Follows};
+ghost use Rattle.reference_machine.specs.Runs.{StepRequest, run, RunsTo, SticksAfter};
+ghost use Rattle.reference_machine.specs.Outcomes.{shown, Shows};
+ghost use Rattle.cil_model.specs.Typings.{Typing, IsTyping, IsAccepted};
+ghost use Rattle.cil_model.specs.Examples.{sum_program, usual_limits};
+
+/// What a look-up of a method finds is declared by the class that it names, and so is the target of a declared method.
+pub fn found_methods_are_declared()
+    ensures found { (tree : Tree) (is_instance : Bool) (r : MethodReference) (c : ClassName) (m : Method) → find_method tree is_instance r ≡ Some (c, m) → (n : ℕ) × (slice_get (methods_in tree c) n ≡ Some m) }
+    ensures targets { (tree : Tree) (d c : ClassName) (m : Method) (k : ClassName) (m' : Method) → target tree d c m ≡ Some (k, m') → (n : ℕ) × (slice_get (methods_in tree c) n ≡ Some m) → (n : ℕ) × (slice_get (methods_in tree k) n ≡ Some m') }
+{}
+
+/// In an accepted program each method that may get a frame has a typing: one that a class declares, built-in ones among
+/// them, and that is no member which acts at once.
+pub fn framed_methods_have_typings()
+    ensures { (tree : Tree) → IsAccepted tree → (c : ClassName) (n : ℕ) (m : Method) → slice_get (methods_in tree c) n ≡ Some m → action_of c m ≡ None → (typing : Typing) × IsTyping tree c m typing }
+{}
+
+/// No step and no run takes anything back: objects keep their names, classes, fields, element types and lengths; static
+/// fields and literals stay those of the program; what was printed stays.
+pub fn nothing_is_taken_back()
+    ensures step { (tree : Tree) (limits : Limits) (s : State) (t : ℕ) (refused : Bool) (r : Report) (s' : State) → step tree limits s t refused ≡ Answers r s' → Follows s s' }
+    ensures run { (tree : Tree) (limits : Limits) (requests : List StepRequest) (s s' : State) (reports : List Report) → run tree limits s requests ≡ RunsTo reports s' → Follows s s' }
+{}
+
+/// Where a state follows another, an object has the type and the class that it had.
+pub fn types_stay()
+    ensures types { (s s' : State) → Follows s s' → (n : ObjectName) (type : DeclaredType) → type_of s n ≡ Some type → type_of s' n ≡ Some type }
+    ensures classes { (s s' : State) → Follows s s' → (n : ObjectName) (c : ClassName) → class_of s n ≡ Some c → class_of s' n ≡ Some c }
+{}
+
+/// An instruction raises faults alone that are listed for it, or for the built-in member that it calls.
+pub fn raised_faults_are_listed()
+    ensures { (here : Setting) (s : State) (f : Frame) (below : List Frame) (i : Instruction) (x : Fault) → execute here s f below i ≡ Raises x → MayRaise i x }
+{}
+
+/// The steps of two lists, one behind the other, are the run of the first and then that of the second from there; none
+/// follows a step that is stuck.
+pub fn runs_join()
+    ensures both { (tree : Tree) (limits : Limits) (first more : List StepRequest) (s t u : State) (reports later : List Report) →
+        run tree limits s first ≡ RunsTo reports t → run tree limits t more ≡ RunsTo later u → run tree limits s (first ++ more) ≡ RunsTo (reports ++ later) u }
+    ensures second_sticks { (tree : Tree) (limits : Limits) (first more : List StepRequest) (s t : State) (reports later : List Report) →
+        run tree limits s first ≡ RunsTo reports t → run tree limits t more ≡ SticksAfter later → run tree limits s (first ++ more) ≡ SticksAfter (reports ++ later) }
+    ensures first_sticks { (tree : Tree) (limits : Limits) (first more : List StepRequest) (s : State) (reports : List Report) →
+        run tree limits s first ≡ SticksAfter reports → run tree limits s (first ++ more) ≡ SticksAfter reports }
+{}
+
+/// The example prints the sum in five steps.
+pub fn example_runs()
+    ensures { shown sum_program usual_limits (replicate 5 (0, false)) ≡ Shows (Ran ∷ Ran ∷ Ran ∷ Ran ∷ Ended Done ∷ []) (codes "5\n") }
+{}
