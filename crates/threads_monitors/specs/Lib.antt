@@ -1,3 +1,4 @@
 pub mod Frames
 pub mod Monitors
 pub mod Activations
+pub mod Threads

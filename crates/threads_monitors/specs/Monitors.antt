@@ -5,8 +5,9 @@ use Rattle.object_memory.specs.declared.addresses.Addr.{Addr}
 use Rattle.object_memory.specs.declared.monitors.Monitor.{Monitor}
 use Rattle.object_memory.specs.declared.monitors.Monitor.TheVariants.{Free, Held}
 use Rattle.object_memory.specs.Objects.{Objects, monitor_at, with_monitor}
-use Rattle.threads_monitors.specs.declared.monitors.Entry.{Entry}
-use Rattle.threads_monitors.specs.declared.monitors.Entry.TheVariants.{Entered, Blocked}
+use Rattle.threads_monitors.specs.declared.effects.Effect.{Effect}
+use Rattle.threads_monitors.specs.declared.effects.Effect.TheVariants.{GoesOn, Blocks, Raises}
+use Rattle.cil_model.specs.declared.reports.Fault.TheVariants.{ArgumentNull, SynchronizationLock}
 
 -- how often it was entered
 abbrev pub entries : Monitor → ℕ
@@ -23,10 +24,18 @@ abbrev pub left : ℕ → Monitor → Option Monitor
 left thread Free = None
 left thread (Held owner count) = if owner == thread then Some (if nat_le count 1 then Free else Held thread (count - 1)) else None
 
--- the objects after an entry, or as they were where the thread is blocked
-abbrev pub with_entry : Objects → Addr → ℕ → Objects × Entry
-with_entry o a thread = option_map_or (λ m. (with_monitor o a m, Entered)) (option_and_then (entered thread) (monitor_at o a)) (o, Blocked)
+-- the objects with the monitor at an address as it is now; as they were where there is none, with an effect of its own
+abbrev pub with_monitor_or : Objects → Addr → Effect → Option Monitor → Objects × Effect
+with_monitor_or o a otherwise m = option_map_or (λ m'. (with_monitor o a m', GoesOn)) m (o, otherwise)
 
--- the monitor of the thread's own once it has left it
-abbrev pub left_at : Objects → Addr → ℕ → Option Monitor
-left_at o a thread = option_and_then (left thread) (monitor_at o a)
+-- the objects after an entry, which another's monitor blocks
+abbrev pub with_entry : Objects → Addr → ℕ → Objects × Effect
+with_entry o a thread =
+    if a.number == 0 then (o, Raises ArgumentNull)
+    else with_monitor_or o a Blocks (option_and_then (entered thread) (monitor_at o a))
+
+-- the objects after an exit, which is its owner's alone
+abbrev pub with_exit : Objects → Addr → ℕ → Objects × Effect
+with_exit o a thread =
+    if a.number == 0 then (o, Raises ArgumentNull)
+    else with_monitor_or o a (Raises SynchronizationLock) (option_and_then (left thread) (monitor_at o a))

@@ -1,8 +1,13 @@
-//! Threads: their frames, in memory that is taken whole before the first step, and the monitors that they enter and leave.
+//! Threads: their frames, in memory that is taken whole before the first step, their budgets, how they start, wait and end,
+//! and the monitors that they enter and leave.
 #![tactic(auto)]
 
+mod effects;
 mod frames;
 mod monitors;
+mod threads;
 
+pub use effects::Effect;
 pub use frames::FrameMemory;
-pub use monitors::{Entry, enter, exit};
+pub use monitors::{enter, exit};
+pub use threads::{Beginning, Standing, Thread, join, start};

@@ -1,51 +1,49 @@
 // Who enters and leaves the monitors of objects and literals.
 
-ghost use Rattle.std.specs.Prelude.{◌≡◌, ◌<◌, ◌-◌, ◌^◌, IsSome, IfSome, OnOk, OnErr, IfErr, Some, None, option_and_then};
-ghost use Rattle.object_memory.specs.Objects.{monitor_at, with_monitor};
-ghost use Rattle.threads_monitors.specs.Monitors.{entered, entries, left, left_at, with_entry};
+ghost use Rattle.std.specs.Prelude.{◌≡◌, ◌≢◌, ◌<◌, ◌-◌, ◌^◌, IsSome, Some};
+ghost use Rattle.object_memory.specs.Cells.{null};
+ghost use Rattle.object_memory.specs.Objects.{monitor_at};
 ghost use Rattle.object_memory.specs.declared.monitors.Monitor.{Monitor};
-ghost use Rattle.cil_model.specs.declared.reports.Fault.TheVariants.{SynchronizationLock};
+ghost use Rattle.threads_monitors.specs.Monitors.{entered, entries, left, with_entry, with_exit};
 
+use crate::effects::Effect;
 use cil_model::reports::Fault;
 use object_memory::{Addr, Heap, Monitor};
 
-/// What came of an entry: the monitor was entered, or another thread holds it.
-#[derive(Clone, Copy, Debug, PartialEq, Eq)]
-pub enum Entry {
-    Entered,
-    Blocked,
-}
-
 /// `Monitor.Enter` of an object or a literal (ECMA-335 I.12.6.5): a monitor that is free, or the thread's own, is entered
-/// once more. Another's blocks, and nothing changes. It takes no memory.
-pub fn enter(heap: &mut Heap, address: Addr, thread: u8) -> Entry
-    requires there { IsSome (monitor_at heap.old address) }
-    requires count { (m : Monitor) → monitor_at heap.old address ≡ Some m → entries m < 2 ^ 32 - 1 }
-    ensures { (heap.new, result) ≡ with_entry heap.old address thread }
+/// once more. Another's blocks, and nothing changes. Null raises `ArgumentNull`. It takes no memory.
+pub fn enter(heap: &mut Heap, object: Addr, thread: u8) -> Effect
+    requires there { object ≢ null → IsSome (monitor_at heap.old object) }
+    requires count { (m : Monitor) → monitor_at heap.old object ≡ Some m → entries m < 2 ^ 32 - 1 }
+    ensures { (heap.new, result) ≡ with_entry heap.old object thread }
 {
-    match once_more(heap.monitor(address), thread) {
+    if object.is_null() {
+        return Effect::Raises(Fault::ArgumentNull);
+    }
+    match once_more(heap.monitor(object), thread) {
         Some(monitor) => {
-            heap.set_monitor(address, monitor);
-            Entry::Entered
+            heap.set_monitor(object, monitor);
+            Effect::GoesOn
         }
-        None => Entry::Blocked,
+        None => Effect::Blocks,
     }
 }
 
-/// `Monitor.Exit` of an object or a literal (ECMA-335 I.12.6.5): its owner leaves it once, and at none it is free. The fault
-/// of any other thread is System.Threading.SynchronizationLockException, and nothing changes. It takes no memory.
-pub fn exit(heap: &mut Heap, address: Addr, thread: u8) -> Result<(), Fault>
-    requires there { IsSome (monitor_at heap.old address) }
-    ensures left { OnOk result ((m : Monitor) × (left_at heap.old address thread ≡ Some m) × (heap.new ≡ with_monitor heap.old address m)) }
-    ensures refused { OnErr result ((left_at heap.old address thread ≡ None) × (heap.new ≡ heap.old)) }
-    ensures fault { IfErr result (λ f. f ≡ SynchronizationLock) }
+/// `Monitor.Exit` of an object or a literal (ECMA-335 I.12.6.5): its owner leaves it once, and at none it is free. Any other
+/// thread raises `SynchronizationLock`, and nothing changes. Null raises `ArgumentNull`. It takes no memory.
+pub fn exit(heap: &mut Heap, object: Addr, thread: u8) -> Effect
+    requires there { object ≢ null → IsSome (monitor_at heap.old object) }
+    ensures { (heap.new, result) ≡ with_exit heap.old object thread }
 {
-    match once_less(heap.monitor(address), thread) {
+    if object.is_null() {
+        return Effect::Raises(Fault::ArgumentNull);
+    }
+    match once_less(heap.monitor(object), thread) {
         Some(monitor) => {
-            heap.set_monitor(address, monitor);
-            Ok(())
+            heap.set_monitor(object, monitor);
+            Effect::GoesOn
         }
-        None => Err(Fault::SynchronizationLock),
+        None => Effect::Raises(Fault::SynchronizationLock),
     }
 }
 

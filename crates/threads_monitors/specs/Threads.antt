@@ -1,0 +1,104 @@
+-- Threads: what a step takes from a budget, and how threads start, wait for one another and end (this profile).
+use Rattle.std.specs.Prelude.{ℕ, zero, suc, ◌+◌, ◌-◌, ◌==◌, nat_le, if◌then◌else◌, Bool, false, is_none, is_some, List, [], ◌∷◌, ◌++◌, length, Option, Some, None, slice_get, slice_index}
+use Rattle.std.specs.Option.{option_map_or}
+use Rattle.cil_model.specs.declared.limits.TheConstants.{MOST_THREADS}
+use Rattle.cil_model.specs.declared.reports.End.{End}
+use Rattle.cil_model.specs.declared.reports.End.TheVariants.{Done, Budget, Fault as ByFault}
+use Rattle.cil_model.specs.declared.reports.Fault.{Fault}
+use Rattle.cil_model.specs.declared.reports.Fault.TheVariants.{NullReference, ThreadState, TooManyThreads}
+use Rattle.cil_model.specs.declared.reports.Report.{Report}
+use Rattle.cil_model.specs.declared.reports.Report.TheVariants.{Ran, Blocked, Ended as HasEnded, Absent}
+use Rattle.object_memory.specs.declared.addresses.Addr.{Addr}
+use Rattle.object_memory.specs.declared.values.Value.{Value}
+use Rattle.object_memory.specs.Cells.{slots_at}
+use Rattle.object_memory.specs.Objects.{Objects, with_slot}
+use Rattle.threads_monitors.specs.Frames.{Frames, new_frame}
+use Rattle.threads_monitors.specs.declared.effects.Effect.{Effect}
+use Rattle.threads_monitors.specs.declared.effects.Effect.TheVariants.{GoesOn, Returns, Blocks, Raises}
+use Rattle.threads_monitors.specs.declared.threads.Standing.{Standing}
+use Rattle.threads_monitors.specs.declared.threads.Standing.TheVariants.{Live, Ended}
+use Rattle.threads_monitors.specs.declared.threads.Thread.{Thread}
+use Rattle.threads_monitors.specs.declared.threads.Beginning.{Beginning}
+
+-- how a thread that stands so ended; none while it is live
+abbrev pub end_in : Standing → Option End
+end_in (Live frames) = None
+end_in (Ended e) = Some e
+
+abbrev pub end_of : Thread → Option End
+end_of t = end_in t.standing
+
+abbrev pub is_live : Thread → Bool
+is_live t = is_none (end_of t)
+
+-- whether the thread of a number was started and has not ended
+abbrev pub is_live_at : List Thread → ℕ → Bool
+is_live_at threads n = option_map_or is_live (slice_get threads n) false
+
+-- at the beginning of its first method, with these arguments and its whole budget
+abbrev pub new_thread : Beginning → List Value → Thread
+new_thread b arguments = record {
+  standing = Live (record { running = new_frame b.method arguments b.locals.now None; below = []; depth = b.depth; room = b.room });
+  steps_left = b.budget;
+}
+
+-- ---- steps and their budget
+
+-- A fault and the return of the first method end a thread; else the last step of its budget does.
+abbrev pub end_after : Effect → ℕ → Option End
+end_after Returns left = Some Done
+end_after (Raises f) left = Some (ByFault f)
+end_after GoesOn left = if left == 0 then Some Budget else None
+end_after Blocks left = if left == 0 then Some Budget else None
+
+-- the report of a step after which the thread is live
+abbrev pub report_of : Effect → Report
+report_of Blocks = Blocked
+report_of GoesOn = Ran
+report_of Returns = Ran
+report_of (Raises f) = Ran
+
+-- the thread after its step, with so many steps left, and the report: an ended one has no frames
+abbrev pub standing_after : Option End → Frames → ℕ → Effect → Thread × Report
+standing_after None frames left effect = (record { standing = Live frames; steps_left = left }, report_of effect)
+standing_after (Some e) frames left effect = (record { standing = Ended e; steps_left = left }, HasEnded e)
+
+-- each step of a live thread takes one from its budget, a blocked one too; one that has ended is absent
+abbrev pub settled_in : Effect → Standing → ℕ → Thread × Report
+settled_in effect (Live frames) left = standing_after (end_after effect (left - 1)) frames (left - 1) effect
+settled_in effect (Ended e) left = (record { standing = Ended e; steps_left = left }, Absent)
+
+abbrev pub settled : Effect → Thread → Thread × Report
+settled effect t = settled_in effect t.standing t.steps_left
+
+-- ---- starting and joining
+
+-- the thread that a hidden field tells: its number and one, or 0
+abbrev pub thread_told : ℕ → Option ℕ
+thread_told zero = None
+thread_told (suc n) = Some n
+
+-- the thread that was started on an object, which the first of its slots tells
+abbrev pub thread_on : Objects → Addr → Option ℕ
+thread_on o a = thread_told (slice_index (slots_at o.block a) 0)
+
+-- why no thread can be started on an object, in the order of the checks; none where one can
+abbrev pub start_fault : List Thread → Objects → Addr → Option Fault
+start_fault threads o a =
+    if a.number == 0 then Some NullReference
+    else if is_some (thread_on o a) then Some ThreadState
+    else if nat_le MOST_THREADS (length threads) then Some TooManyThreads
+    else None
+
+-- the threads and objects after a start of this thread: it has the next number, which its object tells
+abbrev pub with_start : List Thread → Objects → Addr → Thread → List Thread × Objects × Effect
+with_start threads o a thread =
+    option_map_or (λ f. (threads, o, Raises f)) (start_fault threads o a) (threads ++ thread ∷ [], with_slot o a 0 (length threads + 1), GoesOn)
+
+-- a thread that is live is waited for, the joining one itself too
+abbrev pub wait_for : List Thread → Option ℕ → Effect
+wait_for threads None = Raises ThreadState
+wait_for threads (Some n) = if is_live_at threads n then Blocks else GoesOn
+
+abbrev pub join_effect : List Thread → Objects → Addr → Effect
+join_effect threads o a = if a.number == 0 then Raises NullReference else wait_for threads (thread_on o a)

@@ -1,0 +1,205 @@
+// Threads: what each step takes from their budgets, and how they start, wait for one another and end.
+
+ghost use Rattle.std.specs.Prelude.{◌≡◌, ◌≢◌, ◌<◌, ◌≤◌, ◌+◌, ◌*◌, ◌^◌, ◌∷◌, [], length, Some, None, IfOk, OnErr};
+ghost use Rattle.object_memory.specs.Cells.{null, slots_at};
+ghost use Rattle.object_memory.specs.declared.values.Value.TheVariants.{Ref};
+ghost use Rattle.threads_monitors.specs.Threads.{end_of, is_live, new_thread, end_after, report_of, settled, start_fault, thread_on, with_start, is_live_at, join_effect};
+
+use crate::effects::Effect;
+use crate::frames::FrameMemory;
+use cil_model::limits::MOST_THREADS;
+use cil_model::memory::NoMemory;
+use cil_model::reports::{End, Fault, Report};
+use object_memory::{Addr, Heap, Value, ValueKind};
+use std::alloc::Global;
+
+/// The slot of a `Cilvm.Thread` that tells the thread which was started on it: its number and one, or 0 (this profile).
+const THREAD_SLOT: u32 = 0;
+
+/// How a thread stands: with its frames while it is live, or as it ended. A thread that ended has no frames; the monitors
+/// that it holds stay held (this profile).
+#[derive(Debug, Drop)]
+pub enum Standing {
+    Live(FrameMemory),
+    Ended(End),
+}
+
+/// A thread that was started, and the steps of its budget that are left.
+#[derive(Debug, Drop)]
+pub struct Thread {
+    pub standing: Standing,
+    pub steps_left: u32,
+}
+
+/// What a thread begins with: its first method, by number, with the kinds of its locals; how many frames it may have, how
+/// many values one frame may hold (arguments, locals and stack), and how many steps it may make.
+#[derive(Clone, Copy, Debug)]
+pub struct Beginning<'a> {
+    pub method: u32,
+    pub locals: &'a [ValueKind],
+    pub depth: usize,
+    pub room: usize,
+    pub budget: u32,
+}
+
+impl Thread {
+    /// A thread before its first step: at the beginning of its first method, with its whole budget. The memory of all its
+    /// frames is taken here. `NoMemory` where there is none; nothing is kept then.
+    pub fn new(alloc: Global, beginning: Beginning, arguments: &[Value]) -> Result<Thread, NoMemory>
+        requires some { 0 < beginning.depth }
+        requires limits { beginning.depth * beginning.room < 2 ^ 32 }
+        requires fits { length arguments.now + length beginning.locals.now ≤ beginning.room }
+        ensures { IfOk result (λ t. t ≡ new_thread beginning.entry arguments.now) }
+    {
+        let frames = FrameMemory::new(
+            alloc,
+            beginning.depth,
+            beginning.room,
+            beginning.method,
+            arguments,
+            beginning.locals,
+        )?;
+        Ok(Thread {
+            standing: Standing::Live(frames),
+            steps_left: beginning.budget,
+        })
+    }
+
+    /// How the thread ended. None while it is live.
+    pub fn end(&self) -> Option<End>
+        ensures { result ≡ end_of self.now }
+    {
+        match &self.standing {
+            Standing::Live(_) => None,
+            Standing::Ended(end) => Some(*end),
+        }
+    }
+
+    /// Whether the thread has not ended.
+    pub fn is_live(&self) -> bool
+        ensures { result ≡ is_live self.now }
+    {
+        self.end().is_none()
+    }
+
+    /// Counts a step of the thread by what its instruction came to, and reports it. A blocked step counts too. The thread ends
+    /// where its first method has returned or a fault was raised, and else where the budget is used up; its frames go then.
+    /// Of a thread that has ended the report is `Absent`, and nothing changes.
+    pub fn settle(&mut self, effect: Effect) -> Report
+        ensures { (self.new, result) ≡ settled effect self.old }
+    {
+        if !self.is_live() {
+            return Report::Absent;
+        }
+        self.steps_left = self.steps_left.saturating_sub(1);
+        match end_after(effect, self.steps_left) {
+            Some(end) => {
+                self.standing = Standing::Ended(end);
+                Report::Ended(end)
+            }
+            None => report_of(effect),
+        }
+    }
+}
+
+/// How a thread ends with an effect, where so many steps are left. None where it stays live.
+fn end_after(effect: Effect, steps_left: u32) -> Option<End>
+    ensures { result ≡ end_after effect steps_left }
+{
+    match effect {
+        Effect::Returns => Some(End::Done),
+        Effect::Raises(fault) => Some(End::Fault(fault)),
+        Effect::GoesOn | Effect::Blocks if steps_left == 0 => Some(End::Budget),
+        Effect::GoesOn | Effect::Blocks => None,
+    }
+}
+
+/// The report of a step after which the thread is live.
+fn report_of(effect: Effect) -> Report
+    ensures { result ≡ report_of effect }
+{
+    match effect {
+        Effect::Blocks => Report::Blocked,
+        _ => Report::Ran,
+    }
+}
+
+/// The thread that was started on an object. None where none was.
+fn thread_on(heap: &Heap, object: Addr) -> Option<u64>
+    requires there { 0 < length (slots_at heap.now.block object) }
+    ensures { result ≡ thread_on heap.now object }
+{
+    heap.slot(object, THREAD_SLOT).checked_sub(1)
+}
+
+/// Why no thread can be started on an object, in the order of the checks. None where one can.
+fn start_fault(threads: &[Thread], heap: &Heap, object: Addr) -> Option<Fault>
+    requires there { object ≢ null → 0 < length (slots_at heap.now.block object) }
+    ensures { result ≡ start_fault threads.now heap.now object }
+{
+    if object.is_null() {
+        Some(Fault::NullReference)
+    } else if thread_on(heap, object).is_some() {
+        Some(Fault::ThreadState)
+    } else if threads.len() >= MOST_THREADS {
+        Some(Fault::TooManyThreads)
+    } else {
+        None
+    }
+}
+
+/// `Cilvm.Thread.Start` on an object (this profile): a thread with the next number, whose first method has the object as its
+/// argument. The fault is `NullReference` for null, then `ThreadState` where a thread was started on the object already, then
+/// `TooManyThreads` where 16 were started in all.
+///
+/// After these checks the memory of all frames of the new thread is taken. `NoMemory` where there is none; nothing is changed then.
+pub fn start(
+    alloc: Global,
+    threads: &mut Vec<Thread>,
+    heap: &mut Heap,
+    object: Addr,
+    beginning: Beginning,
+) -> Result<Effect, NoMemory>
+    requires there { object ≢ null → 0 < length (slots_at heap.old.block object) }
+    requires some { 0 < beginning.depth }
+    requires limits { beginning.depth * beginning.room < 2 ^ 32 }
+    requires fits { 1 + length beginning.locals.now ≤ beginning.room }
+    ensures started { IfOk result (λ effect. (threads.new.items, heap.new, effect) ≡ with_start threads.old.items heap.old object (new_thread beginning.entry (Ref object ∷ []))) }
+    ensures refused { OnErr result ((threads.new.items ≡ threads.old.items) × (heap.new ≡ heap.old)) }
+    ensures checked { OnErr result (start_fault threads.old.items heap.old object ≡ None) }
+{
+    if let Some(fault) = start_fault(threads, heap, object) {
+        return Ok(Effect::Raises(fault));
+    }
+    threads.reserve(1)?;
+    let thread = Thread::new(alloc, beginning, &[Value::Ref(object)])?;
+    threads.push_reserved(thread);
+    heap.set_slot(object, THREAD_SLOT, threads.len() as u64);
+    Ok(Effect::GoesOn)
+}
+
+/// `Cilvm.Thread.Join` on an object (this profile): it blocks while the thread that was started on it is live, the calling one
+/// itself too. The fault is `NullReference` for null, then `ThreadState` where none was started. It takes no memory.
+pub fn join(threads: &[Thread], heap: &Heap, object: Addr) -> Effect
+    requires there { object ≢ null → 0 < length (slots_at heap.now.block object) }
+    ensures { result ≡ join_effect threads.now heap.now object }
+{
+    if object.is_null() {
+        return Effect::Raises(Fault::NullReference);
+    }
+    match thread_on(heap, object) {
+        None => Effect::Raises(Fault::ThreadState),
+        Some(number) if is_live(threads, number) => Effect::Blocks,
+        Some(_) => Effect::GoesOn,
+    }
+}
+
+/// Whether the thread of a number was started and has not ended.
+fn is_live(threads: &[Thread], number: u64) -> bool
+    ensures { result ≡ is_live_at threads.now number }
+{
+    threads.get(number as usize).is_some_and(Thread::is_live)
+}
+
+#[cfg(test)]
+mod tests;
