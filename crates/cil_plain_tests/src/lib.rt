@@ -1,6 +1,8 @@
-//! What the reference machine, its look-ups and its state answer for sources.
+//! What the reference machine, its look-ups and its state answer for sources, and what threads and monitors do beside it.
 #![tactic(auto)]
 
+#[cfg(test)]
+mod beside;
 #[cfg(test)]
 mod copies;
 #[cfg(test)]
@@ -13,7 +15,6 @@ mod openings;
 mod runs;
 #[cfg(test)]
 mod sources;
+pub mod stage;
 #[cfg(test)]
 mod stories;
-#[cfg(test)]
-mod threads;

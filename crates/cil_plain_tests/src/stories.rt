@@ -69,7 +69,7 @@ enum Work<'b> {
 }
 
 /// `r` where the thread ran, `b` where it was blocked, `a` where it is absent, and its end in brackets.
-fn tell_report(text: &mut String, report: Report) -> Result<(), NoMemory> {
+pub fn tell_report(text: &mut String, report: Report) -> Result<(), NoMemory> {
     match report {
         Report::Ran => text.push('r')?,
         Report::Blocked => text.push('b')?,

@@ -14,7 +14,7 @@ use object_memory::{Addr, Heap, Monitor};
 /// once more. Another's blocks, and nothing changes. Null raises `ArgumentNull`. It takes no memory.
 pub fn enter(heap: &mut Heap, object: Addr, thread: u8) -> Effect
     requires there { object ≢ null → IsSome (monitor_at heap.old object) }
-    requires count { (m : Monitor) → monitor_at heap.old object ≡ Some m → entries m < 2 ^ 32 - 1 }
+    requires count { object ≢ null → (m : Monitor) → monitor_at heap.old object ≡ Some m → entries m < 2 ^ 32 - 1 }
     ensures { (heap.new, result) ≡ with_entry heap.old object thread }
 {
     if object.is_null() {
