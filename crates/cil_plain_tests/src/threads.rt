@@ -1,7 +1,7 @@
 // Threads and monitors.
 
 use crate::sources::{JOINER, LOCKER};
-use crate::stories::{LIMITS, budget, main_story, steps};
+use crate::stories::{LIMITS, budget, main_story, repeated, steps};
 use std::test::Fail;
 
 const SHARE: &str =
@@ -75,18 +75,19 @@ fn a_join_waits_for_the_other_thread_to_end(rt: HostRuntime) -> Result<(), Fail>
     Ok(())
 }
 
+/// Main starts fifteen threads with six instructions each, which run; the sixteenth start is a fault, and no thread.
 #[test]
 fn sixteen_threads_are_the_most(rt: HostRuntime) -> Result<(), Fail> {
     let code =
         "A: newobj instance void T::.ctor() callvirt instance void [cilvm]Cilvm.Thread::Start() br A";
-    let told = main_story(
-        rt.alloc(),
-        JOINER,
-        code,
-        LIMITS,
-        &[steps(0, 95), steps(15, 1)],
-    )?;
-    assert!(rt; told.as_str().ends_with("r[TooManyThreads]r "));
+    let mut schedule = Vec::new(rt.alloc());
+    schedule.push(steps(0, 95))?;
+    for thread in 1..17u8 {
+        schedule.push(steps(thread, 1))?;
+    }
+    let told = main_story(rt.alloc(), JOINER, code, LIMITS, schedule.as_slice())?;
+    let expected = repeated(rt.alloc(), "r", 94, "[TooManyThreads]rrrrrrrrrrrrrrra ")?;
+    assert_eq!(rt; told.as_str(), expected.as_str());
     Ok(())
 }
 
