@@ -3,7 +3,7 @@
 
 use crate::sources::{JOINER, LOCKER};
 use crate::stage::{Action, Stage};
-use crate::stories::{Stretch, budget, main_story, steps, tell_report};
+use crate::stories::{budget, main_story, repeated, steps, tell_report};
 use cil_model::memory::NoMemory;
 use cil_model::reports::Fault;
 use std::alloc::Global;
@@ -226,20 +226,26 @@ fn null_has_no_monitor(rt: HostRuntime) -> Result<(), Fail> {
     Ok(())
 }
 
+/// Main starts fifteen threads with six instructions each, which run; the sixteenth start is a fault, and no thread.
 #[test]
 fn the_seventeenth_thread_is_not_started(rt: HostRuntime) -> Result<(), Fail> {
     let code =
         "A: newobj instance void T::.ctor() callvirt instance void [cilvm]Cilvm.Thread::Start() br A";
-    let schedule: [Stretch; 2] = [steps(0, 95), steps(15, 1)];
-    let told = main_story(rt.alloc(), JOINER, code, budget(500), &schedule)?;
+    let mut schedule = Vec::new(rt.alloc());
+    schedule.push(steps(0, 95))?;
     let mut parts = Vec::new(rt.alloc());
     for object in 0..16 {
         parts.push(part(0, Action::Other, if object == 0 { 4 } else { 5 }))?;
         parts.push(part(0, Action::Start(object), 1))?;
     }
-    parts.push(part(15, Action::Other, 1))?;
-    let acted = stage_story(rt.alloc(), 500, &parts)?;
-    assert!(rt; told.as_str().ends_with("r[TooManyThreads]r "));
+    for thread in 1..17u8 {
+        schedule.push(steps(thread, 1))?;
+        parts.push(part(thread, Action::Other, 1))?;
+    }
+    let told = main_story(rt.alloc(), JOINER, code, budget(500), schedule.as_slice())?;
+    let acted = stage_story(rt.alloc(), 500, parts.as_slice())?;
+    let expected = repeated(rt.alloc(), "r", 94, "[TooManyThreads]rrrrrrrrrrrrrrra ")?;
+    assert_eq!(rt; told.as_str(), expected.as_str());
     assert_eq!(rt; acted.as_str(), told.as_str());
     Ok(())
 }

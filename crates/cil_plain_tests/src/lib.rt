@@ -12,6 +12,8 @@ mod numbers;
 #[cfg(test)]
 mod openings;
 #[cfg(test)]
+mod rooms;
+#[cfg(test)]
 mod runs;
 #[cfg(test)]
 mod sources;

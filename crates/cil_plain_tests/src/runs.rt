@@ -31,11 +31,11 @@ const NO_ENTRY: &str =
 
 #[test]
 fn a_run_tells_its_reports(rt: HostRuntime) -> Result<(), Fail> {
-    let told = run_story(rt.alloc(), PROGRAM, &[STEP, STEP])?;
+    let told = run_story(rt.alloc(), PROGRAM, LIMITS, &[STEP, STEP])?;
     assert_eq!(rt; told.as_str(), "rr 1 of 1 live");
-    let told = run_story(rt.alloc(), PROGRAM, &[STEP, STEP, STEP, STEP, STEP])?;
+    let told = run_story(rt.alloc(), PROGRAM, LIMITS, &[STEP, STEP, STEP, STEP, STEP])?;
     assert_eq!(rt; told.as_str(), "rrrr[Done] 0 of 1 Done");
-    let told = run_story(rt.alloc(), NO_ENTRY, &[STEP])?;
+    let told = run_story(rt.alloc(), NO_ENTRY, LIMITS, &[STEP])?;
     assert_eq!(rt; told.as_str(), "no entry point");
     Ok(())
 }

@@ -53,3 +53,11 @@ pub const JOINER: &str = "
  .method public virtual instance void Run() cil managed {
   .maxstack 1 ldarg.0 callvirt instance void [cilvm]Cilvm.Thread::Join() ret } }
 ";
+
+/// A class of two numbers.
+pub const PAIR: &str = "
+.class public auto ansi Pair extends [mscorlib]System.Object {
+ .field public int32 left .field public int32 right
+ .method public specialname rtspecialname instance void .ctor() cil managed {
+  .maxstack 1 ldarg.0 call instance void [mscorlib]System.Object::.ctor() ret } }
+";

@@ -203,10 +203,11 @@ fn tell_source(
 pub fn run_story(
     alloc: Global,
     source: &str,
+    limits: Limits,
     requests: &[StepRequest],
 ) -> Result<String, NoMemory> {
     let mut text = String::new(alloc);
-    tell_source(&mut text, alloc, source, LIMITS, Work::AtOnce(requests))?;
+    tell_source(&mut text, alloc, source, limits, Work::AtOnce(requests))?;
     Ok(text)
 }
 
@@ -225,8 +226,14 @@ pub fn story(
 const HEAD: &str = ".assembly extern mscorlib {} .assembly extern cilvm {}
 ";
 
-/// The story of a source with both externs and a class `P` whose `Main` has this code, beside these classes, under these
-/// limits.
+/// A source with both externs and a class `P` whose `Main` has this code, beside these classes.
+pub fn main_source(alloc: Global, classes: &str, code: &str) -> Result<String, NoMemory> {
+    Ok(format!(in alloc;
+        "{HEAD}{classes} .class public auto ansi P extends [mscorlib]System.Object {{ .field public static object lock .method public static void Main() cil managed {{ .entrypoint .maxstack 8 .locals init (object, int32) {code} }} }}"
+    )?)
+}
+
+/// The story of that source under these limits.
 pub fn main_story(
     alloc: Global,
     classes: &str,
@@ -234,8 +241,16 @@ pub fn main_story(
     limits: Limits,
     schedule: &[Stretch],
 ) -> Result<String, NoMemory> {
-    let source = format!(in alloc;
-        "{HEAD}{classes} .class public auto ansi P extends [mscorlib]System.Object {{ .field public static object lock .method public static void Main() cil managed {{ .entrypoint .maxstack 8 .locals init (object, int32) {code} }} }}"
-    )?;
+    let source = main_source(alloc, classes, code)?;
     story(alloc, source.as_str(), limits, schedule)
+}
+
+/// The part so many times, and then the last one.
+pub fn repeated(alloc: Global, part: &str, count: usize, last: &str) -> Result<String, NoMemory> {
+    let mut text = String::new(alloc);
+    for _ in 0..count {
+        text.push_str(part)?;
+    }
+    text.push_str(last)?;
+    Ok(text)
 }
