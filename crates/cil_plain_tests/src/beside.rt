@@ -17,7 +17,7 @@ struct Part {
     count: usize,
 }
 
-const fn part(thread: u8, action: Action, count: usize) -> Part {
+const fn acts(thread: u8, action: Action, count: usize) -> Part {
     Part {
         thread,
         action,
@@ -60,10 +60,10 @@ fn a_thread_that_joins_itself_is_blocked_until_its_budget_ends_it(
     let schedule = [steps(0, 5), steps(1, 5)];
     let told = main_story(rt.alloc(), JOINER, code, budget(5), &schedule)?;
     let parts = [
-        part(0, Action::Other, 4),
-        part(0, Action::Start(0), 1),
-        part(1, Action::Other, 1),
-        part(1, Action::Join(0), 4),
+        acts(0, Action::Other, 4),
+        acts(0, Action::Start(0), 1),
+        acts(1, Action::Other, 1),
+        acts(1, Action::Join(0), 4),
     ];
     let acted = stage_story(rt.alloc(), 5, &parts)?;
     assert_eq!(rt; told.as_str(), "rrrr[Budget]rbbb[Budget] ");
@@ -78,9 +78,9 @@ fn an_object_is_started_once(rt: HostRuntime) -> Result<(), Fail> {
     let schedule = [steps(0, 8), steps(1, 1)];
     let told = main_story(rt.alloc(), JOINER, code, budget(50), &schedule)?;
     let parts = [
-        part(0, Action::Other, 5),
-        part(0, Action::Start(0), 3),
-        part(1, Action::Other, 1),
+        acts(0, Action::Other, 5),
+        acts(0, Action::Start(0), 3),
+        acts(1, Action::Other, 1),
     ];
     let acted = stage_story(rt.alloc(), 50, &parts)?;
     assert_eq!(rt; told.as_str(), "rrrrrr[ThreadState]ar ");
@@ -95,9 +95,9 @@ fn an_object_on_which_nothing_was_started_is_not_joined(rt: HostRuntime) -> Resu
     let schedule = [steps(0, 5), steps(1, 1)];
     let told = main_story(rt.alloc(), JOINER, code, budget(50), &schedule)?;
     let parts = [
-        part(0, Action::Other, 4),
-        part(0, Action::Join(0), 1),
-        part(1, Action::Other, 1),
+        acts(0, Action::Other, 4),
+        acts(0, Action::Join(0), 1),
+        acts(1, Action::Other, 1),
     ];
     let acted = stage_story(rt.alloc(), 50, &parts)?;
     assert_eq!(rt; told.as_str(), "rrrr[ThreadState]a ");
@@ -112,14 +112,14 @@ fn a_join_waits_for_the_end_of_the_other_thread(rt: HostRuntime) -> Result<(), F
     let schedule = [steps(0, 8), steps(1, 4), steps(0, 2)];
     let told = main_story(rt.alloc(), LOCKER, code, budget(50), &schedule)?;
     let parts = [
-        part(0, Action::Other, 5),
-        part(0, Action::Start(0), 1),
-        part(0, Action::Join(0), 2),
-        part(1, Action::Other, 1),
-        part(1, Action::Enter(NULL), 1),
-        part(1, Action::Other, 2),
-        part(0, Action::Join(0), 1),
-        part(0, Action::Return, 1),
+        acts(0, Action::Other, 5),
+        acts(0, Action::Start(0), 1),
+        acts(0, Action::Join(0), 2),
+        acts(1, Action::Other, 1),
+        acts(1, Action::Enter(NULL), 1),
+        acts(1, Action::Other, 2),
+        acts(0, Action::Join(0), 1),
+        acts(0, Action::Return, 1),
     ];
     let acted = stage_story(rt.alloc(), 50, &parts)?;
     assert_eq!(rt; told.as_str(), "rrrrrrbbr[ArgumentNull]aar[Done] ");
@@ -138,14 +138,14 @@ fn a_monitor_stays_held_by_a_thread_that_faults(rt: HostRuntime) -> Result<(), F
     let schedule = [steps(0, 11), steps(1, 20)];
     let told = main_story(rt.alloc(), LOCKER, code.as_str(), budget(20), &schedule)?;
     let parts = [
-        part(0, Action::Other, 6),
-        part(0, Action::Start(0), 1),
-        part(0, Action::Other, 1),
-        part(0, Action::Enter(1), 1),
-        part(0, Action::Other, 1),
-        part(0, Action::Raise(Fault::NullReference), 1),
-        part(1, Action::Other, 1),
-        part(1, Action::Enter(1), 19),
+        acts(0, Action::Other, 6),
+        acts(0, Action::Start(0), 1),
+        acts(0, Action::Other, 1),
+        acts(0, Action::Enter(1), 1),
+        acts(0, Action::Other, 1),
+        acts(0, Action::Raise(Fault::NullReference), 1),
+        acts(1, Action::Other, 1),
+        acts(1, Action::Enter(1), 19),
     ];
     let acted = stage_story(rt.alloc(), 20, &parts)?;
     assert_eq!(rt;
@@ -176,15 +176,15 @@ fn another_thread_does_not_leave_a_monitor(rt: HostRuntime) -> Result<(), Fail> 
     let schedule = [steps(0, 9), steps(1, 3), steps(0, 3)];
     let told = main_story(rt.alloc(), LEAVER, code.as_str(), budget(50), &schedule)?;
     let parts = [
-        part(0, Action::Other, 6),
-        part(0, Action::Start(0), 1),
-        part(0, Action::Other, 1),
-        part(0, Action::Enter(1), 1),
-        part(1, Action::Other, 1),
-        part(1, Action::Exit(1), 2),
-        part(0, Action::Other, 1),
-        part(0, Action::Exit(1), 1),
-        part(0, Action::Return, 1),
+        acts(0, Action::Other, 6),
+        acts(0, Action::Start(0), 1),
+        acts(0, Action::Other, 1),
+        acts(0, Action::Enter(1), 1),
+        acts(1, Action::Other, 1),
+        acts(1, Action::Exit(1), 2),
+        acts(0, Action::Other, 1),
+        acts(0, Action::Exit(1), 1),
+        acts(0, Action::Return, 1),
     ];
     let acted = stage_story(rt.alloc(), 50, &parts)?;
     assert_eq!(rt; told.as_str(), "rrrrrrrrrr[SynchronizationLock]arr[Done] ");
@@ -198,16 +198,16 @@ fn a_monitor_is_left_as_often_as_it_was_entered(rt: HostRuntime) -> Result<(), F
         "ldstr \"a\" call void [mscorlib]System.Threading.Monitor::Enter(object) ldstr \"a\" call void [mscorlib]System.Threading.Monitor::Enter(object) ldstr \"a\" call void [mscorlib]System.Threading.Monitor::Exit(object) ldstr \"a\" call void [mscorlib]System.Threading.Monitor::Exit(object) ldstr \"a\" call void [mscorlib]System.Threading.Monitor::Exit(object) ret";
     let told = main_story(rt.alloc(), "", code, budget(50), &[steps(0, 11)])?;
     let parts = [
-        part(0, Action::Other, 1),
-        part(0, Action::Enter(0), 1),
-        part(0, Action::Other, 1),
-        part(0, Action::Enter(0), 1),
-        part(0, Action::Other, 1),
-        part(0, Action::Exit(0), 1),
-        part(0, Action::Other, 1),
-        part(0, Action::Exit(0), 1),
-        part(0, Action::Other, 1),
-        part(0, Action::Exit(0), 2),
+        acts(0, Action::Other, 1),
+        acts(0, Action::Enter(0), 1),
+        acts(0, Action::Other, 1),
+        acts(0, Action::Enter(0), 1),
+        acts(0, Action::Other, 1),
+        acts(0, Action::Exit(0), 1),
+        acts(0, Action::Other, 1),
+        acts(0, Action::Exit(0), 1),
+        acts(0, Action::Other, 1),
+        acts(0, Action::Exit(0), 2),
     ];
     let acted = stage_story(rt.alloc(), 50, &parts)?;
     assert_eq!(rt; told.as_str(), "rrrrrrrrr[SynchronizationLock]a ");
@@ -219,7 +219,7 @@ fn a_monitor_is_left_as_often_as_it_was_entered(rt: HostRuntime) -> Result<(), F
 fn null_has_no_monitor(rt: HostRuntime) -> Result<(), Fail> {
     let code = "ldnull call void [mscorlib]System.Threading.Monitor::Enter(object) ret";
     let told = main_story(rt.alloc(), "", code, budget(50), &[steps(0, 3)])?;
-    let parts = [part(0, Action::Other, 1), part(0, Action::Enter(NULL), 2)];
+    let parts = [acts(0, Action::Other, 1), acts(0, Action::Enter(NULL), 2)];
     let acted = stage_story(rt.alloc(), 50, &parts)?;
     assert_eq!(rt; told.as_str(), "r[ArgumentNull]a ");
     assert_eq!(rt; acted.as_str(), told.as_str());
@@ -235,12 +235,12 @@ fn the_seventeenth_thread_is_not_started(rt: HostRuntime) -> Result<(), Fail> {
     schedule.push(steps(0, 95))?;
     let mut parts = Vec::new(rt.alloc());
     for object in 0..16 {
-        parts.push(part(0, Action::Other, if object == 0 { 4 } else { 5 }))?;
-        parts.push(part(0, Action::Start(object), 1))?;
+        parts.push(acts(0, Action::Other, if object == 0 { 4 } else { 5 }))?;
+        parts.push(acts(0, Action::Start(object), 1))?;
     }
     for thread in 1..17u8 {
         schedule.push(steps(thread, 1))?;
-        parts.push(part(thread, Action::Other, 1))?;
+        parts.push(acts(thread, Action::Other, 1))?;
     }
     let told = main_story(rt.alloc(), JOINER, code, budget(500), schedule.as_slice())?;
     let acted = stage_story(rt.alloc(), 500, parts.as_slice())?;
