@@ -1,10 +1,15 @@
 // Worked values of the operations, from the standard's text (ECMA-335 III.3) and counted by hand.
 
 use crate::{Integer, sign_extended, truncated};
+use cil_model::instructions::BinaryOperation::{
+    Add, AddOverflow, And, Divide, ExclusiveOr, Multiply, MultiplyOverflow, Or, Remainder,
+    Subtract, SubtractOverflow,
+};
 use cil_model::instructions::{
     BinaryOperation, BranchComparison, Comparison, ShiftOperation, UnaryOperation,
 };
 use cil_model::reports::Fault;
+use cil_model::reports::Fault::{Arithmetic, DivideByZero, Overflow};
 use std::test::Fail;
 
 /// The result by the trait alone.
@@ -15,15 +20,15 @@ fn result<T: Integer>(op: BinaryOperation, x: T, y: T) -> Result<T, Fault> {
 #[test]
 fn thirty_two_bits_wrap(rt: HostRuntime) -> Result<(), Fail> {
     for (op, x, y, expected) in [
-        (BinaryOperation::Add, i32::MAX, 1, i32::MIN),
-        (BinaryOperation::Subtract, i32::MIN, 1, i32::MAX),
-        (BinaryOperation::Subtract, 5, 7, -2),
-        (BinaryOperation::Multiply, 65_536, 65_537, 65_536),
-        (BinaryOperation::Multiply, i32::MIN, -1, i32::MIN),
-        (BinaryOperation::And, 12, 10, 8),
-        (BinaryOperation::Or, 12, 10, 14),
-        (BinaryOperation::ExclusiveOr, 12, 10, 6),
-        (BinaryOperation::ExclusiveOr, -1, i32::MAX, i32::MIN),
+        (Add, i32::MAX, 1, i32::MIN),
+        (Subtract, i32::MIN, 1, i32::MAX),
+        (Subtract, 5, 7, -2),
+        (Multiply, 65_536, 65_537, 65_536),
+        (Multiply, i32::MIN, -1, i32::MIN),
+        (And, 12, 10, 8),
+        (Or, 12, 10, 14),
+        (ExclusiveOr, 12, 10, 6),
+        (ExclusiveOr, -1, i32::MAX, i32::MIN),
     ] {
         assert_eq!(rt; result(op, x, y), Ok(expected));
     }
@@ -33,37 +38,12 @@ fn thirty_two_bits_wrap(rt: HostRuntime) -> Result<(), Fail> {
 #[test]
 fn thirty_two_bits_are_checked(rt: HostRuntime) -> Result<(), Fail> {
     for (op, x, y, expected) in [
-        (BinaryOperation::AddOverflow, i32::MAX, 0, Ok(i32::MAX)),
-        (
-            BinaryOperation::AddOverflow,
-            i32::MAX,
-            1,
-            Err(Fault::Overflow),
-        ),
-        (
-            BinaryOperation::SubtractOverflow,
-            -1,
-            i32::MAX,
-            Ok(i32::MIN),
-        ),
-        (
-            BinaryOperation::SubtractOverflow,
-            0,
-            i32::MIN,
-            Err(Fault::Overflow),
-        ),
-        (
-            BinaryOperation::MultiplyOverflow,
-            65_536,
-            -32_768,
-            Ok(i32::MIN),
-        ),
-        (
-            BinaryOperation::MultiplyOverflow,
-            65_536,
-            32_768,
-            Err(Fault::Overflow),
-        ),
+        (AddOverflow, i32::MAX, 0, Ok(i32::MAX)),
+        (AddOverflow, i32::MAX, 1, Err(Overflow)),
+        (SubtractOverflow, -1, i32::MAX, Ok(i32::MIN)),
+        (SubtractOverflow, 0, i32::MIN, Err(Overflow)),
+        (MultiplyOverflow, 65_536, -32_768, Ok(i32::MIN)),
+        (MultiplyOverflow, 65_536, 32_768, Err(Overflow)),
     ] {
         assert_eq!(rt; result(op, x, y), expected);
     }
@@ -73,34 +53,14 @@ fn thirty_two_bits_are_checked(rt: HostRuntime) -> Result<(), Fail> {
 #[test]
 fn thirty_two_bits_divide(rt: HostRuntime) -> Result<(), Fail> {
     for (op, x, y, expected) in [
-        (BinaryOperation::Divide, -7, 2, Ok(-3)),
-        (
-            BinaryOperation::Divide,
-            i32::MIN,
-            0,
-            Err(Fault::DivideByZero),
-        ),
-        (
-            BinaryOperation::Divide,
-            i32::MIN,
-            -1,
-            Err(Fault::Arithmetic),
-        ),
-        (BinaryOperation::Remainder, -7, 2, Ok(-1)),
-        (BinaryOperation::Remainder, 7, -2, Ok(1)),
-        (BinaryOperation::Remainder, i32::MIN, 1, Ok(0)),
-        (
-            BinaryOperation::Remainder,
-            i32::MIN,
-            0,
-            Err(Fault::DivideByZero),
-        ),
-        (
-            BinaryOperation::Remainder,
-            i32::MIN,
-            -1,
-            Err(Fault::Arithmetic),
-        ),
+        (Divide, -7, 2, Ok(-3)),
+        (Divide, i32::MIN, 0, Err(DivideByZero)),
+        (Divide, i32::MIN, -1, Err(Arithmetic)),
+        (Remainder, -7, 2, Ok(-1)),
+        (Remainder, 7, -2, Ok(1)),
+        (Remainder, i32::MIN, 1, Ok(0)),
+        (Remainder, i32::MIN, 0, Err(DivideByZero)),
+        (Remainder, i32::MIN, -1, Err(Arithmetic)),
     ] {
         assert_eq!(rt; result(op, x, y), expected);
     }
@@ -110,57 +70,23 @@ fn thirty_two_bits_divide(rt: HostRuntime) -> Result<(), Fail> {
 #[test]
 fn sixty_four_bits_have_the_same_operations(rt: HostRuntime) -> Result<(), Fail> {
     for (op, x, y, expected) in [
-        (BinaryOperation::Add, i64::MAX, 1, Ok(i64::MIN)),
-        (BinaryOperation::Add, 2_147_483_647, 1, Ok(2_147_483_648)),
-        (
-            BinaryOperation::Multiply,
-            4_294_967_296,
-            4_294_967_296,
-            Ok(0),
-        ),
-        (
-            BinaryOperation::AddOverflow,
-            i64::MAX,
-            1,
-            Err(Fault::Overflow),
-        ),
-        (
-            BinaryOperation::SubtractOverflow,
-            i64::MIN,
-            1,
-            Err(Fault::Overflow),
-        ),
-        (
-            BinaryOperation::MultiplyOverflow,
-            65_536,
-            32_768,
-            Ok(2_147_483_648),
-        ),
-        (
-            BinaryOperation::Divide,
-            i64::MIN,
-            -1,
-            Err(Fault::Arithmetic),
-        ),
-        (
-            BinaryOperation::Divide,
-            -2_147_483_648,
-            -1,
-            Ok(2_147_483_648),
-        ),
-        (
-            BinaryOperation::Remainder,
-            i64::MIN,
-            -1,
-            Err(Fault::Arithmetic),
-        ),
-        (BinaryOperation::Remainder, -2_147_483_648, -1, Ok(0)),
-        (
-            BinaryOperation::Remainder,
-            i64::MIN,
-            0,
-            Err(Fault::DivideByZero),
-        ),
+        (Add, i64::MAX, 1, Ok(i64::MIN)),
+        (Add, 2_147_483_647, 1, Ok(2_147_483_648)),
+        (Subtract, i64::MIN, 1, Ok(i64::MAX)),
+        (Multiply, 4_294_967_296, 4_294_967_296, Ok(0)),
+        (AddOverflow, i64::MAX, 1, Err(Overflow)),
+        (SubtractOverflow, i64::MIN, 1, Err(Overflow)),
+        (MultiplyOverflow, 65_536, 32_768, Ok(2_147_483_648)),
+        (MultiplyOverflow, i64::MIN, -1, Err(Overflow)),
+        (Divide, i64::MIN, 0, Err(DivideByZero)),
+        (Divide, i64::MIN, -1, Err(Arithmetic)),
+        (Divide, -2_147_483_648, -1, Ok(2_147_483_648)),
+        (Remainder, i64::MIN, 0, Err(DivideByZero)),
+        (Remainder, i64::MIN, -1, Err(Arithmetic)),
+        (Remainder, -2_147_483_648, -1, Ok(0)),
+        (And, -1, i64::MAX, Ok(i64::MAX)),
+        (Or, i64::MIN, i64::MAX, Ok(-1)),
+        (ExclusiveOr, -1, i64::MAX, Ok(i64::MIN)),
     ] {
         assert_eq!(rt; result(op, x, y), expected);
     }
