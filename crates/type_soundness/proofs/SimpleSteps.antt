@@ -1,9 +1,10 @@
 -- Instructions that touch no object keep states typed.
-use Rattle.std.proofs.Common.{◌≡◌, ◌⊎◌, ℕ, zero, suc, ◌+◌, ℤ, pos, negsuc, Bool, true, false, not, IsTrue, ◌&&◌, ◌||◌, if◌then◌else◌, List, [], ◌∷◌, Option, Some, None, Result, Ok, Err, slice_get, slice_set, Contains, refl, inl, inr, sym, ap, ◌∙◌, subst}
+use Rattle.std.proofs.Common.{◌≡◌, ◌⊎◌, ℕ, ◌+◌, ℤ, pos, negsuc, Bool, true, false, not, IsTrue, ◌&&◌, ◌||◌, if◌then◌else◌, List, [], ◌∷◌, Option, Some, None, Result, Ok, Err, slice_get, slice_set, Contains, refl, inl, inr, sym, subst, lit<}
+use Rattle.std.proofs.lemmas.Option.{slice_get_within, get_or_from_slice_get}
 use Rattle.std.specs.Int.{w32, w64, cast_unsigned}
 use Rattle.cil_model.specs.declared.types.DeclaredType.{DeclaredType}
 use Rattle.cil_model.specs.declared.instructions.Instruction.{Instruction}
-use Rattle.cil_model.specs.declared.instructions.Instruction.TheVariants.{NoOperation, LoadInt32, LoadInt64, LoadNull, LoadString, LoadArgument, StoreArgument, LoadLocal, StoreLocal, Duplicate, Pop, Binary, Unary, Shift, Compare, ConvertInt32, ConvertInt64, Branch, BranchTrue, BranchFalse, BranchCompare, Switch}
+use Rattle.cil_model.specs.declared.instructions.Instruction.TheVariants.{NoOperation, LoadInt32, LoadInt64, LoadNull, LoadArgument, StoreArgument, LoadLocal, StoreLocal, Duplicate, Pop, Binary, Unary, Shift, Compare, ConvertInt32, ConvertInt64, Branch, BranchTrue, BranchFalse, BranchCompare, Switch}
 use Rattle.cil_model.specs.declared.instructions.BinaryOperation.{BinaryOperation}
 use Rattle.cil_model.specs.declared.instructions.UnaryOperation.{UnaryOperation}
 use Rattle.cil_model.specs.declared.instructions.ShiftOperation.{ShiftOperation}
@@ -12,20 +13,20 @@ use Rattle.cil_model.specs.declared.instructions.Comparison.TheVariants.{Equal, 
 use Rattle.cil_model.specs.declared.instructions.BranchComparison.{BranchComparison}
 use Rattle.cil_model.specs.declared.instructions.BranchComparison.TheVariants.{Equal as BranchEqual, NotEqual, GreaterOrEqual, Greater as BranchGreater, LessOrEqual, Less as BranchLess}
 use Rattle.cil_model.specs.declared.reports.Fault.{Fault}
-use Rattle.cil_model.specs.declared.trees.Tree.{Tree}
 use Rattle.cil_model.specs.Bodies.{at_place, argument_types, falls_through, labels_of}
-use Rattle.cil_model.specs.Stacks.{take_one, take_two}
-use Rattle.cil_model.specs.TypeTree.{StackType, Declared, NativeInt, Null as NullType, i4, i8, fits}
-use Rattle.cil_model.specs.FlowRules.{StackAfter, allowed, is_int32, is_int64, is_integer, is_any_reference, is_index, are_integers, are_comparable, may_compare, may_branch, load, store, take_fitting, take_operands, flow}
-use Rattle.cil_model.proofs.SameLaws.{never, both_first, both_second, either, if_true}
+use Rattle.cil_model.specs.Legality.{IsLegal}
+use Rattle.cil_model.specs.Stacks.{take_one}
+use Rattle.cil_model.specs.TypeTree.{StackType, Declared, Null as NullType, i4, i8, fits}
+use Rattle.cil_model.specs.FlowRules.{is_int32, is_integer, is_any_reference, is_index, are_integers, are_comparable, may_compare, may_branch, load, store}
+use Rattle.cil_model.proofs.SameLaws.{both_first, both_second, either, if_true}
 use Rattle.cil_model.proofs.BelowLaws.{none_is_some, same_some}
-use Rattle.reference_machine.specs.Values.{ObjectName, Value, Int32, Int64, Native, Null, Reference, same_kind}
-use Rattle.reference_machine.specs.Arithmetic.{binary, binary_value, unary_value, shift_value, equal_values, ordered_values, compare_values, branch_values, is_set, not_option, convert_32, convert_64, one_or_zero, result_as}
-use Rattle.reference_machine.specs.States.{Frame, State, same_kind_or_none, replaced_at}
-use Rattle.reference_machine.specs.Effects.{Setting, Effect, Goes, Sticks, given, unless_fault, after, onward}
-use Rattle.reference_machine.specs.Steps.{next, jump, branch_if, stored, to_label, switch_on, execute}
+use Rattle.reference_machine.specs.Values.{Value, Int32, Int64, Native, Null, Reference, same_kind}
+use Rattle.reference_machine.specs.Arithmetic.{binary, unary, shift, binary_value, unary_value, shift_value, equal_values, ordered_values, compare_values, branch_values, is_set, not_option, convert_32, convert_64, one_or_zero, result_as}
+use Rattle.reference_machine.specs.States.{Frame, State, same_kind_or_none}
+use Rattle.reference_machine.specs.Effects.{Setting, Effect, Sticks, given, unless_fault}
+use Rattle.reference_machine.specs.Steps.{next, branch_if, stored, to_label, switch_on, execute}
 use Rattle.reference_machine.proofs.StateLaws.{follows_itself}
-use Rattle.type_soundness.specs.TypedStates.{HasType, HasStackType, HaveTypes, HaveStackTypes, IsTyped}
+use Rattle.type_soundness.specs.TypedStates.{HasType, HasStackType, HaveTypes, HaveStackTypes}
 use Rattle.type_soundness.proofs.Running.{IsTypedEffect, IsRunning, moved, next_typed, jump_typed, branch_typed}
 use Rattle.type_soundness.proofs.Operands.{value_fits, kinds_agree, from_int32, from_integer, from_integers, from_reference, from_index, int32_typed, int64_typed, value_at, values_with, one_typed, two_typed, was_allowed}
 
@@ -125,3 +126,147 @@ module _ (here : Setting) (s : State) (f : Frame) (below : List Frame) where
       put i running refl _ f.locals types running.frame.locals n t is v h (λ locals typed.
       moved here s f below i running s running.typed (follows_itself s) f.arguments locals rest (f.place + 1) running.result running.frame.arguments typed
       (subst (HaveStackTypes here.tree s rest) e rest_typed) (running.on.falls (subst (λ x. IsTrue (falls_through x)) (sym running.is) refl))))
+
+  -- ---- the stack and arithmetic
+
+  pub duplicate_typed : At Duplicate → Fine (execute here s f below Duplicate)
+  duplicate_typed running = one_typed here.tree s _ _ f.stack running.stack running.result running.values running.flows (λ v a rest types h rest_typed e.
+      on Duplicate running refl (v ∷ v ∷ rest) (a ∷ a ∷ types) (h, (h, rest_typed)) (same_some _ _ e))
+
+  pub pop_typed : At Pop → Fine (execute here s f below Pop)
+  pop_typed running = one_typed here.tree s _ _ f.stack running.stack running.result running.values running.flows (λ v a rest types h rest_typed e.
+      on Pop running refl rest types rest_typed (same_some _ _ e))
+
+  pub binary_typed : (op : BinaryOperation) → At (Binary op) → Fine (execute here s f below (Binary op))
+  binary_typed op running = two_typed here.tree s _ _ f.stack running.stack running.result running.values running.flows (λ v w a b rest types h k rest_typed e.
+      let passed = was_allowed (are_integers a b) (a ∷ types) running.result e in
+      from_integers here.tree running.accepted.legal s (λ x y. Fine (given (binary_value op x y) (λ result. unless_fault result (λ u. next here s f below (u ∷ rest))))) v w a b passed.0 h k
+      (λ is x y. by_result rest (binary w32 op x y) Int32 (λ z. on (Binary op) running refl (Int32 z ∷ rest) (a ∷ types) (int32_typed here.tree running.accepted.legal s z a is, rest_typed) passed.1))
+      (λ is x y. by_result rest (binary w64 op x y) Int64 (λ z. on (Binary op) running refl (Int64 z ∷ rest) (a ∷ types) (int64_typed here.tree running.accepted.legal s z a is, rest_typed) passed.1)))
+    where
+      by_result : (rest : List Value) (r : Result ℤ Fault) (kind : ℤ → Value) → ((z : ℤ) → Fine (next here s f below (kind z ∷ rest))) → Fine (given (result_as kind r) (λ result. unless_fault result (λ u. next here s f below (u ∷ rest))))
+      by_result rest (Ok z) kind each = each z
+      by_result rest (Err x) kind each = tt
+
+  pub unary_typed : (op : UnaryOperation) → At (Unary op) → Fine (execute here s f below (Unary op))
+  unary_typed op running = one_typed here.tree s _ _ f.stack running.stack running.result running.values running.flows (λ v a rest types h rest_typed e.
+      let passed = was_allowed (is_integer a) (a ∷ types) running.result e in
+      from_integer here.tree running.accepted.legal s (λ x. Fine (given (unary_value op x) (λ u. next here s f below (u ∷ rest)))) v a passed.0 h
+      (λ is x. on (Unary op) running refl (Int32 (unary w32 op x) ∷ rest) (a ∷ types) (int32_typed here.tree running.accepted.legal s (unary w32 op x) a is, rest_typed) passed.1)
+      (λ is x. on (Unary op) running refl (Int64 (unary w64 op x) ∷ rest) (a ∷ types) (int64_typed here.tree running.accepted.legal s (unary w64 op x) a is, rest_typed) passed.1))
+
+  pub shift_typed : (op : ShiftOperation) → At (Shift op) → Fine (execute here s f below (Shift op))
+  shift_typed op running = two_typed here.tree s _ _ f.stack running.stack running.result running.values running.flows (λ v w a b rest types h k rest_typed e.
+      let passed = was_allowed (is_integer a && is_int32 b) (a ∷ types) running.result e in
+      from_integer here.tree running.accepted.legal s (λ x. Fine (given (shift_value op x w) (λ u. next here s f below (u ∷ rest)))) v a (both_first _ _ passed.0) h
+      (λ is x. from_int32 here.tree running.accepted.legal s (λ y. Fine (given (shift_value op (Int32 x) y) (λ u. next here s f below (u ∷ rest)))) w b (both_second (is_integer a) _ passed.0) k
+      (λ y. on (Shift op) running refl (Int32 (shift w32 op x y) ∷ rest) (a ∷ types) (int32_typed here.tree running.accepted.legal s (shift w32 op x y) a is, rest_typed) passed.1))
+      (λ is x. from_int32 here.tree running.accepted.legal s (λ y. Fine (given (shift_value op (Int64 x) y) (λ u. next here s f below (u ∷ rest)))) w b (both_second (is_integer a) _ passed.0) k
+      (λ y. on (Shift op) running refl (Int64 (shift w64 op x y) ∷ rest) (a ∷ types) (int64_typed here.tree running.accepted.legal s (shift w64 op x y) a is, rest_typed) passed.1)))
+
+  -- a conversion takes an integer of any size, here with what is to hold of each
+  from_any_integer : (legal : IsLegal here.tree) (P : Value → Type 0) (v : Value) (a : StackType) → IsTrue (is_integer a || is_index a) → HasStackType here.tree s v a → ((z : ℤ) → P (Int32 z)) → ((z : ℤ) → P (Int64 z)) → ((z : ℤ) → P (Native z)) → P v
+  from_any_integer legal P v a is h each32 each64 native = by_case (either (is_integer a) (is_index a) is)
+    where
+      by_case : IsTrue (is_integer a) ⊎ IsTrue (is_index a) → P v
+      by_case (inl k) = from_integer here.tree legal s P v a k h (λ j. each32) (λ j. each64)
+      by_case (inr k) = from_index here.tree legal s P v a k h each32 native
+
+  pub convert_int32_typed : At ConvertInt32 → Fine (execute here s f below ConvertInt32)
+  convert_int32_typed running = one_typed here.tree s _ _ f.stack running.stack running.result running.values running.flows (λ v a rest types h rest_typed e.
+      let passed = was_allowed (is_integer a || is_index a) (i4 ∷ types) running.result e in
+      let onto : (z : ℤ) → Fine (next here s f below (Int32 z ∷ rest)) = λ z. on ConvertInt32 running refl (Int32 z ∷ rest) (i4 ∷ types) (refl, rest_typed) passed.1 in
+      from_any_integer running.accepted.legal (λ x. Fine (given (convert_32 x) (λ u. next here s f below (u ∷ rest)))) v a passed.0 h (λ z. onto _) (λ z. onto _) (λ z. onto _))
+
+  pub convert_int64_typed : At ConvertInt64 → Fine (execute here s f below ConvertInt64)
+  convert_int64_typed running = one_typed here.tree s _ _ f.stack running.stack running.result running.values running.flows (λ v a rest types h rest_typed e.
+      let passed = was_allowed (is_integer a || is_index a) (i8 ∷ types) running.result e in
+      let onto : (z : ℤ) → Fine (next here s f below (Int64 z ∷ rest)) = λ z. on ConvertInt64 running refl (Int64 z ∷ rest) (i8 ∷ types) (refl, rest_typed) passed.1 in
+      from_any_integer running.accepted.legal (λ x. Fine (given (convert_64 x) (λ u. next here s f below (u ∷ rest)))) v a passed.0 h (λ z. onto _) (λ z. onto _) (λ z. onto _))
+
+  -- ---- comparisons
+
+  module _ (legal : IsLegal here.tree) (v w : Value) (a b : StackType) (h : HasStackType here.tree s v a) (k : HasStackType here.tree s w b) (go : Bool → Effect) (each : (holds : Bool) → Fine (go holds)) where
+    -- two integers of one size have an order
+    ordered_typed : (test : ℤ → ℤ → Bool) → IsTrue (are_integers a b) → Fine (given (ordered_values test v w) go)
+    ordered_typed test is = from_integers here.tree legal s (λ x y. Fine (given (ordered_values test x y) go)) v w a b is h k (λ j x y. each (test x y)) (λ j x y. each (test x y))
+
+    -- and so have they, or two references, an answer whether they are equal; `turn` may make it the opposite
+    equal_typed : (turn : Option Bool → Option Bool) → ((o : Bool) → (p : Bool) × (turn (Some o) ≡ Some p)) → IsTrue (are_comparable a b) → Fine (given (turn (equal_values v w)) go)
+    equal_typed turn turned is = by_case (either (are_integers a b) (is_any_reference a && is_any_reference b) is)
+      where
+        answered : (o : Bool) → Fine (given (turn (Some o)) go)
+        answered o = let p = turned o in let P : Option Bool → Type 0 = λ x. Fine (given x go) in subst P (sym p.1) (each p.0)
+
+        by_case : IsTrue (are_integers a b) ⊎ IsTrue (is_any_reference a && is_any_reference b) → Fine (given (turn (equal_values v w)) go)
+        by_case (inl j) = from_integers here.tree legal s (λ x y. Fine (given (turn (equal_values x y)) go)) v w a b j h k (λ i x y. answered _) (λ i x y. answered _)
+        by_case (inr j) =
+            from_reference here.tree legal s (λ x. Fine (given (turn (equal_values x w)) go)) v a (both_first _ _ j) h
+            (from_reference here.tree legal s (λ y. Fine (given (turn (equal_values Null y)) go)) w b (both_second (is_any_reference a) _ j) k (answered _) (λ n. answered _))
+            (λ m. from_reference here.tree legal s (λ y. Fine (given (turn (equal_values (Reference m) y)) go)) w b (both_second (is_any_reference a) _ j) k (answered _) (λ n. answered _))
+
+    compare_answers : (op : Comparison) → IsTrue (may_compare op a b) → Fine (given (compare_values op v w) go)
+    compare_answers Equal is = equal_typed (λ o. o) (λ o. (o, refl)) is
+    compare_answers Greater is = ordered_typed _ is
+    compare_answers Less is = ordered_typed _ is
+
+    branch_answers : (op : BranchComparison) → IsTrue (may_branch op a b) → Fine (given (branch_values op v w) go)
+    branch_answers BranchEqual is = equal_typed (λ o. o) (λ o. (o, refl)) is
+    branch_answers NotEqual is = equal_typed not_option (λ o. (not o, refl)) is
+    branch_answers GreaterOrEqual is = ordered_typed _ is
+    branch_answers BranchGreater is = ordered_typed _ is
+    branch_answers LessOrEqual is = ordered_typed _ is
+    branch_answers BranchLess is = ordered_typed _ is
+
+  pub compare_typed : (op : Comparison) → At (Compare op) → Fine (execute here s f below (Compare op))
+  compare_typed op running = two_typed here.tree s _ _ f.stack running.stack running.result running.values running.flows (λ v w a b rest types h k rest_typed e.
+      let passed = was_allowed (may_compare op a b) (i4 ∷ types) running.result e in
+      compare_answers running.accepted.legal v w a b h k _ (λ holds. on (Compare op) running refl (one_or_zero holds ∷ rest) (i4 ∷ types) (answer holds, rest_typed) passed.1) op passed.0)
+    where
+      answer : (holds : Bool) → HasStackType here.tree s (one_or_zero holds) i4
+      answer true = refl
+      answer false = refl
+
+  -- ---- branches
+
+  pub branch_always_typed : (label : List ℕ) → At (Branch label) → Fine (execute here s f below (Branch label))
+  branch_always_typed label running =
+      jump_typed here s f below (Branch label) running label (0, lit< tt, refl) f.stack (subst (HaveStackTypes here.tree s f.stack) (same_some running.stack running.result running.flows) running.values)
+
+  -- a test whether a value is set has an answer
+  set_answers : (legal : IsLegal here.tree) (turn : Option Bool → Option Bool) → ((o : Bool) → (p : Bool) × (turn (Some o) ≡ Some p)) → (v : Value) (a : StackType) → HasStackType here.tree s v a → IsTrue (is_integer a || is_any_reference a) →
+      (go : Bool → Effect) → ((holds : Bool) → Fine (go holds)) → Fine (given (turn (is_set v)) go)
+  set_answers legal turn turned v a h is go each = by_case (either (is_integer a) (is_any_reference a) is)
+    where
+      answered : (o : Bool) → Fine (given (turn (Some o)) go)
+      answered o = let p = turned o in let P : Option Bool → Type 0 = λ x. Fine (given x go) in subst P (sym p.1) (each p.0)
+
+      by_case : IsTrue (is_integer a) ⊎ IsTrue (is_any_reference a) → Fine (given (turn (is_set v)) go)
+      by_case (inl j) = from_integer here.tree legal s (λ x. Fine (given (turn (is_set x)) go)) v a j h (λ i z. answered _) (λ i z. answered _)
+      by_case (inr j) = from_reference here.tree legal s (λ x. Fine (given (turn (is_set x)) go)) v a j h (answered _) (λ n. answered _)
+
+  pub branch_true_typed : (label : List ℕ) → At (BranchTrue label) → Fine (execute here s f below (BranchTrue label))
+  branch_true_typed label running = one_typed here.tree s _ _ f.stack running.stack running.result running.values running.flows (λ v a rest types h rest_typed e.
+      let passed = was_allowed (is_integer a || is_any_reference a) types running.result e in
+      set_answers running.accepted.legal (λ o. o) (λ o. (o, refl)) v a h passed.0 _ (λ holds. branches (BranchTrue label) running refl holds label (0, lit< tt, refl) rest types rest_typed passed.1))
+
+  pub branch_false_typed : (label : List ℕ) → At (BranchFalse label) → Fine (execute here s f below (BranchFalse label))
+  branch_false_typed label running = one_typed here.tree s _ _ f.stack running.stack running.result running.values running.flows (λ v a rest types h rest_typed e.
+      let passed = was_allowed (is_integer a || is_any_reference a) types running.result e in
+      set_answers running.accepted.legal not_option (λ o. (not o, refl)) v a h passed.0 _ (λ holds. branches (BranchFalse label) running refl holds label (0, lit< tt, refl) rest types rest_typed passed.1))
+
+  pub branch_compare_typed : (op : BranchComparison) (label : List ℕ) → At (BranchCompare op label) → Fine (execute here s f below (BranchCompare op label))
+  branch_compare_typed op label running = two_typed here.tree s _ _ f.stack running.stack running.result running.values running.flows (λ v w a b rest types h k rest_typed e.
+      let passed = was_allowed (may_branch op a b) types running.result e in
+      branch_answers running.accepted.legal v w a b h k _ (λ holds. branches (BranchCompare op label) running refl holds label (0, lit< tt, refl) rest types rest_typed passed.1) op passed.0)
+
+  pub switch_typed : (labels : List (List ℕ)) → At (Switch labels) → Fine (execute here s f below (Switch labels))
+  switch_typed labels running = one_typed here.tree s _ _ f.stack running.stack running.result running.values running.flows (λ v a rest types h rest_typed e.
+      let passed = was_allowed (is_int32 a) types running.result e in
+      from_int32 here.tree running.accepted.legal s (λ x. Fine (switch_on here s f below labels x rest)) v a passed.0 h
+      (λ z. by_label rest (subst (HaveStackTypes here.tree s rest) passed.1 rest_typed) (cast_unsigned w32 z) (slice_get labels (cast_unsigned w32 z)) refl))
+    where
+      -- the label of a number is one of the instruction's
+      by_label : (rest : List Value) → HaveStackTypes here.tree s rest running.result → (n : ℕ) (o : Option (List ℕ)) → slice_get labels n ≡ o → Fine (to_label here s f below o rest)
+      by_label rest typed n None is = next_typed here s f below (Switch labels) running refl rest typed
+      by_label rest typed n (Some label) is = jump_typed here s f below (Switch labels) running label (n, slice_get_within labels n label is, get_or_from_slice_get labels n label label is) rest typed
