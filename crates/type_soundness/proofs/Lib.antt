@@ -2,4 +2,5 @@ pub mod Keeping
 pub mod Running
 pub mod Openings
 pub mod Operands
+pub mod Literals
 pub mod SimpleSteps

@@ -1,10 +1,12 @@
 -- Instructions that touch no object keep states typed.
-use Rattle.std.proofs.Common.{◌≡◌, ◌⊎◌, ℕ, ◌+◌, ℤ, pos, negsuc, Bool, true, false, not, IsTrue, ◌&&◌, ◌||◌, if◌then◌else◌, List, [], ◌∷◌, Option, Some, None, Result, Ok, Err, slice_get, slice_set, Contains, refl, inl, inr, sym, subst, lit<}
+use Rattle.std.proofs.Common.{◌≡◌, ◌⊎◌, ℕ, ◌+◌, ℤ, pos, negsuc, Bool, true, false, not, IsTrue, ◌&&◌, ◌||◌, if◌then◌else◌, List, [], ◌∷◌, Option, Some, None, Result, Ok, Err, slice_get, slice_set, Contains, refl, inl, inr, sym, ap, subst, lit<}
 use Rattle.std.proofs.lemmas.Option.{slice_get_within, get_or_from_slice_get}
+use Rattle.std.specs.Option.{option_map_or}
 use Rattle.std.specs.Int.{w32, w64, cast_unsigned}
 use Rattle.cil_model.specs.declared.types.DeclaredType.{DeclaredType}
+use Rattle.cil_model.specs.declared.types.Element.TheVariants.{String}
 use Rattle.cil_model.specs.declared.instructions.Instruction.{Instruction}
-use Rattle.cil_model.specs.declared.instructions.Instruction.TheVariants.{NoOperation, LoadInt32, LoadInt64, LoadNull, LoadArgument, StoreArgument, LoadLocal, StoreLocal, Duplicate, Pop, Binary, Unary, Shift, Compare, ConvertInt32, ConvertInt64, Branch, BranchTrue, BranchFalse, BranchCompare, Switch}
+use Rattle.cil_model.specs.declared.instructions.Instruction.TheVariants.{NoOperation, LoadInt32, LoadInt64, LoadNull, LoadString, LoadArgument, StoreArgument, LoadLocal, StoreLocal, Duplicate, Pop, Binary, Unary, Shift, Compare, ConvertInt32, ConvertInt64, Branch, BranchTrue, BranchFalse, BranchCompare, Switch}
 use Rattle.cil_model.specs.declared.instructions.BinaryOperation.{BinaryOperation}
 use Rattle.cil_model.specs.declared.instructions.UnaryOperation.{UnaryOperation}
 use Rattle.cil_model.specs.declared.instructions.ShiftOperation.{ShiftOperation}
@@ -13,14 +15,16 @@ use Rattle.cil_model.specs.declared.instructions.Comparison.TheVariants.{Equal, 
 use Rattle.cil_model.specs.declared.instructions.BranchComparison.{BranchComparison}
 use Rattle.cil_model.specs.declared.instructions.BranchComparison.TheVariants.{Equal as BranchEqual, NotEqual, GreaterOrEqual, Greater as BranchGreater, LessOrEqual, Less as BranchLess}
 use Rattle.cil_model.specs.declared.reports.Fault.{Fault}
-use Rattle.cil_model.specs.Bodies.{at_place, argument_types, falls_through, labels_of}
+use Rattle.cil_model.specs.declared.trees.Code.{Code}
+use Rattle.cil_model.specs.Declarations.{plain}
+use Rattle.cil_model.specs.Bodies.{lines_of, at_place, argument_types, falls_through, labels_of}
 use Rattle.cil_model.specs.Legality.{IsLegal}
 use Rattle.cil_model.specs.Stacks.{take_one}
 use Rattle.cil_model.specs.TypeTree.{StackType, Declared, Null as NullType, i4, i8, fits}
 use Rattle.cil_model.specs.FlowRules.{is_int32, is_integer, is_any_reference, is_index, are_integers, are_comparable, may_compare, may_branch, load, store}
 use Rattle.cil_model.proofs.SameLaws.{both_first, both_second, either, if_true}
 use Rattle.cil_model.proofs.BelowLaws.{none_is_some, same_some}
-use Rattle.reference_machine.specs.Values.{Value, Int32, Int64, Native, Null, Reference, same_kind}
+use Rattle.reference_machine.specs.Values.{Literal, Value, Int32, Int64, Native, Null, Reference, same_kind}
 use Rattle.reference_machine.specs.Arithmetic.{binary, unary, shift, binary_value, unary_value, shift_value, equal_values, ordered_values, compare_values, branch_values, is_set, not_option, convert_32, convert_64, one_or_zero, result_as}
 use Rattle.reference_machine.specs.States.{Frame, State, same_kind_or_none}
 use Rattle.reference_machine.specs.Effects.{Setting, Effect, Sticks, given, unless_fault}
@@ -28,6 +32,7 @@ use Rattle.reference_machine.specs.Steps.{next, branch_if, stored, to_label, swi
 use Rattle.reference_machine.proofs.StateLaws.{follows_itself}
 use Rattle.type_soundness.specs.TypedStates.{HasType, HasStackType, HaveTypes, HaveStackTypes}
 use Rattle.type_soundness.proofs.Running.{IsTypedEffect, IsRunning, moved, next_typed, jump_typed, branch_typed}
+use Rattle.type_soundness.proofs.Literals.{literal_of_program}
 use Rattle.type_soundness.proofs.Operands.{value_fits, kinds_agree, from_int32, from_integer, from_integers, from_reference, from_index, int32_typed, int64_typed, value_at, values_with, one_typed, two_typed, was_allowed}
 
 module _ (here : Setting) (s : State) (f : Frame) (below : List Frame) where
@@ -102,6 +107,15 @@ module _ (here : Setting) (s : State) (f : Frame) (below : List Frame) where
 
   pub load_null_typed : At LoadNull → Fine (execute here s f below LoadNull)
   load_null_typed running = on LoadNull running refl (Null ∷ f.stack) (NullType ∷ running.stack) (tt, running.values) (same_some _ _ running.flows)
+
+  -- a literal is a string with a monitor
+  pub load_string_typed : (characters : List ℕ) → At (LoadString characters) → Fine (execute here s f below (LoadString characters))
+  load_string_typed characters running =
+      let lines : running.frame.code.lines ≡ lines_of f.method = sym (ap (λ (c : Option Code). option_map_or (λ (code : Code). code.lines) c []) running.frame.has_code) in
+      let known = literal_of_program here.tree characters f.method f.place running.line (subst (λ ls. slice_get ls f.place ≡ Some running.line) lines running.at) running.is f.owner running.frame.is_declared.0 running.frame.is_declared.1 in
+      on (LoadString characters) running refl (Reference (Literal characters) ∷ f.stack) (Declared (plain String) ∷ running.stack)
+      (record { own = plain String; is = refl; fits = refl; monitor = running.typed.literals characters known }, running.values)
+      (same_some _ _ running.flows)
 
   pub load_argument_typed : (n : ℤ) → At (LoadArgument n) → Fine (execute here s f below (LoadArgument n))
   load_argument_typed n running = at_value (LoadArgument n) running refl f.arguments (argument_types f.method f.owner) running.frame.arguments n running.stack running.values running.flows
