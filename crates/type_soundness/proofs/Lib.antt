@@ -3,4 +3,5 @@ pub mod Running
 pub mod Openings
 pub mod Operands
 pub mod Literals
+pub mod SourceLaws
 pub mod SimpleSteps

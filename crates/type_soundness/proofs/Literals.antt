@@ -35,7 +35,7 @@ module _ {X : Type 0} (test : X → Bool) where
   any_behind [] ys h = h
   any_behind (x ∷ xs) ys h = or_right (test x) _ (any_behind xs ys h)
 
-  any_at : (xs : List X) (n : ℕ) (x : X) → slice_get xs n ≡ Some x → IsTrue (test x) → IsTrue (list_any test xs)
+  pub any_at : (xs : List X) (n : ℕ) (x : X) → slice_get xs n ≡ Some x → IsTrue (test x) → IsTrue (list_any test xs)
   any_at [] n x e h = none_is_some x e
   any_at (y ∷ ys) zero x e h = or_left _ _ (subst (λ z. IsTrue (test z)) (sym (same_some y x e)) h)
   any_at (y ∷ ys) (suc n) x e h = or_right (test y) _ (any_at ys n x e h)
