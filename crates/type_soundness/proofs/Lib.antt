@@ -5,3 +5,4 @@ pub mod Operands
 pub mod Literals
 pub mod SourceLaws
 pub mod SimpleSteps
+pub mod WholeSteps
