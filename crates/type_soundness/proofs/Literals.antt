@@ -76,14 +76,6 @@ any_in_filter_map {X} {Y} test f (x ∷ xs) h = by_item (f x) h (any_in_filter_m
     by_item None k later = later k
     by_item (Some y) k later = by_case y (either (test y) _ k) later
 
-any_in_map : {X Y : Type 0} (test : Y → Bool) (f : X → Y) (xs : List X) → IsTrue (list_any (λ x. test (f x)) xs) → IsTrue (list_any test (map f xs))
-any_in_map test f [] h = h
-any_in_map test f (x ∷ xs) h = by_case (either (test (f x)) (list_any (λ y. test (f y)) xs) h) (any_in_map test f xs)
-  where
-    by_case : IsTrue (test (f x)) ⊎ IsTrue (list_any (λ y. test (f y)) xs) → (IsTrue (list_any (λ y. test (f y)) xs) → IsTrue (list_any test (map f xs))) → IsTrue (test (f x) || list_any test (map f xs))
-    by_case (inl k) later = or_left _ _ k
-    by_case (inr k) later = or_right _ _ (later k)
-
 -- taking a text's equals away takes no other text away
 any_kept : (c y : List ℕ) → same_text c y ≡ false → (es : List (List ℕ)) → IsTrue (list_any (same_text c) es) → IsTrue (list_any (same_text c) (filter (λ z. not (same_text y z)) es))
 any_kept c y apart [] h = h

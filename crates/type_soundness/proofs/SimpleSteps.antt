@@ -22,6 +22,7 @@ use Rattle.cil_model.specs.Legality.{IsLegal}
 use Rattle.cil_model.specs.Stacks.{take_one}
 use Rattle.cil_model.specs.TypeTree.{StackType, Declared, Null as NullType, i4, i8, fits}
 use Rattle.cil_model.specs.FlowRules.{is_int32, is_integer, is_any_reference, is_index, are_integers, are_comparable, may_compare, may_branch, load, store}
+use Rattle.cil_model.specs.Typings.{Reaches}
 use Rattle.cil_model.proofs.SameLaws.{both_first, both_second, either, if_true}
 use Rattle.cil_model.proofs.BelowLaws.{none_is_some, same_some}
 use Rattle.reference_machine.specs.Values.{Literal, Value, Int32, Int64, Native, Null, Reference, same_kind}
@@ -49,6 +50,10 @@ module _ (here : Setting) (s : State) (f : Frame) (below : List Frame) where
     -- on to the next instruction with a stack whose types are the result
     on : (rest : List Value) (types : List StackType) → HaveStackTypes here.tree s rest types → types ≡ running.result → Fine (next here s f below rest)
     on rest types h e = next_typed here s f below i running falls rest (subst (HaveStackTypes here.tree s rest) e h)
+
+    -- the place after it is one that the result reaches
+    reaches_next : Reaches here.tree running.frame.typing running.result (f.place + 1)
+    reaches_next = running.on.falls (subst (λ x. IsTrue (falls_through x)) (sym running.is) falls)
 
     -- to a label or on
     branches : (holds : Bool) (label : List ℕ) → Contains (labels_of i) label → (rest : List Value) (types : List StackType) → HaveStackTypes here.tree s rest types → types ≡ running.result → Fine (branch_if here s f below holds label rest)
@@ -130,7 +135,7 @@ module _ (here : Setting) (s : State) (f : Frame) (below : List Frame) where
       store_typed i running refl _ (at_place types n) f.stack running.stack running.values running.flows (λ v rest rest_types t is h rest_typed e.
       put i running refl _ f.arguments types running.frame.arguments n t is v h (λ arguments typed.
       moved here s f below i running s running.typed (follows_itself s) arguments f.locals rest (f.place + 1) running.result typed running.frame.locals
-      (subst (HaveStackTypes here.tree s rest) e rest_typed) (running.on.falls (subst (λ x. IsTrue (falls_through x)) (sym running.is) refl))))
+      (subst (HaveStackTypes here.tree s rest) e rest_typed) (reaches_next i running refl)))
 
   pub store_local_typed : (n : ℤ) → At (StoreLocal n) → Fine (execute here s f below (StoreLocal n))
   store_local_typed n running =
@@ -139,7 +144,7 @@ module _ (here : Setting) (s : State) (f : Frame) (below : List Frame) where
       store_typed i running refl _ (at_place types n) f.stack running.stack running.values running.flows (λ v rest rest_types t is h rest_typed e.
       put i running refl _ f.locals types running.frame.locals n t is v h (λ locals typed.
       moved here s f below i running s running.typed (follows_itself s) f.arguments locals rest (f.place + 1) running.result running.frame.arguments typed
-      (subst (HaveStackTypes here.tree s rest) e rest_typed) (running.on.falls (subst (λ x. IsTrue (falls_through x)) (sym running.is) refl))))
+      (subst (HaveStackTypes here.tree s rest) e rest_typed) (reaches_next i running refl)))
 
   -- ---- the stack and arithmetic
 
@@ -200,6 +205,10 @@ module _ (here : Setting) (s : State) (f : Frame) (below : List Frame) where
 
   -- ---- comparisons
 
+  -- a test's answer, or what `turn` makes of it, lets go on
+  answered : (turn : Option Bool → Option Bool) → ((o : Bool) → (p : Bool) × (turn (Some o) ≡ Some p)) → (go : Bool → Effect) → ((holds : Bool) → Fine (go holds)) → (o : Bool) → Fine (given (turn (Some o)) go)
+  answered turn turned go each o = let p = turned o in let P : Option Bool → Type 0 = λ x. Fine (given x go) in subst P (sym p.1) (each p.0)
+
   module _ (legal : IsLegal here.tree) (v w : Value) (a b : StackType) (h : HasStackType here.tree s v a) (k : HasStackType here.tree s w b) (go : Bool → Effect) (each : (holds : Bool) → Fine (go holds)) where
     -- two integers of one size have an order
     ordered_typed : (test : ℤ → ℤ → Bool) → IsTrue (are_integers a b) → Fine (given (ordered_values test v w) go)
@@ -209,15 +218,15 @@ module _ (here : Setting) (s : State) (f : Frame) (below : List Frame) where
     equal_typed : (turn : Option Bool → Option Bool) → ((o : Bool) → (p : Bool) × (turn (Some o) ≡ Some p)) → IsTrue (are_comparable a b) → Fine (given (turn (equal_values v w)) go)
     equal_typed turn turned is = by_case (either (are_integers a b) (is_any_reference a && is_any_reference b) is)
       where
-        answered : (o : Bool) → Fine (given (turn (Some o)) go)
-        answered o = let p = turned o in let P : Option Bool → Type 0 = λ x. Fine (given x go) in subst P (sym p.1) (each p.0)
+        told : (o : Bool) → Fine (given (turn (Some o)) go)
+        told = answered turn turned go each
 
         by_case : IsTrue (are_integers a b) ⊎ IsTrue (is_any_reference a && is_any_reference b) → Fine (given (turn (equal_values v w)) go)
-        by_case (inl j) = from_integers here.tree legal s (λ x y. Fine (given (turn (equal_values x y)) go)) v w a b j h k (λ i x y. answered _) (λ i x y. answered _)
+        by_case (inl j) = from_integers here.tree legal s (λ x y. Fine (given (turn (equal_values x y)) go)) v w a b j h k (λ i x y. told _) (λ i x y. told _)
         by_case (inr j) =
             from_reference here.tree legal s (λ x. Fine (given (turn (equal_values x w)) go)) v a (both_first _ _ j) h
-            (from_reference here.tree legal s (λ y. Fine (given (turn (equal_values Null y)) go)) w b (both_second (is_any_reference a) _ j) k (answered _) (λ n. answered _))
-            (λ m. from_reference here.tree legal s (λ y. Fine (given (turn (equal_values (Reference m) y)) go)) w b (both_second (is_any_reference a) _ j) k (answered _) (λ n. answered _))
+            (from_reference here.tree legal s (λ y. Fine (given (turn (equal_values Null y)) go)) w b (both_second (is_any_reference a) _ j) k (told _) (λ n. told _))
+            (λ m. from_reference here.tree legal s (λ y. Fine (given (turn (equal_values (Reference m) y)) go)) w b (both_second (is_any_reference a) _ j) k (told _) (λ n. told _))
 
     compare_answers : (op : Comparison) → IsTrue (may_compare op a b) → Fine (given (compare_values op v w) go)
     compare_answers Equal is = equal_typed (λ o. o) (λ o. (o, refl)) is
@@ -252,12 +261,12 @@ module _ (here : Setting) (s : State) (f : Frame) (below : List Frame) where
       (go : Bool → Effect) → ((holds : Bool) → Fine (go holds)) → Fine (given (turn (is_set v)) go)
   set_answers legal turn turned v a h is go each = by_case (either (is_integer a) (is_any_reference a) is)
     where
-      answered : (o : Bool) → Fine (given (turn (Some o)) go)
-      answered o = let p = turned o in let P : Option Bool → Type 0 = λ x. Fine (given x go) in subst P (sym p.1) (each p.0)
+      told : (o : Bool) → Fine (given (turn (Some o)) go)
+      told = answered turn turned go each
 
       by_case : IsTrue (is_integer a) ⊎ IsTrue (is_any_reference a) → Fine (given (turn (is_set v)) go)
-      by_case (inl j) = from_integer here.tree legal s (λ x. Fine (given (turn (is_set x)) go)) v a j h (λ i z. answered _) (λ i z. answered _)
-      by_case (inr j) = from_reference here.tree legal s (λ x. Fine (given (turn (is_set x)) go)) v a j h (answered _) (λ n. answered _)
+      by_case (inl j) = from_integer here.tree legal s (λ x. Fine (given (turn (is_set x)) go)) v a j h (λ i z. told _) (λ i z. told _)
+      by_case (inr j) = from_reference here.tree legal s (λ x. Fine (given (turn (is_set x)) go)) v a j h (told _) (λ n. told _)
 
   pub branch_true_typed : (label : List ℕ) → At (BranchTrue label) → Fine (execute here s f below (BranchTrue label))
   branch_true_typed label running = one_typed here.tree s _ _ f.stack running.stack running.result running.values running.flows (λ v a rest types h rest_typed e.
