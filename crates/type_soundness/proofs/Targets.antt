@@ -1,0 +1,202 @@
+-- In a legal tree a virtual call on an object of a class that has objects finds a method with code.
+use Rattle.std.proofs.Common.{◌≡◌, ◌≢◌, ◌⊎◌, ℕ, zero, suc, Bool, true, false, not, cond, if◌then◌else◌, ◌&&◌, ◌||◌, IsTrue, List, [], ◌∷◌, ◌++◌, length, find, Option, Some, None, is_some, option_and_then, unwrap_or, refl, inl, inr, sym, ap, ◌∙◌, subst, arith}
+use Rattle.std.specs.List.{list_any}
+use Rattle.std.specs.Option.{option_map_or}
+use Rattle.std.proofs.lemmas.Bool.{or_parts, or_left, or_right, and_from}
+use Rattle.std.proofs.lemmas.List.Folds.{list_any-append}
+use Rattle.cil_model.specs.declared.types.ClassName.{ClassName}
+use Rattle.cil_model.specs.declared.types.Signature.{Signature}
+use Rattle.cil_model.specs.declared.instructions.MethodName.{MethodName}
+use Rattle.cil_model.specs.declared.trees.Tree.{Tree}
+use Rattle.cil_model.specs.declared.trees.Method.{Method}
+use Rattle.cil_model.specs.Same.{same_flag, same_class, same_options, same_signature, same_method_name}
+use Rattle.cil_model.specs.Chains.{base_of, chain_within, chain_of, longest_chain, methods_in, is_interface, method_in, nearest, is_static, is_virtual, is_new_slot_method}
+use Rattle.cil_model.specs.Slots.{slot_filled, slot_along, filler_along, class_target}
+use Rattle.cil_model.specs.Legality.{IsLegal, has_repeat, same_method}
+use Rattle.cil_model.proofs.SameLaws.{never, both_first, both_second, either, if_true, if_false, same_options_equal, same_class_equal, same_class_itself, same_signature_equal, same_signature_itself, same_method_name_equal, same_method_name_itself}
+use Rattle.cil_model.proofs.Legal.{no_cycle}
+use Rattle.cil_model.proofs.ChainLaws.{chain_ends}
+use Rattle.cil_model.proofs.BelowLaws.{none_is_some, same_some}
+use Rattle.type_soundness.proofs.DeclaredClasses.{found_itself, found_fails, not_both, interface_has_no_base, methods_differ, base_is_class}
+
+-- ---- lists of classes
+
+-- what holds of each of the one kind holds of each of the other
+weaker : {X : Type 0} (p q : X → Bool) → ((x : X) → IsTrue (p x) → IsTrue (q x)) → (xs : List X) → IsTrue (list_any p xs) → IsTrue (list_any q xs)
+weaker p q each [] h = never h
+weaker {X} p q each (x ∷ xs) h = by_case (either (p x) (list_any p xs) h) (weaker p q each xs)
+  where
+    by_case : IsTrue (p x) ⊎ IsTrue (list_any p xs) → (IsTrue (list_any p xs) → IsTrue (list_any q xs)) → IsTrue (list_any q (x ∷ xs))
+    by_case (inl here) further = or_left _ _ (each x here)
+    by_case (inr there) further = or_right _ _ (further there)
+
+-- a test that no class of a list passes fails on each of them
+none_at : (test : ClassName → Bool) (cs : List ClassName) (c : ClassName) → list_any test cs ≡ false → IsTrue (list_any (same_class c) cs) → test c ≡ false
+none_at test [] c h k = never k
+none_at test (d ∷ ds) c h k = by_case (either (same_class c d) (list_any (same_class c) ds) k) (none_at test ds c (or_parts _ _ h).1)
+  where
+    by_case : IsTrue (same_class c d) ⊎ IsTrue (list_any (same_class c) ds) → (IsTrue (list_any (same_class c) ds) → test c ≡ false) → test c ≡ false
+    by_case (inl here) further = subst (λ x. test x ≡ false) (sym (same_class_equal c d here)) (or_parts _ _ h).0
+    by_case (inr there) further = further there
+
+-- the nearest is found at a class of the list
+nearest_at : {X : Type 0} (at : ClassName → Option X) (cs : List ClassName) (c : ClassName) (x : X) → nearest at cs ≡ Some (c, x) → (at c ≡ Some x) × IsTrue (list_any (same_class c) cs)
+nearest_at at [] c x h = none_is_some (c, x) h
+nearest_at {X} at (d ∷ ds) c x h = by_class (at d) refl h (nearest_at at ds c x)
+  where
+    by_class : (o : Option X) → at d ≡ o → option_map_or (λ y. Some (d, y)) o (nearest at ds) ≡ Some (c, x) →
+        (nearest at ds ≡ Some (c, x) → (at c ≡ Some x) × IsTrue (list_any (same_class c) ds)) → (at c ≡ Some x) × IsTrue (list_any (same_class c) (d ∷ ds))
+    by_class None e k later = let found = later k in (found.0, or_right _ _ found.1)
+    by_class (Some y) e k later = subst (λ (p : ClassName × X). (at p.0 ≡ Some p.1) × IsTrue (list_any (same_class p.0) (d ∷ ds))) (same_some (d, y) (c, x) k) (e, or_left _ _ (same_class_itself d))
+
+-- ---- methods
+
+abbrev pub is_named : MethodName → Signature → Method → Bool
+is_named name signature m = same_method_name m.name name && same_signature m.signature signature
+
+named_name : (name : MethodName) (signature : Signature) (m : Method) → IsTrue (is_named name signature m) → m.name ≡ name
+named_name name signature m h = same_method_name_equal m.name name (both_first _ _ h)
+
+named_signature : (name : MethodName) (signature : Signature) (m : Method) → IsTrue (is_named name signature m) → m.signature ≡ signature
+named_signature name signature m h = same_signature_equal m.signature signature (both_second _ _ h)
+
+-- two methods of one name and signature are the same method
+named_same : (name : MethodName) (signature : Signature) (x y : Method) → IsTrue (is_named name signature x) → IsTrue (is_named name signature y) → IsTrue (same_method x y)
+named_same name signature x y h k = and_from _ _
+    (subst (λ z. IsTrue (same_method_name x.name z)) (named_name name signature x h ∙ sym (named_name name signature y k)) (same_method_name_itself x.name))
+    (subst (λ z. IsTrue (same_signature x.signature z)) (named_signature name signature x h ∙ sym (named_signature name signature y k)) (same_signature_itself x.signature))
+
+-- where methods differ, a look-up with a further test finds the only one of its name and signature
+only_named : (name : MethodName) (signature : Signature) (further : Method → Bool) (ms : List Method) (m : Method) → has_repeat same_method ms ≡ false →
+    find (λ x. is_named name signature x && further x) ms ≡ Some m → find (is_named name signature) ms ≡ Some m
+only_named name signature further [] m h e = none_is_some m e
+only_named name signature further (x ∷ xs) m h e = by_tests (is_named name signature x) (further x) refl e (only_named name signature further xs m (or_parts _ _ h).1)
+  where
+    test : Method → Bool
+    test y = is_named name signature y && further y
+
+    by_tests : (a b : Bool) → is_named name signature x ≡ a → cond (a && b) (Some x) (find test xs) ≡ Some m → (find test xs ≡ Some m → find (is_named name signature) xs ≡ Some m) →
+        cond a (Some x) (find (is_named name signature) xs) ≡ Some m
+    by_tests true true is k later = k
+    by_tests true false is k later =
+        not_both (same_method x m) (found_fails test (same_method x) xs m k (or_parts _ _ h).0) (named_same name signature x m is (both_first _ _ (found_itself test xs m k)))
+    by_tests false b is k later = later k
+
+module _ (tree : Tree) where
+  -- ---- slots
+
+  module _ (name : MethodName) (signature : Signature) where
+    -- a virtual method fills a slot
+    slot_there : (c : ClassName) (cs : List ClassName) (m : Method) → method_in tree name signature c ≡ Some m → IsTrue (is_virtual m.kind) → (slot : ClassName) × (slot_along tree name signature (c ∷ cs) ≡ Some slot)
+    slot_there c cs m here virtual =
+        let inherited : Option ClassName = slot_along tree name signature cs in
+        (if is_new_slot_method m.kind then c else unwrap_or inherited c, ap (λ o. option_map_or (slot_filled c inherited) o inherited) here ∙ if_true (is_virtual m.kind) _ _ virtual)
+
+    -- a slot that a class of the chain fills has a filler
+    filler_there : (slot : ClassName) (before : List ClassName) (c : ClassName) (cs : List ClassName) (m : Method) → method_in tree name signature c ≡ Some m → slot_along tree name signature (c ∷ cs) ≡ Some slot →
+        (found : ClassName × Method) × (filler_along tree name signature slot (before ++ c ∷ cs) ≡ Some found)
+    filler_there slot [] c cs m here fills =
+        let same : IsTrue (same_options same_class (slot_along tree name signature (c ∷ cs)) (Some slot)) = subst (λ o. IsTrue (same_options same_class o (Some slot))) (sym fills) (same_class_itself slot) in
+        ((c, m), ap (λ o. option_map_or (λ x. if same_options same_class (slot_along tree name signature (c ∷ cs)) (Some slot) then Some (c, x) else filler_along tree name signature slot cs) o (filler_along tree name signature slot cs)) here ∙
+        if_true _ _ _ same)
+    filler_there slot (d ∷ ds) c cs m here fills =
+        by_class (method_in tree name signature d) (same_options same_class (slot_along tree name signature (d ∷ rest)) (Some slot)) (filler_there slot ds c cs m here fills)
+      where
+        rest : List ClassName
+        rest = ds ++ c ∷ cs
+
+        by_class : (o : Option Method) (b : Bool) → (found : ClassName × Method) × (filler_along tree name signature slot rest ≡ Some found) →
+            (found : ClassName × Method) × (option_map_or (λ x. if b then Some (d, x) else filler_along tree name signature slot rest) o (filler_along tree name signature slot rest) ≡ Some found)
+        by_class None b later = later
+        by_class (Some x) false later = later
+        by_class (Some x) true later = ((d, x), refl)
+
+    slot_is_virtual : (c : ClassName) (inherited : Option ClassName) (m : Method) (slot : ClassName) → slot_filled c inherited m ≡ Some slot → IsTrue (is_virtual m.kind)
+    slot_is_virtual c inherited m slot h = by_test (is_virtual m.kind) h
+      where
+        by_test : (b : Bool) → (if b then Some (if is_new_slot_method m.kind then c else unwrap_or inherited c) else None) ≡ Some slot → IsTrue b
+        by_test true k = refl
+        by_test false k = none_is_some slot k
+
+    -- a filler is a virtual method of a class of the chain
+    abbrev IsFiller : List ClassName → ClassName × Method → Type 0
+    IsFiller cs found = (method_in tree name signature found.0 ≡ Some found.1) × IsTrue (is_virtual found.1.kind) × IsTrue (list_any (same_class found.0) cs)
+
+    filler_is : (slot : ClassName) (cs : List ClassName) (found : ClassName × Method) → filler_along tree name signature slot cs ≡ Some found → IsFiller cs found
+    filler_is slot [] found h = none_is_some found h
+    filler_is slot (d ∷ ds) found h = by_class (method_in tree name signature d) refl (same_options same_class (slot_along tree name signature (d ∷ ds)) (Some slot)) refl h (filler_is slot ds found)
+      where
+        behind : IsFiller ds found → IsFiller (d ∷ ds) found
+        behind is = (is.0, is.1, or_right _ _ is.2)
+
+        by_class : (o : Option Method) → method_in tree name signature d ≡ o → (b : Bool) → same_options same_class (slot_along tree name signature (d ∷ ds)) (Some slot) ≡ b →
+            option_map_or (λ x. if b then Some (d, x) else filler_along tree name signature slot ds) o (filler_along tree name signature slot ds) ≡ Some found →
+            (filler_along tree name signature slot ds ≡ Some found → IsFiller ds found) → IsFiller (d ∷ ds) found
+        by_class None e b same k later = behind (later k)
+        by_class (Some x) e false same k later = behind (later k)
+        by_class (Some x) e true same k later =
+            let inherited : Option ClassName = slot_along tree name signature ds in
+            let fills : slot_filled d inherited x ≡ Some slot = sym (ap (λ o. option_map_or (slot_filled d inherited) o inherited) e) ∙ same_options_equal same_class same_class_equal _ _ same in
+            subst (IsFiller (d ∷ ds)) (same_some (d, x) found k) (e, slot_is_virtual d inherited x slot fills, or_left _ _ (same_class_itself d))
+
+  -- ---- chains
+
+  -- the chain of a class ends with that of another
+  abbrev EndsWith : ClassName → ClassName → Type 0
+  EndsWith c q = (before : List ClassName) × (chain_of tree c ≡ before ++ chain_of tree q)
+
+  none_chain : (n : ℕ) → chain_within tree n None ≡ []
+  none_chain zero = refl
+  none_chain (suc n) = refl
+
+  none_met : {A : Type 0} (p : ClassName → Bool) (n : ℕ) → IsTrue (list_any p (chain_within tree n None)) → A
+  none_met p n h = never (subst (λ cs. IsTrue (list_any p cs)) (none_chain n) h)
+
+  -- what is in the chain of an end is in the whole chain
+  in_whole : (p : ClassName → Bool) (c q : ClassName) → EndsWith c q → IsTrue (list_any p (chain_of tree q)) → IsTrue (list_any p (chain_of tree c))
+  in_whole p c q (before, e) h = subst (λ cs. IsTrue (list_any p cs)) (sym e) (list_any-append p before (chain_of tree q) ∙ or_right _ _ h)
+
+  -- an interface's chain is itself
+  interface_chain : (i : ClassName) → is_interface tree i ≡ true → chain_of tree i ≡ i ∷ []
+  interface_chain i h = ap (λ o. i ∷ chain_within tree (suc (suc (length tree.classes))) o) (interface_has_no_base tree i h)
+
+  interface_holds : (i c : ClassName) → is_interface tree i ≡ true → IsTrue (list_any (same_class c) (chain_of tree i)) → c ≡ i
+  interface_holds i c h k = by_case (either (same_class c i) false (subst (λ cs. IsTrue (list_any (same_class c) cs)) (interface_chain i h) k))
+    where
+      by_case : IsTrue (same_class c i) ⊎ IsTrue false → c ≡ i
+      by_case (inl same) = same_class_equal c i same
+      by_case (inr lost) = never lost
+
+  module _ (legal : IsLegal tree) where
+    chain_of_base : (c b : ClassName) → base_of tree c ≡ Some b → chain_of tree c ≡ c ∷ chain_of tree b
+    chain_of_base c b e = sym (chain_ends tree (no_cycle tree legal) c (suc (longest_chain tree)) (omega arith)) ∙ ap (λ o. c ∷ chain_within tree (longest_chain tree) o) e
+
+    -- the chain of a class ends with that of each of its classes
+    ends_within : (n : ℕ) (c q : ClassName) → IsTrue (list_any (same_class q) (chain_within tree n (Some c))) → EndsWith c q
+    ends_within zero c q h = never h
+    ends_within (suc n) c q h = by_case (either (same_class q c) (list_any (same_class q) (chain_within tree n (base_of tree c))) h) (λ b. ends_within n b q)
+      where
+        by_base : (o : Option ClassName) → base_of tree c ≡ o → IsTrue (list_any (same_class q) (chain_within tree n o)) → ((b : ClassName) → IsTrue (list_any (same_class q) (chain_within tree n (Some b))) → EndsWith b q) → EndsWith c q
+        by_base None e t further = none_met (same_class q) n t
+        by_base (Some b) e t further = let end = further b t in (c ∷ end.0, chain_of_base c b e ∙ ap (λ cs. c ∷ cs) end.1)
+
+        by_case : IsTrue (same_class q c) ⊎ IsTrue (list_any (same_class q) (chain_within tree n (base_of tree c))) → ((b : ClassName) → IsTrue (list_any (same_class q) (chain_within tree n (Some b))) → EndsWith b q) → EndsWith c q
+        by_case (inl here) further = ([], ap (chain_of tree) (sym (same_class_equal q c here)))
+        by_case (inr there) further = by_base (base_of tree c) refl there further
+
+    ends_with : (c q : ClassName) → IsTrue (list_any (same_class q) (chain_of tree c)) → EndsWith c q
+    ends_with c q h = ends_within (longest_chain tree) c q h
+
+    -- an interface begins each chain that it is in
+    interface_first : (n : ℕ) (c i : ClassName) → is_interface tree i ≡ true → IsTrue (list_any (same_class i) (chain_within tree n (Some c))) → i ≡ c
+    interface_first zero c i h k = never k
+    interface_first (suc n) c i h k = by_case (either (same_class i c) (list_any (same_class i) (chain_within tree n (base_of tree c))) k) (λ b. interface_first n b i h)
+      where
+        by_base : (o : Option ClassName) → base_of tree c ≡ o → IsTrue (list_any (same_class i) (chain_within tree n o)) → ((b : ClassName) → IsTrue (list_any (same_class i) (chain_within tree n (Some b))) → i ≡ b) → i ≡ c
+        by_base None e t further = none_met (same_class i) n t
+        by_base (Some b) e t further = not_both (is_interface tree i) (subst (λ z. is_interface tree z ≡ false) (sym (further b t)) (base_is_class tree legal c b e)) h
+
+        by_case : IsTrue (same_class i c) ⊎ IsTrue (list_any (same_class i) (chain_within tree n (base_of tree c))) → ((b : ClassName) → IsTrue (list_any (same_class i) (chain_within tree n (Some b))) → i ≡ b) → i ≡ c
+        by_case (inl here) further = same_class_equal i c here
+        by_case (inr there) further = by_base (base_of tree c) refl there further
+
