@@ -5,19 +5,43 @@ use Rattle.std.specs.Option.{option_map_or}
 use Rattle.std.proofs.lemmas.Bool.{or_parts, or_left, or_right, and_from}
 use Rattle.std.proofs.lemmas.List.Folds.{list_any-append}
 use Rattle.cil_model.specs.declared.types.ClassName.{ClassName}
+use Rattle.cil_model.specs.declared.types.DeclaredType.{DeclaredType}
+use Rattle.cil_model.specs.declared.types.Element.{Element}
+use Rattle.cil_model.specs.declared.types.Element.TheVariants.{String, Class}
 use Rattle.cil_model.specs.declared.types.Signature.{Signature}
 use Rattle.cil_model.specs.declared.instructions.MethodName.{MethodName}
+use Rattle.cil_model.specs.declared.instructions.MethodName.TheVariants.{Named}
 use Rattle.cil_model.specs.declared.trees.Tree.{Tree}
+use Rattle.cil_model.specs.declared.trees.Code.{Code}
 use Rattle.cil_model.specs.declared.trees.Method.{Method}
+use Rattle.cil_model.specs.declared.trees.MethodKind.{MethodKind}
+use Rattle.cil_model.specs.declared.trees.MethodKind.TheVariants.{Static, Instance, Virtual, Abstract}
 use Rattle.cil_model.specs.Same.{same_flag, same_class, same_options, same_signature, same_method_name}
-use Rattle.cil_model.specs.Chains.{base_of, chain_within, chain_of, longest_chain, methods_in, is_interface, method_in, nearest, is_static, is_virtual, is_new_slot_method}
-use Rattle.cil_model.specs.Slots.{slot_filled, slot_along, filler_along, class_target}
-use Rattle.cil_model.specs.Legality.{IsLegal, has_repeat, same_method}
+use Rattle.cil_model.specs.Declarations.{object_name, string_name, plain}
+use Rattle.cil_model.specs.Chains.{base_of, chain_within, chain_of, longest_chain, methods_in, interfaces_in, is_interface, method_in, nearest, find_method, is_static, is_virtual, is_abstract_method, is_new_slot_method}
+use Rattle.cil_model.specs.Slots.{slot_filled, slot_along, filler_along, class_target, virtual_in, lists, lister_along, interface_target, target}
+use Rattle.cil_model.specs.Assignable.{array_of, element_named, element_of_class, type_of_class, is_class_assignable, is_element_assignable, is_assignable}
+use Rattle.cil_model.specs.Bodies.{code_of, virtual_reference}
+use Rattle.cil_model.specs.FlowRules.{is_concrete}
+use Rattle.cil_model.specs.Legality.{IsLegal, has_repeat, same_method, implements_method, is_filled_abstract, has_abstract_slot}
 use Rattle.cil_model.proofs.SameLaws.{never, both_first, both_second, either, if_true, if_false, same_options_equal, same_class_equal, same_class_itself, same_signature_equal, same_signature_itself, same_method_name_equal, same_method_name_itself}
 use Rattle.cil_model.proofs.Legal.{no_cycle}
 use Rattle.cil_model.proofs.ChainLaws.{chain_ends}
 use Rattle.cil_model.proofs.BelowLaws.{none_is_some, same_some}
-use Rattle.type_soundness.proofs.DeclaredClasses.{found_itself, found_fails, not_both, interface_has_no_base, methods_differ, base_is_class}
+use Rattle.type_soundness.proofs.DeclaredClasses.{found_itself, found_fails, not_both, interface_has_no_base, methods_differ, listed_is_interface, base_is_class, implements_listed, no_abstract_slot}
+
+-- a virtual call on an object of a class that has objects finds a method with code, of the same signature, of a class of its chain
+abbrev pub TargetsRun : Tree → Type 0
+TargetsRun tree =
+    (d owner : ClassName) (name : List ℕ) (signature : Signature) (c : ClassName) (m : Method) → IsTrue (is_concrete tree d) → (is_interface tree d ≢ true) →
+    find_method tree true (virtual_reference owner name signature) ≡ Some (c, m) → IsTrue (is_virtual m.kind) → IsTrue (is_assignable tree (type_of_class d) (type_of_class owner)) →
+    (k : ClassName) × (m' : Method) × (code : Code) × (target tree d c m ≡ Some (k, m')) × (code_of m'.kind ≡ Some code) × (m'.signature ≡ m.signature) × (is_static m'.kind ≡ false) × IsTrue (is_assignable tree (type_of_class d) (type_of_class k))
+
+-- no virtual method is found for a string or an array
+abbrev pub NoVirtuals : Tree → Type 0
+NoVirtuals tree =
+    (own : DeclaredType) (owner : ClassName) (name : List ℕ) (signature : Signature) (c : ClassName) (m : Method) → ((own ≡ plain String) ⊎ ((t : DeclaredType) × (own ≡ array_of t))) →
+    find_method tree true (virtual_reference owner name signature) ≡ Some (c, m) → IsTrue (is_assignable tree own (type_of_class owner)) → IsTrue (is_virtual m.kind) → ⊥
 
 -- ---- lists of classes
 
@@ -166,6 +190,61 @@ module _ (tree : Tree) where
       by_case : IsTrue (same_class c i) ⊎ IsTrue false → c ≡ i
       by_case (inl same) = same_class_equal c i same
       by_case (inr lost) = never lost
+
+  -- ---- what a virtual method is found for
+
+  abbrev found_for : MethodName → Signature → Method → Bool
+  found_for name signature x = is_named name signature x && same_flag (is_static x.kind) (not true)
+
+  -- System.Object and System.String have no virtual method
+  plain_has_none : (c : ClassName) (p : Method → Bool) (m : Method) → IsTrue (list_any (same_class c) (string_name ∷ object_name ∷ [])) → find p (methods_in tree c) ≡ Some m → is_virtual m.kind ≡ false
+  plain_has_none c p m h e = by_string (either (same_class c string_name) (same_class c object_name || false) h)
+    where
+      fails : (k : ClassName) → IsTrue (same_class c k) → list_any (λ (x : Method). is_virtual x.kind) (methods_in tree k) ≡ false → is_virtual m.kind ≡ false
+      fails k same none = found_fails p (λ (x : Method). is_virtual x.kind) (methods_in tree k) m (subst (λ z. find p (methods_in tree z) ≡ Some m) (same_class_equal c k same) e) none
+
+      by_object : IsTrue (same_class c object_name) ⊎ IsTrue false → is_virtual m.kind ≡ false
+      by_object (inl same) = fails object_name same refl
+      by_object (inr lost) = never lost
+
+      by_string : IsTrue (same_class c string_name) ⊎ IsTrue (same_class c object_name || false) → is_virtual m.kind ≡ false
+      by_string (inl same) = fails string_name same refl
+      by_string (inr rest) = by_object (either (same_class c object_name) false rest)
+
+  -- so the type of a class with a virtual method in its chain is named by the class
+  element_is_class : (owner c : ClassName) (p : Method → Bool) (m : Method) → IsTrue (list_any (same_class c) (chain_of tree owner)) → find p (methods_in tree c) ≡ Some m → IsTrue (is_virtual m.kind) → element_of_class owner ≡ Class owner
+  element_is_class owner c p m among e virtual = by_tests (same_class owner object_name) (same_class owner string_name) refl refl
+    where
+      by_tests : (v w : Bool) → same_class owner object_name ≡ v → same_class owner string_name ≡ w → element_named v w owner ≡ Class owner
+      by_tests true w is_object is_string =
+          let above : IsTrue (list_any (same_class c) (object_name ∷ [])) = subst (λ z. IsTrue (list_any (same_class c) (chain_of tree z))) (same_class_equal owner object_name is_object) among in
+          not_both (is_virtual m.kind) (plain_has_none c p m (or_right (same_class c string_name) _ above) e) virtual
+      by_tests false true is_object is_string =
+          not_both (is_virtual m.kind) (plain_has_none c p m (subst (λ z. IsTrue (list_any (same_class c) (chain_of tree z))) (same_class_equal owner string_name is_string) among) e) virtual
+      by_tests false false is_object is_string = refl
+
+  -- a class whose type is assignable to another class's, as classes
+  below_class : (d owner : ClassName) → IsTrue (is_element_assignable tree (element_of_class d) (Class owner)) → (element_of_class d ≡ Class d) × IsTrue (is_class_assignable tree d owner)
+  below_class d owner h = by_name (same_class d object_name) (same_class d string_name) h
+    where
+      by_name : (v w : Bool) → IsTrue (is_element_assignable tree (element_named v w d) (Class owner)) → (element_named v w d ≡ Class d) × IsTrue (is_class_assignable tree d owner)
+      by_name true w k = never k
+      by_name false true k = never k
+      by_name false false k = (refl, k)
+
+  -- no class but System.Object takes strings or arrays
+  pub no_virtuals : NoVirtuals tree
+  no_virtuals own owner name signature c m which e fits virtual = by_type which
+    where
+      among : (find (found_for (Named name) signature) (methods_in tree c) ≡ Some m) × IsTrue (list_any (same_class c) (chain_of tree owner))
+      among = nearest_at (λ k. find (found_for (Named name) signature) (methods_in tree k)) (chain_of tree owner) c m e
+
+      taken : IsTrue (is_assignable tree own (plain (Class owner)))
+      taken = subst (λ x. IsTrue (is_assignable tree own (plain x))) (element_is_class owner c _ m among.1 among.0 virtual) fits
+
+      by_type : ((own ≡ plain String) ⊎ ((t : DeclaredType) × (own ≡ array_of t))) → ⊥
+      by_type (inl string) = never (subst (λ t. IsTrue (is_assignable tree t (plain (Class owner)))) string taken)
+      by_type (inr (t, array)) = never (subst (λ x. IsTrue (is_assignable tree x (plain (Class owner)))) array taken)
 
   module _ (legal : IsLegal tree) where
     chain_of_base : (c b : ClassName) → base_of tree c ≡ Some b → chain_of tree c ≡ c ∷ chain_of tree b
