@@ -279,3 +279,59 @@ module _ (tree : Tree) where
         by_case (inl here) further = same_class_equal i c here
         by_case (inr there) further = by_base (base_of tree c) refl there further
 
+    -- ---- the method that runs
+
+    -- a method with code and this signature, of a class of the chain of d
+    abbrev Runs : ClassName → Signature → Option (ClassName × Method) → Type 0
+    Runs d signature found =
+        (k : ClassName) × (m' : Method) × (code : Code) × (found ≡ Some (k, m')) × (code_of m'.kind ≡ Some code) × (m'.signature ≡ signature) × (is_static m'.kind ≡ false) × IsTrue (is_assignable tree (type_of_class d) (type_of_class k))
+
+    has_code : (kind : MethodKind) → IsTrue (is_virtual kind) → is_abstract_method kind ≡ false → (code : Code) × (code_of kind ≡ Some code) × (is_static kind ≡ false)
+    has_code (Static code) v a = never v
+    has_code (Instance code) v a = never v
+    has_code (Virtual is_new_slot code) v a = (code, refl, refl)
+    has_code (Abstract is_new_slot) v a = never (sym a)
+
+    second_fails : (a b : Bool) → IsTrue a → (a && b) ≡ false → b ≡ false
+    second_fails true b h e = e
+    second_fails false b h e = never h
+
+    -- a class is assignable to a class of its chain with a virtual method
+    to_class_above : (d k : ClassName) (p : Method → Bool) (m : Method) → element_of_class d ≡ Class d → IsTrue (list_any (same_class k) (chain_of tree d)) → find p (methods_in tree k) ≡ Some m → IsTrue (is_virtual m.kind) → IsTrue (is_assignable tree (type_of_class d) (type_of_class k))
+    to_class_above d k p m own among e virtual =
+        let named : element_of_class k ≡ Class k = element_is_class k k p m (or_left _ _ (same_class_itself k)) e virtual in
+        let link : IsTrue (is_class_assignable tree d k) = weaker (same_class k) (λ x. same_class x k || list_any (same_class k) (interfaces_in tree x)) (λ x same. or_left _ _ (subst (λ z. IsTrue (same_class z k)) (same_class_equal k x same) (same_class_itself k))) (chain_of tree d) among in
+        subst (λ x. IsTrue (is_element_assignable tree x (element_of_class k))) (sym own) (subst (λ x. IsTrue (is_element_assignable tree (Class d) x)) (sym named) link)
+
+    module _ (d : ClassName) (concrete : IsTrue (is_concrete tree d)) (own : element_of_class d ≡ Class d) (f : ClassName) (among : IsTrue (list_any (same_class f) (chain_of tree d))) where
+      -- the slot of a virtual method of a class of the chain has a filler
+      target_there : (name : MethodName) (signature : Signature) (m : Method) → method_in tree name signature f ≡ Some m → IsTrue (is_virtual m.kind) →
+          (found : ClassName × Method) × (class_target tree name signature d f ≡ Some found) × IsFiller name signature (chain_of tree d) found
+      target_there name signature m here virtual =
+          let rest : List ClassName = chain_within tree (suc (suc (length tree.classes))) (base_of tree f) in
+          let slot = slot_there name signature f rest m here virtual in
+          let end : EndsWith d f = ends_with d f among in
+          let filler = filler_there name signature slot.0 end.0 f rest m here slot.1 in
+          let fills : filler_along tree name signature slot.0 (chain_of tree d) ≡ Some filler.0 = ap (filler_along tree name signature slot.0) end.1 ∙ filler.1 in
+          (filler.0, ap (option_and_then (λ s. filler_along tree name signature s (chain_of tree d))) slot.1 ∙ fills, filler_is name signature slot.0 (chain_of tree d) filler.0 fills)
+
+      -- which isn't abstract
+      target_not_abstract : (name : MethodName) (signature : Signature) (m : Method) → method_in tree name signature f ≡ Some m → IsTrue (is_virtual m.kind) →
+          (found : ClassName × Method) → class_target tree name signature d f ≡ Some found → is_abstract_method found.1.kind ≡ false
+      target_not_abstract name signature m here virtual found e =
+          let opens : Method → Bool = λ x. is_virtual x.kind && is_filled_abstract (class_target tree x.name x.signature d f) in
+          let none : list_any opens (methods_in tree f) ≡ false = none_at (λ k. list_any (λ (x : Method). is_virtual x.kind && is_filled_abstract (class_target tree x.name x.signature d k)) (methods_in tree k)) (chain_of tree d) f (no_abstract_slot tree legal d concrete) among in
+          let filled : is_filled_abstract (class_target tree m.name m.signature d f) ≡ false = second_fails (is_virtual m.kind) _ virtual (found_fails (is_named name signature) opens (methods_in tree f) m here none) in
+          let is : IsTrue (is_named name signature m) = found_itself (is_named name signature) (methods_in tree f) m here in
+          let same : class_target tree m.name m.signature d f ≡ class_target tree name signature d f = ap (λ n. class_target tree n m.signature d f) (named_name name signature m is) ∙ ap (λ s. class_target tree name s d f) (named_signature name signature m is) in
+          sym (ap is_filled_abstract (same ∙ e)) ∙ filled
+
+      class_runs : (name : MethodName) (signature : Signature) (m : Method) → method_in tree name signature f ≡ Some m → IsTrue (is_virtual m.kind) → Runs d signature (class_target tree name signature d f)
+      class_runs name signature m here virtual =
+          let there = target_there name signature m here virtual in
+          let found : ClassName × Method = there.0 in
+          let filler : IsFiller name signature (chain_of tree d) found = there.2 in
+          let body = has_code found.1.kind filler.1 (target_not_abstract name signature m here virtual found there.1) in
+          (found.0, found.1, body.0, there.1, body.1, named_signature name signature found.1 (found_itself (is_named name signature) (methods_in tree found.0) found.1 filler.0), body.2,
+          to_class_above d found.0 (is_named name signature) found.1 own filler.2 filler.0 filler.1)
+
