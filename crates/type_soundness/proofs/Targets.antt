@@ -335,3 +335,93 @@ module _ (tree : Tree) where
           (found.0, found.1, body.0, there.1, body.1, named_signature name signature found.1 (found_itself (is_named name signature) (methods_in tree found.0) found.1 filler.0), body.2,
           to_class_above d found.0 (is_named name signature) found.1 own filler.2 filler.0 filler.1)
 
+    -- what is found under a name has that name
+    own_name : (name : MethodName) (signature : Signature) (c : ClassName) (m : Method) → method_in tree name signature c ≡ Some m → method_in tree m.name m.signature c ≡ Some m
+    own_name name signature c m h =
+        let is : IsTrue (is_named name signature m) = found_itself (is_named name signature) (methods_in tree c) m h in
+        ap (λ n. method_in tree n m.signature c) (named_name name signature m is) ∙ ap (λ s. method_in tree name s c) (named_signature name signature m is) ∙ h
+
+    virtual_is : (name : MethodName) (signature : Signature) (c : ClassName) (m : Method) → virtual_in tree name signature c ≡ Some m → (method_in tree name signature c ≡ Some m) × IsTrue (is_virtual m.kind)
+    virtual_is name signature c m h = by_method (method_in tree name signature c) refl h
+      where
+        by_kind : (x : Method) (v : Bool) → is_virtual x.kind ≡ v → (if v then Some x else None) ≡ Some m → method_in tree name signature c ≡ Some x → (method_in tree name signature c ≡ Some m) × IsTrue (is_virtual m.kind)
+        by_kind x true is k e = subst (λ y. (method_in tree name signature c ≡ Some y) × IsTrue (is_virtual y.kind)) (same_some x m k) (e, is)
+        by_kind x false is k e = none_is_some m k
+
+        by_method : (o : Option Method) → method_in tree name signature c ≡ o → option_and_then (λ (x : Method). if is_virtual x.kind then Some x else None) o ≡ Some m → (method_in tree name signature c ≡ Some m) × IsTrue (is_virtual m.kind)
+        by_method None e k = none_is_some m k
+        by_method (Some x) e k = by_kind x (is_virtual x.kind) refl k e
+
+    module _ (name : MethodName) (signature : Signature) where
+      -- the nearest class of a chain that lists the interface
+      abbrev Lister : ClassName → List ClassName → Type 0
+      Lister i cs = (k : ClassName) × (lister_along tree name signature i cs ≡ Some k) × IsTrue (list_any (same_class k) cs) × IsTrue (lists tree name signature i k)
+
+      -- a class is in a chain, or a class of the chain lists it
+      met_or_listed : (i : ClassName) (cs : List ClassName) → IsTrue (list_any (λ k. same_class k i || list_any (same_class i) (interfaces_in tree k)) cs) → IsTrue (list_any (same_class i) cs) ⊎ Lister i cs
+      met_or_listed i [] h = never h
+      met_or_listed i (c ∷ cs) h = by_test (lists_it c) refl (met_or_listed i cs)
+        where
+          lists_it : ClassName → Bool
+          lists_it k = list_any (same_class i) (interfaces_in tree k)
+
+          MetBehind : Type 0
+          MetBehind = IsTrue (list_any (λ k. same_class k i || lists_it k) cs) → IsTrue (list_any (same_class i) cs) ⊎ Lister i cs
+
+          later : IsTrue (list_any (same_class i) cs) ⊎ Lister i cs → lists_it c ≡ false → IsTrue (list_any (same_class i) (c ∷ cs)) ⊎ Lister i (c ∷ cs)
+          later (inl met) no_lister = inl (or_right _ _ met)
+          later (inr (k, e, among, is)) no_lister = inr (k, if_false (lists_it c) _ _ no_lister ∙ e, or_right _ _ among, is)
+
+          here : IsTrue (same_class c i) ⊎ IsTrue (lists_it c) → lists_it c ≡ false → IsTrue (list_any (same_class i) (c ∷ cs)) ⊎ Lister i (c ∷ cs)
+          here (inl same) no_lister = inl (or_left _ _ (subst (λ z. IsTrue (same_class z c)) (same_class_equal c i same) (same_class_itself c)))
+          here (inr is) no_lister = not_both (lists_it c) no_lister is
+
+          by_place : IsTrue (same_class c i || lists_it c) ⊎ IsTrue (list_any (λ k. same_class k i || lists_it k) cs) → lists_it c ≡ false → MetBehind → IsTrue (list_any (same_class i) (c ∷ cs)) ⊎ Lister i (c ∷ cs)
+          by_place (inl first) no_lister behind = here (either (same_class c i) (lists_it c) first) no_lister
+          by_place (inr rest) no_lister behind = later (behind rest) no_lister
+
+          by_test : (b : Bool) → lists_it c ≡ b → MetBehind → IsTrue (list_any (same_class i) (c ∷ cs)) ⊎ Lister i (c ∷ cs)
+          by_test true is behind = inr (c, if_true (lists_it c) _ _ is, or_left _ _ (same_class_itself c), is)
+          by_test false is behind = by_place (either (same_class c i || lists_it c) (list_any (λ k. same_class k i || lists_it k) cs) h) is behind
+
+    module _ (d : ClassName) (concrete : IsTrue (is_concrete tree d)) (own : element_of_class d ≡ Class d) where
+      -- an interface's method is implemented along the chain of the nearest class that lists it
+      interface_runs : (i : ClassName) (m : Method) → method_in tree m.name m.signature i ≡ Some m → Lister m.name m.signature i (chain_of tree d) → Runs d m.signature (interface_target tree m.name m.signature d i)
+      interface_runs i m here (k, nearest_lister, among, is) = by_found (nearest (virtual_in tree m.name m.signature) (chain_of tree k)) refl (implements_listed tree legal k i m is (is_named m.name m.signature) here)
+        where
+          by_found : (o : Option (ClassName × Method)) → nearest (virtual_in tree m.name m.signature) (chain_of tree k) ≡ o → IsTrue (is_some o) → Runs d m.signature (interface_target tree m.name m.signature d i)
+          by_found None e there = never there
+          by_found (Some (f, x)) e there =
+              let found = nearest_at (virtual_in tree m.name m.signature) (chain_of tree k) f x e in
+              let virtual = virtual_is m.name m.signature f x found.0 in
+              let above : IsTrue (list_any (same_class f) (chain_of tree d)) = in_whole (same_class f) d k (ends_with d k among) found.1 in
+              let through : option_and_then (λ (p : ClassName × Method). class_target tree m.name m.signature d p.0) (nearest (virtual_in tree m.name m.signature) (chain_of tree k)) ≡ class_target tree m.name m.signature d f = ap (option_and_then (λ (p : ClassName × Method). class_target tree m.name m.signature d p.0)) e in
+              let same : interface_target tree m.name m.signature d i ≡ class_target tree m.name m.signature d f =
+                  ap (option_and_then (λ z. option_and_then (λ (p : ClassName × Method). class_target tree m.name m.signature d p.0) (nearest (virtual_in tree m.name m.signature) (chain_of tree z)))) nearest_lister ∙ through in
+              subst (Runs d m.signature) (sym same) (class_runs d concrete own f above m.name m.signature x virtual.0 virtual.1)
+
+      module _ (is_class : is_interface tree d ≢ true) (owner c : ClassName) (m : Method) (here : method_in tree m.name m.signature c ≡ Some m) (virtual : IsTrue (is_virtual m.kind)) (searched : IsTrue (list_any (same_class c) (chain_of tree owner))) where
+        by_interface : (v : Bool) → is_interface tree c ≡ v → IsTrue (list_any (same_class owner) (chain_of tree d)) ⊎ Lister m.name m.signature owner (chain_of tree d) →
+            Runs d m.signature (if v then interface_target tree m.name m.signature d c else class_target tree m.name m.signature d c)
+        by_interface false e (inl met) = class_runs d concrete own c (in_whole (same_class c) d owner (ends_with d owner met) searched) m.name m.signature m here virtual
+        by_interface false e (inr (k, nearest_lister, among, is)) =
+            let listed : is_interface tree owner ≡ true = listed_is_interface tree legal k owner is in
+            not_both (is_interface tree c) e (subst (λ z. is_interface tree z ≡ true) (sym (interface_holds owner c listed searched)) listed)
+        by_interface true e met = by_owner (interface_first (longest_chain tree) owner c e searched) met
+          where
+            by_owner : c ≡ owner → IsTrue (list_any (same_class owner) (chain_of tree d)) ⊎ Lister m.name m.signature owner (chain_of tree d) → Runs d m.signature (interface_target tree m.name m.signature d c)
+            by_owner same (inl met') =
+                let first : c ≡ d = interface_first (longest_chain tree) d c e (subst (λ z. IsTrue (list_any (same_class z) (chain_of tree d))) (sym same) met') in
+                absurd (is_class (subst (λ z. is_interface tree z ≡ true) first e))
+            by_owner same (inr lister) = interface_runs c m here (subst (λ z. Lister m.name m.signature z (chain_of tree d)) (sym same) lister)
+
+    -- a virtual call on an object of a class that has objects finds a method with code
+    pub targets_run : TargetsRun tree
+    targets_run d owner name signature c m concrete is_class e virtual fits =
+        let found = nearest_at (λ k. find (found_for (Named name) signature) (methods_in tree k)) (chain_of tree owner) c m e in
+        let there : method_in tree (Named name) signature c ≡ Some m = only_named (Named name) signature (λ (x : Method). same_flag (is_static x.kind) (not true)) (methods_in tree c) m (methods_differ tree legal c) found.0 in
+        let here : method_in tree m.name m.signature c ≡ Some m = own_name (Named name) signature c m there in
+        let owner_type : element_of_class owner ≡ Class owner = element_is_class owner c _ m found.1 found.0 virtual in
+        let below = below_class d owner (subst (λ x. IsTrue (is_element_assignable tree (element_of_class d) x)) owner_type fits) in
+        let runs = by_interface d concrete below.0 is_class owner c m here virtual found.1 (is_interface tree c) refl (met_or_listed m.name m.signature owner (chain_of tree d) below.1) in
+        subst (Runs d m.signature) (sym (if_true (is_virtual m.kind) _ _ virtual)) runs
