@@ -6,7 +6,6 @@ use Rattle.std.proofs.lemmas.Bool.{or_parts, or_left, or_right, and_from}
 use Rattle.std.proofs.lemmas.List.Folds.{list_any-append}
 use Rattle.cil_model.specs.declared.types.ClassName.{ClassName}
 use Rattle.cil_model.specs.declared.types.DeclaredType.{DeclaredType}
-use Rattle.cil_model.specs.declared.types.Element.{Element}
 use Rattle.cil_model.specs.declared.types.Element.TheVariants.{String, Class}
 use Rattle.cil_model.specs.declared.types.Signature.{Signature}
 use Rattle.cil_model.specs.declared.instructions.MethodName.{MethodName}
@@ -23,7 +22,7 @@ use Rattle.cil_model.specs.Slots.{slot_filled, slot_along, filler_along, class_t
 use Rattle.cil_model.specs.Assignable.{array_of, element_named, element_of_class, type_of_class, is_class_assignable, is_element_assignable, is_assignable}
 use Rattle.cil_model.specs.Bodies.{code_of, virtual_reference}
 use Rattle.cil_model.specs.FlowRules.{is_concrete}
-use Rattle.cil_model.specs.Legality.{IsLegal, has_repeat, same_method, implements_method, is_filled_abstract, has_abstract_slot}
+use Rattle.cil_model.specs.Legality.{IsLegal, has_repeat, same_method, is_filled_abstract}
 use Rattle.cil_model.proofs.SameLaws.{never, both_first, both_second, either, if_true, if_false, same_options_equal, same_class_equal, same_class_itself, same_signature_equal, same_signature_itself, same_method_name_equal, same_method_name_itself}
 use Rattle.cil_model.proofs.Legal.{no_cycle}
 use Rattle.cil_model.proofs.ChainLaws.{chain_ends}
@@ -75,7 +74,7 @@ nearest_at {X} at (d ∷ ds) c x h = by_class (at d) refl h (nearest_at at ds c 
 
 -- ---- methods
 
-abbrev pub is_named : MethodName → Signature → Method → Bool
+abbrev is_named : MethodName → Signature → Method → Bool
 is_named name signature m = same_method_name m.name name && same_signature m.signature signature
 
 named_name : (name : MethodName) (signature : Signature) (m : Method) → IsTrue (is_named name signature m) → m.name ≡ name
@@ -120,9 +119,11 @@ module _ (tree : Tree) where
     filler_there : (slot : ClassName) (before : List ClassName) (c : ClassName) (cs : List ClassName) (m : Method) → method_in tree name signature c ≡ Some m → slot_along tree name signature (c ∷ cs) ≡ Some slot →
         (found : ClassName × Method) × (filler_along tree name signature slot (before ++ c ∷ cs) ≡ Some found)
     filler_there slot [] c cs m here fills =
-        let same : IsTrue (same_options same_class (slot_along tree name signature (c ∷ cs)) (Some slot)) = subst (λ o. IsTrue (same_options same_class o (Some slot))) (sym fills) (same_class_itself slot) in
-        ((c, m), ap (λ o. option_map_or (λ x. if same_options same_class (slot_along tree name signature (c ∷ cs)) (Some slot) then Some (c, x) else filler_along tree name signature slot cs) o (filler_along tree name signature slot cs)) here ∙
-        if_true _ _ _ same)
+        let same : IsTrue (same_options same_class (slot_along tree name signature (c ∷ cs)) (Some slot)) = subst (λ o. IsTrue (same_options same_class o (Some slot))) (sym fills) (same_class_itself slot) in (
+          (c, m),
+          ap (λ o. option_map_or (λ x. if same_options same_class (slot_along tree name signature (c ∷ cs)) (Some slot) then Some (c, x) else filler_along tree name signature slot cs) o (filler_along tree name signature slot cs)) here ∙
+              if_true _ _ _ same,
+        )
     filler_there slot (d ∷ ds) c cs m here fills =
         by_class (method_in tree name signature d) (same_options same_class (slot_along tree name signature (d ∷ rest)) (Some slot)) (filler_there slot ds c cs m here fills)
       where
@@ -331,9 +332,16 @@ module _ (tree : Tree) where
           let there = target_there name signature m here virtual in
           let found : ClassName × Method = there.0 in
           let filler : IsFiller name signature (chain_of tree d) found = there.2 in
-          let body = has_code found.1.kind filler.1 (target_not_abstract name signature m here virtual found there.1) in
-          (found.0, found.1, body.0, there.1, body.1, named_signature name signature found.1 (found_itself (is_named name signature) (methods_in tree found.0) found.1 filler.0), body.2,
-          to_class_above d found.0 (is_named name signature) found.1 own filler.2 filler.0 filler.1)
+          let body = has_code found.1.kind filler.1 (target_not_abstract name signature m here virtual found there.1) in (
+            found.0,
+            found.1,
+            body.0,
+            there.1,
+            body.1,
+            named_signature name signature found.1 (found_itself (is_named name signature) (methods_in tree found.0) found.1 filler.0),
+            body.2,
+            to_class_above d found.0 (is_named name signature) found.1 own filler.2 filler.0 filler.1,
+          )
 
     -- what is found under a name has that name
     own_name : (name : MethodName) (signature : Signature) (c : ClassName) (m : Method) → method_in tree name signature c ≡ Some m → method_in tree m.name m.signature c ≡ Some m
@@ -397,7 +405,7 @@ module _ (tree : Tree) where
               let above : IsTrue (list_any (same_class f) (chain_of tree d)) = in_whole (same_class f) d k (ends_with d k among) found.1 in
               let through : option_and_then (λ (p : ClassName × Method). class_target tree m.name m.signature d p.0) (nearest (virtual_in tree m.name m.signature) (chain_of tree k)) ≡ class_target tree m.name m.signature d f = ap (option_and_then (λ (p : ClassName × Method). class_target tree m.name m.signature d p.0)) e in
               let same : interface_target tree m.name m.signature d i ≡ class_target tree m.name m.signature d f =
-                  ap (option_and_then (λ z. option_and_then (λ (p : ClassName × Method). class_target tree m.name m.signature d p.0) (nearest (virtual_in tree m.name m.signature) (chain_of tree z)))) nearest_lister ∙ through in
+              ap (option_and_then (λ z. option_and_then (λ (p : ClassName × Method). class_target tree m.name m.signature d p.0) (nearest (virtual_in tree m.name m.signature) (chain_of tree z)))) nearest_lister ∙ through in
               subst (Runs d m.signature) (sym same) (class_runs d concrete own f above m.name m.signature x virtual.0 virtual.1)
 
       module _ (is_class : is_interface tree d ≢ true) (owner c : ClassName) (m : Method) (here : method_in tree m.name m.signature c ≡ Some m) (virtual : IsTrue (is_virtual m.kind)) (searched : IsTrue (list_any (same_class c) (chain_of tree owner))) where
