@@ -6,3 +6,5 @@ pub mod Literals
 pub mod SourceLaws
 pub mod SimpleSteps
 pub mod WholeSteps
+pub mod DeclaredClasses
+pub mod Targets
