@@ -18,8 +18,6 @@ use Rattle.cil_model.specs.declared.limits.Limits.{Limits}
 use Rattle.cil_model.specs.declared.reports.Report.{Report}
 use Rattle.cil_model.specs.declared.trees.Tree.{Tree}
 use Rattle.interleaving_core.specs.declared.machine.Refused.TheVariants.{Limits as BadLimits}
-use Rattle.schedule_text.specs.Items.{words}
-use Rattle.schedule_text.specs.Readings.{AreRead}
 use Rattle.cil_model.specs.Typings.{IsAccepted}
 use Rattle.first_path.specs.Typed.{first_beyond}
 use Rattle.first_path.specs.declared.path.PathError.{PathError}
@@ -28,7 +26,7 @@ use Rattle.verifier.specs.Verdicts.{IsVerdict}
 use Rattle.verifier.specs.declared.refusals.VerifyError.{VerifyError}
 use Rattle.cilvm.specs.Failures.{failure_of_path, failure_of_verifying}
 use Rattle.cilvm.specs.declared.drive.Failure.{Failure}
-use Rattle.cilvm.specs.Outcomes.{HasRun, IsAcceptedSource, IsNotAccepted, IsNotRun, IsRunBy, IsShown}
+use Rattle.cilvm.specs.Outcomes.{HasRun, IsAcceptedSource, IsNotAccepted, IsNotRun, IsRun, IsRunBy, IsShown}
 use Rattle.cilvm.specs.Threads.{ends_of}
 
 pub handed_on : {T E : Type 0} {P gives : E → Type 0} (r : Result T E) → IsErrAnd r gives → ((e : E) → gives e → P e) → IfErr r P
@@ -64,26 +62,27 @@ nothing_more : (n : ℕ) → 0 + n ≡ n
 nothing_more n = omega arith
 
 -- a machine that was run from its beginning
-pub ran : (tree : Tree) (limits : Limits) (text : List ℕ) (m d : Content) (events es : List Event) (before reports : List Report) → are_in_range limits ≡ true → AreRead (words text) events → es ≡ events → before ≡ []
-    → (s : State) × (opening tree limits ≡ Some s) × StandsFor m s → m.tree ≡ tree → m.limits ≡ limits → length reports ≡ length before + length es → FollowsReference m d (zip es (drop (length before) reports)) → KeepsBudgets m d (zip es (drop (length before) reports))
-    → IsRunBy tree limits text d
-ran tree limits text m d events es before reports in_range are_read same_events none first same_tree same_limits each follows kept =
-    let each' : length reports ≡ length events = each ∙ ap (λ xs. length xs + length es) none ∙ nothing_more (length es) ∙ ap length same_events in
-    let follows' : FollowsReference m d (zip events reports) = subst (λ xs. FollowsReference m d (zip xs reports)) same_events (subst (λ xs. FollowsReference m d (zip es (drop (length xs) reports))) none follows) in
-    let kept' : KeepsBudgets m d (zip events reports) = subst (λ xs. KeepsBudgets m d (zip xs reports)) same_events (subst (λ xs. KeepsBudgets m d (zip es (drop (length xs) reports))) none kept) in
-    (in_range, (events, are_read, stands_after tree limits m d events reports first.0 first.1 first.2 same_tree same_limits (some_budget limits in_range) each' follows' kept'))
+pub ran : (tree : Tree) (limits : Limits) (m d : Content) (events : List Event) (before reports : List Report) → are_in_range limits ≡ true → before ≡ []
+    → (s : State) × (opening tree limits ≡ Some s) × StandsFor m s → m.tree ≡ tree → m.limits ≡ limits → length reports ≡ length before + length events → FollowsReference m d (zip events (drop (length before) reports))
+    → KeepsBudgets m d (zip events (drop (length before) reports)) → IsRun tree limits events reports d
+ran tree limits m d events before reports in_range none first same_tree same_limits each follows kept =
+    let each' : length reports ≡ length events = each ∙ ap (λ xs. length xs + length events) none ∙ nothing_more (length events) in
+    let follows' : FollowsReference m d (zip events reports) = subst (λ xs. FollowsReference m d (zip events (drop (length xs) reports))) none follows in
+    let kept' : KeepsBudgets m d (zip events reports) = subst (λ xs. KeepsBudgets m d (zip events (drop (length xs) reports))) none kept in
+    (in_range, stands_after tree limits m d events reports first.0 first.1 first.2 same_tree same_limits (some_budget limits in_range) each' follows' kept')
 
 -- what the machine that was run shows
-pub has_run : (source : List ℕ) (tree : Tree) (limits : Limits) (text : List ℕ) (c : Content) (out out' err err' : Option (List ℕ)) (status : ℕ) → IsAcceptedSource source tree → IsRunBy tree limits text c
+pub has_run : (source : List ℕ) (limits : Limits) (text : List ℕ) (reports : List Report) (c : Content) (out out' err err' : Option (List ℕ)) (status : ℕ) → IsRunBy source limits text reports c
     → IsShown c.printed (map (λ (t : Thread). t.ended) c.threads) out out' err err' status → HasRun source limits text out out' err err' status
-has_run source tree limits text c out out' err err' status accepted run shown =
-    let after : StandsAfter tree limits run.1.0 c = run.1.2 in
+has_run source limits text reports c out out' err err' status by shown =
+    let after : StandsAfter by.2.0 limits by.0 reports c = by.2.2.1 in
     record {
-      tree = tree;
-      is_accepted = accepted;
-      in_range = run.0;
-      events = run.1.0;
-      are_read = run.1.1;
+      tree = by.2.0;
+      is_accepted = by.2.1.0;
+      in_range = by.2.2.0;
+      events = by.0;
+      are_read = by.1;
+      reports = reports;
       state = after.state;
       is_run = after.is_run;
       budgets = after.budgets;
@@ -103,6 +102,6 @@ untyped_source source tree program error failure read same legal verdict told =
     inr (tree, read, inr (inl (legal, (error, subst (λ (t : Tree). IsVerdict t (Err error)) same verdict, told))))
 
 -- an accepted program that does not run yet
-pub beyond : {T : Type 0} (source : List ℕ) (limits : Limits) (text : List ℕ) (tree : Tree) (error : PathError) (failure : Failure) → IsAcceptedSource source tree
-    → ((method : ℕ) → ◌≡◌ {A = Result T PathError} (Err error) (Err (NotYet method)) → first_beyond tree ≡ Some method) → failure ≡ failure_of_path error → IsNotRun source limits text failure
-beyond source limits text tree error failure accepted refused told = inr (tree, accepted, inl (error, (λ method e. refused method (ap Err e)), told))
+pub beyond : {T : Type 0} (source : List ℕ) (limits : Limits) (tree : Tree) (error : PathError) (failure : Failure) → IsAcceptedSource source tree
+    → ((method : ℕ) → ◌≡◌ {A = Result T PathError} (Err error) (Err (NotYet method)) → first_beyond tree ≡ Some method) → failure ≡ failure_of_path error → IsNotRun source limits failure
+beyond source limits tree error failure accepted refused told = inr (tree, accepted, inl (error, (λ method e. refused method (ap Err e)), told))

@@ -1,7 +1,7 @@
 -- What comes of an order: what is printed, and the status that the program ends with (this profile).
 use Rattle.std.specs.Io.KnownBytes.{Appends}
 use Rattle.std.specs.Fmt.{decimal}
-use Rattle.std.specs.Prelude.{◌≡◌, ◌≢◌, ◌⊎◌, ◌*◌, ◌++◌, ◌∷◌, [], ℕ, true, false, List, Option, Some, Err, codes}
+use Rattle.std.specs.Prelude.{◌≡◌, ◌≢◌, ◌⊎◌, ◌*◌, ◌++◌, ◌∷◌, [], ℕ, true, false, List, Option, Some, None, Err, codes}
 use Rattle.std.specs.List.{zip}
 use Rattle.machine_content.specs.Budgets.{AreWithinBudget}
 use Rattle.cil_model.specs.Ranges.{are_in_range}
@@ -18,6 +18,7 @@ use Rattle.machine_content.specs.StandsFor.{IsRunOf, StandsAfter}
 use Rattle.reference_machine.specs.States.{State}
 use Rattle.cil_model.specs.Typings.{IsAccepted}
 use Rattle.cil_model.specs.declared.reports.End.{End}
+use Rattle.cil_model.specs.declared.reports.Report.{Report}
 use Rattle.metadata.specs.RuleNumbers.{number_of as legality_number_of}
 use Rattle.metadata.specs.declared.program.MetaError.{MetaError}
 use Rattle.metadata.specs.declared.program.MetaError.TheVariants.{OutOfMemory as NoMemoryForNames}
@@ -71,26 +72,41 @@ IsNotAccepted source failure =
 abbrev pub IsBeyond : Tree → Failure → Type 0
 IsBeyond tree failure = (error : PathError) × ((method : ℕ) → error ≡ NotYet method → first_beyond tree ≡ Some method) × (failure ≡ failure_of_path error)
 
--- a machine has its limits in range, and stands after the events that the text of a schedule writes
-abbrev pub IsRunBy : Tree → Limits → List ℕ → Content → Type 0
-IsRunBy tree limits text content =
-    (are_in_range limits ≡ true) × ((events : List Event) × AreRead (words text) events × StandsAfter tree limits events content)
+-- the bytes have a tree that is an accepted program, all of whose instructions run
+abbrev pub IsRunnable : List ℕ → Tree → Type 0
+IsRunnable source tree = IsAcceptedSource source tree × (first_beyond tree ≡ None)
 
--- why a verified program is not run by a text: its limits come first, then the text
-abbrev pub IsNotRunBy : Limits → List ℕ → Failure → Type 0
-IsNotRunBy limits text failure =
+-- a machine has its limits in range, and stands after these events, of which it gave these reports
+abbrev pub IsRun : Tree → Limits → List Event → List Report → Content → Type 0
+IsRun tree limits events reports content = (are_in_range limits ≡ true) × StandsAfter tree limits events reports content
+
+-- a machine has run a list of events: the bytes have a tree that is an accepted program, and it stands after the events
+abbrev pub HasRunTo : List ℕ → Limits → List Event → List Report → Content → Type 0
+HasRunTo source limits events reports content = (tree : Tree) × IsRunnable source tree × IsRun tree limits events reports content
+
+-- why a program that runs was not run: its limits come first, then memory
+abbrev pub IsNotRunWithin : Limits → Failure → Type 0
+IsNotRunWithin limits failure =
     ((are_in_range limits ≡ false) × (failure ≡ failure_of_making BadLimits))
-    ⊎ ((are_in_range limits ≡ true) × ((failure ≡ Memory)
-    ⊎ ((error : ScheduleError) × IsFirstFault (words text) error × (failure ≡ failure_of_schedule error))))
+    ⊎ ((are_in_range limits ≡ true) × (failure ≡ Memory))
 
--- a machine has run by a text: the bytes have a tree that is an accepted program, and it stands after the events that the text writes
-abbrev pub HasRunTo : List ℕ → Limits → List ℕ → Content → Type 0
-HasRunTo source limits text content = (tree : Tree) × IsAcceptedSource source tree × IsRunBy tree limits text content
+-- why no machine has run a list of events, whichever it is: the source, then what does not run yet, then the limits and memory
+abbrev pub IsNotRun : List ℕ → Limits → Failure → Type 0
+IsNotRun source limits failure = IsNotAccepted source failure
+    ⊎ ((tree : Tree) × IsAcceptedSource source tree × (IsBeyond tree failure ⊎ ((first_beyond tree ≡ None) × IsNotRunWithin limits failure)))
 
--- why no machine has: the source, then what does not run yet, then the limits and the text
-abbrev pub IsNotRun : List ℕ → Limits → List ℕ → Failure → Type 0
-IsNotRun source limits text failure = IsNotAccepted source failure
-    ⊎ ((tree : Tree) × IsAcceptedSource source tree × (IsBeyond tree failure ⊎ IsNotRunBy limits text failure))
+-- a machine has run by a text: the text writes the events that it has run
+abbrev pub IsRunBy : List ℕ → Limits → List ℕ → List Report → Content → Type 0
+IsRunBy source limits text reports content = (events : List Event) × AreRead (words text) events × HasRunTo source limits events reports content
+
+-- the text of a schedule writes no events: this is its first fault
+abbrev pub IsBadSchedule : List ℕ → Failure → Type 0
+IsBadSchedule text failure = (error : ScheduleError) × IsFirstFault (words text) error × (failure ≡ failure_of_schedule error)
+
+-- why no machine has run by a text: what lets no list of events run, then the text
+abbrev pub IsNotRunBy : List ℕ → Limits → List ℕ → Failure → Type 0
+IsNotRunBy source limits text failure = IsNotRun source limits failure
+    ⊎ ((tree : Tree) × IsRunnable source tree × (are_in_range limits ≡ true) × IsBadSchedule text failure)
 
 -- what is shown on the two outputs of bytes that were printed and of how the threads stand, and the status
 pub record IsShown (printed : List ℕ) (ends : List (Option End)) (out out' err err' : Option (List ℕ)) (status : ℕ) : Type 0 where
@@ -134,14 +150,15 @@ pub record HasRun (source : List ℕ) (limits : Limits) (text : List ℕ) (out o
   pub in_range : are_in_range limits ≡ true
   pub events : List Event
   pub are_read : AreRead (words text) events
+  pub reports : List Report
   pub state : State
-  pub is_run : IsRunOf tree limits events state
-  pub budgets : AreWithinBudget limits (zip events is_run.reports) state
+  pub is_run : IsRunOf tree limits events reports state
+  pub budgets : AreWithinBudget limits (zip events reports) state
   pub shown : IsShown state.printed (ends_of state) out out' err err' status
 
 -- why a run is not done
 abbrev pub HasNotRun : List ℕ → Limits → List ℕ → Failure → Type 0
-HasNotRun source limits text failure = IsNotRun source limits text failure ⊎ (IsLetIn source × IsOfWriting failure)
+HasNotRun source limits text failure = IsNotRunBy source limits text failure ⊎ (IsLetIn source × IsOfWriting failure)
 
 -- an order is carried out: a run takes its schedule from the command line, a replay from the file
 abbrev pub IsDone : Order → List ℕ → List ℕ → Option (List ℕ) → Option (List ℕ) → Option (List ℕ) → Option (List ℕ) → ℕ → Type 0

@@ -7,16 +7,17 @@ ghost use Rattle.cilvm.specs.Failures.{failure_of_reading, failure_of_resolving}
 ghost use Rattle.cilvm.specs.Failures.{failure_of_path, failure_of_schedule, failure_of_verifying};
 ghost use Rattle.cilvm.specs.Failures.{is_refusal, message_of, status_of_failure};
 ghost use Rattle.cilvm.specs.Outcomes.{HasNotRun, HasRun, HasRunTo, IsAcceptedSource, IsChecked, IsDone, IsNotAccepted};
-ghost use Rattle.cilvm.specs.Outcomes.{IsNotChecked, IsNotDone, IsNotRun, IsNotRunBy, IsOfWriting};
-ghost use Rattle.cilvm.specs.Outcomes.{IsOutcome, IsRunBy, IsShown, IsTried, trial_text};
+ghost use Rattle.cilvm.specs.Outcomes.{IsNotChecked, IsNotDone, IsNotRun, IsNotRunBy, IsNotRunWithin, IsOfWriting};
+ghost use Rattle.cilvm.specs.Outcomes.{IsOutcome, IsRun, IsRunBy, IsShown, IsTried, trial_text};
 ghost use Rattle.cilvm.specs.Threads.{is_done, is_live, line_of, lines_from};
 ghost use Rattle.cilvm.specs.Threads.{status_of};
 ghost use Rattle.cilvm.specs.declared.drive.Failure.TheVariants.{Memory};
 
 use crate::orders::Order;
+use cil_model::events::Event;
 use cil_model::limits::Limits;
 use cil_model::memory::NoMemory;
-use cil_model::reports::End;
+use cil_model::reports::{End, Report};
 use class_layout::lay_out;
 use first_path::{FirstPath, PathError, first_path};
 use flip_trial::{Outcome, Sizes};
@@ -281,25 +282,61 @@ fn show_run<W: Write, E: Write>(
     ensures untouched { IfErr result (λ failure. is_refusal failure ≡ true
         → (W.contents out.new ≡ W.contents out.old) × (E.contents err.new ≡ E.contents err.old)) }
 {
-    let machine = run_source(alloc, source, limits, text)?;
-    show(alloc, &machine, out, err)
+    let run = run_source(alloc, source, limits, text)?;
+    show(alloc, &run.machine, out, err)
 }
 
-/// The machine of a source after the events of a schedule's text. The reference machine's run over the steps of these events is never
-/// stuck, and the machine stands for the state that it comes to. Faults are looked for in this order: the source, what does not run
-/// yet, the limits, the schedule, memory for what is printed.
+/// A machine after the events of a run, and what it reported of them.
+#[derive(Debug, Drop)]
+pub struct MachineRun {
+    /// The machine, which holds what the run printed and how each thread stands.
+    pub machine: Machine,
+    /// The report of each event, in the order of the events.
+    pub reports: Vec<Report>,
+}
+
+/// Runs a source by the events that a schedule's text writes, as `run_events` runs a list of them.
+///
+/// Faults are looked for in this order: the source, what does not run yet, the limits, the schedule, memory for what is printed.
 pub fn run_source(
     alloc: Global,
     source: &[u8],
     limits: Limits,
     text: &[u8],
-) -> Result<Machine, Failure>
-    ensures ran { IfOk result (HasRunTo source.now limits text.now) }
-    ensures refused { IfErr result (IsNotRun source.now limits text.now) }
+) -> Result<MachineRun, Failure>
+    ensures ran { IfOk result (λ run. IsRunBy source.now limits text.now run.reports.items run.machine) }
+    ensures refused { IfErr result (IsNotRunBy source.now limits text.now) }
+{
+    match read_schedule(alloc, text) {
+        Ok(events) => run_events(alloc, source, limits, events.as_slice()),
+        Err(error) => {
+            // What is wrong with the source or the limits is told first.
+            run_events(alloc, source, limits, &[])?;
+            Err(Failure::from(error))
+        }
+    }
+}
+
+/// Runs a source by a list of events, of any length and any threads, and answers the machine after them with the report of each.
+///
+/// The reference machine's run over the steps among the events is never stuck. It gives the steps these reports, and the machine stands
+/// for the state that it comes to: the bytes printed are the same, and each thread stands alike. No thread makes more steps than its
+/// budget has. A step of a thread that isn't live is reported Absent; an event of a collector does nothing yet (this profile).
+///
+/// Faults are looked for in this order: the source (`accept`), what does not run yet (`Refused(301)`), the limits (`OutOfRange(401)`),
+/// memory for reports and what is printed (`Memory`).
+pub fn run_events(
+    alloc: Global,
+    source: &[u8],
+    limits: Limits,
+    events: &[Event],
+) -> Result<MachineRun, Failure>
+    ensures ran { IfOk result (λ run. HasRunTo source.now limits events.now run.reports.items run.machine) }
+    ensures refused { IfErr result (IsNotRun source.now limits) }
 {
     let verified = accept(alloc, source)?;
     let program = first_path(alloc, verified)?;
-    run(alloc, program, limits, text)
+    run(alloc, program, limits, events)
 }
 
 /// The verified program of a source, whose tree is the one that the bytes have. It is legal, and each of its methods has a typing.
@@ -313,16 +350,20 @@ pub fn accept(alloc: Global, source: &[u8]) -> Result<Verified, Failure>
     Ok(verify(alloc, program, layout)?)
 }
 
-/// The machine of a program after the events of a schedule.
-fn run(alloc: Global, program: FirstPath, limits: Limits, text: &[u8]) -> Result<Machine, Failure>
-    ensures ran { IfOk result (IsRunBy program limits text.now) }
-    ensures refused { IfErr result (IsNotRunBy limits text.now) }
+/// The machine of a program after these events.
+fn run(
+    alloc: Global,
+    program: FirstPath,
+    limits: Limits,
+    events: &[Event],
+) -> Result<MachineRun, Failure>
+    ensures ran { IfOk result (λ run. IsRun program limits events.now run.reports.items run.machine) }
+    ensures refused { IfErr result (IsNotRunWithin limits) }
 {
     let mut machine = Machine::new(alloc, program, limits)?;
-    let events = read_schedule(alloc, text)?;
     let mut reports = Vec::new(alloc);
-    machine.run(events.as_slice(), &mut reports)?;
-    Ok(machine)
+    machine.run(events, &mut reports)?;
+    Ok(MachineRun { machine, reports })
 }
 
 /// Prints what a run leaves, and answers its status.

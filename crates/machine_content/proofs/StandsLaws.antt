@@ -110,13 +110,12 @@ module _ (limits : Limits) (c d : Content) (s : State) (events : List (Event × 
 
 -- a machine that stood for the opening state, after a run
 pub stands_after : (tree : Tree) (limits : Limits) (c d : Content) (events : List Event) (reports : List Report) (first : State) → opening tree limits ≡ Some first → StandsFor c first → c.tree ≡ tree → c.limits ≡ limits → 0 < limits.budget
-    → length reports ≡ length events → FollowsReference c d (zip events reports) → KeepsBudgets c d (zip events reports) → StandsAfter tree limits events d
+    → length reports ≡ length events → FollowsReference c d (zip events reports) → KeepsBudgets c d (zip events reports) → StandsAfter tree limits events reports d
 stands_after tree limits c d events reports first opens stands same_tree same_limits some each follows kept =
     let alike : RunsAlike c d (zip events reports) first = follows first stands in
     record {
       state = alike.state;
       is_run = record {
-        reports = reports;
         each = each;
         is_after = record {
           first = first;

@@ -74,15 +74,14 @@ pub record RunsAlike (old new : Content) (events : List (Event × Report)) (s : 
 abbrev pub FollowsReference : Content → Content → List (Event × Report) → Type 0
 FollowsReference old new events = (s : State) → StandsFor old s → RunsAlike old new events s
 
--- With one report an event, the reference machine's run over their steps is never stuck, gives these reports, and comes to this state.
-pub record IsRunOf (tree : Tree) (limits : Limits) (events : List Event) (s : State) : Type 0 where
-  pub reports : List Report
+-- With these reports, one an event, the reference machine's run over their steps is never stuck, gives the steps' reports, and comes to this state.
+pub record IsRunOf (tree : Tree) (limits : Limits) (events : List Event) (reports : List Report) (s : State) : Type 0 where
   pub each : length reports ≡ length events
   pub is_after : IsStateAfter tree limits (zip events reports) s
 
 -- a machine stands for such a state, to which each thread came within its budget
-pub record StandsAfter (tree : Tree) (limits : Limits) (events : List Event) (c : Content) : Type 0 where
+pub record StandsAfter (tree : Tree) (limits : Limits) (events : List Event) (reports : List Report) (c : Content) : Type 0 where
   pub state : State
-  pub is_run : IsRunOf tree limits events state
-  pub budgets : AreWithinBudget limits (zip events is_run.reports) state
+  pub is_run : IsRunOf tree limits events reports state
+  pub budgets : AreWithinBudget limits (zip events reports) state
   pub stands : StandsFor c state

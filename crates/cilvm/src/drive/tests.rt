@@ -1,4 +1,4 @@
-use super::{accept, drive};
+use super::{accept, drive, run_events};
 use crate::line::{LineFault, order};
 use crate::orders::Order;
 use cil_model::events::Event;
@@ -362,6 +362,42 @@ fn reports_each_event(rt: HostRuntime) {
     assert!(rt; machine.end_of(0) == Some(End::Budget) && machine.end_of(1).is_none());
     assert!(rt; !machine.is_live(0) && machine.live() == 0 && machine.started() == 1);
     assert!(rt; machine.console().is_empty());
+}
+
+#[test]
+fn runs_a_list_of_events(rt: HostRuntime) {
+    let limits = Limits {
+        words: 65_536,
+        budget: 9,
+        depth: 64,
+    };
+    let step = Event::Step(0);
+    let events = [
+        step,
+        Event::Gc,
+        step,
+        Event::Step(255),
+        step,
+        step,
+        Event::Ack(0),
+        step,
+        step,
+    ];
+    let run = run_events(rt.alloc(), SUM.as_bytes(), limits, &events).expect(&rt, "a run");
+    let wanted = [
+        Report::Ran,
+        Report::Waiting,
+        Report::Ran,
+        Report::Absent,
+        Report::Ran,
+        Report::Ran,
+        Report::NothingPosted,
+        Report::Ended(End::Done),
+        Report::Absent,
+    ];
+    assert!(rt; run.reports.as_slice() == wanted.as_slice());
+    assert!(rt; run.machine.console() == b"5\n".as_slice());
+    assert!(rt; run.machine.end_of(0) == Some(End::Done) && run.machine.started() == 1);
 }
 
 #[test]
