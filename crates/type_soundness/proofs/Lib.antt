@@ -1,3 +1,4 @@
 pub mod Keeping
 pub mod Running
 pub mod Openings
+pub mod Operands
