@@ -2,3 +2,4 @@ pub mod Keeping
 pub mod Running
 pub mod Openings
 pub mod Operands
+pub mod DeclaredClasses
