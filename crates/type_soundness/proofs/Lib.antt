@@ -3,3 +3,4 @@ pub mod Running
 pub mod Openings
 pub mod Operands
 pub mod DeclaredClasses
+pub mod StateChanges
