@@ -4,3 +4,4 @@ pub mod Openings
 pub mod Operands
 pub mod DeclaredClasses
 pub mod StateChanges
+pub mod ObjectSteps
