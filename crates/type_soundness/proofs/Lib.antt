@@ -3,5 +3,6 @@ pub mod Running
 pub mod Openings
 pub mod Operands
 pub mod DeclaredClasses
+pub mod Targets
 pub mod StateChanges
 pub mod ObjectSteps
