@@ -5,4 +5,5 @@ pub mod Operands
 pub mod DeclaredClasses
 pub mod Targets
 pub mod StateChanges
+pub mod DeclaredFields
 pub mod ObjectSteps

@@ -1,36 +1,47 @@
 -- Instructions on objects, arrays and static fields keep states typed.
-use Rattle.std.proofs.Common.{◌≡◌, ◌⊎◌, ℕ, zero, suc, ℤ, pos, negsuc, Bool, true, false, IsTrue, ◌&&◌, if◌then◌else◌, List, ◌∷◌, length, replicate, Option, Some, None, option_map, option_and_then, slice_get, refl, inl, inr, sym, ap, ◌∙◌, subst}
+use Rattle.std.proofs.Common.{◌≡◌, ◌⊎◌, ℕ, zero, suc, ℤ, pos, negsuc, Bool, true, false, IsTrue, ◌&&◌, if◌then◌else◌, List, [], ◌∷◌, length, replicate, Option, Some, None, option_map, option_and_then, slice_get, refl, inl, inr, sym, ap, ◌∙◌, subst}
 use Rattle.std.specs.Option.{option_map_or}
+use Rattle.std.proofs.lemmas.Option.{option_and_then_some}
+use Rattle.cil_model.specs.declared.types.ClassName.{ClassName}
 use Rattle.cil_model.specs.declared.types.DeclaredType.{DeclaredType}
 use Rattle.cil_model.specs.declared.types.Element.{Element}
 use Rattle.cil_model.specs.declared.types.Element.TheVariants.{Int32 as Int32Element, Int64 as Int64Element, String}
 use Rattle.cil_model.specs.declared.instructions.Instruction.{Instruction}
-use Rattle.cil_model.specs.declared.instructions.Instruction.TheVariants.{NewArray, LoadLength, LoadElementInt32, LoadElementInt64, LoadElementReference, StoreElementInt32, StoreElementInt64, StoreElementReference, CastClass, IsInstance}
+use Rattle.cil_model.specs.declared.instructions.Instruction.TheVariants.{LoadField, StoreField, LoadStaticField, StoreStaticField, NewArray, LoadLength, LoadElementInt32, LoadElementInt64, LoadElementReference, StoreElementInt32, StoreElementInt64, StoreElementReference, CastClass, IsInstance}
+use Rattle.cil_model.specs.declared.instructions.FieldReference.{FieldReference}
+use Rattle.cil_model.specs.declared.trees.Field.{Field}
 use Rattle.cil_model.specs.declared.reports.Fault.TheVariants.{NullReference, IndexOutOfRange, ArrayTypeMismatch, InvalidCast, OutOfMemory}
 use Rattle.cil_model.specs.declared.trees.Tree.{Tree}
 use Rattle.cil_model.specs.Same.{same_type}
 use Rattle.cil_model.specs.Declarations.{plain}
-use Rattle.cil_model.specs.Assignable.{to_itself, is_reference, is_assignable, array_of, held_by, element_of}
+use Rattle.cil_model.specs.Assignable.{to_itself, is_reference, is_assignable, array_of, held_by, element_of, type_of_class}
+use Rattle.cil_model.specs.Chains.{find_field}
+use Rattle.cil_model.specs.Fields.{same_key}
 use Rattle.cil_model.specs.Bodies.{falls_through}
-use Rattle.cil_model.specs.Stacks.{take_two, take_three}
-use Rattle.cil_model.specs.TypeTree.{StackType, Declared, NativeInt, Null as NullType}
-use Rattle.cil_model.specs.FlowRules.{allowed, is_int32, is_int64, is_any_reference, is_index, any_type, passes, is_array_of, held, element_on_stack}
+use Rattle.cil_model.specs.Stacks.{take_one, take_two, take_three}
+use Rattle.cil_model.specs.TypeTree.{StackType, Declared, NativeInt, Null as NullType, fits}
+use Rattle.cil_model.specs.FlowRules.{allowed, is_int32, is_int64, is_any_reference, is_index, any_type, passes, is_array_of, held, element_on_stack, take_operands}
 use Rattle.cil_model.proofs.SameLaws.{never, both_first, both_second, either, if_true, same_type_equal, same_type_itself}
 use Rattle.cil_model.specs.Legality.{IsLegal}
-use Rattle.cil_model.proofs.BelowLaws.{none_is_some, same_some}
+use Rattle.cil_model.proofs.BelowLaws.{none_is_some, same_some, element_is_reference}
 use Rattle.cil_model.proofs.CompleteLaws.{test_is_complete}
 use Rattle.reference_machine.specs.Growth.{Follows}
 use Rattle.reference_machine.specs.Values.{ObjectName, Born, Literal, Value, Int32, Int64, Native, Null, Reference, zero_of}
 use Rattle.reference_machine.specs.Arithmetic.{as_index}
-use Rattle.reference_machine.specs.States.{Contents, Instance, Array, HeapObject, Frame, State, type_of_contents, type_of, elements_of_contents, array_at, with_element, next_name, with_birth}
+use Rattle.reference_machine.specs.States.{Contents, Instance, Array, HeapObject, Frame, State, entry_at, replaced_entry, type_of_contents, type_of, elements_of_contents, field_value, with_field, array_at, with_element, next_name, with_birth}
 use Rattle.reference_machine.specs.Effects.{Setting, Effect, Raises, Sticks, given, not_null, onward}
-use Rattle.reference_machine.specs.Steps.{next, new_array, in_range, element, load_element, store_element, may_hold, store_reference, execute}
-use Rattle.reference_machine.proofs.StateLaws.{follows_birth, follows_element}
+use Rattle.reference_machine.specs.Steps.{key_of, next, new_array, in_range, element, load_element, store_element, may_hold, store_reference, execute}
+use Rattle.reference_machine.proofs.StateLaws.{follows_birth, follows_field, follows_statics, follows_element}
 use Rattle.type_soundness.specs.TypedStates.{IsObjectOf, HasType, HasStackType, HaveStackTypes, IsTyped}
 use Rattle.type_soundness.proofs.Keeping.{stack_keeps}
 use Rattle.type_soundness.proofs.Running.{IsTypedEffect, IsRunning, onward_typed, next_typed}
 use Rattle.type_soundness.proofs.Operands.{value_fits, from_int32, from_int64, from_index, from_reference, one_typed, two_typed, three_typed, was_allowed}
-use Rattle.type_soundness.proofs.StateChanges.{typed_birth, newborn_has_own_type, new_elements_typed, element_typed, array_typed, stored_element}
+use Rattle.type_soundness.proofs.StateChanges.{typed_birth, newborn_has_own_type, new_elements_typed, element_typed, loaded_static, stored_static, array_typed, stored_element, loaded_field, stored_field}
+use Rattle.type_soundness.proofs.DeclaredFields.{HasField, static_field_there, field_there}
+
+mapped_some : {X Y P : Type 0} (g : X → Y) (o : Option X) (y : Y) → option_map g o ≡ Some y → ((x : X) → o ≡ Some x → g x ≡ y → P) → P
+mapped_some g None y e go = none_is_some y e
+mapped_some g (Some x) y e go = go x refl (same_some (g x) y e)
 
 module _ (tree : Tree) where
   -- an array's own elements may stand where elements of another type are wanted: one type, or references that fit
@@ -181,6 +192,68 @@ module _ (here : Setting) (s : State) (f : Frame) (below : List Frame) where
         (from_passed (own_test t) (in_range here s f below (slice_get elements) (go n t) at.0) Sticks (tests t w held passed)
         (in_range_typed (slice_get elements) (go n t) at.0 (λ m v is. each n t w elements m v there held passed on_stack is)))))
 
+    -- ---- operands that fit
+
+    -- an operand of the type that it fits
+    one_fitting : (go : Value → List Value → Effect) (t : DeclaredType) (vs : List Value) (st result : List StackType) → HaveStackTypes here.tree s vs st → take_operands here.tree (t ∷ []) st ≡ Some result →
+        ((v : Value) (rest : List Value) (types : List StackType) → HasType here.tree s v t → HaveStackTypes here.tree s rest types → types ≡ result → Fine (go v rest)) → Fine (take_one Sticks vs go)
+    one_fitting go t vs [] result h e each = none_is_some result e
+    one_fitting go t [] (a ∷ st) result h e each = elim h [ ]
+    one_fitting go t (v ∷ rest) (a ∷ st) result h e each = by_test (fits here.tree a t) refl e
+      where
+        by_test : (b : Bool) → fits here.tree a t ≡ b → (if b then Some st else None) ≡ Some result → Fine (go v rest)
+        by_test true is e' = each v rest st (value_fits here.tree running.accepted.legal s v a t is h.0) h.1 (same_some st result e')
+        by_test false is e' = none_is_some result e'
+
+    -- two of them
+    two_fitting : (go : Value → Value → List Value → Effect) (t u : DeclaredType) (vs : List Value) (st result : List StackType) → HaveStackTypes here.tree s vs st → take_operands here.tree (t ∷ u ∷ []) st ≡ Some result →
+        ((v w : Value) (rest : List Value) (types : List StackType) → HasType here.tree s v t → HasType here.tree s w u → HaveStackTypes here.tree s rest types → types ≡ result → Fine (go v w rest)) → Fine (take_two Sticks vs go)
+    two_fitting go t u vs [] result h e each = none_is_some result e
+    two_fitting go t u [] (a ∷ st) result h e each = elim h [ ]
+    two_fitting go t u (w ∷ vs) (b ∷ st) result h e each = by_test (fits here.tree b u) refl e
+      where
+        second : (xs : List Value) (ys : List StackType) → HaveStackTypes here.tree s xs ys → take_operands here.tree (t ∷ []) ys ≡ Some result → IsTrue (fits here.tree b u) → Fine (take_two Sticks (w ∷ xs) go)
+        second xs [] k e' is = none_is_some result e'
+        second [] (a ∷ ys) k e' is = elim k [ ]
+        second (v ∷ rest) (a ∷ ys) k e' is = by_first (fits here.tree a t) refl e'
+          where
+            by_first : (c : Bool) → fits here.tree a t ≡ c → (if c then Some ys else None) ≡ Some result → Fine (go v w rest)
+            by_first true is' e'' = each v w rest ys (value_fits here.tree running.accepted.legal s v a t is' k.0) (value_fits here.tree running.accepted.legal s w b u is h.0) k.1 (same_some ys result e'')
+            by_first false is' e'' = none_is_some result e''
+
+        by_test : (c : Bool) → fits here.tree b u ≡ c → (if c then take_operands here.tree (t ∷ []) st else None) ≡ Some result → Fine (take_two Sticks (w ∷ vs) go)
+        by_test true is e' = second vs st h.1 e' is
+        by_test false is e' = none_is_some result e'
+
+    -- ---- fields
+
+    -- null, or an object of a class's type
+    from_instance : (P : Value → Type 0) (c : ClassName) (v : Value) → HasType here.tree s v (type_of_class c) → P Null → ((n : ObjectName) → IsObjectOf here.tree s n (type_of_class c) → P (Reference n)) → P v
+    from_instance P c Null h null each = null
+    from_instance P c (Reference n) h null each = each n h
+    from_instance P c (Native z) h null each = elim h [ ]
+    from_instance P c (Int32 z) h null each = never (subst (λ t. IsTrue (is_reference t)) h (element_is_reference here.tree (Some c) 0))
+    from_instance P c (Int64 z) h null each = never (subst (λ t. IsTrue (is_reference t)) h (element_is_reference here.tree (Some c) 0))
+
+    load_of_object : (r : FieldReference) (d : ClassName) (g : Field) → find_field here.tree false r ≡ Some (d, g) → (v : Value) (rest : List Value) (types : List StackType) → HasType here.tree s v (type_of_class r.owner) →
+        HaveStackTypes here.tree s rest types → Declared r.field_type ∷ types ≡ running.result → Fine (not_null v NullReference (λ n. given (field_value s n (key_of (d, g))) (λ w. next here s f below (w ∷ rest))))
+    load_of_object r d g found v rest types h rest_typed e =
+        from_instance (λ x. Fine (not_null x NullReference (λ n. given (field_value s n (key_of (d, g))) (λ w. next here s f below (w ∷ rest))))) r.owner v h tt (λ n k.
+        let at : HasField here.tree s n (key_of (d, g)) r.field_type = field_there here.tree running.accepted.legal s r d g found n k in
+        let loaded = loaded_field here.tree running.accepted.legal s running.typed n at.object at.class_name at.fields (key_of (d, g)) r.field_type at.there at.holds at.entry in
+        from_given (λ w. next here s f below (w ∷ rest)) (field_value s n (key_of (d, g))) loaded.0 loaded.1 (on (loaded.0 ∷ rest) (Declared r.field_type ∷ types) (loaded.2, rest_typed) e))
+
+    store_in_object : (r : FieldReference) (d : ClassName) (g : Field) → find_field here.tree false r ≡ Some (d, g) → (v w : Value) (rest : List Value) (types : List StackType) → HasType here.tree s v (type_of_class r.owner) → HasType here.tree s w r.field_type →
+        HaveStackTypes here.tree s rest types → types ≡ running.result → Fine (not_null v NullReference (λ n. given (with_field s n (key_of (d, g)) w) (λ s'. onward f below s' rest)))
+    store_in_object r d g found v w rest types h value rest_typed e =
+        from_instance (λ x. Fine (not_null x NullReference (λ n. given (with_field s n (key_of (d, g)) w) (λ s'. onward f below s' rest)))) r.owner v h tt (λ n k.
+        let at : HasField here.tree s n (key_of (d, g)) r.field_type = field_there here.tree running.accepted.legal s r d g found n k in
+        let stored = stored_field here.tree running.accepted.legal s running.typed n at.object at.class_name at.fields (key_of (d, g)) r.field_type at.there at.holds at.entry w value in
+        let follows : Follows s stored.0 = follows_field s n (key_of (d, g)) w stored.0 stored.1 in
+        from_given (λ s'. onward f below s' rest) (with_field s n (key_of (d, g)) w) stored.0 stored.1 (on_after stored.0 stored.2 follows rest types (stack_keeps here.tree s stored.0 follows rest types rest_typed) e))
+
+    -- ---- elements of one type
+
     -- an integer's tests hold of an array of that integer alone
     integer_tests : (integer : DeclaredType) → is_reference integer ≡ false → (t w : DeclaredType) → IsHeldAs here.tree t w → IsTrue (same_type w integer) → IsTrue (same_type integer t)
     integer_tests integer no_reference t w held passed =
@@ -301,3 +374,44 @@ module _ (here : Setting) (s : State) (f : Frame) (below : List Frame) where
       let reference : IsTrue (is_reference t) = both_second (is_any_reference a) _ passed.0 in
       cast_typed (IsInstance t) running refl t reference (λ others. next here s f below (Null ∷ others)) v a rest types (both_first _ _ passed.0) h rest_typed passed.1
       (on (IsInstance t) running refl (Null ∷ rest) (Declared t ∷ types) (reference, rest_typed) passed.1))
+
+  -- ---- fields
+
+  pub load_field_typed : (r : FieldReference) → At (LoadField r) → Fine (execute here s f below (LoadField r))
+  load_field_typed r running =
+      let t : DeclaredType = type_of_class r.owner in
+      let go : Value → List Value → ClassName × Field → Effect = λ v rest found. not_null v NullReference (λ n. given (field_value s n (key_of found)) (λ w. next here s f below (w ∷ rest))) in
+      option_and_then_some _ (find_field here.tree false r) running.result running.flows (λ found is flows.
+      mapped_some _ (take_operands here.tree (t ∷ []) running.stack) running.result flows (λ taken is_taken e.
+      one_fitting (LoadField r) running refl (λ v rest. given (find_field here.tree false r) (go v rest)) t f.stack running.stack taken running.values is_taken (λ v rest types h rest_typed same.
+      from_given (go v rest) (find_field here.tree false r) found is
+      (load_of_object (LoadField r) running refl r found.0 found.1 is v rest types h rest_typed (ap (λ ts. Declared r.field_type ∷ ts) same ∙ e)))))
+
+  pub store_field_typed : (r : FieldReference) → At (StoreField r) → Fine (execute here s f below (StoreField r))
+  store_field_typed r running =
+      let t : DeclaredType = type_of_class r.owner in
+      let go : Value → Value → List Value → ClassName × Field → Effect = λ v w rest found. not_null v NullReference (λ n. given (with_field s n (key_of found) w) (λ s'. onward f below s' rest)) in
+      option_and_then_some _ (find_field here.tree false r) running.result running.flows (λ found is flows.
+      two_fitting (StoreField r) running refl (λ v w rest. given (find_field here.tree false r) (go v w rest)) t r.field_type f.stack running.stack running.result running.values flows (λ v w rest types h value rest_typed e.
+      from_given (go v w rest) (find_field here.tree false r) found is (store_in_object (StoreField r) running refl r found.0 found.1 is v w rest types h value rest_typed e)))
+
+  pub load_static_field_typed : (r : FieldReference) → At (LoadStaticField r) → Fine (execute here s f below (LoadStaticField r))
+  load_static_field_typed r running =
+      let go : ClassName × Field → Effect = λ found. given (entry_at same_key (key_of found) s.statics) (λ v. next here s f below (v ∷ f.stack)) in
+      mapped_some _ (find_field here.tree true r) running.result running.flows (λ found is e.
+      let loaded = loaded_static here.tree running.accepted.legal s running.typed (key_of found) r.field_type (static_field_there here.tree running.accepted.legal r found.0 found.1 is) in
+      from_given go (find_field here.tree true r) found is
+      (from_given (λ v. next here s f below (v ∷ f.stack)) (entry_at same_key (key_of found) s.statics) loaded.0 loaded.1
+      (on (LoadStaticField r) running refl (loaded.0 ∷ f.stack) (Declared r.field_type ∷ running.stack) (loaded.2, running.values) e)))
+
+  pub store_static_field_typed : (r : FieldReference) → At (StoreStaticField r) → Fine (execute here s f below (StoreStaticField r))
+  store_static_field_typed r running =
+      let go : Value → List Value → ClassName × Field → Effect = λ v rest found. given (replaced_entry (key_of found) v s.statics) (λ statics. onward f below (record s { statics = statics }) rest) in
+      option_and_then_some _ (find_field here.tree true r) running.result running.flows (λ found is flows.
+      one_fitting (StoreStaticField r) running refl (λ v rest. given (find_field here.tree true r) (go v rest)) r.field_type f.stack running.stack running.result running.values flows (λ v rest types h rest_typed e.
+      let stored = stored_static here.tree running.accepted.legal s running.typed (key_of found) v r.field_type (static_field_there here.tree running.accepted.legal r found.0 found.1 is) h in
+      let s' : State = record s { statics = stored.0 } in
+      let follows : Follows s s' = follows_statics s (key_of found) v stored.0 stored.1 in
+      from_given (go v rest) (find_field here.tree true r) found is
+      (from_given (λ statics. onward f below (record s { statics = statics }) rest) (replaced_entry (key_of found) v s.statics) stored.0 stored.1
+      (on_after (StoreStaticField r) running refl s' stored.2 follows rest types (stack_keeps here.tree s s' follows rest types rest_typed) e))))
