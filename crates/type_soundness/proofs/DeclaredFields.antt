@@ -63,6 +63,7 @@ other_key c f g other = by_class (same_class c c) (same_text f.name g.name) othe
     by_class true b e = e
     by_class false b e = refl
 
+-- a key is the same as itself
 own_key : (c : ClassName) (g : Field) → IsTrue (same_key (key_of (c, g)) (key_of (c, g)))
 own_key c g = and_from _ _ (same_class_itself c) (same_text_itself g.name)
 
@@ -91,7 +92,7 @@ own_entry is_static c p (f ∷ fs) g differ found flag = by_test (p f) found (λ
         subst (λ x. entry_at same_key (key_of (c, g)) (map (keyed c) (of_flag is_static (x ∷ fs))) ≡ Some g.field_type) (sym (same_some f g here)) (first (same_flag g.is_static is_static) flag)
     by_test false there later = behind (same_flag f.is_static is_static) (found_fails p (same_field_name f) fs g there (or_parts _ _ differ).0) (later there)
 
--- a test that finds an element is passed by some element
+-- where a look-up finds an element, some element passes
 some_passes : {X : Type 0} (p : X → Bool) (xs : List X) (x : X) → find p xs ≡ Some x → IsTrue (list_any p xs)
 some_passes p [] x h = none_is_some x h
 some_passes {X} p (y ∷ ys) x h = by_test (p y) h (some_passes p ys x)
@@ -100,7 +101,7 @@ some_passes {X} p (y ∷ ys) x h = by_test (p y) h (some_passes p ys x)
     by_test true here later = refl
     by_test false there later = later there
 
--- a test that finds an element finds it in the reversed list
+-- what some element of a list passes, some element of the reversed list passes
 any_reversed : {X : Type 0} (p : X → Bool) (xs : List X) → IsTrue (list_any p xs) → IsTrue (list_any p (reverse xs))
 any_reversed p [] h = h
 any_reversed {X} p (x ∷ xs) h = subst (λ ys. IsTrue (list_any p ys)) (sym (reverse_onto xs x [])) (list_any-append p (reverse xs) (x ∷ []) ∙ by_case (either (p x) (list_any p xs) h) (any_reversed p xs))
@@ -112,6 +113,7 @@ any_reversed {X} p (x ∷ xs) h = subst (λ ys. IsTrue (list_any p ys)) (sym (re
 module _ (tree : Tree) where
   -- ---- the fields of a class
 
+  -- a class of the source has the fields that its text lists
   source_fields : (c : ClassName) (x : Class) → source_class tree c ≡ Some x → fields_in tree c ≡ fields_of_kind x.kind (fields_of x)
   source_fields c x found = ap (listed_by (λ (d : Declaration). d.fields)) (source_declares tree c x found)
 
@@ -128,6 +130,7 @@ module _ (tree : Tree) where
       by_standing of_thread e = none_is_some g e
       by_standing (of_none none) e = none_is_some g (sym (ap (λ o. find p (listed_by (λ (d : Declaration). d.fields) o)) none) ∙ e)
 
+  -- and none where it is an interface
   kind_without_fields : (k : ClassKind) (fs : List Field) → IsTrue (is_interface_kind k) → fields_of_kind k fs ≡ []
   kind_without_fields Interface fs h = refl
   kind_without_fields (PlainClass is_abstract base interfaces) fs h = never h
@@ -228,9 +231,11 @@ module _ (tree : Tree) where
       abbrev asked : Field → Bool
       asked f = same_text f.name r.name && same_type f.field_type r.field_type && same_flag f.is_static is_static
 
+      -- the look-up ends at a class of the owner's chain, which has the field
       found_in : (find asked (fields_in tree d) ≡ Some g) × IsTrue (list_any (same_class d) (chain_of tree r.owner))
       found_in = nearest_at (λ c. find asked (fields_in tree c)) (chain_of tree r.owner) d g found
 
+      -- the field is as the reference says
       passes_asked : IsTrue (asked g)
       passes_asked = found_itself asked (fields_in tree d) g found_in.0
 
@@ -238,11 +243,11 @@ module _ (tree : Tree) where
       pub found_type : g.field_type ≡ r.field_type
       found_type = same_type_equal g.field_type r.field_type (both_second _ _ (both_first _ _ passes_asked))
 
-      -- among the fields of its class
+      -- it is among the fields of its class, under its key
       found_entry : entry_at same_key (key_of (d, g)) (own_fields tree is_static d) ≡ Some g.field_type
       found_entry = own_entry is_static d asked (fields_in tree d) g (fields_differ d) found_in.0 (both_second _ _ passes_asked)
 
-      -- the type of the owner is named by the owner
+      -- the owner is no class without fields in its chain, so its type is named by it
       owner_has : HasInChain (type_of_class r.owner) d
       owner_has = by_name (same_class r.owner object_name) (same_class r.owner string_name) refl refl
         where
@@ -253,6 +258,7 @@ module _ (tree : Tree) where
               plain_has_no_field d asked g (subst (λ z. IsTrue (list_any (same_class d) (chain_of tree z))) (same_class_equal r.owner string_name is') found_in.1) found_in.0
           by_name false false is is' = found_in.1
 
+      -- and so has each type that is assignable to it
       below_owner : (own : DeclaredType) → IsTrue (is_assignable tree own (type_of_class r.owner)) → HasInChain own d
       below_owner own fits = chain_below d asked g found_in.0 (test_is_sound tree own (type_of_class r.owner) fits) owner_has
 

@@ -39,6 +39,7 @@ use Rattle.type_soundness.proofs.Operands.{value_fits, from_int32, from_int64, f
 use Rattle.type_soundness.proofs.StateChanges.{typed_birth, newborn_has_own_type, new_elements_typed, element_typed, loaded_static, stored_static, array_typed, stored_element, loaded_field, stored_field}
 use Rattle.type_soundness.proofs.DeclaredFields.{HasField, static_field_there, field_there}
 
+-- what is mapped to a value was there
 mapped_some : {X Y P : Type 0} (g : X → Y) (o : Option X) (y : Y) → option_map g o ≡ Some y → ((x : X) → o ≡ Some x → g x ≡ y → P) → P
 mapped_some g None y e go = none_is_some y e
 mapped_some g (Some x) y e go = go x refl (same_some (g x) y e)
@@ -60,6 +61,7 @@ module _ (tree : Tree) (legal : IsLegal tree) (s : State) where
       by_type n NativeInt k = elim k [ ]
       by_type n NullType k = elim k [ ]
 
+  -- arrays that are assignable hold elements that may stand for one another
   arrays_hold : (t w : DeclaredType) → IsTrue (is_assignable tree (array_of t) (array_of w)) → IsHeldAs tree t w
   arrays_hold t w h = by_case (either (same_type t w) (is_reference t && is_reference w && is_assignable tree t w) h)
     where
@@ -113,10 +115,12 @@ module _ (tree : Tree) (legal : IsLegal tree) (s : State) where
   held_alone t w integer no_reference (inl e) same = e ∙ same_type_equal w integer same
   held_alone t w integer no_reference (inr h) same = never (sym no_reference ∙ subst (λ x. IsTrue (is_reference x)) (same_type_equal w integer same) h.1)
 
+  -- an array that is taken for one of references is one
   held_reference : (t w : DeclaredType) → IsHeldAs tree t w → IsTrue (is_reference w) → IsTrue (is_reference t)
   held_reference t w (inl e) r = subst (λ x. IsTrue (is_reference x)) (sym e) r
   held_reference t w (inr h) r = h.0
 
+  -- its elements fit where the others are wanted
   held_fits : (t w : DeclaredType) → IsHeldAs tree t w → IsTrue (is_assignable tree t w)
   held_fits t w (inl e) = subst (λ x. IsTrue (is_assignable tree t x)) e (test_is_complete tree legal t t to_itself)
   held_fits t w (inr h) = h.2
@@ -168,6 +172,7 @@ module _ (here : Setting) (s : State) (f : Frame) (below : List Frame) where
 
     -- ---- elements
 
+    -- outside of the array the instruction faults
     in_range_typed : (at : ℕ → Option Value) (go : ℕ → Value → Effect) (z : ℤ) → ((k : ℕ) (v : Value) → at k ≡ Some v → Fine (go k v)) → Fine (in_range here s f below at go z)
     in_range_typed at go (negsuc k) each = tt
     in_range_typed at go (pos k) each = by_value (at k) refl
@@ -176,6 +181,7 @@ module _ (here : Setting) (s : State) (f : Frame) (below : List Frame) where
         by_value None is = tt
         by_value (Some v) is = each k v is
 
+    -- an index is a number
     index_there : (index : Value) (b : StackType) → IsTrue (is_index b) → HasStackType here.tree s index b → (z : ℤ) × (as_index index ≡ Some z)
     index_there index b is h = from_index here.tree running.accepted.legal s (λ v. (z : ℤ) × (as_index v ≡ Some z)) index b is h (λ z. (z, refl)) (λ z. (z, refl))
 
@@ -235,6 +241,7 @@ module _ (here : Setting) (s : State) (f : Frame) (below : List Frame) where
     from_instance P c (Int32 z) h null each = never (subst (λ t. IsTrue (is_reference t)) h (element_is_reference here.tree (Some c) 0))
     from_instance P c (Int64 z) h null each = never (subst (λ t. IsTrue (is_reference t)) h (element_is_reference here.tree (Some c) 0))
 
+    -- the value of the field that is found, of the object on the stack
     load_of_object : (r : FieldReference) (d : ClassName) (g : Field) → find_field here.tree false r ≡ Some (d, g) → (v : Value) (rest : List Value) (types : List StackType) → HasType here.tree s v (type_of_class r.owner) →
         HaveStackTypes here.tree s rest types → Declared r.field_type ∷ types ≡ running.result → Fine (not_null v NullReference (λ n. given (field_value s n (key_of (d, g))) (λ w. next here s f below (w ∷ rest))))
     load_of_object r d g found v rest types h rest_typed e =
@@ -243,6 +250,7 @@ module _ (here : Setting) (s : State) (f : Frame) (below : List Frame) where
         let loaded = loaded_field here.tree running.accepted.legal s running.typed n at.object at.class_name at.fields (key_of (d, g)) r.field_type at.there at.holds at.entry in
         from_given (λ w. next here s f below (w ∷ rest)) (field_value s n (key_of (d, g))) loaded.0 loaded.1 (on (loaded.0 ∷ rest) (Declared r.field_type ∷ types) (loaded.2, rest_typed) e))
 
+    -- a value of its type put there
     store_in_object : (r : FieldReference) (d : ClassName) (g : Field) → find_field here.tree false r ≡ Some (d, g) → (v w : Value) (rest : List Value) (types : List StackType) → HasType here.tree s v (type_of_class r.owner) → HasType here.tree s w r.field_type →
         HaveStackTypes here.tree s rest types → types ≡ running.result → Fine (not_null v NullReference (λ n. given (with_field s n (key_of (d, g)) w) (λ s'. onward f below s' rest)))
     store_in_object r d g found v w rest types h value rest_typed e =
@@ -259,6 +267,7 @@ module _ (here : Setting) (s : State) (f : Frame) (below : List Frame) where
     integer_tests integer no_reference t w held passed =
         subst (λ x. IsTrue (same_type integer x)) (sym (held_alone here.tree running.accepted.legal s t w integer no_reference held passed)) (same_type_itself integer)
 
+    -- an element of an array of that integer is that integer
     load_integer : (integer : DeclaredType) → is_reference integer ≡ false → take_two None running.stack (λ a b rest. allowed (is_array_of (λ t. same_type t integer) a && is_index b) (Declared integer ∷ rest)) ≡ Some running.result →
         Fine (load_element here s f below (same_type integer))
     load_integer integer no_reference flows = two_typed here.tree s _ _ f.stack running.stack running.result running.values flows (λ array index a b rest types h k rest_typed e.
@@ -275,6 +284,7 @@ module _ (here : Setting) (s : State) (f : Frame) (below : List Frame) where
         let follows : Follows s stored.0 = follows_element s n m v stored.0 stored.1 in
         from_given (λ s'. onward f below s' rest) (with_element s n m v) stored.0 stored.1 (on_after stored.0 stored.2 follows rest types (stack_keeps here.tree s stored.0 follows rest types rest_typed) e)
 
+    -- and only that integer is stored in it
     store_integer : (integer : DeclaredType) → is_reference integer ≡ false → (known : StackType → Bool) → ((v : Value) (c : StackType) → IsTrue (known c) → HasStackType here.tree s v c → HasType here.tree s v integer) →
         take_three None running.stack (λ a b c rest. allowed (is_array_of (λ t. same_type t integer) a && is_index b && known c) rest) ≡ Some running.result → Fine (store_element here s f below (same_type integer))
     store_integer integer no_reference known known_typed flows = three_typed here.tree s _ _ f.stack running.stack running.result running.values flows (λ array index value a b c rest types h k l rest_typed e.
@@ -284,6 +294,7 @@ module _ (here : Setting) (s : State) (f : Frame) (below : List Frame) where
         let own : HasType here.tree s value t = subst (λ x. HasType here.tree s value x) (sym (held_alone here.tree running.accepted.legal s t w integer no_reference held same)) (known_typed value c (both_second (is_array_of (λ t. same_type t integer) a && is_index b) _ passed.0) l) in
         stored_on rest types rest_typed passed.1 n t elements m value old there is own))
 
+    -- an element of an array of references is of the type that the verifier takes for its own
     load_reference : take_two None running.stack (λ a b rest. allowed (is_array_of is_reference a && is_index b) (element_on_stack a ∷ rest)) ≡ Some running.result → Fine (load_element here s f below is_reference)
     load_reference flows = two_typed here.tree s _ _ f.stack running.stack running.result running.values flows (λ array index a b rest types h k rest_typed e.
         let passed = was_allowed (is_array_of is_reference a && is_index b) (element_on_stack a ∷ types) running.result e in
@@ -303,6 +314,7 @@ module _ (here : Setting) (s : State) (f : Frame) (below : List Frame) where
         (from_test (is_assignable here.tree k.own t) (given (with_element s n m (Reference o)) (λ s'. onward f below s' rest)) (Raises ArrayTypeMismatch)
         (λ fits. stored_on rest types rest_typed e n t elements m (Reference o) old there is (record { own = k.own; is = k.is; fits = fits; monitor = k.monitor })) tt))
 
+    -- the elements' own type says what is stored
     store_reference_typed : take_three None running.stack (λ a b c rest. allowed (is_array_of is_reference a && is_index b && is_any_reference c) rest) ≡ Some running.result → Fine (store_reference here s f below)
     store_reference_typed flows = three_typed here.tree s _ _ f.stack running.stack running.result running.values flows (λ array index value a b c rest types h k l rest_typed e.
         let passed = was_allowed (is_array_of is_reference a && is_index b && is_any_reference c) types running.result e in
