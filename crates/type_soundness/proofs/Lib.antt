@@ -8,3 +8,6 @@ pub mod SimpleSteps
 pub mod WholeSteps
 pub mod DeclaredClasses
 pub mod Targets
+pub mod StateChanges
+pub mod DeclaredFields
+pub mod ObjectSteps
