@@ -1,3 +1,4 @@
 pub mod Keeping
 pub mod Running
 pub mod Operands
+pub mod CallSteps
