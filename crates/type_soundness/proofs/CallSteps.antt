@@ -17,7 +17,8 @@ use Rattle.reference_machine.specs.Effects.{Setting, Goes, Sticks, returned}
 use Rattle.reference_machine.specs.Steps.{leave, leave_value, execute}
 use Rattle.type_soundness.specs.TypedStates.{HasType, HaveStackTypes, IsConstructing, IsTypedFrame, type_given, gives, AreWaiting, IsTyped}
 use Rattle.type_soundness.proofs.Running.{IsTypedEffect, IsRunning}
-use Rattle.type_soundness.proofs.Operands.{fitting_has_type, typed_is_of_kind}
+use Rattle.type_soundness.proofs.Operands.{value_fits}
+use Rattle.type_soundness.proofs.CallOperands.{typed_is_of_kind}
 
 -- ---- the end of a method
 
@@ -78,12 +79,12 @@ module _ (here : Setting) (s : State) (f : Frame) (below : List Frame) where
       where
         with_value : HasType here.tree s v t → IsTypedEffect here.tree (if is_of_kind t v then leave here s f below (Some v) else Sticks)
         with_value h =
-            subst (λ b. IsTypedEffect here.tree (if b then leave here s f below (Some v) else Sticks)) (sym (typed_is_of_kind here.tree s running.accepted.legal v t h))
+            subst (λ b. IsTypedEffect here.tree (if b then leave here s f below (Some v) else Sticks)) (sym (typed_is_of_kind here.tree running.accepted.legal s v t h))
             (leave_typed (Some v) (subst (IsGiven here.tree s (Some v)) (sym given) h))
 
         by_fit : (b : Bool) → fits here.tree a t ≡ b → nothing_below (if b then Some stack else None) ≡ Some running.result → IsTypedEffect here.tree (if is_of_kind t v then leave here s f below (Some v) else Sticks)
         by_fit false fit e = none_is_some running.result e
-        by_fit true fit e = with_value (fitting_has_type here.tree running.accepted.legal s v a t fit values.0)
+        by_fit true fit e = with_value (value_fits here.tree running.accepted.legal s v a t fit values.0)
 
     pub return_typed : IsTypedEffect here.tree (execute here s f below Return)
     return_typed = by_made f.constructed refl

@@ -28,7 +28,7 @@ use Rattle.reference_machine.specs.States.{State}
 use Rattle.reference_machine.proofs.MethodLaws.{IsDeclared, found_is_declared}
 use Rattle.type_soundness.specs.TypedStates.{HasType, HaveTypes}
 use Rattle.type_soundness.proofs.DeclaredClasses.{found_itself}
-use Rattle.type_soundness.proofs.Operands.{fitting_has_type}
+use Rattle.type_soundness.proofs.Operands.{value_fits}
 
 -- ---- up a chain
 
@@ -119,7 +119,7 @@ module _ (tree : Tree) (legal : IsLegal tree) (s : State) where
       HaveTypes tree s vs m.signature.parameters → HaveTypes tree s (v ∷ vs) (argument_types m c)
   arguments_of_instance v vs own c m static this above rest =
       subst (λ b. HaveTypes tree s (v ∷ vs) (if b then m.signature.parameters else type_of_class c ∷ m.signature.parameters)) (sym static)
-      (fitting_has_type tree legal s v (Declared own) (type_of_class c) above this, rest)
+      (value_fits tree legal s v (Declared own) (type_of_class c) above this, rest)
 
   -- operands of a reference are arguments of what it finds
   pub operands_are_arguments : (is_instance : Bool) (r : MethodReference) (c : ClassName) (m : Method) → IsFound tree is_instance r c m → (vs : List Value) → HaveTypes tree s vs (reference_operands is_instance r) → HaveTypes tree s vs (argument_types m c)

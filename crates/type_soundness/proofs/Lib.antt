@@ -1,7 +1,9 @@
 pub mod Keeping
 pub mod Running
 pub mod Openings
-pub mod DeclaredClasses
 pub mod Operands
-pub mod CallSteps
+pub mod DeclaredClasses
+pub mod StateChanges
+pub mod CallOperands
 pub mod FoundMethods
+pub mod CallSteps
