@@ -10,7 +10,6 @@ use Rattle.cil_model.specs.Declarations.{plain}
 use Rattle.cil_model.specs.Chains.{is_interface}
 use Rattle.cil_model.specs.Assignable.{is_assignable, to_itself}
 use Rattle.cil_model.specs.Fields.{instance_fields, static_fields}
-use Rattle.cil_model.specs.FlowRules.{is_concrete}
 use Rattle.cil_model.specs.Legality.{IsLegal}
 use Rattle.cil_model.specs.Mentions.{literals_of}
 use Rattle.cil_model.proofs.BelowLaws.{none_is_some, same_some}
@@ -20,7 +19,7 @@ use Rattle.reference_machine.specs.States.{Monitor, Free, Contents, Array, HeapO
 use Rattle.reference_machine.specs.Steps.{with_thread_at}
 use Rattle.reference_machine.specs.Growth.{shape_of, shapes, Follows}
 use Rattle.reference_machine.proofs.StateLaws.{continues_itself, follows_object, follows_birth, follows_monitor}
-use Rattle.type_soundness.specs.TypedStates.{HasType, HaveFieldTypes, IsTypedContents, AreTypedFrames, IsTyped}
+use Rattle.type_soundness.specs.TypedStates.{HasType, HaveFieldTypes, has_objects, IsTypedContents, AreTypedFrames, IsTyped}
 use Rattle.type_soundness.proofs.Keeping.{monitor_keeps, fields_keep, contents_keep, frames_keep}
 use Rattle.type_soundness.proofs.Openings.{zero_typed, zeroed_typed}
 
@@ -191,8 +190,8 @@ module _ (tree : Tree) (s : State) where
   -- ---- contents at first
 
   -- a new object of a class that has objects
-  pub new_instance_typed : (c : ClassName) → IsTrue (is_concrete tree c) → is_interface tree c ≢ true → IsTypedContents tree s (new_instance tree c)
-  new_instance_typed c concrete no_interface = (concrete, no_interface, zeroed_typed tree s (instance_fields tree c))
+  pub new_instance_typed : (c : ClassName) → IsTrue (has_objects tree c) → is_interface tree c ≢ true → IsTypedContents tree s (new_instance tree c)
+  new_instance_typed c has no_interface = (has, no_interface, zeroed_typed tree s (instance_fields tree c))
 
   -- a new array
   pub new_array_typed : (t : DeclaredType) (n : ℕ) → IsTypedContents tree s (Array t (replicate n (zero_of t)))

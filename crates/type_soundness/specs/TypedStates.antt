@@ -1,12 +1,12 @@
 -- States of the reference machine in which each value is of the type that the program declares for its place (I.8.7, III.1.8).
-use Rattle.std.specs.Prelude.{◌≡◌, ◌≢◌, IsTrue, IsSome, ℕ, Bool, true, List, [], ◌∷◌, Option, Some, None, slice_get, Contains}
+use Rattle.std.specs.Prelude.{◌≡◌, ◌≢◌, IsTrue, IsSome, ℕ, Bool, true, not, ◌&&◌, List, [], ◌∷◌, Option, Some, None, slice_get, Contains}
 use Rattle.cil_model.specs.declared.types.ClassName.{ClassName}
 use Rattle.cil_model.specs.declared.types.Element.TheVariants.{Int32 as Int32Element, Int64 as Int64Element}
 use Rattle.cil_model.specs.declared.types.DeclaredType.{DeclaredType}
 use Rattle.cil_model.specs.declared.trees.Tree.{Tree}
 use Rattle.cil_model.specs.declared.trees.Code.{Code}
-use Rattle.cil_model.specs.Same.{same_text}
-use Rattle.cil_model.specs.Declarations.{plain}
+use Rattle.cil_model.specs.Same.{same_text, same_class}
+use Rattle.cil_model.specs.Declarations.{string_name, plain}
 use Rattle.cil_model.specs.Chains.{methods_in, is_interface}
 use Rattle.cil_model.specs.Assignable.{is_reference, is_assignable}
 use Rattle.cil_model.specs.Fields.{FieldKey, instance_fields, static_fields}
@@ -70,9 +70,13 @@ HaveFieldTypes tree s (e ∷ es) [] = ⊥
 
 -- ---- objects
 
+-- a class that newobj makes objects of: it isn't abstract, and isn't System.String, whose objects are the literals alone
+abbrev pub has_objects : Tree → ClassName → Bool
+has_objects tree c = is_concrete tree c && not (same_class c string_name)
+
 -- an object of a class that has objects, with exactly its fields; or an array of elements of its type
 abbrev pub IsTypedContents : Tree → State → Contents → Type 0
-IsTypedContents tree s (Instance c fields) = IsTrue (is_concrete tree c) × (is_interface tree c ≢ true) × HaveFieldTypes tree s fields (instance_fields tree c)
+IsTypedContents tree s (Instance c fields) = IsTrue (has_objects tree c) × (is_interface tree c ≢ true) × HaveFieldTypes tree s fields (instance_fields tree c)
 IsTypedContents tree s (Array t elements) = AllHaveType tree s t elements
 
 -- ---- frames
