@@ -7,3 +7,4 @@ pub mod StateChanges
 pub mod CallOperands
 pub mod FoundMethods
 pub mod CallSteps
+pub mod BuiltInMembers

@@ -1,26 +1,28 @@
 -- Each change that the machine makes to a state leaves it typed.
-use Rattle.std.proofs.Common.{◌≡◌, ◌≢◌, ◌⊎◌, ℕ, zero, suc, true, IsTrue, List, [], ◌∷◌, ◌++◌, length, replicate, Option, Some, None, option_map, slice_get, slice_set, unwrap_or, Contains, refl, inl, inr, sym, ap, subst}
+use Rattle.std.proofs.Common.{◌≡◌, ◌≢◌, ◌⊎◌, ℕ, zero, suc, ℤ, Bool, true, false, if◌then◌else◌, IsTrue, List, [], ◌∷◌, ◌++◌, length, replicate, Option, Some, None, option_map, option_and_then, slice_get, slice_set, unwrap_or, Contains, refl, inl, inr, sym, ap, ◌∙◌, subst}
 use Rattle.std.specs.Prelude.{IsSome}
 use Rattle.cil_model.specs.declared.types.ClassName.{ClassName}
-use Rattle.cil_model.specs.declared.types.Element.TheVariants.{String}
+use Rattle.cil_model.specs.declared.types.Element.TheVariants.{Int32 as Int32Element, Int64 as Int64Element, String}
 use Rattle.cil_model.specs.declared.types.DeclaredType.{DeclaredType}
 use Rattle.cil_model.specs.declared.trees.Tree.{Tree}
-use Rattle.cil_model.specs.Same.{same_text}
+use Rattle.cil_model.specs.Same.{same_text, same_type}
 use Rattle.cil_model.specs.Declarations.{plain}
 use Rattle.cil_model.specs.Chains.{is_interface}
-use Rattle.cil_model.specs.Assignable.{is_assignable, to_itself}
-use Rattle.cil_model.specs.Fields.{instance_fields, static_fields}
+use Rattle.cil_model.specs.Assignable.{is_reference, is_assignable, to_itself}
+use Rattle.cil_model.specs.Fields.{FieldKey, instance_fields, static_fields, same_key}
 use Rattle.cil_model.specs.Legality.{IsLegal}
 use Rattle.cil_model.specs.Mentions.{literals_of}
+use Rattle.cil_model.proofs.SameLaws.{never, if_true, if_false}
 use Rattle.cil_model.proofs.BelowLaws.{none_is_some, same_some}
 use Rattle.cil_model.proofs.CompleteLaws.{test_is_complete}
-use Rattle.reference_machine.specs.Values.{ObjectName, Born, Literal, Reference, zero_of}
-use Rattle.reference_machine.specs.States.{Monitor, Free, Contents, Array, HeapObject, Thread, State, entry_at, object_at, with_object, type_of_contents, type_of, monitor_of, with_monitor, next_name, with_birth, new_instance}
+use Rattle.reference_machine.specs.Values.{ObjectName, Born, Literal, Value, Int32, Int64, Native, Null, Reference, zero_of, same_kind}
+use Rattle.reference_machine.specs.States.{Monitor, Free, Contents, Instance, Array, HeapObject, Thread, State, entry_at, with_entry, same_kind_or_none, replaced_entry, replaced_at, fields_of_contents, elements_of_contents, with_fields, field_value, with_field, array_at, with_element, object_at, with_object, type_of_contents, type_of, monitor_of, with_monitor, next_name, with_birth, new_instance}
 use Rattle.reference_machine.specs.Steps.{with_thread_at}
 use Rattle.reference_machine.specs.Growth.{shape_of, shapes, Follows}
-use Rattle.reference_machine.proofs.StateLaws.{continues_itself, follows_object, follows_birth, follows_monitor}
-use Rattle.type_soundness.specs.TypedStates.{HasType, HaveFieldTypes, has_objects, IsTypedContents, AreTypedFrames, IsTyped}
-use Rattle.type_soundness.proofs.Keeping.{monitor_keeps, fields_keep, contents_keep, frames_keep}
+use Rattle.reference_machine.proofs.StateLaws.{continues_itself, follows_object, follows_birth, follows_monitor, follows_statics, follows_field, follows_element}
+use Rattle.type_soundness.specs.TypedStates.{HasType, AllHaveType, HaveFieldTypes, IsTypedContents, AreTypedFrames, IsTyped}
+use Rattle.type_soundness.proofs.Keeping.{monitor_keeps, elements_keep, fields_keep, contents_keep, frames_keep}
+use Rattle.type_soundness.proofs.Operands.{object_is_reference}
 use Rattle.type_soundness.proofs.Openings.{zero_typed, zeroed_typed}
 
 -- ---- lists
@@ -197,3 +199,183 @@ module _ (tree : Tree) (s : State) where
   pub new_array_typed : (t : DeclaredType) (n : ℕ) → IsTypedContents tree s (Array t (replicate n (zero_of t)))
   new_array_typed t zero = tt
   new_array_typed t (suc n) = (zero_typed tree s t, new_array_typed t n)
+
+-- ---- a value in the place of another of its type
+
+-- the integers are two types
+integers_differ : {A : Type 0} → plain Int32Element ≡ plain Int64Element → A
+integers_differ {A} e = never (subst (λ u. IsTrue (same_type (plain Int32Element) u)) e refl)
+
+module _ (tree : Tree) (legal : IsLegal tree) (s : State) where
+  int32_kind : (z : ℤ) (w : Value) → HasType tree s w (plain Int32Element) → IsTrue (same_kind (Int32 z) w)
+  int32_kind z (Int32 x) h = refl
+  int32_kind z (Int64 x) h = integers_differ h
+  int32_kind z (Native x) h = elim h [ ]
+  int32_kind z Null h = never h
+  int32_kind z (Reference n) h = never (object_is_reference tree s legal n (plain Int32Element) h)
+
+  int64_kind : (z : ℤ) (w : Value) → HasType tree s w (plain Int64Element) → IsTrue (same_kind (Int64 z) w)
+  int64_kind z (Int32 x) h = integers_differ (sym h)
+  int64_kind z (Int64 x) h = refl
+  int64_kind z (Native x) h = elim h [ ]
+  int64_kind z Null h = never h
+  int64_kind z (Reference n) h = never (object_is_reference tree s legal n (plain Int64Element) h)
+
+  reference_kind : (t : DeclaredType) (w : Value) → IsTrue (is_reference t) → HasType tree s w t → IsTrue (same_kind Null w)
+  reference_kind t (Int32 x) r h = never (subst (λ u. IsTrue (is_reference u)) h r)
+  reference_kind t (Int64 x) r h = never (subst (λ u. IsTrue (is_reference u)) h r)
+  reference_kind t (Native x) r h = elim h [ ]
+  reference_kind t Null r h = refl
+  reference_kind t (Reference n) r h = refl
+
+  like_null : (n : ObjectName) (w : Value) → IsTrue (same_kind Null w) → IsTrue (same_kind (Reference n) w)
+  like_null n Null h = refl
+  like_null n (Reference m) h = refl
+  like_null n (Int32 x) h = never h
+  like_null n (Int64 x) h = never h
+  like_null n (Native x) h = never h
+
+  -- two values of a type are of one kind
+  pub typed_same_kind : (t : DeclaredType) (v w : Value) → HasType tree s v t → HasType tree s w t → IsTrue (same_kind v w)
+  typed_same_kind t (Int32 z) w h k = int32_kind z w (subst (λ u. HasType tree s w u) h k)
+  typed_same_kind t (Int64 z) w h k = int64_kind z w (subst (λ u. HasType tree s w u) h k)
+  typed_same_kind t (Native z) w h k = elim h [ ]
+  typed_same_kind t Null w h k = reference_kind t w h k
+  typed_same_kind t (Reference n) w h k = like_null n w (reference_kind t w (object_is_reference tree s legal n t h) k)
+
+  -- ---- lists of values
+
+  pub element_typed : (t : DeclaredType) (vs : List Value) (n : ℕ) (v : Value) → AllHaveType tree s t vs → slice_get vs n ≡ Some v → HasType tree s v t
+  element_typed t [] n v h e = none_is_some v e
+  element_typed t (w ∷ vs) zero v h e = subst (λ x. HasType tree s x t) (same_some w v e) h.0
+  element_typed t (w ∷ vs) (suc n) v h e = element_typed t vs n v h.1 e
+
+  set_typed : (t : DeclaredType) (vs : List Value) (n : ℕ) (v : Value) → AllHaveType tree s t vs → HasType tree s v t → AllHaveType tree s t (slice_set vs n v)
+  set_typed t [] n v h k = tt
+  set_typed t (w ∷ vs) zero v h k = (k, h.1)
+  set_typed t (w ∷ vs) (suc n) v h k = (h.0, set_typed t vs n v h.1 k)
+
+  replaced_element : (t : DeclaredType) (vs : List Value) (n : ℕ) (v old : Value) → AllHaveType tree s t vs → slice_get vs n ≡ Some old → HasType tree s v t → replaced_at n v vs ≡ Some (slice_set vs n v)
+  replaced_element t vs n v old h there k =
+      ap (λ o. same_kind_or_none o v (slice_set vs n v)) there ∙ if_true (same_kind old v) (Some (slice_set vs n v)) None (typed_same_kind t old v (element_typed t vs n old h there) k)
+
+  -- ---- fields under their keys
+
+  -- the value of a field is of its type
+  pub entry_typed : (k : FieldKey) (t : DeclaredType) (es : List (FieldKey × Value)) (fs : List (FieldKey × DeclaredType)) → HaveFieldTypes tree s es fs → entry_at same_key k fs ≡ Some t →
+      (w : Value) × (entry_at same_key k es ≡ Some w) × HasType tree s w t
+  entry_typed k t [] [] h found = none_is_some t found
+  entry_typed k t [] (f ∷ fs) h found = elim h [ ]
+  entry_typed k t (e ∷ es) [] h found = elim h [ ]
+  entry_typed k t (e ∷ es) (f ∷ fs) h found = by_test (same_key f.0 k) (ap (λ x. same_key x k) h.0) found (entry_typed k t es fs h.2)
+    where
+      by_test : (b : Bool) → same_key e.0 k ≡ b → (if b then Some f.1 else entry_at same_key k fs) ≡ Some t → (entry_at same_key k fs ≡ Some t → (w : Value) × (entry_at same_key k es ≡ Some w) × HasType tree s w t) →
+          (w : Value) × (entry_at same_key k (e ∷ es) ≡ Some w) × HasType tree s w t
+      by_test true is here later = (e.1, if_true (same_key e.0 k) (Some e.1) (entry_at same_key k es) is, subst (λ x. HasType tree s e.1 x) (same_some f.1 t here) h.1)
+      by_test false is there later = let rest = later there in (rest.0, if_false (same_key e.0 k) (Some e.1) (entry_at same_key k es) is ∙ rest.1, rest.2)
+
+  -- fields with another value of a field's type are typed
+  with_entry_typed : (k : FieldKey) (v : Value) (t : DeclaredType) (es : List (FieldKey × Value)) (fs : List (FieldKey × DeclaredType)) → HaveFieldTypes tree s es fs → entry_at same_key k fs ≡ Some t → HasType tree s v t →
+      HaveFieldTypes tree s (with_entry same_key k v es) fs
+  with_entry_typed k v t [] [] h found value = tt
+  with_entry_typed k v t [] (f ∷ fs) h found value = elim h [ ]
+  with_entry_typed k v t (e ∷ es) [] h found value = elim h [ ]
+  with_entry_typed k v t (e ∷ es) (f ∷ fs) h found value = by_test (same_key f.0 k) (ap (λ x. same_key x k) h.0) found (λ there. with_entry_typed k v t es fs h.2 there value)
+    where
+      by_test : (b : Bool) → same_key e.0 k ≡ b → (if b then Some f.1 else entry_at same_key k fs) ≡ Some t → (entry_at same_key k fs ≡ Some t → HaveFieldTypes tree s (with_entry same_key k v es) fs) →
+          HaveFieldTypes tree s (with_entry same_key k v (e ∷ es)) (f ∷ fs)
+      by_test true is here later =
+          subst (λ x. HaveFieldTypes tree s x (f ∷ fs)) (sym (if_true (same_key e.0 k) ((e.0, v) ∷ es) (e ∷ with_entry same_key k v es) is)) (h.0, subst (λ x. HasType tree s v x) (sym (same_some f.1 t here)) value, h.2)
+      by_test false is there later =
+          subst (λ x. HaveFieldTypes tree s x (f ∷ fs)) (sym (if_false (same_key e.0 k) ((e.0, v) ∷ es) (e ∷ with_entry same_key k v es) is)) (h.0, h.1, later there)
+
+  replaced_field : (k : FieldKey) (v : Value) (t : DeclaredType) (es : List (FieldKey × Value)) (fs : List (FieldKey × DeclaredType)) → HaveFieldTypes tree s es fs → entry_at same_key k fs ≡ Some t → HasType tree s v t →
+      replaced_entry k v es ≡ Some (with_entry same_key k v es)
+  replaced_field k v t es fs h found value =
+      let old = entry_typed k t es fs h found in
+      ap (λ o. same_kind_or_none o v (with_entry same_key k v es)) old.1 ∙ if_true (same_kind old.0 v) (Some (with_entry same_key k v es)) None (typed_same_kind t old.0 v old.2 value)
+
+  -- ---- stores
+
+  module _ (typed : IsTyped tree s) where
+    -- the value of a static field
+    pub loaded_static : (k : FieldKey) (t : DeclaredType) → entry_at same_key k (static_fields tree) ≡ Some t → (w : Value) × (entry_at same_key k s.statics ≡ Some w) × HasType tree s w t
+    loaded_static k t found = entry_typed k t s.statics (static_fields tree) typed.statics found
+
+    -- another value of a static field
+    pub stored_static : (k : FieldKey) (v : Value) (t : DeclaredType) → entry_at same_key k (static_fields tree) ≡ Some t → HasType tree s v t →
+        (statics : List (FieldKey × Value)) × (replaced_entry k v s.statics ≡ Some statics) × IsTyped tree (record s { statics = statics })
+    stored_static k v t found value =
+        let statics : List (FieldKey × Value) = with_entry same_key k v s.statics in
+        let is : replaced_entry k v s.statics ≡ Some statics = replaced_field k v t s.statics (static_fields tree) typed.statics found value in
+        let after : State = record s { statics = statics } in
+        let follows : Follows s after = follows_statics s k v statics is in (
+          statics,
+          is,
+          record {
+            objects = objects_on tree s typed after follows;
+            literals = literals_on tree s typed after follows;
+            statics = fields_keep tree s after follows statics (static_fields tree) (with_entry_typed k v t s.statics (static_fields tree) typed.statics found value);
+            threads = threads_on tree s typed after follows;
+          },
+        )
+
+    -- what an object that is there holds is typed
+    pub contents_typed : (n : ObjectName) (o : HeapObject) → object_at s n ≡ Some o → IsTypedContents tree s o.contents
+    contents_typed (Born n) o there = typed.objects n o there
+    contents_typed (Literal characters) o there = none_is_some o there
+
+    -- the elements of an array are of its type
+    pub array_typed : (n : ObjectName) (t : DeclaredType) (elements : List Value) → array_at s n ≡ Some (t, elements) → AllHaveType tree s t elements
+    array_typed n t elements there = by_object (object_at s n) refl there
+      where
+        by_contents : (c : Contents) → IsTypedContents tree s c → elements_of_contents c ≡ Some (t, elements) → AllHaveType tree s t elements
+        by_contents (Instance c fields) h e = none_is_some (t, elements) e
+        by_contents (Array u vs) h e = subst (λ (x : DeclaredType × List Value). AllHaveType tree s x.0 x.1) (same_some (u, vs) (t, elements) e) h
+
+        by_object : (o : Option HeapObject) → object_at s n ≡ o → option_and_then (λ (x : HeapObject). elements_of_contents x.contents) o ≡ Some (t, elements) → AllHaveType tree s t elements
+        by_object None is e = none_is_some (t, elements) e
+        by_object (Some o) is e = by_contents o.contents (contents_typed n o is) e
+
+    -- another element of an array
+    pub stored_element : (n : ObjectName) (t : DeclaredType) (elements : List Value) (i : ℕ) (v old : Value) → array_at s n ≡ Some (t, elements) → slice_get elements i ≡ Some old → HasType tree s v t →
+        (after : State) × (with_element s n i v ≡ Some after) × IsTyped tree after
+    stored_element n t elements i v old there held value = by_object (object_at s n) refl there
+      where
+        by_object : (o : Option HeapObject) → object_at s n ≡ o → option_and_then (λ (x : HeapObject). elements_of_contents x.contents) o ≡ Some (t, elements) → (after : State) × (with_element s n i v ≡ Some after) × IsTyped tree after
+        by_object None is e = none_is_some (t, elements) e
+        by_object (Some o) is e =
+            let all : AllHaveType tree s t elements = array_typed n t elements there in
+            let after : State = with_object s n (record o { contents = Array t (slice_set elements i v) }) in
+            let stored : with_element s n i v ≡ Some after =
+            ap (option_and_then (λ (x : HeapObject). option_and_then (λ (array : DeclaredType × List Value). option_map (λ vs. with_object s n (record x { contents = Array array.0 vs })) (replaced_at i v array.1)) (elements_of_contents x.contents))) is
+            ∙ ap (option_and_then (λ (array : DeclaredType × List Value). option_map (λ vs. with_object s n (record o { contents = Array array.0 vs })) (replaced_at i v array.1))) e
+            ∙ ap (option_map (λ vs. with_object s n (record o { contents = Array t vs }))) (replaced_element t elements i v old all held value) in
+            let follows : Follows s after = follows_element s n i v after stored in
+            (after, stored, typed_object_at tree s typed n (record o { contents = Array t (slice_set elements i v) }) follows (elements_keep tree s after follows t (slice_set elements i v) (set_typed t elements i v all value)))
+
+    module _ (n : ObjectName) (o : HeapObject) (c : ClassName) (fields : List (FieldKey × Value)) (k : FieldKey) (t : DeclaredType) (there : object_at s n ≡ Some o) (holds : o.contents ≡ Instance c fields) (found : entry_at same_key k (instance_fields tree c) ≡ Some t) where
+      fields_typed : IsTypedContents tree s (Instance c fields)
+      fields_typed = subst (λ x. IsTypedContents tree s x) holds (contents_typed n o there)
+
+      -- the value of an object's field
+      pub loaded_field : (w : Value) × (field_value s n k ≡ Some w) × HasType tree s w t
+      loaded_field =
+          let entry = entry_typed k t fields (instance_fields tree c) fields_typed.2 found in
+          (entry.0, ap (option_and_then (λ (x : HeapObject). option_and_then (entry_at same_key k) (fields_of_contents x.contents))) there ∙ ap (λ x. option_and_then (entry_at same_key k) (fields_of_contents x)) holds ∙ entry.1, entry.2)
+
+      -- another value of an object's field
+      pub stored_field : (v : Value) → HasType tree s v t → (after : State) × (with_field s n k v ≡ Some after) × IsTyped tree after
+      stored_field v value =
+          let new : Contents = Instance c (with_entry same_key k v fields) in
+          let after : State = with_object s n (record o { contents = new }) in
+          let stored : with_field s n k v ≡ Some after =
+          ap (option_and_then (λ (x : HeapObject). option_and_then (λ old. option_map (λ es. with_object s n (record x { contents = with_fields x.contents es })) (replaced_entry k v old)) (fields_of_contents x.contents))) there
+          ∙ ap (λ x. option_and_then (λ old. option_map (λ es. with_object s n (record o { contents = with_fields x es })) (replaced_entry k v old)) (fields_of_contents x)) holds
+          ∙ ap (option_map (λ es. with_object s n (record o { contents = Instance c es }))) (replaced_field k v t fields (instance_fields tree c) fields_typed.2 found value) in
+          let follows : Follows s after = follows_field s n k v after stored in (
+            after,
+            stored,
+            typed_object_at tree s typed n (record o { contents = new }) follows
+                (fields_typed.0, fields_typed.1, fields_keep tree s after follows (with_entry same_key k v fields) (instance_fields tree c) (with_entry_typed k v t fields (instance_fields tree c) fields_typed.2 found value)),
+          )
