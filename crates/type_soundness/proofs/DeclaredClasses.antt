@@ -2,7 +2,7 @@
 use Rattle.std.proofs.Common.{◌≡◌, ◌⊎◌, ℕ, Bool, true, false, not, cond, if◌then◌else◌, ◌&&◌, ◌||◌, IsTrue, List, [], ◌∷◌, find, Option, Some, None, is_some, option_map, option_and_then, option_to_list, slice_get, refl, inl, inr, sym, ap, ◌∙◌, subst}
 use Rattle.std.specs.List.{list_any, list_all}
 use Rattle.std.specs.Option.{option_map_or}
-use Rattle.std.proofs.lemmas.Bool.{or_parts, or_left, or_right}
+use Rattle.std.proofs.lemmas.Bool.{or_parts}
 use Rattle.cil_model.specs.declared.types.ClassName.{ClassName}
 use Rattle.cil_model.specs.declared.trees.Tree.{Tree}
 use Rattle.cil_model.specs.declared.trees.Class.{Class}
@@ -11,8 +11,7 @@ use Rattle.cil_model.specs.declared.trees.ClassKind.TheVariants.{Interface, Clas
 use Rattle.cil_model.specs.declared.trees.Method.{Method}
 use Rattle.cil_model.specs.Same.{same_class}
 use Rattle.cil_model.specs.Declarations.{Declaration, source_name, source_class, is_interface_kind, is_abstract_kind, base_named, interfaces_named, declared_as, fields_of, methods_of, object_name, string_name, console_name, monitor_name, thread_name, built_ins, declaration_of}
-use Rattle.cil_model.specs.Chains.{base_of, chain_of, methods_in, interfaces_in, is_interface, listed_by, nearest}
-use Rattle.cil_model.specs.Slots.{virtual_in}
+use Rattle.cil_model.specs.Chains.{base_of, methods_in, interfaces_in, is_interface, listed_by}
 use Rattle.cil_model.specs.FlowRules.{is_concrete}
 use Rattle.cil_model.specs.Mentions.{bases_named}
 use Rattle.cil_model.specs.Legality.{IsLegal, first_broken, has_repeat, same_method, class_doubles, doubles_name, lacks_name, has_cycle, lacks_implementation, misfits_kind, lacks_entry, passes_limit, is_source_class, is_source_interface, is_possible_base, passes_source, class_finds, implements_method, implements_all, has_abstract_slot, kinds_fit}
@@ -247,7 +246,7 @@ module _ (tree : Tree) where
         let x = lister_is_source k i h in
         let each : IsTrue (implements_all tree x.0) = found_passes (λ y. same_class (source_name y) k) (implements_all tree) tree.classes x.0 x.1 all_implement in
         let own : IsTrue (implements_method tree (source_name x.0) m) = all_pass (λ j. list_all (implements_method tree (source_name x.0)) (methods_in tree j)) (same_class i) (interfaces_named x.0.kind) each
-            (λ j good same. found_passes p (implements_method tree (source_name x.0)) (methods_in tree i) m here (subst (λ z. IsTrue (list_all (implements_method tree (source_name x.0)) (methods_in tree z))) (sym (same_class_equal i j same)) good)) x.2 in
+        (λ j good same. found_passes p (implements_method tree (source_name x.0)) (methods_in tree i) m here (subst (λ z. IsTrue (list_all (implements_method tree (source_name x.0)) (methods_in tree z))) (sym (same_class_equal i j same)) good)) x.2 in
         subst (λ z. IsTrue (implements_method tree z m)) (source_is_named k x.0 x.1) own
 
     -- a class that has objects has no abstract slot

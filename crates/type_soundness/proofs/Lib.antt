@@ -3,8 +3,10 @@ pub mod Running
 pub mod Openings
 pub mod Operands
 pub mod DeclaredClasses
+pub mod Targets
 pub mod StateChanges
 pub mod CallOperands
 pub mod FoundMethods
 pub mod CallSteps
 pub mod BuiltInMembers
+pub mod Instances

@@ -1,28 +1,28 @@
 -- Each change that the machine makes to a state leaves it typed.
-use Rattle.std.proofs.Common.{◌≡◌, ◌≢◌, ◌⊎◌, ℕ, zero, suc, ℤ, Bool, true, false, if◌then◌else◌, IsTrue, List, [], ◌∷◌, ◌++◌, length, replicate, Option, Some, None, option_map, option_and_then, slice_get, slice_set, unwrap_or, Contains, refl, inl, inr, sym, ap, ◌∙◌, subst}
+use Rattle.std.proofs.Common.{◌≡◌, ◌≢◌, ◌⊎◌, ℕ, zero, suc, Bool, true, false, if◌then◌else◌, IsTrue, List, [], ◌∷◌, ◌++◌, length, replicate, Option, Some, None, option_map, option_and_then, slice_get, slice_set, unwrap_or, Contains, refl, inl, inr, sym, ap, ◌∙◌, subst}
 use Rattle.std.specs.Prelude.{IsSome}
 use Rattle.cil_model.specs.declared.types.ClassName.{ClassName}
-use Rattle.cil_model.specs.declared.types.Element.TheVariants.{Int32 as Int32Element, Int64 as Int64Element, String}
+use Rattle.cil_model.specs.declared.types.Element.TheVariants.{String}
 use Rattle.cil_model.specs.declared.types.DeclaredType.{DeclaredType}
 use Rattle.cil_model.specs.declared.trees.Tree.{Tree}
-use Rattle.cil_model.specs.Same.{same_text, same_type}
+use Rattle.cil_model.specs.Same.{same_text}
 use Rattle.cil_model.specs.Declarations.{plain}
 use Rattle.cil_model.specs.Chains.{is_interface}
-use Rattle.cil_model.specs.Assignable.{is_reference, is_assignable, to_itself}
+use Rattle.cil_model.specs.Assignable.{is_assignable, to_itself}
 use Rattle.cil_model.specs.Fields.{FieldKey, instance_fields, static_fields, same_key}
 use Rattle.cil_model.specs.Legality.{IsLegal}
 use Rattle.cil_model.specs.Mentions.{literals_of}
-use Rattle.cil_model.proofs.SameLaws.{never, if_true, if_false}
+use Rattle.cil_model.proofs.SameLaws.{if_true, if_false}
 use Rattle.cil_model.proofs.BelowLaws.{none_is_some, same_some}
 use Rattle.cil_model.proofs.CompleteLaws.{test_is_complete}
-use Rattle.reference_machine.specs.Values.{ObjectName, Born, Literal, Value, Int32, Int64, Native, Null, Reference, zero_of, same_kind}
+use Rattle.reference_machine.specs.Values.{ObjectName, Born, Literal, Value, Reference, zero_of, same_kind}
 use Rattle.reference_machine.specs.States.{Monitor, Free, Contents, Instance, Array, HeapObject, Thread, State, entry_at, with_entry, same_kind_or_none, replaced_entry, replaced_at, fields_of_contents, elements_of_contents, with_fields, field_value, with_field, array_at, with_element, object_at, with_object, type_of_contents, type_of, monitor_of, with_monitor, next_name, with_birth, new_instance}
 use Rattle.reference_machine.specs.Steps.{with_thread_at}
 use Rattle.reference_machine.specs.Growth.{shape_of, shapes, Follows}
 use Rattle.reference_machine.proofs.StateLaws.{continues_itself, follows_object, follows_birth, follows_monitor, follows_statics, follows_field, follows_element}
-use Rattle.type_soundness.specs.TypedStates.{HasType, AllHaveType, HaveFieldTypes, IsTypedContents, AreTypedFrames, IsTyped}
+use Rattle.type_soundness.specs.TypedStates.{HasType, AllHaveType, HaveFieldTypes, has_objects, IsTypedContents, AreTypedFrames, IsTyped}
 use Rattle.type_soundness.proofs.Keeping.{monitor_keeps, elements_keep, fields_keep, contents_keep, frames_keep}
-use Rattle.type_soundness.proofs.Operands.{object_is_reference}
+use Rattle.type_soundness.proofs.Operands.{kinds_agree}
 use Rattle.type_soundness.proofs.Openings.{zero_typed, zeroed_typed}
 
 -- ---- lists
@@ -202,47 +202,7 @@ module _ (tree : Tree) (s : State) where
 
 -- ---- a value in the place of another of its type
 
--- the integers are two types
-integers_differ : {A : Type 0} → plain Int32Element ≡ plain Int64Element → A
-integers_differ {A} e = never (subst (λ u. IsTrue (same_type (plain Int32Element) u)) e refl)
-
 module _ (tree : Tree) (legal : IsLegal tree) (s : State) where
-  int32_kind : (z : ℤ) (w : Value) → HasType tree s w (plain Int32Element) → IsTrue (same_kind (Int32 z) w)
-  int32_kind z (Int32 x) h = refl
-  int32_kind z (Int64 x) h = integers_differ h
-  int32_kind z (Native x) h = elim h [ ]
-  int32_kind z Null h = never h
-  int32_kind z (Reference n) h = never (object_is_reference tree s legal n (plain Int32Element) h)
-
-  int64_kind : (z : ℤ) (w : Value) → HasType tree s w (plain Int64Element) → IsTrue (same_kind (Int64 z) w)
-  int64_kind z (Int32 x) h = integers_differ (sym h)
-  int64_kind z (Int64 x) h = refl
-  int64_kind z (Native x) h = elim h [ ]
-  int64_kind z Null h = never h
-  int64_kind z (Reference n) h = never (object_is_reference tree s legal n (plain Int64Element) h)
-
-  reference_kind : (t : DeclaredType) (w : Value) → IsTrue (is_reference t) → HasType tree s w t → IsTrue (same_kind Null w)
-  reference_kind t (Int32 x) r h = never (subst (λ u. IsTrue (is_reference u)) h r)
-  reference_kind t (Int64 x) r h = never (subst (λ u. IsTrue (is_reference u)) h r)
-  reference_kind t (Native x) r h = elim h [ ]
-  reference_kind t Null r h = refl
-  reference_kind t (Reference n) r h = refl
-
-  like_null : (n : ObjectName) (w : Value) → IsTrue (same_kind Null w) → IsTrue (same_kind (Reference n) w)
-  like_null n Null h = refl
-  like_null n (Reference m) h = refl
-  like_null n (Int32 x) h = never h
-  like_null n (Int64 x) h = never h
-  like_null n (Native x) h = never h
-
-  -- two values of a type are of one kind
-  pub typed_same_kind : (t : DeclaredType) (v w : Value) → HasType tree s v t → HasType tree s w t → IsTrue (same_kind v w)
-  typed_same_kind t (Int32 z) w h k = int32_kind z w (subst (λ u. HasType tree s w u) h k)
-  typed_same_kind t (Int64 z) w h k = int64_kind z w (subst (λ u. HasType tree s w u) h k)
-  typed_same_kind t (Native z) w h k = elim h [ ]
-  typed_same_kind t Null w h k = reference_kind t w h k
-  typed_same_kind t (Reference n) w h k = like_null n w (reference_kind t w (object_is_reference tree s legal n t h) k)
-
   -- ---- lists of values
 
   pub element_typed : (t : DeclaredType) (vs : List Value) (n : ℕ) (v : Value) → AllHaveType tree s t vs → slice_get vs n ≡ Some v → HasType tree s v t
@@ -257,7 +217,7 @@ module _ (tree : Tree) (legal : IsLegal tree) (s : State) where
 
   replaced_element : (t : DeclaredType) (vs : List Value) (n : ℕ) (v old : Value) → AllHaveType tree s t vs → slice_get vs n ≡ Some old → HasType tree s v t → replaced_at n v vs ≡ Some (slice_set vs n v)
   replaced_element t vs n v old h there k =
-      ap (λ o. same_kind_or_none o v (slice_set vs n v)) there ∙ if_true (same_kind old v) (Some (slice_set vs n v)) None (typed_same_kind t old v (element_typed t vs n old h there) k)
+      ap (λ o. same_kind_or_none o v (slice_set vs n v)) there ∙ if_true (same_kind old v) (Some (slice_set vs n v)) None (kinds_agree tree legal s old v t (element_typed t vs n old h there) k)
 
   -- ---- fields under their keys
 
@@ -293,7 +253,7 @@ module _ (tree : Tree) (legal : IsLegal tree) (s : State) where
       replaced_entry k v es ≡ Some (with_entry same_key k v es)
   replaced_field k v t es fs h found value =
       let old = entry_typed k t es fs h found in
-      ap (λ o. same_kind_or_none o v (with_entry same_key k v es)) old.1 ∙ if_true (same_kind old.0 v) (Some (with_entry same_key k v es)) None (typed_same_kind t old.0 v old.2 value)
+      ap (λ o. same_kind_or_none o v (with_entry same_key k v es)) old.1 ∙ if_true (same_kind old.0 v) (Some (with_entry same_key k v es)) None (kinds_agree tree legal s old.0 v t old.2 value)
 
   -- ---- stores
 
