@@ -1,5 +1,5 @@
 -- What an object is whose type is known: an object of a class, where no string and no array is of the type.
-use Rattle.std.proofs.Common.{◌≡◌, ◌≢◌, ◌⊎◌, Bool, true, false, ◌||◌, IsTrue, List, [], ◌∷◌, Option, Some, None, option_map, option_and_then, slice_get, refl, inl, inr, sym, ap, ◌∙◌, subst}
+use Rattle.std.proofs.Common.{◌≡◌, ◌≢◌, ◌⊎◌, ℕ, Bool, true, false, not, ◌||◌, IsTrue, List, [], ◌∷◌, Option, Some, None, option_map, option_and_then, slice_get, refl, inl, inr, sym, ap, ◌∙◌, subst}
 use Rattle.std.specs.List.{list_any}
 use Rattle.std.proofs.lemmas.Bool.{or_left, or_right}
 use Rattle.cil_model.specs.declared.types.ClassName.{ClassName}
@@ -10,8 +10,9 @@ use Rattle.cil_model.specs.Same.{same_class}
 use Rattle.cil_model.specs.Declarations.{object_name, string_name, thread_name, plain}
 use Rattle.cil_model.specs.Chains.{chain_of, interfaces_in, is_interface, is_thread_class}
 use Rattle.cil_model.specs.Assignable.{array_of, element_named, type_of_class, is_assignable}
+use Rattle.cil_model.specs.FlowRules.{is_concrete}
 use Rattle.cil_model.specs.Legality.{IsLegal}
-use Rattle.cil_model.proofs.SameLaws.{never, either, same_class_equal, same_class_itself}
+use Rattle.cil_model.proofs.SameLaws.{never, both_second, either, same_class_equal, same_class_itself}
 use Rattle.cil_model.proofs.BelowLaws.{none_is_some, same_some}
 use Rattle.reference_machine.specs.Values.{ObjectName, Born, Literal}
 use Rattle.reference_machine.specs.States.{Contents, Instance, Array, HeapObject, State, object_at, type_of_contents, type_of, class_of_contents, class_of}
@@ -55,6 +56,26 @@ module _ (tree : Tree) (s : State) (typed : IsTyped tree s) where
       by_object : (found : Option HeapObject) → slice_get s.objects n ≡ found → option_map (λ (x : HeapObject). type_of_contents x.contents) found ≡ Some h.own → IsInstanceOf tree s (Born n) t
       by_object None there e = none_is_some h.own e
       by_object (Some o) there e = with_contents o there o.contents refl (same_some (type_of_contents o.contents) h.own e) (typed.objects n o there)
+
+  -- no object is a string but a literal
+  pub string_is_literal : (n : ℕ) → IsObjectOf tree s (Born n) (plain String) → ⊥
+  string_is_literal n h = by_object (slice_get s.objects n) refl h.is
+    where
+      of_class : (c : ClassName) → IsTrue (has_objects tree c) → IsTrue (is_assignable tree (type_of_class c) (plain String)) → ⊥
+      of_class c has fits = by_name (same_class c object_name) (same_class c string_name) (both_second (is_concrete tree c) (not (same_class c string_name)) has) fits
+        where
+          by_name : (v w : Bool) → IsTrue (not w) → IsTrue (is_assignable tree (plain (element_named v w c)) (plain String)) → ⊥
+          by_name true w k e = never e
+          by_name false true k e = never k
+          by_name false false k e = never e
+
+      by_contents : (c : Contents) → type_of_contents c ≡ h.own → IsTypedContents tree s c → ⊥
+      by_contents (Array t elements) e contents = never (subst (λ x. IsTrue (is_assignable tree x (plain String))) (sym e) h.fits)
+      by_contents (Instance c fields) e contents = of_class c contents.0 (subst (λ x. IsTrue (is_assignable tree x (plain String))) (sym e) h.fits)
+
+      by_object : (found : Option HeapObject) → slice_get s.objects n ≡ found → option_map (λ (x : HeapObject). type_of_contents x.contents) found ≡ Some h.own → ⊥
+      by_object None there e = none_is_some h.own e
+      by_object (Some o) there e = by_contents o.contents (same_some (type_of_contents o.contents) h.own e) (typed.objects n o there)
 
 -- ---- threads
 

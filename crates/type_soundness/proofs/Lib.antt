@@ -10,3 +10,4 @@ pub mod FoundMethods
 pub mod CallSteps
 pub mod BuiltInMembers
 pub mod Instances
+pub mod MemberSteps
