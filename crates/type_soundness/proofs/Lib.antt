@@ -11,3 +11,4 @@ pub mod CallSteps
 pub mod BuiltInMembers
 pub mod Instances
 pub mod MemberSteps
+pub mod TargetNames

@@ -196,9 +196,9 @@ module _ (tree : Tree) (s : State) where
   new_instance_typed c has no_interface = (has, no_interface, zeroed_typed tree s (instance_fields tree c))
 
   -- a new array
-  pub new_array_typed : (t : DeclaredType) (n : ℕ) → IsTypedContents tree s (Array t (replicate n (zero_of t)))
-  new_array_typed t zero = tt
-  new_array_typed t (suc n) = (zero_typed tree s t, new_array_typed t n)
+  pub new_elements_typed : (t : DeclaredType) (n : ℕ) → IsTypedContents tree s (Array t (replicate n (zero_of t)))
+  new_elements_typed t zero = tt
+  new_elements_typed t (suc n) = (zero_typed tree s t, new_elements_typed t n)
 
 -- ---- a value in the place of another of its type
 
