@@ -1,24 +1,39 @@
 -- Calls and returns leave typed states.
-use Rattle.std.proofs.Common.{◌≡◌, Bool, true, false, if◌then◌else◌, List, [], ◌∷◌, Option, Some, None, refl, sym, ap, subst}
+use Rattle.std.proofs.Common.{◌≡◌, ◌+◌, Bool, true, false, if◌then◌else◌, IsTrue, List, [], ◌∷◌, Option, Some, None, refl, sym, ap, ◌∙◌, subst}
 use Rattle.std.specs.Option.{option_map_or}
+use Rattle.cil_model.specs.declared.types.ClassName.{ClassName}
 use Rattle.cil_model.specs.declared.types.DeclaredType.{DeclaredType}
+use Rattle.cil_model.specs.declared.instructions.Instruction.{Instruction}
 use Rattle.cil_model.specs.declared.instructions.Instruction.TheVariants.{Return}
 use Rattle.cil_model.specs.declared.trees.Tree.{Tree}
+use Rattle.cil_model.specs.declared.trees.Method.{Method}
+use Rattle.cil_model.specs.declared.trees.Code.{Code}
+use Rattle.cil_model.specs.declared.reports.Fault.TheVariants.{StackOverflow}
 use Rattle.cil_model.specs.Assignable.{to_itself}
+use Rattle.cil_model.specs.Bodies.{code_of, argument_types, falls_through}
 use Rattle.cil_model.specs.Legality.{IsLegal}
 use Rattle.cil_model.specs.TypeTree.{StackType, Declared, fits}
-use Rattle.cil_model.specs.FlowRules.{take_operands, take_returned, nothing_below}
+use Rattle.cil_model.specs.FlowRules.{give, take_operands, take_returned, nothing_below}
+use Rattle.cil_model.specs.Typings.{Reaches}
 use Rattle.cil_model.proofs.CompleteLaws.{test_is_complete}
 use Rattle.cil_model.proofs.BelowLaws.{none_is_some}
+use Rattle.cil_model.specs.Stacks.{take_one}
 use Rattle.reference_machine.specs.Values.{ObjectName, Value, Reference, is_of_kind}
 use Rattle.reference_machine.specs.States.{Frame, State, type_of}
-use Rattle.cil_model.specs.Stacks.{take_one}
-use Rattle.reference_machine.specs.Effects.{Setting, Goes, Sticks, returned}
-use Rattle.reference_machine.specs.Steps.{leave, leave_value, execute}
-use Rattle.type_soundness.specs.TypedStates.{HasType, HaveStackTypes, IsConstructing, IsTypedFrame, type_given, gives, AreWaiting, IsTyped}
+use Rattle.reference_machine.specs.Effects.{Setting, Goes, Raises, Sticks, given, new_frame, after, returned}
+use Rattle.reference_machine.specs.BuiltIn.{Action, action_of, act}
+use Rattle.reference_machine.specs.Steps.{frame_for, is_too_deep, run_method, leave, leave_value, execute}
+use Rattle.reference_machine.specs.Growth.{Follows}
+use Rattle.reference_machine.proofs.StateLaws.{follows_itself}
+use Rattle.reference_machine.proofs.MethodLaws.{IsDeclared, framed_has_typing}
+use Rattle.type_soundness.specs.TypedStates.{HasType, HaveTypes, HaveStackTypes, IsConstructing, IsTypedFrame, type_given, gives, AreWaiting, IsTyped}
+use Rattle.type_soundness.proofs.Keeping.{values_keep, frame_keeps, gives_keeps, waiting_keep}
 use Rattle.type_soundness.proofs.Running.{IsTypedEffect, IsRunning}
+use Rattle.type_soundness.proofs.Openings.{new_frame_typed}
 use Rattle.type_soundness.proofs.Operands.{value_fits}
 use Rattle.type_soundness.proofs.CallOperands.{typed_is_of_kind}
+use Rattle.type_soundness.proofs.BuiltInMembers.{IsMember, acts_as_member}
+use Rattle.type_soundness.proofs.MemberSteps.{act_typed}
 
 -- ---- the end of a method
 
@@ -98,3 +113,69 @@ module _ (here : Setting) (s : State) (f : Frame) (below : List Frame) where
         by_made None e = by_type f.method.signature.return_type (ap (λ o. type_given s o f.method.signature.return_type) e) running.flows
         by_made (Some n) e =
             leave_typed (Some (Reference n)) (subst (λ o. IsGiven here.tree s (Some (Reference n)) (type_given s o f.method.signature.return_type)) (sym e) (made_is_given running.accepted.legal n (running.frame.constructs n e)))
+
+-- ---- the beginning of a method
+
+module _ (here : Setting) (s : State) (f : Frame) (below : List Frame) (i : Instruction) (running : IsRunning here s f below i) (falls : IsTrue (falls_through i)) where
+  -- the caller waits behind its call for what the method gives
+  caller_typed : (s' : State) → Follows s s' → (d : Option DeclaredType) (rest : List Value) (types : List StackType) → HaveStackTypes here.tree s' rest types → running.result ≡ give d types → IsTypedFrame here.tree s' d (after f rest)
+  caller_typed s' follows d rest types values result =
+      let kept : IsTypedFrame here.tree s' None f = frame_keeps here.tree s s' follows None f running.frame in
+      record {
+        code = running.frame.code;
+        typing = running.frame.typing;
+        is_declared = running.frame.is_declared;
+        has_code = running.frame.has_code;
+        is_typing = running.frame.is_typing;
+        arguments = values_keep here.tree s s' follows f.arguments _ running.frame.arguments;
+        locals = values_keep here.tree s s' follows f.locals _ running.frame.locals;
+        stack = types;
+        values = values;
+        reaches = subst (λ x. Reaches here.tree running.frame.typing x (f.place + 1)) result (running.on.falls (subst (λ x. IsTrue (falls_through x)) (sym running.is) falls));
+        constructs = λ n e. let made = kept.constructs n e in record { own = made.own; is = made.is; monitor = made.monitor; nothing_returned = made.nothing_returned };
+      }
+
+  -- the frames below it wait as before
+  below_typed : (s' : State) → Follows s s' → (rest : List Value) → AreWaiting here.tree s' (gives s' (after f rest)) below
+  below_typed s' follows rest =
+      subst (λ d. AreWaiting here.tree s' d below) (sym (gives_keeps here.tree s s' follows None f running.frame)) (waiting_keep here.tree s s' follows (gives s f) below running.waiting)
+
+  -- a new frame of a method with code, above the caller's
+  pub frame_typed : (s' : State) → IsTyped here.tree s' → Follows s s' → (c : ClassName) (m : Method) → IsDeclared here.tree c m → action_of c m ≡ None → (code : Code) → code_of m.kind ≡ Some code →
+      (arguments : List Value) → HaveTypes here.tree s' arguments (argument_types m c) →
+      (constructed : Option ObjectName) → ((n : ObjectName) → constructed ≡ Some n → IsConstructing s' (new_frame c m code arguments constructed) n) →
+      (rest : List Value) (types : List StackType) → HaveStackTypes here.tree s' rest types → running.result ≡ give (type_given s' constructed m.signature.return_type) types →
+      IsTypedEffect here.tree (frame_for here s f below c m arguments constructed s' rest)
+  frame_typed s' typed follows c m declared plain_method code has_code arguments argument_values constructed constructs rest types values result =
+      let frame : IsTypedFrame here.tree s' None (new_frame c m code arguments constructed) =
+      new_frame_typed here.tree s' c m code arguments constructed declared has_code (framed_has_typing here.tree running.accepted c declared.0 m declared.1 plain_method) argument_values constructs in
+      subst (λ o. IsTypedEffect here.tree (given o (λ x. Goes (new_frame c m x arguments constructed ∷ after f rest ∷ below) s'))) (sym has_code)
+      (typed, (frame, (caller_typed s' follows (type_given s' constructed m.signature.return_type) rest types values result, below_typed s' follows rest)))
+
+  -- ---- calls
+
+  -- a declared method with code, called with arguments of its types
+  pub run_typed : (c : ClassName) (m : Method) → IsDeclared here.tree c m → (code : Code) → code_of m.kind ≡ Some code → (arguments : List Value) → HaveTypes here.tree s arguments (argument_types m c) →
+      (rest : List Value) (types : List StackType) → HaveStackTypes here.tree s rest types → running.result ≡ give m.signature.return_type types → IsTypedEffect here.tree (run_method here s f below (c, m) arguments rest)
+  run_typed c m declared code has_code arguments argument_values rest types values result = by_action (action_of c m) refl
+    where
+      -- a member that acts takes one operand, and leaves the stack below it
+      as_member : (a : Action) → IsMember a c m → (vs : List Value) → HaveTypes here.tree s vs (argument_types m c) → IsTypedEffect here.tree (act here s f below a vs rest)
+      as_member a member vs h = by_values vs (subst (λ x. HaveTypes here.tree s vs x) member.takes h)
+        where
+          below_it : HaveStackTypes here.tree s rest running.result
+          below_it = subst (λ x. HaveStackTypes here.tree s rest x) (sym (result ∙ ap (λ d. give d types) member.nothing_returned)) values
+
+          by_values : (vs : List Value) → HaveTypes here.tree s vs (member.operand ∷ []) → IsTypedEffect here.tree (act here s f below a vs rest)
+          by_values [] k = elim k [ ]
+          by_values (v ∷ []) k = act_typed here s f below i running falls rest below_it a member.operand member.fits v k.0
+          by_values (v ∷ w ∷ us) k = elim k.1 [ ]
+
+      by_depth : (b : Bool) → action_of c m ≡ None → IsTypedEffect here.tree (if b then Raises StackOverflow else frame_for here s f below c m arguments None s rest)
+      by_depth true plain_method = tt
+      by_depth false plain_method = frame_typed s running.typed (follows_itself s) c m declared plain_method code has_code arguments argument_values None (λ n e. none_is_some n e) rest types values result
+
+      by_action : (o : Option Action) → action_of c m ≡ o →
+          IsTypedEffect here.tree (option_map_or (λ a. act here s f below a arguments rest) o (if is_too_deep here s f below then Raises StackOverflow else frame_for here s f below c m arguments None s rest))
+      by_action None e = by_depth (is_too_deep here s f below) e
+      by_action (Some a) e = as_member a (acts_as_member here.tree c m a declared e) arguments argument_values
