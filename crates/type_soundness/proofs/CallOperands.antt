@@ -5,17 +5,18 @@ use Rattle.std.proofs.lemmas.List.{reverse-reverse, length-reverse}
 use Rattle.std.proofs.lemmas.Grind.{reverse_onto}
 use Rattle.cil_model.specs.declared.types.DeclaredType.{DeclaredType}
 use Rattle.cil_model.specs.declared.trees.Tree.{Tree}
+use Rattle.cil_model.specs.declared.reports.Fault.{Fault}
 use Rattle.cil_model.specs.Assignable.{is_reference}
 use Rattle.cil_model.specs.Legality.{IsLegal}
 use Rattle.cil_model.specs.TypeTree.{StackType, fits}
 use Rattle.cil_model.specs.FlowRules.{take_fitting, take_operands}
-use Rattle.cil_model.proofs.SameLaws.{if_true}
+use Rattle.cil_model.proofs.SameLaws.{never, if_true}
 use Rattle.cil_model.proofs.BelowLaws.{none_is_some, same_some}
-use Rattle.reference_machine.specs.Values.{Value, Int32, Int64, Native, Null, Reference, integer_zero, same_kind, is_of_kind}
+use Rattle.reference_machine.specs.Values.{ObjectName, Value, Int32, Int64, Native, Null, Reference, integer_zero, same_kind, is_of_kind}
 use Rattle.reference_machine.specs.States.{Frame, State}
-use Rattle.reference_machine.specs.Effects.{Setting, Effect, Sticks, are_of_kinds}
+use Rattle.reference_machine.specs.Effects.{Setting, Effect, Sticks, not_null, are_of_kinds}
 use Rattle.reference_machine.specs.Steps.{operands}
-use Rattle.type_soundness.specs.TypedStates.{HasType, HaveTypes, HaveStackTypes}
+use Rattle.type_soundness.specs.TypedStates.{IsObjectOf, HasType, HaveTypes, HaveStackTypes}
 use Rattle.type_soundness.proofs.Operands.{object_is_reference, value_fits}
 use Rattle.type_soundness.proofs.Running.{IsTypedEffect}
 
@@ -97,3 +98,12 @@ module _ (here : Setting) (s : State) (f : Frame) (below : List Frame) (legal : 
       let some : IsTrue (nat_le (length types) (length f.stack)) = le-leb _ _ taken.0 in
       subst (λ b. IsTypedEffect here.tree (if b then (if are_of_kinds types arguments then go arguments vs else Sticks) else Sticks)) (sym some) (
       subst (λ b. IsTypedEffect here.tree (if b then go arguments vs else Sticks)) (sym kinds) (each arguments vs taken.1 taken.2))
+
+module _ (tree : Tree) (s : State) where
+  -- the object of a value of a reference's type
+  pub not_null_typed : (t : DeclaredType) (v : Value) (fault : Fault) (go : ObjectName → Effect) → IsTrue (is_reference t) → HasType tree s v t → ((n : ObjectName) → IsObjectOf tree s n t → IsTypedEffect tree (go n)) → IsTypedEffect tree (not_null v fault go)
+  not_null_typed t (Int32 z) fault go is h each = never (subst (λ x. IsTrue (is_reference x)) h is)
+  not_null_typed t (Int64 z) fault go is h each = never (subst (λ x. IsTrue (is_reference x)) h is)
+  not_null_typed t (Native z) fault go is h each = elim h [ ]
+  not_null_typed t Null fault go is h each = tt
+  not_null_typed t (Reference n) fault go is h each = each n h

@@ -1,5 +1,6 @@
 -- What an object is whose type is known: an object of a class, where no string and no array is of the type.
 use Rattle.std.proofs.Common.{◌≡◌, ◌≢◌, ◌⊎◌, ℕ, Bool, true, false, not, ◌||◌, IsTrue, List, [], ◌∷◌, Option, Some, None, option_map, option_and_then, slice_get, refl, inl, inr, sym, ap, ◌∙◌, subst}
+use Rattle.std.specs.Prelude.{IsSome}
 use Rattle.std.specs.List.{list_any}
 use Rattle.std.proofs.lemmas.Bool.{or_left, or_right}
 use Rattle.cil_model.specs.declared.types.ClassName.{ClassName}
@@ -9,14 +10,15 @@ use Rattle.cil_model.specs.declared.trees.Tree.{Tree}
 use Rattle.cil_model.specs.Same.{same_class}
 use Rattle.cil_model.specs.Declarations.{object_name, string_name, thread_name, plain}
 use Rattle.cil_model.specs.Chains.{chain_of, interfaces_in, is_interface, is_thread_class}
-use Rattle.cil_model.specs.Assignable.{array_of, element_named, type_of_class, is_assignable}
+use Rattle.cil_model.specs.Assignable.{to_itself, array_of, element_named, type_of_class, is_assignable}
 use Rattle.cil_model.specs.FlowRules.{is_concrete}
 use Rattle.cil_model.specs.Legality.{IsLegal}
 use Rattle.cil_model.proofs.SameLaws.{never, both_second, either, same_class_equal, same_class_itself}
+use Rattle.cil_model.proofs.CompleteLaws.{test_is_complete}
 use Rattle.cil_model.proofs.BelowLaws.{none_is_some, same_some}
-use Rattle.reference_machine.specs.Values.{ObjectName, Born, Literal}
-use Rattle.reference_machine.specs.States.{Contents, Instance, Array, HeapObject, State, object_at, type_of_contents, type_of, class_of_contents, class_of}
-use Rattle.type_soundness.specs.TypedStates.{IsObjectOf, has_objects, IsTypedContents, IsTyped}
+use Rattle.reference_machine.specs.Values.{ObjectName, Born, Literal, Reference}
+use Rattle.reference_machine.specs.States.{Contents, Instance, Array, HeapObject, State, object_at, type_of_contents, type_of, class_of_contents, class_of, monitor_of}
+use Rattle.type_soundness.specs.TypedStates.{IsObjectOf, HasType, has_objects, IsTypedContents, IsTyped}
 use Rattle.type_soundness.proofs.DeclaredClasses.{listed_is_interface}
 
 -- an object of a class that has objects, whose type is assignable to the type
@@ -29,6 +31,11 @@ pub record IsInstanceOf (tree : Tree) (s : State) (n : ObjectName) (t : Declared
   pub has : IsTrue (has_objects tree own)
   pub no_interface : is_interface tree own ≢ true
   pub fits : IsTrue (is_assignable tree (type_of_class own) t)
+  pub monitor : IsSome (monitor_of s n)
+
+-- it is of its own class
+pub instance_typed : (tree : Tree) → IsLegal tree → (s : State) (n : ObjectName) {t : DeclaredType} (h : IsInstanceOf tree s n t) → HasType tree s (Reference n) (type_of_class h.own)
+instance_typed tree legal s n h = record { own = type_of_class h.own; is = h.type; fits = test_is_complete tree legal (type_of_class h.own) (type_of_class h.own) to_itself; monitor = h.monitor }
 
 -- `string`, or an array
 abbrev pub IsStringOrArray : DeclaredType → Type 0
@@ -51,6 +58,7 @@ module _ (tree : Tree) (s : State) (typed : IsTyped tree s) where
         has = contents.0;
         no_interface = contents.1;
         fits = subst (λ x. IsTrue (is_assignable tree x t)) (sym own) h.fits;
+        monitor = h.monitor;
       }
 
       by_object : (found : Option HeapObject) → slice_get s.objects n ≡ found → option_map (λ (x : HeapObject). type_of_contents x.contents) found ≡ Some h.own → IsInstanceOf tree s (Born n) t

@@ -8,19 +8,17 @@ use Rattle.cil_model.specs.declared.types.Element.TheVariants.{Class}
 use Rattle.cil_model.specs.declared.instructions.Instruction.{Instruction}
 use Rattle.cil_model.specs.declared.trees.Method.{Method}
 use Rattle.cil_model.specs.declared.limits.TheConstants.{MOST_THREADS}
-use Rattle.cil_model.specs.declared.reports.Fault.{Fault}
 use Rattle.cil_model.specs.declared.reports.Fault.TheVariants.{NullReference, ArgumentNull, SynchronizationLock, ThreadState, TooManyThreads}
 use Rattle.cil_model.specs.Declarations.{plain, thread_name, run_method}
 use Rattle.cil_model.specs.Chains.{is_thread_class}
 use Rattle.cil_model.specs.Slots.{target}
-use Rattle.cil_model.specs.Assignable.{to_itself, is_reference, type_of_class}
+use Rattle.cil_model.specs.Assignable.{is_reference, type_of_class}
 use Rattle.cil_model.specs.Bodies.{argument_types, falls_through}
 use Rattle.cil_model.proofs.SameLaws.{never, both_first}
 use Rattle.cil_model.proofs.BelowLaws.{none_is_some}
-use Rattle.cil_model.proofs.CompleteLaws.{test_is_complete}
 use Rattle.reference_machine.specs.Values.{ObjectName, Born, Literal, Value, Int32, Int64, Native, Null, Reference}
 use Rattle.reference_machine.specs.States.{Monitor, Free, Held, HeapObject, Frame, Thread, State, object_at, with_object, class_of, monitor_of, with_monitor, is_live}
-use Rattle.reference_machine.specs.Effects.{Setting, Effect, Blocks, Raises, Sticks, given, not_null, new_frame, onward}
+use Rattle.reference_machine.specs.Effects.{Setting, Effect, Blocks, Raises, Sticks, given, new_frame, onward}
 use Rattle.reference_machine.specs.BuiltIn.{Action, Construct, Write, Enter, Exit, Start, Join, action_of, line_of, enter, exit, with_thread, begin, start, join, thread_object, act}
 use Rattle.reference_machine.specs.Growth.{Follows}
 use Rattle.reference_machine.proofs.StateLaws.{follows_monitor, follows_object_at, follows_more}
@@ -30,12 +28,13 @@ use Rattle.type_soundness.proofs.Keeping.{stack_keeps, frame_keeps}
 use Rattle.type_soundness.proofs.Running.{IsTypedEffect, IsRunning, onward_typed, next_typed}
 use Rattle.type_soundness.proofs.Openings.{new_frame_typed}
 use Rattle.type_soundness.proofs.Operands.{object_is_reference}
+use Rattle.type_soundness.proofs.CallOperands.{not_null_typed}
 use Rattle.type_soundness.proofs.Targets.{targets_run}
 use Rattle.type_soundness.proofs.TargetNames.{target_named, run_does_not_act}
 use Rattle.type_soundness.proofs.StateChanges.{typed_monitor, typed_printed, follows_printed, follows_threads, typed_thread_mark, typed_thread_more}
 use Rattle.type_soundness.proofs.FoundMethods.{arguments_of_instance}
 use Rattle.type_soundness.proofs.BuiltInMembers.{IsOperandOf}
-use Rattle.type_soundness.proofs.Instances.{IsInstanceOf, instance_of, string_is_literal, thread_is_neither, assignable_is_thread}
+use Rattle.type_soundness.proofs.Instances.{IsInstanceOf, instance_of, instance_typed, string_is_literal, thread_is_neither, assignable_is_thread}
 
 module _ (here : Setting) (s : State) (f : Frame) (below : List Frame) (i : Instruction) (running : IsRunning here s f below i) (falls : IsTrue (falls_through i)) (rest : List Value) (values : HaveStackTypes here.tree s rest running.result) where
   -- on in a state that follows
@@ -84,15 +83,6 @@ module _ (here : Setting) (s : State) (f : Frame) (below : List Frame) (i : Inst
       by_owner true = monitor_typed n left
       by_owner false = tt
 
-  -- goes on with the object of a value of a reference's type
-  not_null_typed : (t : DeclaredType) (v : Value) (fault : Fault) (go : ObjectName → Effect) → IsTrue (is_reference t) → HasType here.tree s v t → ((n : ObjectName) → IsObjectOf here.tree s n t → IsTypedEffect here.tree (go n)) →
-      IsTypedEffect here.tree (not_null v fault go)
-  not_null_typed t (Int32 z) fault go is h each = never (subst (λ x. IsTrue (is_reference x)) h is)
-  not_null_typed t (Int64 z) fault go is h each = never (subst (λ x. IsTrue (is_reference x)) h is)
-  not_null_typed t (Native z) fault go is h each = elim h [ ]
-  not_null_typed t Null fault go is h each = tt
-  not_null_typed t (Reference n) fault go is h each = each n h
-
   -- each object has a monitor
   with_monitor_typed : (o : Option Monitor) (go : Monitor → Effect) → IsSome o → ((m : Monitor) → IsTypedEffect here.tree (go m)) → IsTypedEffect here.tree (given o go)
   with_monitor_typed None go there each = absurd cc
@@ -123,11 +113,6 @@ module _ (here : Setting) (s : State) (f : Frame) (below : List Frame) (i : Inst
 
   -- ---- Start
 
-  -- an object is of its own class
-  own_type : (n : ObjectName) (t : DeclaredType) → IsObjectOf here.tree s n t → (thread : IsInstanceOf here.tree s n (plain (Class thread_name))) → HasType here.tree s (Reference n) (type_of_class thread.own)
-  own_type n t object thread =
-      record { own = type_of_class thread.own; is = thread.type; fits = test_is_complete here.tree running.accepted.legal (type_of_class thread.own) (type_of_class thread.own) to_itself; monitor = object.monitor }
-
   -- one thread more, which is noted at its object and is at the beginning of a method
   started_typed : (n : ObjectName) (o : HeapObject) (first : Frame) → object_at s n ≡ Some o → IsTypedFrame here.tree s None first → IsTypedEffect here.tree (onward f below (with_thread here s f below n o first) rest)
   started_typed (Literal characters) o first there frame = none_is_some o there
@@ -141,28 +126,28 @@ module _ (here : Setting) (s : State) (f : Frame) (below : List Frame) (i : Inst
       (follows_more s marked (record marked { threads = s.threads ++ thread ∷ [] }) follows (follows_threads here.tree marked noted (s.threads ++ thread ∷ [])))
 
   -- Run of the object's class begins
-  begin_typed : (n : ObjectName) (o : HeapObject) → object_at s n ≡ Some o → (thread : IsInstanceOf here.tree s n (plain (Class thread_name))) → HasType here.tree s (Reference n) (type_of_class thread.own) →
+  begin_typed : (n : ObjectName) (o : HeapObject) → object_at s n ≡ Some o → (thread : IsInstanceOf here.tree s n (plain (Class thread_name))) →
       IsTypedEffect here.tree (begin here s f below n rest o (target here.tree thread.own thread_name run_method))
-  begin_typed n o there thread this =
+  begin_typed n o there thread =
       let run = targets_run here.tree running.accepted.legal thread.own thread_name (codes "Run") run_method.signature thread_name run_method (both_first _ _ thread.has) thread.no_interface refl refl thread.fits in
       let k : ClassName = run.0 in
       let m : Method = run.1 in
       let declared : IsDeclared here.tree k m = target_is_declared here.tree thread.own thread_name run_method k m run.3 (1, refl) in
       let plain_method : action_of k m ≡ None = run_does_not_act k m (target_named here.tree thread.own thread_name run_method k m run.3) in
       let arguments : HaveTypes here.tree s (Reference n ∷ []) (argument_types m k) =
-      arguments_of_instance here.tree running.accepted.legal s (Reference n) [] (type_of_class thread.own) k m run.6 this run.7 (subst (λ x. HaveTypes here.tree s [] x.parameters) (sym run.5) tt) in
+      arguments_of_instance here.tree running.accepted.legal s (Reference n) [] (type_of_class thread.own) k m run.6 (instance_typed here.tree running.accepted.legal s n thread) run.7 (subst (λ x. HaveTypes here.tree s [] x.parameters) (sym run.5) tt) in
       let frame : IsTypedFrame here.tree s None (new_frame k m run.2 (Reference n ∷ []) None) =
       new_frame_typed here.tree s k m run.2 (Reference n ∷ []) None declared run.4 (framed_has_typing here.tree running.accepted k declared.0 m declared.1 plain_method) arguments (λ name e. none_is_some name e) in
       subst (λ x. IsTypedEffect here.tree (begin here s f below n rest o x)) (sym run.3) (
       subst (λ x. IsTypedEffect here.tree (given x (λ code. onward f below (with_thread here s f below n o (new_frame k m code (Reference n ∷ []) None)) rest))) (sym run.4)
       (started_typed n o (new_frame k m run.2 (Reference n ∷ []) None) there frame))
 
-  start_typed : (n : ObjectName) (o : HeapObject) → object_at s n ≡ Some o → (thread : IsInstanceOf here.tree s n (plain (Class thread_name))) → HasType here.tree s (Reference n) (type_of_class thread.own) →
+  start_typed : (n : ObjectName) (o : HeapObject) → object_at s n ≡ Some o → IsInstanceOf here.tree s n (plain (Class thread_name)) →
       IsTypedEffect here.tree (start here s f below n rest o)
-  start_typed n o there thread this = by_tests (is_some o.thread) (nat_le MOST_THREADS (length s.threads))
+  start_typed n o there thread = by_tests (is_some o.thread) (nat_le MOST_THREADS (length s.threads))
     where
       begun : IsTypedEffect here.tree (given (class_of s n) (λ c. begin here s f below n rest o (target here.tree c thread_name run_method)))
-      begun = subst (λ x. IsTypedEffect here.tree (given x (λ c. begin here s f below n rest o (target here.tree c thread_name run_method)))) (sym thread.is) (begin_typed n o there thread this)
+      begun = subst (λ x. IsTypedEffect here.tree (given x (λ c. begin here s f below n rest o (target here.tree c thread_name run_method)))) (sym thread.is) (begin_typed n o there thread)
 
       by_tests : (a b : Bool) → IsTypedEffect here.tree (if a then Raises ThreadState else if b then Raises TooManyThreads else given (class_of s n) (λ c. begin here s f below n rest o (target here.tree c thread_name run_method)))
       by_tests true b = tt
@@ -175,7 +160,7 @@ module _ (here : Setting) (s : State) (f : Frame) (below : List Frame) (i : Inst
   pub act_typed : (a : Action) (t : DeclaredType) → IsOperandOf a t → (v : Value) → HasType here.tree s v t → IsTypedEffect here.tree (act here s f below a (v ∷ []) rest)
   act_typed Construct t operand v h = next_typed here s f below i running falls rest values
   act_typed Write t operand v h = write_typed t operand v h
-  act_typed Enter t operand v h = not_null_typed t v ArgumentNull _ operand h (λ n object. with_monitor_typed (monitor_of s n) (enter here s f below n rest) object.monitor (enter_typed n))
-  act_typed Exit t operand v h = not_null_typed t v ArgumentNull _ operand h (λ n object. with_monitor_typed (monitor_of s n) (exit here s f below n rest) object.monitor (exit_typed n))
-  act_typed Start t operand v h = not_null_typed t v NullReference _ (subst (λ x. IsTrue (is_reference x)) (sym operand) refl) h (λ n object. thread_object_typed t operand n (start here s f below n rest) object (λ o thread there. start_typed n o there thread (own_type n t object thread)))
-  act_typed Join t operand v h = not_null_typed t v NullReference _ (subst (λ x. IsTrue (is_reference x)) (sym operand) refl) h (λ n object. thread_object_typed t operand n (join here s f below rest) object (λ o thread there. join_typed o))
+  act_typed Enter t operand v h = not_null_typed here.tree s t v ArgumentNull _ operand h (λ n object. with_monitor_typed (monitor_of s n) (enter here s f below n rest) object.monitor (enter_typed n))
+  act_typed Exit t operand v h = not_null_typed here.tree s t v ArgumentNull _ operand h (λ n object. with_monitor_typed (monitor_of s n) (exit here s f below n rest) object.monitor (exit_typed n))
+  act_typed Start t operand v h = not_null_typed here.tree s t v NullReference _ (subst (λ x. IsTrue (is_reference x)) (sym operand) refl) h (λ n object. thread_object_typed t operand n (start here s f below n rest) object (λ o thread there. start_typed n o there thread))
+  act_typed Join t operand v h = not_null_typed here.tree s t v NullReference _ (subst (λ x. IsTrue (is_reference x)) (sym operand) refl) h (λ n object. thread_object_typed t operand n (join here s f below rest) object (λ o thread there. join_typed o))
