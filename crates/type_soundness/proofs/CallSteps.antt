@@ -1,37 +1,47 @@
 -- Calls and returns leave typed states.
-use Rattle.std.proofs.Common.{◌≡◌, ◌+◌, Bool, true, false, if◌then◌else◌, IsTrue, List, [], ◌∷◌, Option, Some, None, refl, sym, ap, ◌∙◌, subst}
+use Rattle.std.proofs.Common.{◌≡◌, ℕ, ◌+◌, Bool, true, false, if◌then◌else◌, IsTrue, List, [], ◌∷◌, Option, Some, None, option_map, option_and_then, refl, sym, ap, ◌∙◌, subst}
 use Rattle.std.specs.Option.{option_map_or}
 use Rattle.cil_model.specs.declared.types.ClassName.{ClassName}
 use Rattle.cil_model.specs.declared.types.DeclaredType.{DeclaredType}
+use Rattle.cil_model.specs.declared.types.Signature.{Signature}
 use Rattle.cil_model.specs.declared.instructions.Instruction.{Instruction}
-use Rattle.cil_model.specs.declared.instructions.Instruction.TheVariants.{Return}
+use Rattle.cil_model.specs.declared.instructions.Instruction.TheVariants.{Call, CallVirtual, Return}
+use Rattle.cil_model.specs.declared.instructions.MethodReference.{MethodReference}
 use Rattle.cil_model.specs.declared.trees.Tree.{Tree}
 use Rattle.cil_model.specs.declared.trees.Method.{Method}
+use Rattle.cil_model.specs.declared.trees.MethodKind.{MethodKind}
+use Rattle.cil_model.specs.declared.trees.MethodKind.TheVariants.{Static, Instance, Virtual, Abstract}
 use Rattle.cil_model.specs.declared.trees.Code.{Code}
 use Rattle.cil_model.specs.declared.reports.Fault.TheVariants.{StackOverflow}
-use Rattle.cil_model.specs.Assignable.{to_itself}
-use Rattle.cil_model.specs.Bodies.{code_of, argument_types, falls_through}
+use Rattle.cil_model.specs.Chains.{find_method, is_virtual, is_abstract_method}
+use Rattle.cil_model.specs.Slots.{target}
+use Rattle.cil_model.specs.Assignable.{to_itself, is_reference, type_of_class}
+use Rattle.cil_model.specs.Bodies.{code_of, argument_types, falls_through, reference_operands, virtual_reference}
 use Rattle.cil_model.specs.Legality.{IsLegal}
 use Rattle.cil_model.specs.TypeTree.{StackType, Declared, fits}
 use Rattle.cil_model.specs.FlowRules.{give, take_operands, take_returned, nothing_below}
 use Rattle.cil_model.specs.Typings.{Reaches}
-use Rattle.cil_model.proofs.CompleteLaws.{test_is_complete}
-use Rattle.cil_model.proofs.BelowLaws.{none_is_some}
 use Rattle.cil_model.specs.Stacks.{take_one}
-use Rattle.reference_machine.specs.Values.{ObjectName, Value, Reference, is_of_kind}
-use Rattle.reference_machine.specs.States.{Frame, State, type_of}
+use Rattle.cil_model.proofs.SameLaws.{never, both_first}
+use Rattle.cil_model.proofs.CompleteLaws.{test_is_complete}
+use Rattle.cil_model.proofs.BelowLaws.{none_is_some, same_some, element_is_reference}
+use Rattle.reference_machine.specs.Values.{ObjectName, Value, Int32, Int64, Native, Null, Reference, is_of_kind}
+use Rattle.reference_machine.specs.States.{Frame, State, type_of, class_of}
 use Rattle.reference_machine.specs.Effects.{Setting, Goes, Raises, Sticks, given, new_frame, after, returned}
 use Rattle.reference_machine.specs.BuiltIn.{Action, action_of, act}
-use Rattle.reference_machine.specs.Steps.{frame_for, is_too_deep, run_method, leave, leave_value, execute}
+use Rattle.reference_machine.specs.Steps.{frame_for, is_too_deep, run_method, operands, run_virtual, leave, leave_value, execute}
 use Rattle.reference_machine.specs.Growth.{Follows}
 use Rattle.reference_machine.proofs.StateLaws.{follows_itself}
-use Rattle.reference_machine.proofs.MethodLaws.{IsDeclared, framed_has_typing}
-use Rattle.type_soundness.specs.TypedStates.{HasType, HaveTypes, HaveStackTypes, IsConstructing, IsTypedFrame, type_given, gives, AreWaiting, IsTyped}
+use Rattle.reference_machine.proofs.MethodLaws.{IsDeclared, target_is_declared, framed_has_typing}
+use Rattle.type_soundness.specs.TypedStates.{IsObjectOf, HasType, HaveTypes, HaveStackTypes, IsConstructing, IsTypedFrame, type_given, gives, AreWaiting, IsTyped}
 use Rattle.type_soundness.proofs.Keeping.{values_keep, frame_keeps, gives_keeps, waiting_keep}
 use Rattle.type_soundness.proofs.Running.{IsTypedEffect, IsRunning}
 use Rattle.type_soundness.proofs.Openings.{new_frame_typed}
 use Rattle.type_soundness.proofs.Operands.{value_fits}
-use Rattle.type_soundness.proofs.CallOperands.{typed_is_of_kind}
+use Rattle.type_soundness.proofs.CallOperands.{typed_is_of_kind, operands_typed}
+use Rattle.type_soundness.proofs.Targets.{no_virtuals, targets_run}
+use Rattle.type_soundness.proofs.FoundMethods.{IsFound, found, arguments_of_instance, operands_are_arguments}
+use Rattle.type_soundness.proofs.Instances.{IsInstanceOf, instance_of, instance_typed}
 use Rattle.type_soundness.proofs.BuiltInMembers.{IsMember, acts_as_member}
 use Rattle.type_soundness.proofs.MemberSteps.{act_typed}
 
@@ -179,3 +189,107 @@ module _ (here : Setting) (s : State) (f : Frame) (below : List Frame) (i : Inst
           IsTypedEffect here.tree (option_map_or (λ a. act here s f below a arguments rest) o (if is_too_deep here s f below then Raises StackOverflow else frame_for here s f below c m arguments None s rest))
       by_action None e = by_depth (is_too_deep here s f below) e
       by_action (Some a) e = as_member a (acts_as_member here.tree c m a declared e) arguments argument_values
+
+-- a method that isn't abstract has code
+pub has_code : (k : MethodKind) → is_abstract_method k ≡ false → (code : Code) × (code_of k ≡ Some code)
+has_code (Static code) h = (code, refl)
+has_code (Instance code) h = (code, refl)
+has_code (Virtual is_new_slot code) h = (code, refl)
+has_code (Abstract is_new_slot) h = absurd cc
+
+-- nor is one that isn't virtual
+plain_is_not_abstract : (k : MethodKind) → is_virtual k ≡ false → is_abstract_method k ≡ false
+plain_is_not_abstract (Static code) h = refl
+plain_is_not_abstract (Instance code) h = refl
+plain_is_not_abstract (Virtual is_new_slot code) h = refl
+plain_is_not_abstract (Abstract is_new_slot) h = h
+
+-- a result that gives a type to a stack
+given_to : {A : Type 0} (d : Option DeclaredType) (o : Option (List StackType)) (result : List StackType) → option_map (give d) o ≡ Some result → ((types : List StackType) → o ≡ Some types → result ≡ give d types → A) → A
+given_to d None result e each = none_is_some result e
+given_to d (Some types) result e each = each types refl (sym (same_some (give d types) result e))
+
+module _ (here : Setting) (s : State) (f : Frame) (below : List Frame) where
+  -- a method of the signature gives what the reference says
+  gives_same : (m : Method) (signature : Signature) → m.signature ≡ signature → (result types : List StackType) → result ≡ give signature.return_type types → result ≡ give m.signature.return_type types
+  gives_same m signature same result types e = e ∙ ap (λ (x : Signature). give x.return_type types) (sym same)
+
+  module _ (is_instance : Bool) (r : MethodReference) (running : IsRunning here s f below (Call is_instance r)) where
+    call_found : (c : ClassName) (m : Method) → find_method here.tree is_instance r ≡ Some (c, m) → (types : List StackType) → take_operands here.tree (reference_operands is_instance r) running.stack ≡ Some types →
+        running.result ≡ give r.signature.return_type types → is_abstract_method m.kind ≡ false → IsTypedEffect here.tree (operands here s f below (reference_operands is_instance r) (run_method here s f below (c, m)))
+    call_found c m e types taken result concrete =
+        let is : IsFound here.tree is_instance r c m = found here.tree running.accepted.legal is_instance r c m e in
+        let code : (code : Code) × (code_of m.kind ≡ Some code) = has_code m.kind concrete in
+        operands_typed here s f below running.accepted.legal (reference_operands is_instance r) (run_method here s f below (c, m)) running.stack types taken running.values (λ arguments rest h k.
+        run_typed here s f below (Call is_instance r) running refl c m is.declared code.0 code.1 arguments (operands_are_arguments here.tree running.accepted.legal s is_instance r c m is arguments h) rest types k
+        (gives_same m r.signature is.signature running.result types result))
+
+    pub call_typed : IsTypedEffect here.tree (execute here s f below (Call is_instance r))
+    call_typed = by_found (find_method here.tree is_instance r) refl running.flows
+      where
+        taken : Option (List StackType)
+        taken = take_operands here.tree (reference_operands is_instance r) running.stack
+
+        by_kind : (c : ClassName) (m : Method) → find_method here.tree is_instance r ≡ Some (c, m) → (b : Bool) → is_abstract_method m.kind ≡ b → (if b then None else option_map (give r.signature.return_type) taken) ≡ Some running.result →
+            IsTypedEffect here.tree (operands here s f below (reference_operands is_instance r) (run_method here s f below (c, m)))
+        by_kind c m e true abstract flows = none_is_some running.result flows
+        by_kind c m e false concrete flows = given_to r.signature.return_type taken running.result flows (λ types taken result. call_found c m e types taken result concrete)
+
+        by_found : (o : Option (ClassName × Method)) → find_method here.tree is_instance r ≡ o →
+            option_and_then (λ (x : ClassName × Method). if is_abstract_method x.1.kind then None else option_map (give r.signature.return_type) taken) o ≡ Some running.result →
+            IsTypedEffect here.tree (given o (λ x. operands here s f below (reference_operands is_instance r) (run_method here s f below x)))
+        by_found None e flows = none_is_some running.result flows
+        by_found (Some (c, m)) e flows = by_kind c m e (is_abstract_method m.kind) refl flows
+
+  -- ---- virtual calls
+
+  module _ (owner : ClassName) (name : List ℕ) (signature : Signature) (running : IsRunning here s f below (CallVirtual owner name signature)) where
+    abbrev reference : MethodReference
+    reference = virtual_reference owner name signature
+
+    module _ (c : ClassName) (m : Method) (e : find_method here.tree true reference ≡ Some (c, m)) (rest : List Value) (types : List StackType) (values : HaveStackTypes here.tree s rest types)
+        (result : running.result ≡ give signature.return_type types) where
+      is_found : IsFound here.tree true reference c m
+      is_found = found here.tree running.accepted.legal true reference c m e
+
+      -- on the object: one that isn't virtual runs itself, and else the target for the object's class runs
+      chosen_typed : (n : ObjectName) (arguments : List Value) → IsObjectOf here.tree s n (type_of_class owner) → HaveTypes here.tree s arguments signature.parameters →
+          (v : Bool) → is_virtual m.kind ≡ v → IsTypedEffect here.tree (given (if v then option_and_then (λ d. target here.tree d c m) (class_of s n) else Some (c, m)) (λ chosen. run_method here s f below chosen (Reference n ∷ arguments) rest))
+      chosen_typed n arguments this others false kind =
+          let code : (code : Code) × (code_of m.kind ≡ Some code) = has_code m.kind (plain_is_not_abstract m.kind kind) in
+          run_typed here s f below (CallVirtual owner name signature) running refl c m is_found.declared code.0 code.1 (Reference n ∷ arguments) (operands_are_arguments here.tree running.accepted.legal s true reference c m is_found (Reference n ∷ arguments) (this, others)) rest types values
+          (gives_same m signature is_found.signature running.result types result)
+      chosen_typed n arguments this others true kind =
+          let object : IsInstanceOf here.tree s n (type_of_class owner) = instance_of here.tree s running.typed n (type_of_class owner) this (λ own which fits. no_virtuals here.tree own owner name signature c m which e fits kind) in
+          let runs = targets_run here.tree running.accepted.legal object.own owner name signature c m (both_first _ _ object.has) object.no_interface e kind object.fits in
+          let k : ClassName = runs.0 in
+          let x : Method = runs.1 in
+          let same : x.signature ≡ signature = runs.5 ∙ is_found.signature in
+          let own_arguments : HaveTypes here.tree s (Reference n ∷ arguments) (argument_types x k) =
+          arguments_of_instance here.tree running.accepted.legal s (Reference n) arguments (type_of_class object.own) k x runs.6 (instance_typed here.tree running.accepted.legal s n object) runs.7
+          (subst (λ (y : Signature). HaveTypes here.tree s arguments y.parameters) (sym same) others) in
+          subst (λ o. IsTypedEffect here.tree (given (option_and_then (λ d. target here.tree d c m) o) (λ chosen. run_method here s f below chosen (Reference n ∷ arguments) rest))) (sym object.is) (
+          subst (λ o. IsTypedEffect here.tree (given o (λ chosen. run_method here s f below chosen (Reference n ∷ arguments) rest))) (sym runs.3)
+          (run_typed here s f below (CallVirtual owner name signature) running refl k x (target_is_declared here.tree object.own c m k x runs.3 is_found.declared) runs.2 runs.4 (Reference n ∷ arguments) own_arguments rest types values
+          (gives_same x signature same running.result types result)))
+
+      virtual_typed : (arguments : List Value) → HaveTypes here.tree s arguments (type_of_class owner ∷ signature.parameters) → IsTypedEffect here.tree (run_virtual here s f below (c, m) arguments rest)
+      virtual_typed [] h = elim h [ ]
+      virtual_typed (Reference n ∷ arguments) h = chosen_typed n arguments h.0 h.1 (is_virtual m.kind) refl
+      virtual_typed (Null ∷ arguments) h = tt
+      virtual_typed (Native z ∷ arguments) h = elim h.0 [ ]
+      virtual_typed (Int32 z ∷ arguments) h = never (subst (λ x. IsTrue (is_reference x)) h.0 (element_is_reference here.tree (Some owner) 0))
+      virtual_typed (Int64 z ∷ arguments) h = never (subst (λ x. IsTrue (is_reference x)) h.0 (element_is_reference here.tree (Some owner) 0))
+
+    pub call_virtual_typed : IsTypedEffect here.tree (execute here s f below (CallVirtual owner name signature))
+    call_virtual_typed = by_found (find_method here.tree true reference) refl running.flows
+      where
+        types : List DeclaredType
+        types = reference_operands true reference
+
+        by_found : (o : Option (ClassName × Method)) → find_method here.tree true reference ≡ o →
+            option_and_then (λ (x : ClassName × Method). option_map (give signature.return_type) (take_operands here.tree types running.stack)) o ≡ Some running.result →
+            IsTypedEffect here.tree (given o (λ x. operands here s f below types (run_virtual here s f below x)))
+        by_found None e flows = none_is_some running.result flows
+        by_found (Some (c, m)) e flows = given_to signature.return_type (take_operands here.tree types running.stack) running.result flows (λ left taken result.
+            operands_typed here s f below running.accepted.legal types (run_virtual here s f below (c, m)) running.stack left taken running.values (λ arguments rest h k. virtual_typed c m e rest left k result arguments h))
