@@ -205,7 +205,7 @@ plain_is_not_abstract (Virtual is_new_slot code) h = refl
 plain_is_not_abstract (Abstract is_new_slot) h = h
 
 -- a result that gives a type to a stack
-given_to : {A : Type 0} (d : Option DeclaredType) (o : Option (List StackType)) (result : List StackType) → option_map (give d) o ≡ Some result → ((types : List StackType) → o ≡ Some types → result ≡ give d types → A) → A
+pub given_to : {A : Type 0} (d : Option DeclaredType) (o : Option (List StackType)) (result : List StackType) → option_map (give d) o ≡ Some result → ((types : List StackType) → o ≡ Some types → result ≡ give d types → A) → A
 given_to d None result e each = none_is_some result e
 given_to d (Some types) result e each = each types refl (sym (same_some (give d types) result e))
 

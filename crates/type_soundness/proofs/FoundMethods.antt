@@ -72,7 +72,7 @@ module _ (tree : Tree) (legal : IsLegal tree) where
 -- ---- what is found
 
 -- the class stands in the list, and has the item
-nearest_found : {X : Type 0} (at : ClassName → Option X) (cs : List ClassName) (c : ClassName) (x : X) → nearest at cs ≡ Some (c, x) → IsTrue (list_any (λ k. same_class k c) cs) × (at c ≡ Some x)
+pub nearest_found : {X : Type 0} (at : ClassName → Option X) (cs : List ClassName) (c : ClassName) (x : X) → nearest at cs ≡ Some (c, x) → IsTrue (list_any (λ k. same_class k c) cs) × (at c ≡ Some x)
 nearest_found at [] c x h = none_is_some (c, x) h
 nearest_found {X} at (d ∷ ds) c x h = by_class (at d) refl h (nearest_found at ds c x)
   where

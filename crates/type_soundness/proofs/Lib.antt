@@ -12,3 +12,4 @@ pub mod BuiltInMembers
 pub mod Instances
 pub mod MemberSteps
 pub mod TargetNames
+pub mod NewObjectSteps
