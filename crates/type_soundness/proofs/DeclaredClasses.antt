@@ -192,7 +192,7 @@ module _ (tree : Tree) where
     pub all_kinds_fit : IsTrue (list_all (kinds_fit tree) tree.classes)
     all_kinds_fit = not_not _ (unbroken (misfits_kind tree) 205 _ (unbroken (lacks_implementation tree) 204 _ behind_cycles.1).1).0
 
-    none_doubles : list_any class_doubles tree.classes ≡ false
+    pub none_doubles : list_any class_doubles tree.classes ≡ false
     none_doubles = (or_parts _ _ behind_cycles.0).1
 
     -- no class has two methods of one name and signature

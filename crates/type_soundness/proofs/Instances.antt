@@ -1,8 +1,7 @@
 -- What an object is whose type is known: an object of a class, where no string and no array is of the type.
-use Rattle.std.proofs.Common.{◌≡◌, ◌≢◌, ◌⊎◌, ℕ, Bool, true, false, not, ◌||◌, IsTrue, List, [], ◌∷◌, Option, Some, None, option_map, option_and_then, slice_get, refl, inl, inr, sym, ap, ◌∙◌, subst}
+use Rattle.std.proofs.Common.{◌≡◌, ◌≢◌, ◌⊎◌, ℕ, Bool, true, false, not, ◌||◌, IsTrue, Option, Some, None, option_map, option_and_then, slice_get, refl, inl, inr, sym, ap, ◌∙◌, subst}
 use Rattle.std.specs.Prelude.{IsSome}
 use Rattle.std.specs.List.{list_any}
-use Rattle.std.proofs.lemmas.Bool.{or_left, or_right}
 use Rattle.cil_model.specs.declared.types.ClassName.{ClassName}
 use Rattle.cil_model.specs.declared.types.DeclaredType.{DeclaredType}
 use Rattle.cil_model.specs.declared.types.Element.TheVariants.{String, Class}
@@ -20,6 +19,7 @@ use Rattle.reference_machine.specs.Values.{ObjectName, Born, Literal, Reference}
 use Rattle.reference_machine.specs.States.{Contents, Instance, Array, HeapObject, State, object_at, type_of_contents, type_of, class_of_contents, class_of, monitor_of}
 use Rattle.type_soundness.specs.TypedStates.{IsObjectOf, HasType, has_objects, IsTypedContents, IsTyped}
 use Rattle.type_soundness.proofs.DeclaredClasses.{listed_is_interface}
+use Rattle.type_soundness.proofs.Targets.{weaker}
 
 -- an object of a class that has objects, whose type is assignable to the type
 pub record IsInstanceOf (tree : Tree) (s : State) (n : ObjectName) (t : DeclaredType) : Type 0 where
@@ -102,15 +102,6 @@ module _ (tree : Tree) where
         by_case (inl same) = subst (λ x. IsTrue (same_class x k)) (same_class_equal k thread_name same) (same_class_itself k)
         by_case (inr lists) = never (listed_is_interface tree legal k thread_name lists)
 
-    links_are_threads : (cs : List ClassName) → IsTrue (list_any (λ k. same_class k thread_name || list_any (same_class thread_name) (interfaces_in tree k)) cs) → IsTrue (list_any (same_class thread_name) cs)
-    links_are_threads [] h = never h
-    links_are_threads (c ∷ cs) h = by_case (either _ _ h) (links_are_threads cs)
-      where
-        by_case : IsTrue (same_class c thread_name || list_any (same_class thread_name) (interfaces_in tree c)) ⊎ IsTrue (list_any (λ k. same_class k thread_name || list_any (same_class thread_name) (interfaces_in tree k)) cs) →
-            (IsTrue (list_any (λ k. same_class k thread_name || list_any (same_class thread_name) (interfaces_in tree k)) cs) → IsTrue (list_any (same_class thread_name) cs)) → IsTrue (list_any (same_class thread_name) (c ∷ cs))
-        by_case (inl here) further = or_left _ _ (link_is_thread c here)
-        by_case (inr there) further = or_right _ _ (further there)
-
     -- what is assignable to Cilvm.Thread has it in its chain
     pub assignable_is_thread : (c : ClassName) → IsTrue (is_assignable tree (type_of_class c) (plain (Class thread_name))) → IsTrue (is_thread_class tree c)
     assignable_is_thread c h = by_name (same_class c object_name) (same_class c string_name) h
@@ -118,4 +109,4 @@ module _ (tree : Tree) where
         by_name : (v w : Bool) → IsTrue (is_assignable tree (plain (element_named v w c)) (plain (Class thread_name))) → IsTrue (is_thread_class tree c)
         by_name true w k = never k
         by_name false true k = never k
-        by_name false false k = links_are_threads (chain_of tree c) k
+        by_name false false k = weaker (λ x. same_class x thread_name || list_any (same_class thread_name) (interfaces_in tree x)) (same_class thread_name) link_is_thread (chain_of tree c) k

@@ -37,9 +37,10 @@ use Rattle.type_soundness.specs.TypedStates.{HasType, HaveTypes, HaveStackTypes,
 use Rattle.type_soundness.proofs.Keeping.{values_keep, stack_keeps}
 use Rattle.type_soundness.proofs.Running.{IsTypedEffect, IsRunning, onward_typed}
 use Rattle.type_soundness.proofs.DeclaredClasses.{found_passes, declared, Standing, of_source, of_object, of_string, of_console, of_monitor, of_thread, of_none, standing, source_declares, interface_is_source, all_kinds_fit}
+use Rattle.type_soundness.proofs.Targets.{nearest_at}
 use Rattle.type_soundness.proofs.StateChanges.{typed_birth, newborn_type, newborn_monitor, newborn_has_own_type, new_instance_typed}
 use Rattle.type_soundness.proofs.CallOperands.{operands_typed}
-use Rattle.type_soundness.proofs.FoundMethods.{nearest_found, IsFound, found, arguments_of_instance}
+use Rattle.type_soundness.proofs.FoundMethods.{IsFound, found, arguments_of_instance}
 use Rattle.type_soundness.proofs.CallSteps.{frame_typed, has_code, given_to}
 
 -- ---- classes of which objects are made
@@ -96,13 +97,13 @@ module _ (tree : Tree) where
 
 -- a constructor is of the class itself
 constructor_is_own : (tree : Tree) (c k : ClassName) (parameters : List DeclaredType) (m : Method) → find_method tree true (constructor_reference c parameters) ≡ Some (k, m) → c ≡ k
-constructor_is_own tree c k parameters m h = by_case (either (same_class c k) false (nearest_found at (c ∷ []) k m h).0)
+constructor_is_own tree c k parameters m h = by_case (either (same_class k c) false (nearest_at at (c ∷ []) k m h).1)
   where
     at : ClassName → Option Method
     at x = find (λ (y : Method). same_method_name y.name Constructor && same_signature y.signature (constructor_reference c parameters).signature && same_flag (is_static y.kind) (not true)) (methods_in tree x)
 
-    by_case : IsTrue (same_class c k) ⊎ IsTrue false → c ≡ k
-    by_case (inl same) = same_class_equal c k same
+    by_case : IsTrue (same_class k c) ⊎ IsTrue false → c ≡ k
+    by_case (inl same) = sym (same_class_equal k c same)
     by_case (inr lost) = never lost
 
 -- ---- a new object

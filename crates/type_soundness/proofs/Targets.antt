@@ -45,7 +45,7 @@ NoVirtuals tree =
 -- ---- lists of classes
 
 -- what holds of each of the one kind holds of each of the other
-weaker : {X : Type 0} (p q : X → Bool) → ((x : X) → IsTrue (p x) → IsTrue (q x)) → (xs : List X) → IsTrue (list_any p xs) → IsTrue (list_any q xs)
+pub weaker : {X : Type 0} (p q : X → Bool) → ((x : X) → IsTrue (p x) → IsTrue (q x)) → (xs : List X) → IsTrue (list_any p xs) → IsTrue (list_any q xs)
 weaker p q each [] h = never h
 weaker {X} p q each (x ∷ xs) h = by_case (either (p x) (list_any p xs) h) (weaker p q each xs)
   where
@@ -63,7 +63,7 @@ none_at test (d ∷ ds) c h k = by_case (either (same_class c d) (list_any (same
     by_case (inr there) further = further there
 
 -- the nearest is found at a class of the list
-nearest_at : {X : Type 0} (at : ClassName → Option X) (cs : List ClassName) (c : ClassName) (x : X) → nearest at cs ≡ Some (c, x) → (at c ≡ Some x) × IsTrue (list_any (same_class c) cs)
+pub nearest_at : {X : Type 0} (at : ClassName → Option X) (cs : List ClassName) (c : ClassName) (x : X) → nearest at cs ≡ Some (c, x) → (at c ≡ Some x) × IsTrue (list_any (same_class c) cs)
 nearest_at at [] c x h = none_is_some (c, x) h
 nearest_at {X} at (d ∷ ds) c x h = by_class (at d) refl h (nearest_at at ds c x)
   where
@@ -185,7 +185,7 @@ module _ (tree : Tree) where
   interface_chain : (i : ClassName) → is_interface tree i ≡ true → chain_of tree i ≡ i ∷ []
   interface_chain i h = ap (λ o. i ∷ chain_within tree (suc (suc (length tree.classes))) o) (interface_has_no_base tree i h)
 
-  interface_holds : (i c : ClassName) → is_interface tree i ≡ true → IsTrue (list_any (same_class c) (chain_of tree i)) → c ≡ i
+  pub interface_holds : (i c : ClassName) → is_interface tree i ≡ true → IsTrue (list_any (same_class c) (chain_of tree i)) → c ≡ i
   interface_holds i c h k = by_case (either (same_class c i) false (subst (λ cs. IsTrue (list_any (same_class c) cs)) (interface_chain i h) k))
     where
       by_case : IsTrue (same_class c i) ⊎ IsTrue false → c ≡ i
@@ -248,7 +248,7 @@ module _ (tree : Tree) where
       by_type (inr (t, array)) = never (subst (λ x. IsTrue (is_assignable tree x (plain (Class owner)))) array taken)
 
   module _ (legal : IsLegal tree) where
-    chain_of_base : (c b : ClassName) → base_of tree c ≡ Some b → chain_of tree c ≡ c ∷ chain_of tree b
+    pub chain_of_base : (c b : ClassName) → base_of tree c ≡ Some b → chain_of tree c ≡ c ∷ chain_of tree b
     chain_of_base c b e = sym (chain_ends tree (no_cycle tree legal) c (suc (longest_chain tree)) (omega arith)) ∙ ap (λ o. c ∷ chain_within tree (longest_chain tree) o) e
 
     -- the chain of a class ends with that of each of its classes
