@@ -19,3 +19,4 @@ pub mod BuiltInMembers
 pub mod MemberSteps
 pub mod CallSteps
 pub mod NewObjectSteps
+pub mod AllSteps
