@@ -14,6 +14,7 @@ use Rattle.type_soundness.proofs.CallSteps.{call_typed, call_virtual_typed, retu
 use Rattle.type_soundness.proofs.NewObjectSteps.{new_object_typed}
 use Rattle.type_soundness.proofs.WholeSteps.{InstructionsAreTyped, never_stuck}
 
+-- each instruction, wherever a typed frame is at it
 pub instruction_typed : InstructionsAreTyped
 instruction_typed here s f below NoOperation running = no_operation_typed here s f below running
 instruction_typed here s f below (LoadInt32 z) running = load_int32_typed here s f below z running

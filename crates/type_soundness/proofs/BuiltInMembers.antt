@@ -36,6 +36,7 @@ same_member c m m' a b acts member e h =
     subst (λ x. IsMember b c x) e (subst (λ x. IsMember x c m) (same_some a b (sym acts ∙ subst (λ x. action_of c x ≡ Some b) (sym e) h)) member)
 
 module _ (tree : Tree) (m : Method) (a : Action) where
+  -- the members of each built-in class
   member_of_object : (n : ℕ) → slice_get (methods_in tree object_name) n ≡ Some m → action_of object_name m ≡ Some a → IsMember a object_name m
   member_of_object zero e h = same_member object_name object_constructor m Construct a refl (record { operand = _; takes = refl; fits = tt; nothing_returned = refl }) (same_some object_constructor m e) h
   member_of_object (suc n) e h = none_is_some m e
@@ -59,6 +60,7 @@ module _ (tree : Tree) (m : Method) (a : Action) where
   member_of_thread (suc (suc (suc zero))) e h = same_member thread_name _ m Join a refl (record { operand = _; takes = refl; fits = refl; nothing_returned = refl }) (same_some _ m e) h
   member_of_thread (suc (suc (suc (suc n)))) e h = none_is_some m e
 
+  -- no class but a built-in one has a member that acts
   by_standing : {c : ClassName} → Standing tree c → IsDeclared tree c m → action_of c m ≡ Some a → IsMember a c m
   by_standing {c} (of_source x found) declared h = none_is_some a (subst (λ k. action_of k m ≡ Some a) (sym (source_is_named tree c x found)) h)
   by_standing of_object declared h = member_of_object declared.0 declared.1 h

@@ -23,6 +23,7 @@ use Rattle.type_soundness.proofs.Running.{IsTypedEffect}
 -- ---- the kind of a value
 
 module _ (tree : Tree) (legal : IsLegal tree) (s : State) where
+  -- what a reference's location holds is of its kind
   reference_kind : (v : Value) (t : DeclaredType) → IsTrue (is_reference t) → IsTrue (same_kind Null v) → IsTrue (is_of_kind t v)
   reference_kind v t r h = subst (λ x. IsTrue (same_kind x v)) (sym (if_true (is_reference t) Null (integer_zero t.element) r)) h
 
@@ -34,6 +35,7 @@ module _ (tree : Tree) (legal : IsLegal tree) (s : State) where
   typed_is_of_kind Null t h = reference_kind Null t h refl
   typed_is_of_kind (Reference n) t h = reference_kind (Reference n) t (object_is_reference tree legal s n t h) refl
 
+  -- each of a list
   pub typed_are_of_kinds : (vs : List Value) (ts : List DeclaredType) → HaveTypes tree s vs ts → IsTrue (are_of_kinds ts vs)
   typed_are_of_kinds [] [] h = refl
   typed_are_of_kinds (v ∷ vs) (t ∷ ts) h = and_from _ _ (typed_is_of_kind v t h.0) (typed_are_of_kinds vs ts h.1)
@@ -43,12 +45,14 @@ module _ (tree : Tree) (legal : IsLegal tree) (s : State) where
 -- ---- the operands on a stack
 
 module _ (tree : Tree) (s : State) where
+  -- values behind others
   types_behind : (xs ys : List Value) (ts us : List DeclaredType) → HaveTypes tree s xs ts → HaveTypes tree s ys us → HaveTypes tree s (xs ++ ys) (ts ++ us)
   types_behind [] ys [] us h k = k
   types_behind (x ∷ xs) ys (t ∷ ts) us h k = (h.0, types_behind xs ys ts us h.1 k)
   types_behind [] ys (t ∷ ts) us h k = elim h [ ]
   types_behind (x ∷ xs) ys [] us h k = elim h [ ]
 
+  -- in the other order too
   pub types_reversed : (vs : List Value) (ts : List DeclaredType) → HaveTypes tree s vs ts → HaveTypes tree s (reverse vs) (reverse ts)
   types_reversed [] [] h = h
   types_reversed (v ∷ vs) (t ∷ ts) h =
@@ -63,6 +67,7 @@ module _ (tree : Tree) (s : State) where
     abbrev Taken : List DeclaredType → List Value → List StackType → Type 0
     Taken ts vs rest = (length ts ≤ length vs) × HaveTypes tree s (take (length ts) vs) ts × HaveStackTypes tree s (drop (length ts) vs) rest
 
+    -- what fits, one after another
     fitting_taken : (ts : List DeclaredType) (vs : List Value) (stack rest : List StackType) → take_fitting tree ts stack ≡ Some rest → HaveStackTypes tree s vs stack → Taken ts vs rest
     fitting_taken [] vs stack rest e h = (omega arith, tt, subst (λ x. HaveStackTypes tree s vs x) (same_some stack rest e) h)
     fitting_taken (t ∷ ts) vs [] rest e h = none_is_some rest e
@@ -88,6 +93,7 @@ module _ (tree : Tree) (s : State) where
 -- ---- what goes on with them
 
 module _ (here : Setting) (s : State) (f : Frame) (below : List Frame) (legal : IsLegal here.tree) where
+  -- operands that the flow rule takes are there, and what goes on with them has their types
   pub operands_typed : (types : List DeclaredType) (go : List Value → List Value → Effect) (stack rest : List StackType) → take_operands here.tree types stack ≡ Some rest → HaveStackTypes here.tree s f.stack stack →
       ((arguments vs : List Value) → HaveTypes here.tree s arguments types → HaveStackTypes here.tree s vs rest → IsTypedEffect here.tree (go arguments vs)) → IsTypedEffect here.tree (operands here s f below types go)
   operands_typed types go stack rest e h each =

@@ -90,6 +90,7 @@ module _ (here : Setting) (s : State) (f : Frame) (below : List Frame) where
       (record { own = made.own; is = made.is; fits = test_is_complete here.tree legal made.own made.own to_itself; monitor = made.monitor })
 
   module _ (running : IsRunning here s f below Return) where
+    -- what is given to the frame below, or the thread's end
     leave_typed : (v : Option Value) → IsGiven here.tree s v (gives s f) → IsTypedEffect here.tree (leave here s f below v)
     leave_typed v value = returned_typed here.tree s running.typed v (gives s f) below value running.waiting
 
@@ -111,6 +112,7 @@ module _ (here : Setting) (s : State) (f : Frame) (below : List Frame) where
         by_fit false fit e = none_is_some running.result e
         by_fit true fit e = with_value (value_fits here.tree running.accepted.legal s v a t fit values.0)
 
+    -- a return, by what it gives: the object that was constructed, a value, or nothing
     pub return_typed : IsTypedEffect here.tree (execute here s f below Return)
     return_typed = by_made f.constructed refl
       where
@@ -215,6 +217,7 @@ module _ (here : Setting) (s : State) (f : Frame) (below : List Frame) where
   gives_same m signature same result types e = e ∙ ap (λ (x : Signature). give x.return_type types) (sym same)
 
   module _ (is_instance : Bool) (r : MethodReference) (running : IsRunning here s f below (Call is_instance r)) where
+    -- the method that is found runs on its operands
     call_found : (c : ClassName) (m : Method) → find_method here.tree is_instance r ≡ Some (c, m) → (types : List StackType) → take_operands here.tree (reference_operands is_instance r) running.stack ≡ Some types →
         running.result ≡ give r.signature.return_type types → is_abstract_method m.kind ≡ false → IsTypedEffect here.tree (operands here s f below (reference_operands is_instance r) (run_method here s f below (c, m)))
     call_found c m e types taken result concrete =
@@ -224,6 +227,7 @@ module _ (here : Setting) (s : State) (f : Frame) (below : List Frame) where
         run_typed here s f below (Call is_instance r) running refl c m is.declared code.0 code.1 arguments (operands_are_arguments here.tree running.accepted.legal s is_instance r c m is arguments h) rest types k
         (gives_same m r.signature is.signature running.result types result))
 
+    -- a call
     pub call_typed : IsTypedEffect here.tree (execute here s f below (Call is_instance r))
     call_typed = by_found (find_method here.tree is_instance r) refl running.flows
       where
@@ -273,6 +277,7 @@ module _ (here : Setting) (s : State) (f : Frame) (below : List Frame) where
           (run_typed here s f below (CallVirtual owner name signature) running refl k x (target_is_declared here.tree object.own c m k x runs.3 is_found.declared) runs.2 runs.4 (Reference n ∷ arguments) own_arguments rest types values
           (gives_same x signature same running.result types result)))
 
+      -- null ends the thread by its fault, and an object chooses what runs
       virtual_typed : (arguments : List Value) → HaveTypes here.tree s arguments (type_of_class owner ∷ signature.parameters) → IsTypedEffect here.tree (run_virtual here s f below (c, m) arguments rest)
       virtual_typed [] h = elim h [ ]
       virtual_typed (Reference n ∷ arguments) h = chosen_typed n arguments h.0 h.1 (is_virtual m.kind) refl
@@ -281,6 +286,7 @@ module _ (here : Setting) (s : State) (f : Frame) (below : List Frame) where
       virtual_typed (Int32 z ∷ arguments) h = never (subst (λ x. IsTrue (is_reference x)) h.0 (element_is_reference here.tree (Some owner) 0))
       virtual_typed (Int64 z ∷ arguments) h = never (subst (λ x. IsTrue (is_reference x)) h.0 (element_is_reference here.tree (Some owner) 0))
 
+    -- a virtual call
     pub call_virtual_typed : IsTypedEffect here.tree (execute here s f below (CallVirtual owner name signature))
     call_virtual_typed = by_found (find_method here.tree true reference) refl running.flows
       where

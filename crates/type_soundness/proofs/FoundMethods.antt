@@ -77,6 +77,7 @@ module _ (tree : Tree) (legal : IsLegal tree) (is_instance : Bool) (r : MethodRe
   searched_above Constructor h = chain_above tree legal 1 r.owner c h
   searched_above (Named name) h = chain_above tree legal (longest_chain tree) r.owner c h
 
+  -- what is found is as the reference names it
   pub found : find_method tree is_instance r ≡ Some (c, m) → IsFound tree is_instance r c m
   found h =
       let fits : Method → Bool = λ x. same_method_name x.name r.name && same_signature x.signature r.signature && same_flag (is_static x.kind) (not is_instance) in

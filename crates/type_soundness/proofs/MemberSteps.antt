@@ -53,6 +53,7 @@ module _ (here : Setting) (s : State) (f : Frame) (below : List Frame) (i : Inst
   line_is_there t (inl integer) (Reference (Born n)) h = never (sym integer ∙ object_is_reference here.tree running.accepted.legal s (Born n) t h)
   line_is_there t (inr string) (Reference (Born n)) h = absurd (string_is_literal here.tree s running.typed n (subst (λ x. IsObjectOf here.tree s (Born n) x) string h))
 
+  -- one line more is printed
   write_typed : (t : DeclaredType) → IsOperandOf Write t → (v : Value) → HasType here.tree s v t → IsTypedEffect here.tree (act here s f below Write (v ∷ []) rest)
   write_typed t operand v h =
       let line : (line : List ℕ) × (line_of v ≡ Some line) = line_is_there t operand v h in
@@ -61,9 +62,11 @@ module _ (here : Setting) (s : State) (f : Frame) (below : List Frame) (i : Inst
 
   -- ---- Enter and Exit
 
+  -- another monitor of an object
   monitor_typed : (n : ObjectName) (m : Monitor) → IsTypedEffect here.tree (onward f below (with_monitor s n m) rest)
   monitor_typed n m = onward_in (with_monitor s n m) (typed_monitor here.tree s running.typed n m) (follows_monitor s n m)
 
+  -- entered, or blocked
   enter_typed : (n : ObjectName) (m : Monitor) → IsTypedEffect here.tree (enter here s f below n rest m)
   enter_typed n Free = monitor_typed n (Held here.thread 1)
   enter_typed n (Held owner count) = by_owner (owner == here.thread)
@@ -72,6 +75,7 @@ module _ (here : Setting) (s : State) (f : Frame) (below : List Frame) (i : Inst
       by_owner true = monitor_typed n (Held here.thread (count + 1))
       by_owner false = tt
 
+  -- left, or a fault
   exit_typed : (n : ObjectName) (m : Monitor) → IsTypedEffect here.tree (exit here s f below n rest m)
   exit_typed n Free = tt
   exit_typed n (Held owner count) = by_owner (owner == here.thread)
@@ -100,6 +104,7 @@ module _ (here : Setting) (s : State) (f : Frame) (below : List Frame) (i : Inst
       subst (λ b. IsTypedEffect here.tree (if b then given (object_at s n) go else Sticks)) (sym is) (
       subst (λ o. IsTypedEffect here.tree (given o go)) (sym thread.there) (each thread.object thread thread.there)))
 
+  -- on once the thread has ended
   join_typed : (o : HeapObject) → IsTypedEffect here.tree (join here s f below rest o)
   join_typed o = by_thread o.thread
     where
@@ -142,6 +147,7 @@ module _ (here : Setting) (s : State) (f : Frame) (below : List Frame) (i : Inst
       subst (λ x. IsTypedEffect here.tree (given x (λ code. onward f below (with_thread here s f below n o (new_frame k m code (Reference n ∷ []) None)) rest))) (sym run.4)
       (started_typed n o (new_frame k m run.2 (Reference n ∷ []) None) there frame))
 
+  -- a fault, or one thread more
   start_typed : (n : ObjectName) (o : HeapObject) → object_at s n ≡ Some o → IsInstanceOf here.tree s n (plain (Class thread_name)) →
       IsTypedEffect here.tree (start here s f below n rest o)
   start_typed n o there thread = by_tests (is_some o.thread) (nat_le MOST_THREADS (length s.threads))

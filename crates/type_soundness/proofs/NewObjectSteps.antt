@@ -45,12 +45,14 @@ use Rattle.type_soundness.proofs.CallSteps.{frame_typed, has_code, given_to}
 
 -- ---- classes of which objects are made
 
+-- what no item of a list passes, the one at a place does not pass
 none_at : {X : Type 0} (p : X → Bool) (xs : List X) (n : ℕ) (x : X) → list_any p xs ≡ false → slice_get xs n ≡ Some x → p x ≡ false
 none_at p [] n x h e = none_is_some x e
 none_at p (y ∷ ys) zero x h e = subst (λ z. p z ≡ false) (same_some y x e) (or_parts _ _ h).0
 none_at p (y ∷ ys) (suc n) x h e = none_at p ys n x (or_parts _ _ h).1 e
 
 module _ (tree : Tree) where
+  -- a class of the source that has objects is declared without `abstract`
   concrete_kind : (c : ClassName) (x : Class) → declaration_of tree c ≡ Some (declared tree x) → IsTrue (is_concrete tree c) → IsTrue (not (is_abstract_kind x.kind))
   concrete_kind c x declares h = subst (λ o. IsTrue (option_map_or (λ (d : Declaration). not d.is_abstract) o false)) declares h
 
@@ -135,6 +137,7 @@ module _ (here : Setting) (s : State) (f : Frame) (below : List Frame) where
       is_found : IsFound here.tree true (constructor_reference c parameters) c m
       is_found = found here.tree legal true (constructor_reference c parameters) c m e
 
+      -- the state with the object is typed
       born_typed : IsTyped here.tree born
       born_typed = typed_birth here.tree s running.typed contents (new_instance_typed here.tree born c (declaring_has_objects here.tree c m concrete is_found.declared) (concrete_is_class here.tree c concrete))
 
@@ -144,6 +147,7 @@ module _ (here : Setting) (s : State) (f : Frame) (below : List Frame) where
       object_typed : HasType here.tree born (Reference name) (type_of_class c)
       object_typed = newborn_has_own_type here.tree s legal contents
 
+      -- a frame of the constructor makes the object
       is_constructing : (code : Code) (arguments : List Value) → IsConstructing born (new_frame c m code arguments (Some name)) name
       is_constructing code arguments = record {
         own = type_of_class c;
@@ -170,6 +174,7 @@ module _ (here : Setting) (s : State) (f : Frame) (below : List Frame) where
             (λ n same. subst (IsConstructing born (new_frame c m code.0 (Reference name ∷ arguments) (Some name))) (same_some name n same) (is_constructing code.0 (Reference name ∷ arguments)))
             rest types (stack_keeps here.tree s born follows rest types values) (result ∙ sym (ap (λ d. give d types) (newborn_type here.tree s contents)))
 
+        -- either, with its operands taken
         construct_typed : IsTypedEffect here.tree (construct here s f below c (c, m) arguments rest)
         construct_typed = by_action (action_of c m) refl
           where
@@ -185,6 +190,7 @@ module _ (here : Setting) (s : State) (f : Frame) (below : List Frame) where
             by_action (Some a) acts = birth_typed contents (λ n s'. onward f below s' (Reference n ∷ rest)) at_once
             by_action None acts = by_depth (is_too_deep here s f below) acts
 
+    -- newobj
     pub new_object_typed : IsTypedEffect here.tree (execute here s f below (NewObject c parameters))
     new_object_typed = by_found (find_method here.tree true (constructor_reference c parameters)) refl running.flows
       where

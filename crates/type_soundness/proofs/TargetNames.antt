@@ -19,6 +19,7 @@ use Rattle.reference_machine.specs.BuiltIn.{Action, actions, action_of}
 use Rattle.type_soundness.proofs.DeclaredClasses.{found_itself}
 
 module _ (tree : Tree) (name : MethodName) (signature : Signature) where
+  -- what fills a slot has the name by which it was looked for
   filler_named : (slot : ClassName) (cs : List ClassName) (k : ClassName) (m : Method) → filler_along tree name signature slot cs ≡ Some (k, m) → m.name ≡ name
   filler_named slot [] k m h = none_is_some (k, m) h
   filler_named slot (d ∷ ds) k m h = by_class (method_in tree name signature d) refl (same_options same_class (slot_along tree name signature (d ∷ ds)) (Some slot)) h (filler_named slot ds k m)
@@ -40,6 +41,7 @@ module _ (tree : Tree) (name : MethodName) (signature : Signature) where
   interface_target_named d i k m h = option_and_then_some _ (lister_along tree name signature i (chain_of tree d)) (k, m) h (λ lister e f.
       option_and_then_some _ (nearest (virtual_in tree name signature) (chain_of tree lister)) (k, m) f (λ found e' g. class_target_named d found.0 k m g))
 
+-- and so has the target of a call
 pub target_named : (tree : Tree) (d c : ClassName) (m : Method) (k : ClassName) (m' : Method) → target tree d c m ≡ Some (k, m') → m'.name ≡ m.name
 target_named tree d c m k m' h = by_kind (is_virtual m.kind) (is_interface tree c) h
   where
@@ -50,6 +52,7 @@ target_named tree d c m k m' h = by_kind (is_virtual m.kind) (is_interface tree 
 
 -- ---- no built-in member that acts at once is named Run
 
+-- where no entry has the name, none is found
 no_act : (name : MethodName) (c : ClassName) (as' : List (ClassName × MethodName × Action)) → list_any (λ (a : ClassName × MethodName × Action). same_method_name a.1 name) as' ≡ false →
     find (λ (a : ClassName × MethodName × Action). same_class a.0 c && same_method_name a.1 name) as' ≡ None
 no_act name c [] h = refl
@@ -63,6 +66,7 @@ no_act name c (a ∷ as') h = by_tests (same_class a.0 c) (same_method_name a.1 
     by_tests true false e later = later
     by_tests false false e later = later
 
+-- so Run always gets a frame
 pub run_does_not_act : (c : ClassName) (m : Method) → m.name ≡ run_name → action_of c m ≡ None
 run_does_not_act c m named =
     ap (option_map (λ (a : ClassName × MethodName × Action). a.2)) (
