@@ -189,7 +189,7 @@ module _ (tree : Tree) where
     all_implement : IsTrue (list_all (implements_all tree) tree.classes)
     all_implement = not_not _ (unbroken (lacks_implementation tree) 204 _ behind_cycles.1).0
 
-    all_kinds_fit : IsTrue (list_all (kinds_fit tree) tree.classes)
+    pub all_kinds_fit : IsTrue (list_all (kinds_fit tree) tree.classes)
     all_kinds_fit = not_not _ (unbroken (misfits_kind tree) 205 _ (unbroken (lacks_implementation tree) 204 _ behind_cycles.1).1).0
 
     pub none_doubles : list_any class_doubles tree.classes ≡ false

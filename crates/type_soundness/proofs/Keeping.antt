@@ -1,25 +1,23 @@
 -- Values keep their types: while states follow one another, and up the tree of types.
-use Rattle.std.proofs.Common.{◌≡◌, ◌≢◌, ℕ, zero, suc, Bool, true, false, IsTrue, if◌then◌else◌, List, [], ◌∷◌, map, Option, Some, None, option_map, slice_get, refl, sym, ap, ◌∙◌, subst}
+use Rattle.std.proofs.Common.{◌≡◌, ℕ, zero, suc, Bool, true, false, IsTrue, if◌then◌else◌, List, [], ◌∷◌, map, Option, Some, None, option_map, slice_get, refl, sym, ap, ◌∙◌, subst}
 use Rattle.std.specs.Prelude.{IsSome}
 use Rattle.cil_model.specs.declared.types.DeclaredType.{DeclaredType}
-use Rattle.cil_model.specs.declared.types.Element.TheVariants.{Int32 as Int32Element, Int64 as Int64Element}
 use Rattle.cil_model.specs.declared.trees.Tree.{Tree}
 use Rattle.cil_model.specs.Same.{same_text}
-use Rattle.cil_model.specs.Declarations.{plain}
-use Rattle.cil_model.specs.Assignable.{IsAssignable, chained, is_reference, is_assignable}
+use Rattle.cil_model.specs.Assignable.{chained, is_assignable}
 use Rattle.cil_model.specs.Fields.{FieldKey}
 use Rattle.cil_model.specs.Legality.{IsLegal}
-use Rattle.cil_model.specs.TypeTree.{StackType, Declared, NativeInt, Null as NullType, IsBelow, ancestor, fits}
+use Rattle.cil_model.specs.TypeTree.{StackType, Declared, NativeInt, Null as NullType, IsBelow, ancestor}
 use Rattle.cil_model.specs.Typings.{AreBelow}
 use Rattle.cil_model.proofs.AssignableLaws.{test_is_sound}
 use Rattle.cil_model.proofs.CompleteLaws.{test_is_complete}
 use Rattle.cil_model.proofs.BelowLaws.{none_is_some, same_some, ancestor_is_reference}
 use Rattle.cil_model.proofs.FitsLaws.{below_fits}
 use Rattle.reference_machine.specs.Values.{ObjectName, Born, Literal, Value, Int32, Int64, Native, Null, Reference}
-use Rattle.reference_machine.specs.States.{Monitor, Contents, Instance, Array, HeapObject, Frame, Thread, State, entry_at, object_at, type_of_contents, type_of, monitor_of}
+use Rattle.reference_machine.specs.States.{Contents, Instance, Array, HeapObject, Frame, State, entry_at, type_of_contents, type_of, monitor_of}
 use Rattle.reference_machine.specs.Growth.{Follows}
 use Rattle.reference_machine.proofs.RunLaws.{type_stays}
-use Rattle.type_soundness.specs.TypedStates.{IsObjectOf, HasType, HasStackType, HaveTypes, HaveStackTypes, AllHaveType, HaveFieldTypes, IsTypedContents, IsConstructing, IsTypedFrame, type_given, gives, AreWaiting, AreTypedFrames}
+use Rattle.type_soundness.specs.TypedStates.{HasType, HasStackType, HaveTypes, HaveStackTypes, AllHaveType, HaveFieldTypes, IsTypedContents, IsConstructing, IsTypedFrame, type_given, gives, AreWaiting, AreTypedFrames}
 
 -- ---- along states
 
@@ -32,8 +30,10 @@ entry_by_keys {K} {V} same k (e ∷ es) (f ∷ fs) h there = by_test (same e.0 k
   where
     first : e.0 ≡ f.0
     first = cc
+
     rest : map (λ (x : K × V). x.0) es ≡ map (λ (x : K × V). x.0) fs
     rest = cc
+
     by_test : (b : Bool) → b ≡ same f.0 k → (IsSome (entry_at same k es) → IsSome (entry_at same k fs)) → IsSome (if b then Some e.1 else entry_at same k es) → IsSome (if same f.0 k then Some f.1 else entry_at same k fs)
     by_test true is later here = subst (λ c. IsSome (if c then Some f.1 else entry_at same k fs)) is refl
     by_test false is later here = subst (λ c. IsSome (if c then Some f.1 else entry_at same k fs)) is (later here)

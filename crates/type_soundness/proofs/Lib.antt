@@ -11,3 +11,12 @@ pub mod Targets
 pub mod StateChanges
 pub mod DeclaredFields
 pub mod ObjectSteps
+pub mod CallOperands
+pub mod FoundMethods
+pub mod TargetNames
+pub mod Instances
+pub mod BuiltInMembers
+pub mod MemberSteps
+pub mod CallSteps
+pub mod NewObjectSteps
+pub mod AllSteps

@@ -2,25 +2,23 @@
 use Rattle.std.proofs.Common.{◌≡◌, ℕ, zero, suc, ◌+◌, ◌<◌, Bool, true, false, IsTrue, List, [], ◌∷◌, length, Option, Some, None, option_map, slice_get, Contains, refl, sym, ap, ◌∙◌, subst, arith}
 use Rattle.std.specs.Option.{option_map_or}
 use Rattle.std.proofs.lemmas.Option.{slice_get-get_or}
-use Rattle.cil_model.specs.declared.types.ClassName.{ClassName}
-use Rattle.cil_model.specs.declared.types.DeclaredType.{DeclaredType}
 use Rattle.cil_model.specs.declared.instructions.Instruction.{Instruction}
 use Rattle.cil_model.specs.declared.trees.Tree.{Tree}
 use Rattle.cil_model.specs.declared.trees.Code.{Code}
 use Rattle.cil_model.specs.declared.trees.Line.{Line}
-use Rattle.cil_model.specs.Bodies.{code_of, lines_of, argument_types, falls_through, labels_of, place_of}
+use Rattle.cil_model.specs.Bodies.{lines_of, argument_types, falls_through, labels_of, place_of}
 use Rattle.cil_model.specs.FlowRules.{flow}
 use Rattle.cil_model.specs.TypeTree.{StackType}
-use Rattle.cil_model.specs.Typings.{Typing, Reaches, ReachesLabel, FlowsOn, IsAccepted}
-use Rattle.cil_model.proofs.BelowLaws.{none_is_some, same_some}
-use Rattle.reference_machine.specs.Values.{ObjectName, Value}
+use Rattle.cil_model.specs.Typings.{Reaches, ReachesLabel, FlowsOn, IsAccepted}
+use Rattle.cil_model.proofs.BelowLaws.{none_is_some}
+use Rattle.reference_machine.specs.Values.{Value}
 use Rattle.reference_machine.specs.States.{Frame, State}
-use Rattle.reference_machine.specs.Effects.{Setting, Effect, Goes, Blocks, Raises, Sticks, given, after, onward}
+use Rattle.reference_machine.specs.Effects.{Setting, Effect, Goes, Blocks, Raises, Sticks, given, onward}
 use Rattle.reference_machine.specs.Steps.{instruction_at, next, jump, branch_if}
 use Rattle.reference_machine.specs.Growth.{Follows}
 use Rattle.reference_machine.proofs.StateLaws.{follows_itself}
-use Rattle.type_soundness.specs.TypedStates.{HaveTypes, HaveStackTypes, IsConstructing, IsTypedFrame, gives, AreWaiting, AreTypedFrames, IsTyped}
-use Rattle.type_soundness.proofs.Keeping.{frame_keeps, gives_keeps, waiting_keep, values_keep, stack_keeps, stack_above}
+use Rattle.type_soundness.specs.TypedStates.{HaveTypes, HaveStackTypes, IsTypedFrame, gives, AreWaiting, AreTypedFrames, IsTyped}
+use Rattle.type_soundness.proofs.Keeping.{frame_keeps, gives_keeps, waiting_keep, values_keep, stack_above}
 
 -- an effect that leaves a typed state and typed frames, and isn't stuck
 abbrev pub IsTypedEffect : Tree → Effect → Type 0
@@ -53,20 +51,25 @@ module _ (here : Setting) (s : State) (f : Frame) (below : List Frame) (i : Inst
       HaveStackTypes here.tree s' rest types → Reaches here.tree running.frame.typing types place →
       IsTypedEffect here.tree (Goes (record f { place = place; arguments = arguments; locals = locals; stack = rest } ∷ below) s')
   moved s' typed follows arguments locals rest place types argument_values local_values stack_values reaches =
-      let kept : IsTypedFrame here.tree s' None f = frame_keeps here.tree s s' follows None f running.frame in
-      (typed, (record {
-        code = running.frame.code;
-        typing = running.frame.typing;
-        is_declared = running.frame.is_declared;
-        has_code = running.frame.has_code;
-        is_typing = running.frame.is_typing;
-        arguments = argument_values;
-        locals = local_values;
-        stack = types;
-        values = stack_values;
-        reaches = reaches;
-        constructs = λ n e. let made = kept.constructs n e in record { own = made.own; is = made.is; monitor = made.monitor; nothing_returned = made.nothing_returned };
-      }, subst (λ d. AreWaiting here.tree s' d below) (sym (gives_keeps here.tree s s' follows None f running.frame)) (waiting_keep here.tree s s' follows (gives s f) below running.waiting)))
+      let kept : IsTypedFrame here.tree s' None f = frame_keeps here.tree s s' follows None f running.frame in (
+        typed,
+        (
+          record {
+            code = running.frame.code;
+            typing = running.frame.typing;
+            is_declared = running.frame.is_declared;
+            has_code = running.frame.has_code;
+            is_typing = running.frame.is_typing;
+            arguments = argument_values;
+            locals = local_values;
+            stack = types;
+            values = stack_values;
+            reaches = reaches;
+            constructs = λ n e. let made = kept.constructs n e in record { own = made.own; is = made.is; monitor = made.monitor; nothing_returned = made.nothing_returned };
+          },
+          subst (λ d. AreWaiting here.tree s' d below) (sym (gives_keeps here.tree s s' follows None f running.frame)) (waiting_keep here.tree s s' follows (gives s f) below running.waiting),
+        ),
+      )
 
   -- on to the next instruction in a state that follows, with a stack of the types that the instruction results in
   pub onward_typed : IsTrue (falls_through i) → (s' : State) → IsTyped here.tree s' → Follows s s' → (rest : List Value) → HaveStackTypes here.tree s' rest running.result → IsTypedEffect here.tree (onward f below s' rest)
@@ -118,18 +121,21 @@ module _ (here : Setting) (accepted : IsAccepted here.tree) (s : State) (typed :
       let mapped : slice_get frame.typing f.place ≡ Some (Some stack) = frame.reaches.1 in
       let line : (l : Line) × (slice_get frame.code.lines f.place ≡ Some l) = there_is frame.code.lines f.place (length frame.typing) frame.is_typing.whole (inside frame.typing f.place (Some stack) mapped) in
       let flowing = frame.is_typing.each f.place line.0 stack line.1 mapped in
-      let lines : lines_of f.method ≡ frame.code.lines = ap (λ (c : Option Code). option_map_or (λ (code : Code). code.lines) c []) frame.has_code in
-      (line.0.instruction, ap (λ x. option_map (λ (l : Line). l.instruction) (slice_get x f.place)) lines ∙ ap (option_map (λ (l : Line). l.instruction)) line.1, record {
-        accepted = accepted;
-        typed = typed;
-        frame = frame;
-        waiting = frames.1;
-        line = line.0;
-        at = line.1;
-        is = refl;
-        stack = stack;
-        values = stack_above here.tree accepted.legal s f.stack frame.stack stack frame.reaches.2 frame.values;
-        result = flowing.0;
-        flows = flowing.1;
-        on = flowing.2;
-      })
+      let lines : lines_of f.method ≡ frame.code.lines = ap (λ (c : Option Code). option_map_or (λ (code : Code). code.lines) c []) frame.has_code in (
+        line.0.instruction,
+        ap (λ x. option_map (λ (l : Line). l.instruction) (slice_get x f.place)) lines ∙ ap (option_map (λ (l : Line). l.instruction)) line.1,
+        record {
+          accepted = accepted;
+          typed = typed;
+          frame = frame;
+          waiting = frames.1;
+          line = line.0;
+          at = line.1;
+          is = refl;
+          stack = stack;
+          values = stack_above here.tree accepted.legal s f.stack frame.stack stack frame.reaches.2 frame.values;
+          result = flowing.0;
+          flows = flowing.1;
+          on = flowing.2;
+        },
+      )
