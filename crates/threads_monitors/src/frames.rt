@@ -129,6 +129,14 @@ impl FrameMemory {
         self.values.pop().unwrap()
     }
 
+    /// The value so far below the topmost one of the running frame's stack. It stays there.
+    pub fn operand(&self, below: usize) -> Value
+        requires { below < length self.now.running.stack }
+        ensures { slice_get self.now.running.stack below ≡ Some result }
+    {
+        self.values[self.values.len() - 1 - below]
+    }
+
     /// An argument of the running frame (ECMA-335 III.3.38). They count from 0.
     pub fn argument(&self, index: usize) -> Value
         requires { index < length self.now.running.arguments }
@@ -166,6 +174,13 @@ impl FrameMemory {
         ensures { result ≡ (length self.now.below + 1 == self.now.depth) }
     {
         self.below.len() + 1 == self.depth
+    }
+
+    /// Whether the running frame is the thread's first one, with none below it.
+    pub fn is_first(&self) -> bool
+        ensures { result ≡ (length self.now.below == 0) }
+    {
+        self.below.is_empty()
     }
 
     /// Calls a method (ECMA-335 III.3.19): the uppermost `arguments` values of the stack become the new frame's arguments,
