@@ -44,7 +44,7 @@ impl Model for FrameMemory {
 }
 
 impl FrameMemory {
-    ghost use Rattle.threads_monitors.specs.Frames.{size, new_frame, returned, with_argument, with_call, with_local, with_place, with_stack};
+    ghost use Rattle.threads_monitors.specs.Frames.{size, new_frame, returned, with_argument, with_call, with_inserted, with_local, with_place, with_stack};
 
     /// The memory of a thread that begins with a frame of the method, with these arguments and with zeros in locals of
     /// these kinds. There is room for `depth` frames, and in each for `room` values: arguments, locals and stack.
@@ -118,6 +118,17 @@ impl FrameMemory {
         ensures { self.new ≡ with_stack self.old (value ∷ self.old.running.stack) }
     {
         self.values.push_reserved(value);
+    }
+
+    /// Puts a value beneath so many topmost ones of the running frame's stack.
+    pub fn insert(&mut self, below: usize, value: Value)
+        requires there { below ≤ length self.old.running.stack }
+        requires room { size self.old.running < self.old.room }
+        ensures { self.new ≡ with_inserted self.old below value }
+    {
+        let place = self.values.len() - below;
+        let inserted = self.values.insert(place, value);
+        inserted.unwrap();
     }
 
     /// Takes the topmost value off the running frame's stack.
