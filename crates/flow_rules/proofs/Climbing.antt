@@ -35,12 +35,15 @@ module _ (tree : Tree) where
       ap (λ m. ancestor tree m a) (sym k.1) ∙ k.2 ∙ one
 
   -- above a type without a parent there is nothing
-  pub beyond : (n j : ℕ) (a b v : DeclaredType) → ancestor tree n a ≡ Some b → parent tree b ≡ None → n < j → ancestor tree j a ≡ Some v → ⊥
-  beyond n j a b v e f h g =
+  pub past : (n j : ℕ) (a b : DeclaredType) → ancestor tree n a ≡ Some b → parent tree b ≡ None → n < j → ancestor tree j a ≡ None
+  past n j a b e f h =
       let k : (k : ℕ) × (k ≡ n + suc (j - n - 1)) × (ancestor tree k a ≡ ancestor tree (suc (j - n - 1)) b) = climb tree n (suc (j - n - 1)) a b e in
       let same : k.0 ≡ j = omega (arith, k.1, h) in
       let none : ancestor tree (suc (j - n - 1)) b ≡ None = ap (option_and_then (ancestor tree (j - n - 1))) f in
-      none_is_some v (sym none ∙ sym k.2 ∙ ap (λ m. ancestor tree m a) same ∙ g)
+      ap (λ m. ancestor tree m a) (sym same) ∙ k.2 ∙ none
+
+  pub beyond : (n j : ℕ) (a b v : DeclaredType) → ancestor tree n a ≡ Some b → parent tree b ≡ None → n < j → ancestor tree j a ≡ Some v → ⊥
+  beyond n j a b v e f h g = none_is_some v (sym (past n j a b e f h) ∙ g)
 
   -- from one ancestor on to a further one
   pub on_from : (m j : ℕ) (b t v : DeclaredType) → m ≤ j → ancestor tree m b ≡ Some t → ancestor tree j b ≡ Some v → (r : ℕ) × (ancestor tree r t ≡ Some v)
@@ -133,48 +136,6 @@ module _ (tree : Tree) where
   null_apart t none (Declared v) r (n, e) = alone n t v none r e
   null_apart t none Null r under = declared_is_null t under
   null_apart t none NativeInt r under = declared_is_native t under
-
-  -- ---- a type is not above another
-
-  pub not_among : (n : ℕ) (a u v : DeclaredType) → ((j : ℕ) → j < n → ancestor tree j a ≡ Some v → ⊥) → ancestor tree n a ≡ Some u → (u ≡ v → ⊥) → (j : ℕ) → j < n + 1 → ancestor tree j a ≡ Some v → ⊥
-  not_among n a u v before here differs j h e = by_order (cases_lt j n)
-    where
-      by_order : (j < n) ⊎ (n ≤ j) → ⊥
-      by_order (inl l) = before j l e
-      by_order (inr l) =
-          let same : j ≡ n = omega (arith, h, l) in
-          differs (same_some u v (sym here ∙ ap (λ m. ancestor tree m a) (sym same) ∙ e))
-
-  pub nowhere : (n : ℕ) (a u v : DeclaredType) → ((j : ℕ) → j < n + 1 → ancestor tree j a ≡ Some v → ⊥) → ancestor tree n a ≡ Some u → parent tree u ≡ None → IsBelow tree (Declared a) (Declared v) → ⊥
-  nowhere n a u v before here last (j, e) = by_order (cases_lt n j)
-    where
-      by_order : (n < j) ⊎ (j ≤ n) → ⊥
-      by_order (inl l) = beyond n j a u v here last l e
-      by_order (inr l) = before j (omega (arith, l)) e
-
-  -- none of the first so many is common, nor is the next
-  pub none_common : (n : ℕ) (a b u : DeclaredType) → ((j : ℕ) (v : DeclaredType) → j < n → ancestor tree j a ≡ Some v → IsBelow tree (Declared b) (Declared v) → ⊥) → ancestor tree n a ≡ Some u →
-      (IsBelow tree (Declared b) (Declared u) → ⊥) → (j : ℕ) (v : DeclaredType) → j < n + 1 → ancestor tree j a ≡ Some v → IsBelow tree (Declared b) (Declared v) → ⊥
-  none_common n a b u before here differs j v h e under = by_order (cases_lt j n)
-    where
-      by_order : (j < n) ⊎ (n ≤ j) → ⊥
-      by_order (inl l) = before j v l e under
-      by_order (inr l) =
-          let same : j ≡ n = omega (arith, h, l) in
-          let at : u ≡ v = same_some u v (sym here ∙ ap (λ m. ancestor tree m a) (sym same) ∙ e) in
-          let P : DeclaredType → Type 0 = λ x. IsBelow tree (Declared b) (Declared x) in
-          differs (subst P (sym at) under)
-
-  pub none_at_all : (n : ℕ) (a b u : DeclaredType) → ((j : ℕ) (v : DeclaredType) → j < n + 1 → ancestor tree j a ≡ Some v → IsBelow tree (Declared b) (Declared v) → ⊥) → ancestor tree n a ≡ Some u → parent tree u ≡ None →
-      (above : StackType) → IsBelow tree (Declared a) above → IsBelow tree (Declared b) above → ⊥
-  none_at_all n a b u before here last = apart a b everywhere
-    where
-      everywhere : (i : ℕ) (v : DeclaredType) → ancestor tree i a ≡ Some v → IsBelow tree (Declared b) (Declared v) → ⊥
-      everywhere i v e under = by_order (cases_lt n i)
-        where
-          by_order : (n < i) ⊎ (i ≤ n) → ⊥
-          by_order (inl l) = beyond n i a u v here last l e
-          by_order (inr l) = before i v (omega (arith, l)) e under
 
   -- so far up there is nothing
   pub too_far : IsLegal tree → (n m : ℕ) (a u : DeclaredType) → longest_chain tree + a.brackets + 2 ≤ m → m ≤ n → ancestor tree n a ≡ Some u → ⊥

@@ -1,5 +1,6 @@
 pub mod Classes
 pub mod Climbing
+pub mod DepthLaws
 pub mod Shorts
 pub mod Operands
 pub mod MemberLaws

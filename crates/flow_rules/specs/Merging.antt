@@ -1,10 +1,11 @@
 -- What a merge answers.
 use Rattle.std.specs.Prelude.{◌≡◌, ℕ, List, Option, Some, None, slice_get}
 use Rattle.cil_model.specs.declared.types.ClassName.{ClassName}
+use Rattle.cil_model.specs.declared.types.DeclaredType.{DeclaredType}
 use Rattle.cil_model.specs.Declarations.{Declaration}
 use Rattle.name_tables.specs.Numbers.{declarations}
 use Rattle.cil_model.specs.declared.trees.Tree.{Tree}
-use Rattle.cil_model.specs.TypeTree.{StackType, IsBelow, IsMerge}
+use Rattle.cil_model.specs.TypeTree.{StackType, IsBelow, IsMerge, parent, ancestor}
 use Rattle.resolved_code.specs.Resolved.{AreResolved, IsResolvedClass}
 use Rattle.resolved_code.specs.declared.classes.ResolvedClass.{ResolvedClass}
 use Rattle.cil_model.specs.Legality.{IsLegal}
@@ -24,3 +25,11 @@ pub record AreClasses (tree : Tree) (classes : List ResolvedClass) : Type 0 wher
 -- the class with this number
 abbrev pub IsClassAt : Tree → ℕ → ResolvedClass → Type 0
 IsClassAt tree n class = (name : ClassName) × (declared : Declaration) × (slice_get (declarations tree) n ≡ Some (name, declared)) × IsResolvedClass tree declared class
+
+-- the type has so many parents above it
+abbrev pub IsDepth : Tree → DeclaredType → ℕ → Type 0
+IsDepth tree t n = (top : DeclaredType) × (ancestor tree n t ≡ Some top) × (parent tree top ≡ None)
+
+-- two types have as many parents above them
+abbrev pub AreLevel : Tree → DeclaredType → DeclaredType → Type 0
+AreLevel tree a b = (n : ℕ) × IsDepth tree a n × IsDepth tree b n

@@ -8,14 +8,14 @@ ghost use Rattle.std.specs.List.{list_any};
 ghost use Rattle.cil_model.specs.Same.{same_element};
 ghost use Rattle.cil_model.specs.declared.types.Element.TheVariants as Named;
 ghost use Rattle.cil_model.specs.Chains.{base_of, longest_chain};
-ghost use Rattle.cil_model.specs.TypeTree.{parent, parent_element, IsBelow};
+ghost use Rattle.cil_model.specs.TypeTree.{ancestor, parent, parent_element};
 ghost use Rattle.cil_model.specs.TypeTree as OnStack;
 ghost use Rattle.cil_model.specs.Legality.{IsLegal};
 ghost use Rattle.resolved_code.specs.Numbered.{class_name};
 ghost use Rattle.resolved_code.specs.declared.types.NumberedElement.TheVariants.{Object, Class};
 ghost use Rattle.flow_rules.specs.declared.entries.StackEntry.TheVariants.{Declared, Null};
 ghost use Rattle.flow_rules.specs.Named.{type_named, element_named, class_named, is_known};
-ghost use Rattle.flow_rules.specs.Merging.{IsMerged, AreClasses, IsClassAt};
+ghost use Rattle.flow_rules.specs.Merging.{AreClasses, AreLevel, IsClassAt, IsDepth, IsMerged};
 
 use crate::entries::{StackEntry, is_reference};
 use cil_model::trees::Tree;
@@ -115,43 +115,66 @@ impl<'a> TypeTree<'a> {
         self.classes.len() + t.brackets as usize + 2
     }
 
-    /// Whether a type is another or above it.
-    fn is_above(&self, upper: NumberedType, lower: NumberedType) -> bool
-        requires upper { is_known self.now upper.element ≡ true }
-        requires lower { is_known self.now lower.element ≡ true }
-        ensures above { result ≡ true → IsBelow self.now (OnStack.Declared (type_named self.now lower)) (OnStack.Declared (type_named self.now upper)) }
-        ensures apart { result ≡ false → IsBelow self.now (OnStack.Declared (type_named self.now lower)) (OnStack.Declared (type_named self.now upper)) → ⊥ }
+    /// How many parents a type has above it.
+    fn depth(&self, t: NumberedType) -> usize
+        ensures { IsDepth self.now (type_named self.now t) result }
     {
-        let mut here = lower;
-        for step in 0..self.most_steps(lower) {
-            if is_same(here, upper) {
-                return true;
-            }
+        let most = self.most_steps(t);
+        let mut here = t;
+        for step in 0..most {
             match self.parent(here) {
-                None => return false,
+                None => return step,
                 Some(parent) => here = parent,
             }
         }
-        false
+        most
     }
 
-    /// The closest type above two others.
+    /// The type that is so many parents up.
+    fn ancestor(&self, t: NumberedType, steps: usize) -> Option<NumberedType>
+        requires { is_known self.now t.element ≡ true }
+        ensures named { option_map (type_named self.now) result ≡ ancestor self.now steps (type_named self.now t) }
+        ensures known { IfSome result (λ a. is_known self.now a.element ≡ true) }
+    {
+        let mut here = t;
+        for step in 0..steps {
+            here = self.parent(here)?;
+        }
+        Some(here)
+    }
+
+    /// The closest type above two others that have as many parents above them. Both chains are climbed together.
+    fn merged_at_one_depth(&self, first: NumberedType, second: NumberedType) -> Option<NumberedType>
+        requires first { is_known self.now first.element ≡ true }
+        requires second { is_known self.now second.element ≡ true }
+        requires level { AreLevel self.now (type_named self.now first) (type_named self.now second) }
+        ensures { IsMerged self.now (Declared first) (Declared second) (option_map Declared result) }
+    {
+        let mut here = first;
+        let mut there = second;
+        for step in 0..self.most_steps(first) {
+            if is_same(here, there) {
+                return Some(here);
+            }
+            let one = self.parent(here)?;
+            let other = self.parent(there)?;
+            here = one;
+            there = other;
+        }
+        None
+    }
+
+    /// The closest type above two others. The deeper one is brought to the depth of the other first.
     fn merged_types(&self, first: NumberedType, second: NumberedType) -> Option<NumberedType>
         requires first { is_known self.now first.element ≡ true }
         requires second { is_known self.now second.element ≡ true }
         ensures { IsMerged self.now (Declared first) (Declared second) (option_map Declared result) }
     {
-        let mut here = first;
-        for step in 0..self.most_steps(first) {
-            if self.is_above(here, second) {
-                return Some(here);
-            }
-            match self.parent(here) {
-                None => return None,
-                Some(parent) => here = parent,
-            }
-        }
-        None
+        let one_depth = self.depth(first);
+        let other_depth = self.depth(second);
+        let one = self.ancestor(first, one_depth.saturating_sub(other_depth))?;
+        let other = self.ancestor(second, other_depth.saturating_sub(one_depth))?;
+        self.merged_at_one_depth(one, other)
     }
 
     /// The most classes that a chain has.

@@ -61,11 +61,17 @@ impl fmt::Display for ReadError {
 
 impl Error for ReadError {}
 
-/// Whether a byte is above 127.
+/// Whether a byte is above 127. It looks at all bytes, so that many can be looked at together.
 fn has_foreign_byte(source: &[u8]) -> bool
     ensures { result ≡ has_foreign_byte source.now }
 {
-    source.iter().any(|byte| *byte > 127)
+    let mut found = false;
+    for byte in source {
+        if *byte > 127 {
+            found = true;
+        }
+    }
+    found
 }
 
 /// The tree of a source (ECMA-335 II.5; the grammar is this profile's).

@@ -1,39 +1,39 @@
-use Rattle.std.proofs.Common.{◌≡◌, Some, None, option_map, sym, ap, ◌∙◌}
+use Rattle.std.proofs.Common.{◌≡◌, ◌-◌, Some, None, sym, ap, ◌∙◌}
 use Rattle.cil_model.specs.declared.trees.Tree.{Tree}
 use Rattle.cil_model.specs.declared.types.DeclaredType.{DeclaredType}
-use Rattle.cil_model.specs.TypeTree.{parent}
+use Rattle.cil_model.specs.TypeTree.{ancestor}
 use Rattle.flow_rules.specs.Named.{type_named}
-use Rattle.flow_rules.proofs.Climbing.{next, closest, none_common, none_at_all, too_far}
+use Rattle.flow_rules.proofs.DepthLaws.{deep_enough, brought_level, merged_brought}
 use Rattle.flow_rules.proofs.type_tree.TypeTree.merged_types.Goals as goal
 
-pub returns-then-is_above : goal.returns-then-is_above
-returns-then-is_above c =
+pub returns-in_err-one : goal.returns-in_err-one
+returns-in_err-one c =
     let tree : Tree = c.args.self.now in
-    closest tree c.loop-step.step (type_named tree c.args.first) (type_named tree c.args.second) (type_named tree c.loop-step.here) c.loop-step.invariant.reached (c.is_above.ensures.above c.if-is_above.true) c.loop-step.invariant.before
+    let a : DeclaredType = type_named tree c.args.first in
+    let none : ancestor tree (c.depth-one_depth.result - c.depth-other_depth.result) a ≡ None = ap (λ n. ancestor tree n a) (sym c.saturating_sub.ensures) ∙ sym c.in_err-one.ensures.named in
+    absurd (deep_enough tree c.depth-one_depth.result c.depth-other_depth.result a c.depth-one_depth.ensures none)
 
-pub returns-in-None : goal.returns-in-None
-returns-in-None c =
+pub returns-in_err-other : goal.returns-in_err-other
+returns-in_err-other c =
+    let tree : Tree = c.args.self.now in
+    let b : DeclaredType = type_named tree c.args.second in
+    let none : ancestor tree (c.depth-other_depth.result - c.depth-one_depth.result) b ≡ None = ap (λ n. ancestor tree n b) (sym c.saturating_sub-2.ensures) ∙ sym c.in_err-other.ensures.named in
+    absurd (deep_enough tree c.depth-other_depth.result c.depth-one_depth.result b c.depth-other_depth.ensures none)
+
+pub merged_at_one_depth-requires-clause-level : goal.merged_at_one_depth-requires-clause-level
+merged_at_one_depth-requires-clause-level c =
     let tree : Tree = c.args.self.now in
     let a : DeclaredType = type_named tree c.args.first in
     let b : DeclaredType = type_named tree c.args.second in
-    let u : DeclaredType = type_named tree c.loop-step.here in
-    let last : parent tree u ≡ None = sym c.parent.ensures.named ∙ ap (option_map (type_named tree)) c.in-None.is in
-    none_at_all tree c.loop-step.step a b u (none_common tree c.loop-step.step a b u c.loop-step.invariant.before c.loop-step.invariant.reached (c.is_above.ensures.apart c.if-is_above.false)) c.loop-step.invariant.reached last
-
-pub loop-step-preserved : goal.loop-step-preserved
-loop-step-preserved c =
-    let tree : Tree = c.args.self.now in
-    let a : DeclaredType = type_named tree c.args.first in
-    let b : DeclaredType = type_named tree c.args.second in
-    let u : DeclaredType = type_named tree c.loop-step.here in
-    let up : parent tree u ≡ Some (type_named tree c.in-Some.parent) = sym c.parent.ensures.named ∙ ap (option_map (type_named tree)) c.in-Some.is in
-    record {
-      reached = next tree c.loop-step.step a u (type_named tree c.in-Some.parent) c.loop-step.invariant.reached up;
-      known = c.in-Some.ensures.known;
-      before = none_common tree c.loop-step.step a b u c.loop-step.invariant.before c.loop-step.invariant.reached (c.is_above.ensures.apart c.if-is_above.false);
-    }
+    let one : ancestor tree (c.depth-one_depth.result - c.depth-other_depth.result) a ≡ Some (type_named tree c.in_ok-one.one) = ap (λ n. ancestor tree n a) (sym c.saturating_sub.ensures) ∙ sym c.in_ok-one.ensures.named in
+    let other : ancestor tree (c.depth-other_depth.result - c.depth-one_depth.result) b ≡ Some (type_named tree c.in_ok-other.other) = ap (λ n. ancestor tree n b) (sym c.saturating_sub-2.ensures) ∙ sym c.in_ok-other.ensures.named in
+    brought_level tree c.depth-one_depth.result c.depth-other_depth.result a b (type_named tree c.in_ok-one.one) (type_named tree c.in_ok-other.other) c.depth-one_depth.ensures c.depth-other_depth.ensures one other
 
 pub returns : goal.returns
 returns c =
     let tree : Tree = c.args.self.now in
-    λ above under over. too_far tree c.most_steps-step-end.ensures.legal c.loop-step.step c.most_steps-step-end.result (type_named tree c.args.first) (type_named tree c.loop-step.here) c.most_steps-step-end.ensures.enough c.loop-step-test.false c.loop-step.invariant.reached
+    let a : DeclaredType = type_named tree c.args.first in
+    let b : DeclaredType = type_named tree c.args.second in
+    let one : ancestor tree (c.depth-one_depth.result - c.depth-other_depth.result) a ≡ Some (type_named tree c.in_ok-one.one) = ap (λ n. ancestor tree n a) (sym c.saturating_sub.ensures) ∙ sym c.in_ok-one.ensures.named in
+    let other : ancestor tree (c.depth-other_depth.result - c.depth-one_depth.result) b ≡ Some (type_named tree c.in_ok-other.other) = ap (λ n. ancestor tree n b) (sym c.saturating_sub-2.ensures) ∙ sym c.in_ok-other.ensures.named in
+    merged_brought tree c.depth-one_depth.result c.depth-other_depth.result c.args.first c.args.second c.in_ok-one.one c.in_ok-other.other c.merged_at_one_depth.result c.depth-one_depth.ensures c.depth-other_depth.ensures one other c.merged_at_one_depth.ensures

@@ -1,0 +1,10 @@
+pub mod Keeping
+pub mod Running
+pub mod Openings
+pub mod Operands
+pub mod Literals
+pub mod SourceLaws
+pub mod SimpleSteps
+pub mod WholeSteps
+pub mod DeclaredClasses
+pub mod Targets
