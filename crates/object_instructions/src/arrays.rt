@@ -11,8 +11,8 @@ use frame_instructions::places::leave;
 use object_memory::{Addr, ArrayElement, Heap, Kind, Value, ValueKind};
 use threads_monitors::{Effect, FrameMemory};
 
-/// A length or an index: an integer of 32 bits or of the native size.
-fn index(value: Value) -> i64
+/// A length or an index: an integer of 32 bits or of the native size (ECMA-335 III.4.8, III.4.20).
+pub fn index(value: Value) -> i64
     requires { IsSome (index_in value) }
     ensures { index_in value ≡ Some result }
 {
@@ -24,7 +24,7 @@ fn index(value: Value) -> i64
 }
 
 /// The place of an element among so many. None where there is no such element.
-fn place_in(index: i64, count: u32) -> Option<u32>
+pub fn place_in(index: i64, count: u32) -> Option<u32>
     ensures { result ≡ place_in index count }
 {
     if 0 <= index && index < i64::from(count) {

@@ -39,13 +39,13 @@ numbered String = NumberedString
 numbered (Class c) = NumberedClass c
 
 -- what an array holds
-abbrev pub held_type : Tree → ArrayElement → Option DeclaredType
-held_type tree a = type_at tree (record { element = numbered a.element; brackets = a.brackets })
+abbrev pub held_type : ArrayElement → NumberedType
+held_type a = record { element = numbered a.element; brackets = a.brackets }
 
 -- the type of an object
 abbrev pub type_of_kind : Tree → Kind → Option DeclaredType
 type_of_kind tree (Instance c) = option_map type_of_class (class_name tree c)
-type_of_kind tree (Array a) = option_map array_of (held_type tree a)
+type_of_kind tree (Array a) = option_map array_of (type_at tree (held_type a))
 
 -- of what lies at an address: a literal is a string
 abbrev pub type_of_address : Tree → Objects → Addr → Option DeclaredType
@@ -57,12 +57,16 @@ abbrev pub may_stand : Tree → Objects → Value → DeclaredType → Option Bo
 may_stand tree o (Ref a) t = if a.number == 0 then Some true else option_map (λ own. is_assignable tree own t) (type_of_address tree o a)
 may_stand tree o _ t = None
 
+-- the same of a type by its number
+abbrev pub may_stand_as : Tree → Objects → Value → NumberedType → Option Bool
+may_stand_as tree o v to = option_and_then (may_stand tree o v) (type_at tree to)
+
 -- ---- instructions
 
 -- what castclass and isinst do with an object of another class
 abbrev pub cast_turn : Tree → (Frames → Objects → ObjectTurn) → NumberedType → Frames → Objects → ObjectTurn
-cast_turn tree otherwise to m o = take m (λ v n. given (type_at tree to) (λ t. given (may_stand tree o v t) (λ holds.
-    if holds then beside o (leaves v n) else otherwise n o)))
+cast_turn tree otherwise to m o = take m (λ v n. given (may_stand_as tree o v to) (λ holds.
+    if holds then beside o (leaves v n) else otherwise n o))
 
 -- castclass (III.4.3)
 abbrev pub cast_class_turn : Tree → NumberedType → Frames → Objects → ObjectTurn
@@ -72,18 +76,21 @@ cast_class_turn tree to m o = cast_turn tree (λ n p. Some (n, p, Raises Invalid
 abbrev pub is_instance_turn : Tree → NumberedType → Frames → Objects → ObjectTurn
 is_instance_turn tree to m o = cast_turn tree (λ n p. beside p (leaves (Ref (record { number = 0 })) n)) to m o
 
--- the kind of an array's elements
-abbrev pub element_kind : Option Cell → Option ArrayElement
-element_kind None = None
-element_kind (Some c) = by_kind c.kind
-  where
-    by_kind : Kind → Option ArrayElement
-    by_kind (Instance class) = None
-    by_kind (Array a) = Some a
+-- what an array holds, of an object of this kind
+abbrev pub element_in : Kind → Option ArrayElement
+element_in (Instance class) = None
+element_in (Array a) = Some a
+
+-- what the array at an address holds
+abbrev pub element_at : Objects → Addr → Option ArrayElement
+element_at o a = option_and_then (λ (c : Cell). element_in c.kind) (cell_at o.block a)
+
+-- stores to a place that is there what the array's own elements admit
+abbrev pub store_admitted : Tree → Value → ℕ → Addr → Frames → Objects → ObjectTurn
+store_admitted tree v slot a m o = given (element_at o a) (λ e. given (may_stand_as tree o v (held_type e)) (λ holds.
+    if holds then store_slot v slot a m o else Some (m, o, Raises ArrayTypeMismatch)))
 
 -- stelem.ref (III.4.27): the place is looked at before the class
 abbrev pub store_reference_turn : Tree → Frames → Objects → ObjectTurn
-store_reference_turn tree m o = take m (λ v n. take n (λ index k. take k (λ array j. object_of array j o (λ a. index_of index (λ i.
-    given (slots_of o a) (λ slots. given (element_kind (cell_at o.block a)) (λ e. in_range (place_in i (length slots)) j o (λ slot.
-    given (held_type tree e) (λ t. given (may_stand tree o v t) (λ holds.
-    if holds then store_slot v slot a j o else Some (j, o, Raises ArrayTypeMismatch)))))))))))
+store_reference_turn tree m o = take m (λ v n. take n (λ index k. take k (λ array j. object_of array j o (λ a. index_of index (λ i. given (slots_of o a) (λ slots.
+    in_range (place_in i (length slots)) j o (λ slot. store_admitted tree v slot a j o)))))))

@@ -5,6 +5,5 @@
 //! is each caller's condition, which verification gives.
 #![tactic(auto)]
 
-mod types;
-
-
+pub mod casts;
+pub mod types;
