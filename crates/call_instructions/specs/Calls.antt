@@ -2,14 +2,17 @@
 -- kind, or where there is no room for it: no verified program comes there.
 use Rattle.std.specs.Prelude.{ℕ, ◌+◌, ◌-◌, ◌==◌, Bool, true, false, ◌&&◌, if◌then◌else◌, nat_lt, nat_le, List, [], ◌∷◌, length, Option, Some, None}
 use Rattle.cil_model.specs.declared.limits.TheConstants.{MOST_INSTRUCTIONS}
-use Rattle.cil_model.specs.declared.reports.Fault.TheVariants.{StackOverflow}
+use Rattle.cil_model.specs.declared.reports.Fault.TheVariants.{OutOfMemory, StackOverflow}
 use Rattle.object_memory.specs.declared.addresses.Addr.{Addr}
 use Rattle.object_memory.specs.declared.values.Value.{Value}
 use Rattle.object_memory.specs.declared.values.Value.TheVariants.{Ref}
 use Rattle.threads_monitors.specs.Frames.{Frames, size, with_place, with_stack, with_inserted, with_call, returned}
 use Rattle.threads_monitors.specs.declared.effects.Effect.{Effect}
 use Rattle.threads_monitors.specs.declared.effects.Effect.TheVariants.{GoesOn, Returns, Raises}
+use Rattle.object_memory.specs.declared.kinds.Kind.TheVariants.{Instance}
+use Rattle.object_memory.specs.Objects.{Objects, with_birth}
 use Rattle.frame_instructions.specs.Frames.{Turn, with_top}
+use Rattle.object_instructions.specs.ObjectTurns.{ObjectTurn, beside, born}
 use Rattle.call_instructions.specs.declared.calls.Callee.{Callee}
 
 -- goes on once the frame is at the instruction behind
@@ -37,6 +40,21 @@ abbrev pub construct_turn : Callee → Addr → Frames → Turn
 construct_turn callee object m =
     if nat_lt 0 callee.arguments && (nat_lt (size m.running) m.room && nat_le (callee.arguments - 1) (length m.running.stack))
     then behind (with_inserted m (callee.arguments - 1) (Ref object)) (entered callee (Some object)) else None
+
+-- ---- births
+
+-- the constructor's frame for an object that was born, or memory is refused
+abbrev pub constructs : Callee → Frames → Objects × Option Addr → ObjectTurn
+constructs callee m (o, None) = Some (m, o, Raises OutOfMemory)
+constructs callee m (o, Some a) = beside o (construct_turn callee a m)
+
+-- newobj (III.4.21) of a class with a constructor that has code: the depth is looked at before memory
+abbrev pub new_object_turn : ℕ → ℕ → Callee → Frames → Objects → ObjectTurn
+new_object_turn class slots callee m o = if is_full m then Some (m, o, Raises StackOverflow) else constructs callee m (with_birth o (Instance class) slots)
+
+-- the same with a constructor that is built in, which is done at once
+abbrev pub new_plain_object_turn : ℕ → ℕ → Frames → Objects → ObjectTurn
+new_plain_object_turn class slots m o = born m (with_birth o (Instance class) slots)
 
 -- ---- returns
 

@@ -5,6 +5,7 @@
 //! caller's condition, which verification gives.
 #![tactic(auto)]
 
+pub mod births;
 pub mod calls;
 pub mod returns;
 
