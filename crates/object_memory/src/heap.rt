@@ -1,5 +1,6 @@
 // Objects in a block.
 
+ghost use Rattle.cil_model.specs.declared.limits.TheConstants.{MOST_WORDS};
 ghost use Rattle.std.specs.Prelude.{◌≡◌, ◌≢◌, ℕ, ◌+◌, ◌<◌, ◌≤◌, length, replicate, slice_index, slice_get, Some, None, IfOk, IfSome, IsSome, option_map};
 
 use crate::addresses::Addr;
@@ -68,7 +69,8 @@ impl Heap {
 
     /// The words that no object takes.
     pub fn free_words(&self) -> usize
-        ensures { result ≡ free_words self.now.block }
+        ensures free { result ≡ free_words self.now.block }
+        ensures few { result ≤ MOST_WORDS }
     {
         self.block.len() - self.used
     }

@@ -3,6 +3,7 @@ use Rattle.std.proofs.Common.{◌≡◌, ℕ, zero, suc, ◌+◌, ◌-◌, ◌*�
 use Rattle.std.specs.Prelude.{reverse, map, Option, None}
 use Rattle.std.proofs.Math.ListN.{length-set}
 use Rattle.std.proofs.lemmas.List.{reverse-append, length-reverse, length-take-le, length-map}
+use Rattle.std.specs.List.{insert}
 use Rattle.std.proofs.lemmas.Nat.{mul-le}
 use Rattle.object_memory.specs.declared.addresses.Addr.{Addr}
 use Rattle.object_memory.specs.declared.values.Value.{Value}
@@ -101,6 +102,21 @@ module _ (values : List Value) (running : Activation) (below : List Activation) 
           let first = s.fit.0 in
           (holds new running below depth room capacity most_below (record f { stack = xs }) fs
           (rows.left values running (reverse below) f fs s.lays x xs e new rest) (omega (arith, first, long), s.fit.1) s.few s.large s.deep).sound
+
+  -- the place of a value below the topmost ones is in the row
+  pub place_below : (n : ℕ) → n ≤ length f.stack → n ≤ length values
+  place_below n less = omega (arith, less, rows.length_values values running (reverse below) f fs s.lays)
+
+  pub after_insert : (n : ℕ) (v : Value) → n ≤ length f.stack → size f < room → Holds (insert values (length values - n) v) running below depth room capacity most_below (with_stack m (take n f.stack ++ v ∷ drop n f.stack))
+  after_insert n v there less =
+      let long = length_inserted n f.stack v there in
+      holds (insert values (length values - n) v) running below depth room capacity most_below (record f { stack = take n f.stack ++ v ∷ drop n f.stack }) fs
+      (rows.inserted values running (reverse below) f fs s.lays n v there) (omega (arith, less, long), s.fit.1) s.few s.large s.deep
+    where
+      length_inserted : (n : ℕ) (xs : List Value) (v : Value) → n ≤ length xs → length (take n xs ++ v ∷ drop n xs) ≡ length xs + 1
+      length_inserted zero xs v h = omega arith
+      length_inserted (suc n) [] v h = absurd (omega (arith, h))
+      length_inserted (suc n) (x ∷ xs) v h = let ih = length_inserted n xs v (omega (arith, h)) in omega (arith, ih)
 
   pub after_place : (place : ℕ) → Holds values (record running { place = place }) below depth room capacity most_below (with_place m place)
   after_place place =

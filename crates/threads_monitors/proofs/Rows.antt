@@ -4,6 +4,8 @@ use Rattle.std.specs.Prelude.{reverse, map, slice_get, Option, Some}
 use Rattle.std.proofs.Math.ListN.{length-set, get_or-append}
 use Rattle.std.proofs.Math.Seq.{take-append_seam, drop-append_seam, drop-append-add}
 use Rattle.std.proofs.lemmas.List.{reverse-append, reverse-reverse, length-reverse, set-append_left, set-append_right, get_or-append-add, take-append-drop, length-take-le, length-map}
+use Rattle.std.proofs.lemmas.List.Edits.{insert-append_right}
+use Rattle.std.specs.List.{insert}
 use Rattle.std.proofs.lemmas.Nat.{mul-le}
 use Rattle.std.proofs.lemmas.Option.{slice_get-get_or}
 use Rattle.object_memory.specs.declared.addresses.Addr.{Addr}
@@ -95,6 +97,55 @@ module _ (values : List Value) (running : Activation) (below : List Activation) 
         running_is = l.running_is;
         below_are = l.below_are;
       }
+
+  -- a value below the topmost ones
+  module _ (n : ℕ) (v : Value) (fits : n ≤ length f.stack) where
+    abbrev above : List Value
+    above = reverse (take n f.stack)
+
+    abbrev beneath : List Value
+    beneath = reverse (drop n f.stack)
+
+    abbrev head : List Value
+    head = row fs ++ (f.arguments ++ (f.locals ++ beneath))
+
+    nested : (t : List Value) → head ++ t ≡ row fs ++ (f.arguments ++ (f.locals ++ (beneath ++ t)))
+    nested t =
+        append_assoc (row fs) (f.arguments ++ (f.locals ++ beneath)) t
+        ∙ ap (λ xs. row fs ++ xs) (append_assoc f.arguments (f.locals ++ beneath) t ∙ ap (λ xs. f.arguments ++ xs) (append_assoc f.locals beneath t))
+
+    split_there : values ≡ head ++ above
+    split_there =
+        l.values_are
+        ∙ ap (λ xs. row fs ++ (f.arguments ++ (f.locals ++ xs))) (ap reverse (sym (take-append-drop n f.stack)) ∙ reverse-append (take n f.stack) (drop n f.stack))
+        ∙ sym (nested above)
+
+    place_there : length values - n ≡ length head
+    place_there =
+        let count : length above ≡ n = length-reverse (take n f.stack) ∙ length-take-le n f.stack fits in
+        let long : length values ≡ length head + length above = ap length split_there ∙ length-append head above in
+        omega (arith, count, long)
+
+    stack_there_then : reverse (take n f.stack ++ v ∷ drop n f.stack) ≡ beneath ++ v ∷ above
+    stack_there_then =
+        reverse-append (take n f.stack) (v ∷ drop n f.stack)
+        ∙ ap (λ xs. xs ++ above) (reverse-append (v ∷ []) (drop n f.stack))
+        ∙ append_assoc beneath (v ∷ []) above
+
+    none_left : length head - length head ≡ 0
+    none_left = omega arith
+
+    row_then : insert values (length values - n) v ≡ row fs ++ own (record f { stack = take n f.stack ++ v ∷ drop n f.stack })
+    row_then =
+        ap (λ xs. insert xs (length values - n) v) split_there
+        ∙ ap (λ k. insert (head ++ above) k v) place_there
+        ∙ insert-append_right head above (length head) (length head) v refl (omega arith)
+        ∙ ap (λ k. head ++ insert above k v) none_left
+        ∙ nested (v ∷ above)
+        ∙ sym (ap (λ xs. row fs ++ (f.arguments ++ (f.locals ++ xs))) stack_there_then)
+
+    pub inserted : Lays (insert values (length values - n) v) running below (record f { stack = take n f.stack ++ v ∷ drop n f.stack }) fs
+    inserted = record { values_are = row_then; running_is = l.running_is; below_are = l.below_are }
 
   -- what lies before the topmost value
   pub record Topped (x : Value) (s : List Value) : Type 0 where

@@ -1,5 +1,5 @@
 -- The frames of a thread as callers see them, with no place in memory (I.12.3.2, this profile).
-use Rattle.std.specs.Prelude.{ℕ, ◌+◌, pos, List, [], ◌∷◌, map, length, reverse, take, drop, Option, slice_set}
+use Rattle.std.specs.Prelude.{ℕ, ◌+◌, pos, List, [], ◌∷◌, ◌++◌, map, length, reverse, take, drop, Option, slice_set}
 use Rattle.object_memory.specs.declared.addresses.Addr.{Addr}
 use Rattle.object_memory.specs.declared.values.Value.{Value}
 use Rattle.object_memory.specs.declared.values.Value.TheVariants.{Int32, Int64, Native, Ref}
@@ -50,6 +50,10 @@ with_place m place = with_running m (record m.running { place = place })
 
 abbrev pub with_stack : Frames → List Value → Frames
 with_stack m stack = with_running m (record m.running { stack = stack })
+
+-- with a value beneath the topmost ones
+abbrev pub with_inserted : Frames → ℕ → Value → Frames
+with_inserted m n v = with_stack m (take n m.running.stack ++ v ∷ drop n m.running.stack)
 
 abbrev pub with_argument : Frames → ℕ → Value → Frames
 with_argument m i v = with_running m (record m.running { arguments = slice_set m.running.arguments i v })

@@ -44,7 +44,7 @@ impl Model for FrameMemory {
 }
 
 impl FrameMemory {
-    ghost use Rattle.threads_monitors.specs.Frames.{size, new_frame, returned, with_argument, with_call, with_local, with_place, with_stack};
+    ghost use Rattle.threads_monitors.specs.Frames.{size, new_frame, returned, with_argument, with_call, with_inserted, with_local, with_place, with_stack};
 
     /// The memory of a thread that begins with a frame of the method, with these arguments and with zeros in locals of
     /// these kinds. There is room for `depth` frames, and in each for `room` values: arguments, locals and stack.
@@ -120,6 +120,17 @@ impl FrameMemory {
         self.values.push_reserved(value);
     }
 
+    /// Puts a value beneath so many topmost ones of the running frame's stack.
+    pub fn insert(&mut self, below: usize, value: Value)
+        requires there { below ≤ length self.old.running.stack }
+        requires room { size self.old.running < self.old.room }
+        ensures { self.new ≡ with_inserted self.old below value }
+    {
+        let place = self.values.len() - below;
+        let inserted = self.values.insert(place, value);
+        inserted.unwrap();
+    }
+
     /// Takes the topmost value off the running frame's stack.
     pub fn pop(&mut self) -> Value
         requires { 0 < length self.old.running.stack }
@@ -127,6 +138,14 @@ impl FrameMemory {
         ensures others { self.new ≡ with_stack self.old self.new.running.stack }
     {
         self.values.pop().unwrap()
+    }
+
+    /// The value so far below the topmost one of the running frame's stack. It stays there.
+    pub fn operand(&self, below: usize) -> Value
+        requires { below < length self.now.running.stack }
+        ensures { slice_get self.now.running.stack below ≡ Some result }
+    {
+        self.values[self.values.len() - 1 - below]
     }
 
     /// An argument of the running frame (ECMA-335 III.3.38). They count from 0.
@@ -166,6 +185,13 @@ impl FrameMemory {
         ensures { result ≡ (length self.now.below + 1 == self.now.depth) }
     {
         self.below.len() + 1 == self.depth
+    }
+
+    /// Whether the running frame is the thread's first one, with none below it.
+    pub fn is_first(&self) -> bool
+        ensures { result ≡ (length self.now.below == 0) }
+    {
+        self.below.is_empty()
     }
 
     /// Calls a method (ECMA-335 III.3.19): the uppermost `arguments` values of the stack become the new frame's arguments,

@@ -52,3 +52,20 @@ fn a_call_takes_its_arguments_off_the_stack_and_a_return_goes_back(
     assert_eq!(rt; frames.pop(), Value::Int32(1));
     Ok(())
 }
+
+#[test]
+fn a_value_is_put_beneath_the_topmost_ones(rt: HostRuntime) -> Result<(), Fail> {
+    let mut frames = FrameMemory::new(rt.alloc(), 2, 3, 0, &[], &[])?;
+    assert!(rt; frames.is_first());
+    frames.push(Value::Int32(1));
+    frames.push(Value::Int32(2));
+    frames.insert(1, Value::Int32(7));
+    assert_eq!(rt; frames.operand(0), Value::Int32(2));
+    assert_eq!(rt; frames.operand(1), Value::Int32(7));
+    assert_eq!(rt; frames.operand(2), Value::Int32(1));
+    assert_eq!(rt; frames.pop(), Value::Int32(2));
+    frames.push_frame(8, 1, &[], None);
+    assert!(rt; !frames.is_first());
+    assert_eq!(rt; frames.argument(0), Value::Int32(7));
+    Ok(())
+}
