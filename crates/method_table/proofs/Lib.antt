@@ -1,0 +1,2 @@
+pub mod ActionLaws
+pub mod FlatLaws

@@ -1,0 +1,12 @@
+use Rattle.std.proofs.Common.{Option, slice_get, sym, ap, subst, ◌∙◌}
+use Rattle.metadata.specs.Contents.{BothAlike}
+use Rattle.metadata.proofs.MemberLaws.{alike_at}
+use Rattle.method_table.specs.declared.methods.TableMethod.{TableMethod}
+use Rattle.method_table.specs.AllMethods.{all_methods}
+use Rattle.method_table.specs.Prepared.{IsTableMethod}
+use Rattle.method_table.proofs.table.MethodTable.method.Goals as goal
+
+pub returns : goal.returns
+returns c = λ tree h.
+    let P : Option TableMethod → Type 0 = λ o. BothAlike (IsTableMethod tree) (slice_get (all_methods tree) c.args.number) o in
+    subst P (sym (c.entry_at.ensures ∙ ap (λ xs. slice_get xs c.args.number) c.as_slice.ensures.value)) (alike_at (IsTableMethod tree) (all_methods tree) c.args.self.now.methods.items h.methods c.args.number)

@@ -1,0 +1,2 @@
+pub mod AllMethods
+pub mod Prepared

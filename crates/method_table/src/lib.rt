@@ -1,0 +1,10 @@
+// What an interpreter needs of each method at a call, prepared once: by flat numbers, in tables.
+#![tactic(auto)]
+
+mod actions;
+mod methods;
+mod table;
+
+pub use actions::Action;
+pub use methods::TableMethod;
+pub use table::MethodTable;

@@ -1,0 +1,133 @@
+// The methods of a program, by flat numbers.
+
+ghost use Rattle.std.specs.Prelude.{◌≡◌, ◌+◌, ◌<◌, ◌^◌, IfOk, Some, length, map, option_map, slice_get};
+ghost use Rattle.cil_model.specs.declared.types.ClassName.{ClassName};
+ghost use Rattle.cil_model.specs.declared.trees.Method.{Method};
+ghost use Rattle.cil_model.specs.declared.trees.Tree.{Tree};
+ghost use Rattle.name_tables.specs.Entries.{entry_of};
+ghost use Rattle.name_tables.specs.Numbers.{declarations, method_at};
+ghost use Rattle.resolved_code.specs.Resolved.{AllAlike};
+ghost use Rattle.metadata.specs.Contents.{BothAlike};
+ghost use Rattle.method_table.specs.AllMethods.{all_methods, first_numbers};
+ghost use Rattle.method_table.specs.Prepared.{IsTableMethod};
+
+use crate::methods::{TableMethod, class_methods};
+use cil_model::memory::NoMemory;
+use metadata::Program;
+use name_tables::built_in::BuiltInClass;
+use name_tables::class_tables::ClassTable;
+use name_tables::lookups::{MemberNumber, NameTables};
+use std::alloc::Global;
+
+/// All methods of a program by flat numbers: class by class, in the order of the classes' numbers, those of a class in their order.
+/// Contracts say whose table it is by `IsMethodTable`.
+#[derive(Debug, Drop)]
+pub struct MethodTable {
+    methods: Vec<TableMethod>,
+    first: Vec<u32>,
+}
+
+/// A count as a flat number. No program has as many methods as there are such numbers.
+fn flat_number(count: usize) -> Result<u32, NoMemory>
+    ensures { IfOk result (λ n. (n ≡ count) × (count < 2 ^ 32)) }
+{
+    match u32::try_from(count) {
+        Ok(number) => Ok(number),
+        Err(_) => Err(NoMemory),
+    }
+}
+
+/// The flat number behind so many methods from one on.
+fn number_behind(first: u32, count: usize) -> Result<u32, NoMemory>
+    ensures { IfOk result (λ n. n ≡ first + count) }
+{
+    first.checked_add(flat_number(count)?).ok_or(NoMemory)
+}
+
+/// The flat number of each class's first method. Fails for want of memory alone.
+fn first_numbers(alloc: Global, classes: &[ClassTable]) -> Result<Vec<u32>, NoMemory>
+    ensures { IfOk result (λ v. v.items ≡ first_numbers 0 (map (λ t. entry_of t.class) classes.now)) }
+{
+    let mut first = Vec::with_capacity(alloc, classes.len())?;
+    let mut next = 0;
+    for table in classes {
+        first.push(next)?;
+        next = number_behind(next, table.class.methods.len())?;
+    }
+    Ok(first)
+}
+
+/// The methods of all classes. Fails for want of memory alone.
+fn all_methods(alloc: Global, names: &NameTables) -> Result<Vec<TableMethod>, NoMemory>
+    ensures { IfOk result (λ v. AllAlike (IsTableMethod names.now.classes.tree.now) (all_methods names.now.classes.tree.now) v.items) }
+{
+    let classes = names.classes.all();
+    let mut methods = Vec::new(alloc);
+    for class in 0..classes.len() {
+        let mut entries = class_methods(alloc, class, classes[class].class.methods.as_slice())?;
+        methods.append(&mut entries)?;
+    }
+    Ok(methods)
+}
+
+/// The flat number so many places behind another.
+fn number_from(first: u32, place: usize) -> u32
+    ensures { first + place < 2 ^ 32 → result ≡ first + place }
+{
+    match u32::try_from(place) {
+        Ok(place) => first.saturating_add(place),
+        Err(_) => u32::MAX,
+    }
+}
+
+fn first_at(first: &[u32], class: usize) -> Option<u32>
+    ensures { result ≡ slice_get first.now class }
+{
+    first.get(class).copied()
+}
+
+fn entry_at(methods: &[TableMethod], number: usize) -> Option<&TableMethod>
+    ensures { option_map (λ e. e.now) result ≡ slice_get methods.now number }
+{
+    methods.get(number)
+}
+
+impl MethodTable {
+    ghost use Rattle.method_table.specs.Prepared.{IsMethodTable};
+
+    fn of_names(alloc: Global, names: &NameTables) -> Result<Self, NoMemory>
+        ensures { IfOk result (λ table. IsMethodTable names.now.classes.tree.now table) }
+    {
+        let methods = all_methods(alloc, names)?;
+        let _count = flat_number(methods.len())?;
+        let first = first_numbers(alloc, names.classes.all())?;
+        Ok(MethodTable { methods, first })
+    }
+
+    /// The table of a program. Fails for want of memory alone.
+    pub fn new(alloc: Global, program: &Program) -> Result<Self, NoMemory>
+        ensures { IfOk result (λ table. IsMethodTable program.now table) }
+    {
+        let table = BuiltInClass::all(alloc)?;
+        let names = NameTables::new(alloc, program.tree(), table.as_slice())?;
+        MethodTable::of_names(alloc, &names)
+    }
+
+    /// The flat number of a method, by its class and its place there. Where no method is there, any number. Takes constant time, and
+    /// no memory.
+    pub fn number(&self, member: MemberNumber) -> u32
+        ensures { (tree : Tree) → IsMethodTable tree self.now → (c : ClassName) (m : Method) → method_at tree (member.class, member.place) ≡ Some (c, m) → slice_get (all_methods tree) result ≡ Some (c, m) }
+    {
+        match first_at(self.first.as_slice(), member.class) {
+            None => u32::MAX,
+            Some(first) => number_from(first, member.place),
+        }
+    }
+
+    /// What a call needs to know of the method with this flat number; none where no method has it. Takes constant time, and no memory.
+    pub fn method(&self, number: u32) -> Option<&TableMethod>
+        ensures { (tree : Tree) → IsMethodTable tree self.now → BothAlike (IsTableMethod tree) (slice_get (all_methods tree) number) (option_map (λ e. e.now) result) }
+    {
+        entry_at(self.methods.as_slice(), number as usize)
+    }
+}
