@@ -29,11 +29,11 @@ Turn = Option (Frames × Effect)
 
 -- on to the instruction at a place
 abbrev pub jump : ℕ → Frames → Turn
-jump place m = Some (with_place m place, GoesOn)
+jump place m = if nat_lt place MOST_INSTRUCTIONS then Some (with_place m place, GoesOn) else None
 
 -- on to the instruction behind
 abbrev pub onward : Frames → Turn
-onward m = if nat_lt m.running.place MOST_INSTRUCTIONS then jump (m.running.place + 1) m else None
+onward m = if nat_lt m.running.place MOST_INSTRUCTIONS then Some (with_place m (m.running.place + 1), GoesOn) else None
 
 -- to one or the other
 abbrev pub branch_if : Bool → ℕ → Frames → Turn

@@ -10,7 +10,7 @@ use object_memory::Value;
 use threads_monitors::{Effect, FrameMemory};
 
 /// `brtrue` (ECMA-335 III.3.18).
-pub fn branch_true(frames: &mut FrameMemory, place: u32) -> Effect
+pub fn branch_true(frames: &mut FrameMemory, place: usize) -> Effect
     requires { IsSome (branch_true_turn place frames.old) }
     ensures { Some (frames.new, result) ≡ branch_true_turn place frames.old }
 {
@@ -19,7 +19,7 @@ pub fn branch_true(frames: &mut FrameMemory, place: u32) -> Effect
 }
 
 /// `brfalse` (ECMA-335 III.3.17).
-pub fn branch_false(frames: &mut FrameMemory, place: u32) -> Effect
+pub fn branch_false(frames: &mut FrameMemory, place: usize) -> Effect
     requires { IsSome (branch_false_turn place frames.old) }
     ensures { Some (frames.new, result) ≡ branch_false_turn place frames.old }
 {
@@ -41,7 +41,7 @@ fn is_set(value: Value) -> bool
 }
 
 /// `beq`, `bne.un`, `bge`, `bgt`, `ble` and `blt` (ECMA-335 III.3.5 to III.3.14).
-pub fn branch_compare(frames: &mut FrameMemory, operation: BranchComparison, place: u32) -> Effect
+pub fn branch_compare(frames: &mut FrameMemory, operation: BranchComparison, place: usize) -> Effect
     requires { IsSome (branch_compare_turn operation place frames.old) }
     ensures { Some (frames.new, result) ≡ branch_compare_turn operation place frames.old }
 {
@@ -68,7 +68,7 @@ fn is_taken(operation: BranchComparison, first: Value, second: Value) -> bool
 }
 
 /// `switch` (ECMA-335 III.3.66).
-pub fn switch(frames: &mut FrameMemory, places: &[u32]) -> Effect
+pub fn switch(frames: &mut FrameMemory, places: &[usize]) -> Effect
     requires { IsSome (switch_turn places.now frames.old) }
     ensures { Some (frames.new, result) ≡ switch_turn places.now frames.old }
 {

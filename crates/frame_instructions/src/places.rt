@@ -8,10 +8,11 @@ use object_memory::Value;
 use threads_monitors::{Effect, FrameMemory};
 
 /// Goes on at a place of the running method.
-pub fn jump(frames: &mut FrameMemory, place: u32) -> Effect
+pub fn jump(frames: &mut FrameMemory, place: usize) -> Effect
+    requires { IsSome (jump place frames.old) }
     ensures { Some (frames.new, result) ≡ jump place frames.old }
 {
-    frames.set_place(place);
+    frames.set_place(place as u32);
     Effect::GoesOn
 }
 
@@ -25,7 +26,7 @@ pub fn go_on(frames: &mut FrameMemory) -> Effect
 }
 
 /// Goes on at the place where the test holds, and else to the instruction behind.
-pub fn branch_if(frames: &mut FrameMemory, holds: bool, place: u32) -> Effect
+pub fn branch_if(frames: &mut FrameMemory, holds: bool, place: usize) -> Effect
     requires { IsSome (branch_if holds place frames.old) }
     ensures { Some (frames.new, result) ≡ branch_if holds place frames.old }
 {
