@@ -1,6 +1,6 @@
 -- What the built-in members that need no other thread do (Partition IV). A rule has no answer where an operand is missing or of another
 -- kind, or where there is no such object or literal: no verified program comes there.
-use Rattle.std.specs.Prelude.{ℕ, ◌-◌, ◌^◌, ◌==◌, Bool, true, false, ◌||◌, if◌then◌else◌, nat_lt, is_some, List, [], ◌∷◌, ◌++◌, Option, Some, None, option_map, slice_get}
+use Rattle.std.specs.Prelude.{ℕ, ◌-◌, ◌^◌, ◌==◌, Bool, false, ◌||◌, if◌then◌else◌, nat_lt, is_some, List, [], ◌∷◌, ◌++◌, Option, Some, None, option_map, slice_get}
 use Rattle.std.specs.Fmt.{signed_decimal}
 use Rattle.std.specs.Option.{option_map_or}
 use Rattle.object_memory.specs.declared.addresses.Addr.{Addr}
@@ -13,7 +13,7 @@ use Rattle.threads_monitors.specs.Frames.{Frames, with_stack}
 use Rattle.threads_monitors.specs.Monitors.{entries, with_entry, with_exit}
 use Rattle.threads_monitors.specs.declared.effects.Effect.{Effect}
 use Rattle.threads_monitors.specs.declared.effects.Effect.TheVariants.{GoesOn}
-use Rattle.frame_instructions.specs.Frames.{onward}
+use Rattle.frame_instructions.specs.Frames.{given, with_top, onward}
 use Rattle.object_instructions.specs.ObjectTurns.{ObjectTurn, beside}
 
 -- ---- monitors
@@ -57,14 +57,9 @@ line_of literals (Ref a) = option_map (λ text. text ++ 10 ∷ []) (text_at lite
 line_of literals (Native z) = None
 
 -- prints a line and goes on
-abbrev pub printed : Option (List ℕ) → List ℕ → Frames → Option (Frames × List ℕ × Effect)
-printed None console m = None
-printed (Some line) console m = option_map (λ (t : Frames × Effect). (t.0, console ++ line, t.1)) (onward m)
-
-abbrev pub written : List (List ℕ) → List Value → List ℕ → Frames → Option (Frames × List ℕ × Effect)
-written literals [] console m = None
-written literals (v ∷ rest) console m = printed (line_of literals v) console (with_stack m rest)
+abbrev pub printed : List ℕ → List ℕ → Frames → Option (Frames × List ℕ × Effect)
+printed line console m = option_map (λ (t : Frames × Effect). (t.0, console ++ line, t.1)) (onward m)
 
 -- Console.WriteLine: the frames and the printed bytes after it
 abbrev pub write_turn : List (List ℕ) → List ℕ → Frames → Option (Frames × List ℕ × Effect)
-write_turn literals console m = written literals m.running.stack console m
+write_turn literals console m = with_top m (λ v n. given (line_of literals v) (λ line. printed line console n))

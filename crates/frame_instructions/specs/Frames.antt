@@ -1,6 +1,6 @@
 -- What instructions that touch frames alone do to them (III.3; the limits are this profile's). A rule has no answer where an
 -- operand is missing or of another kind, or where the frame has no room: no verified program comes there.
-use Rattle.std.specs.Prelude.{ℕ, ◌+◌, ℤ, pos, Bool, true, false, not, ◌==◌, ◌%◌, ◌^◌, if◌then◌else◌, nat_lt, List, [], ◌∷◌, length, Option, Some, None, option_map, option_and_then, Result, Ok, Err, slice_get}
+use Rattle.std.specs.Prelude.{ℕ, ◌+◌, ℤ, pos, Bool, true, false, not, ◌==◌, ◌%◌, ◌^◌, if◌then◌else◌, nat_lt, List, [], ◌∷◌, length, Option, Some, None, Result, Ok, Err, slice_get}
 use Rattle.std.specs.Int.{w32, w64, cast_signed, cast_unsigned}
 use Rattle.std.specs.Ordering.{int_eq}
 use Rattle.cil_model.specs.declared.instructions.BinaryOperation.{BinaryOperation}
@@ -44,16 +44,16 @@ branch_if false place m = onward m
 abbrev pub leaves : Value → Frames → Turn
 leaves v m = if nat_lt (size m.running) m.room then onward (with_stack m (v ∷ m.running.stack)) else None
 
--- takes the topmost value
-abbrev pub top_of : List Value → Frames → (Value → Frames → Turn) → Turn
+-- goes on with the topmost value, which is taken
+abbrev pub top_of : {R : Type 0} → List Value → Frames → (Value → Frames → Option R) → Option R
 top_of [] m go = None
 top_of (v ∷ rest) m go = go v (with_stack m rest)
 
-abbrev pub with_top : Frames → (Value → Frames → Turn) → Turn
+abbrev pub with_top : {R : Type 0} → Frames → (Value → Frames → Option R) → Option R
 with_top m go = top_of m.running.stack m go
 
 -- goes on with what is there
-abbrev pub given : {X : Type 0} → Option X → (X → Turn) → Turn
+abbrev pub given : {X R : Type 0} → Option X → (X → Option R) → Option R
 given None go = None
 given (Some x) go = go x
 

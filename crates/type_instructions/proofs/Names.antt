@@ -1,5 +1,5 @@
 -- The types of objects by the numbers of their classes.
-use Rattle.std.proofs.Common.{◌≡◌, ℕ, Bool, true, Option, Some, None, option_map, refl, sym, ap, ◌∙◌, subst}
+use Rattle.std.proofs.Common.{◌≡◌, ℕ, Bool, true, Option, Some, None, option_map, refl, ap, ◌∙◌}
 use Rattle.std.specs.Option.{is_some, option_map_or}
 use Rattle.cil_model.specs.declared.types.ClassName.{ClassName}
 use Rattle.cil_model.specs.declared.types.DeclaredType.{DeclaredType}
@@ -7,7 +7,7 @@ use Rattle.cil_model.specs.declared.types.Element.{Element}
 use Rattle.cil_model.specs.declared.trees.Tree.{Tree}
 use Rattle.cil_model.specs.Declarations.{object_name}
 use Rattle.cil_model.specs.Assignable.{element_of_class, type_of_class}
-use Rattle.cil_model.proofs.BelowLaws.{none_is_some, same_some}
+use Rattle.cil_model.proofs.BelowLaws.{none_is_some}
 use Rattle.resolved_code.specs.Numbered.{class_name, element_at, type_at}
 use Rattle.resolved_code.specs.declared.types.NumberedElement.{NumberedElement}
 use Rattle.resolved_code.specs.declared.types.NumberedElement.TheVariants.{Int32, Int64, Object, String, Class}

@@ -1,11 +1,10 @@
 -- What casts and stores of references do, by the classes of objects (III.4.3, III.4.6, III.4.27). A rule has no answer where an operand
 -- is missing or of another kind, or where there is no such object or type: no verified program comes there.
-use Rattle.std.specs.Prelude.{ℕ, ◌==◌, ℤ, pos, Bool, true, false, if◌then◌else◌, List, [], ◌∷◌, length, Option, Some, None, option_map, option_and_then}
+use Rattle.std.specs.Prelude.{ℕ, ◌==◌, Bool, true, if◌then◌else◌, length, Option, Some, None, option_map, option_and_then}
 use Rattle.std.specs.Option.{option_map_or}
 use Rattle.cil_model.specs.declared.types.DeclaredType.{DeclaredType}
 use Rattle.cil_model.specs.declared.types.Element.TheVariants.{String as StringElement}
 use Rattle.cil_model.specs.declared.trees.Tree.{Tree}
-use Rattle.cil_model.specs.declared.reports.Fault.{Fault}
 use Rattle.cil_model.specs.declared.reports.Fault.TheVariants.{InvalidCast, ArrayTypeMismatch}
 use Rattle.cil_model.specs.Declarations.{plain}
 use Rattle.cil_model.specs.Assignable.{array_of, type_of_class, is_assignable}
@@ -25,8 +24,8 @@ use Rattle.object_memory.specs.Cells.{Cell, cell_at, literal_number}
 use Rattle.object_memory.specs.Objects.{Objects}
 use Rattle.threads_monitors.specs.Frames.{Frames}
 use Rattle.threads_monitors.specs.declared.effects.Effect.TheVariants.{Raises}
-use Rattle.frame_instructions.specs.Frames.{leaves}
-use Rattle.object_instructions.specs.ObjectTurns.{ObjectTurn, beside, take, object_of, index_of, given, slots_of, place_in, in_range, store_slot}
+use Rattle.frame_instructions.specs.Frames.{given, with_top, leaves}
+use Rattle.object_instructions.specs.ObjectTurns.{ObjectTurn, beside, object_of, index_of, slots_of, place_in, in_range, store_slot}
 
 -- ---- the types of objects
 
@@ -65,7 +64,7 @@ may_stand_as tree o v to = option_and_then (may_stand tree o v) (type_at tree to
 
 -- what castclass and isinst do with an object of another class
 abbrev pub cast_turn : Tree → (Frames → Objects → ObjectTurn) → NumberedType → Frames → Objects → ObjectTurn
-cast_turn tree otherwise to m o = take m (λ v n. given (may_stand_as tree o v to) (λ holds.
+cast_turn tree otherwise to m o = with_top m (λ v n. given (may_stand_as tree o v to) (λ holds.
     if holds then beside o (leaves v n) else otherwise n o))
 
 -- castclass (III.4.3)
@@ -92,5 +91,5 @@ store_admitted tree v slot a m o = given (element_at o a) (λ e. given (may_stan
 
 -- stelem.ref (III.4.27): the place is looked at before the class
 abbrev pub store_reference_turn : Tree → Frames → Objects → ObjectTurn
-store_reference_turn tree m o = take m (λ v n. take n (λ index k. take k (λ array j. object_of array j o (λ a. index_of index (λ i. given (slots_of o a) (λ slots.
+store_reference_turn tree m o = with_top m (λ v n. with_top n (λ index k. with_top k (λ array j. object_of array j o (λ a. index_of index (λ i. given (slots_of o a) (λ slots.
     in_range (place_in i (length slots)) j o (λ slot. store_admitted tree v slot a j o)))))))

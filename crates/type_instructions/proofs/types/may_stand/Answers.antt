@@ -1,4 +1,4 @@
-use Rattle.std.proofs.Common.{◌≡◌, sym, ap, ◌∙◌, subst}
+use Rattle.std.proofs.Common.{sym, ap, ◌∙◌, subst}
 use Rattle.std.specs.Prelude.{Some, IsSome}
 use Rattle.std.specs.Option.{is_some}
 use Rattle.type_instructions.specs.TypeTurns.{may_stand_as}

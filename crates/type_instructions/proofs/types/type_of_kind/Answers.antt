@@ -1,4 +1,4 @@
-use Rattle.std.proofs.Common.{◌≡◌, sym, ap, ◌∙◌, option_map}
+use Rattle.std.proofs.Common.{sym, ap, ◌∙◌, option_map}
 use Rattle.cil_model.specs.Assignable.{type_of_class}
 use Rattle.resolved_code.specs.Numbered.{class_name}
 use Rattle.type_instructions.specs.TypeTurns.{type_of_kind}
