@@ -1,0 +1,4 @@
+//! Which function runs for each resolved instruction.
+#![tactic(auto)]
+
+pub mod frame_operations;
