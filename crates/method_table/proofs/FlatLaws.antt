@@ -1,7 +1,7 @@
 -- Lists of methods, class by class.
-use Rattle.std.proofs.Common.{◌≡◌, ◌+◌, ℕ, zero, suc, List, [], ◌∷◌, ◌++◌, length, take, slice_get, Option, Some, None, option_map, option_and_then, refl, sym, ap, subst, ◌∙◌, arith}
+use Rattle.std.proofs.Common.{◌≡◌, ◌<◌, ◌+◌, ℕ, zero, suc, List, [], ◌∷◌, ◌++◌, length, take, slice_get, Option, Some, None, option_map, option_and_then, refl, sym, ap, subst, ◌∙◌, arith}
 use Rattle.std.specs.List.{flat_map}
-use Rattle.std.proofs.lemmas.List.{take_more, length-map, append-nil}
+use Rattle.std.proofs.lemmas.List.{take_more, length-map, length-append, append-nil}
 use Rattle.std.proofs.lemmas.Grind.{flat_map-append}
 use Rattle.std.proofs.lemmas.Option.{slice_get-map, slice_get_within, get_or_from_slice_get}
 use Rattle.cil_model.specs.declared.types.ClassName.{ClassName}
@@ -12,7 +12,7 @@ use Rattle.name_tables.specs.Numbers.{declarations, method_at}
 use Rattle.name_tables.proofs.NumberLaws.{none_is_some}
 use Rattle.resolved_code.specs.Resolved.{AllAlike}
 use Rattle.reference_machine.proofs.RunLaws.{get_before}
-use Rattle.method_table.specs.AllMethods.{owned_methods, all_methods, first_numbers}
+use Rattle.method_table.specs.AllMethods.{owned_methods, all_methods, flat_number, first_numbers}
 
 -- ---- lists whose items stand in a relation
 
@@ -66,33 +66,40 @@ classes_more es i e at = ap (flat_map owned_methods) (one_more es i e at) ∙ fl
 
 -- a class's first number is known, and the method is as far behind it as behind the first of its class
 abbrev FoundFlat : ℕ → List (ClassName × Declaration) → ℕ → ℕ → ClassName × Method → Type 0
-FoundFlat next es n p found = (k : ℕ) × (slice_get (first_numbers next es) n ≡ Some (next + k)) × (slice_get (flat_map owned_methods es) (k + p) ≡ Some found)
+FoundFlat next es n p found = (k : ℕ) × (k ≡ length (flat_map owned_methods (take n es))) × (slice_get (first_numbers next es) n ≡ Some (next + k)) × (slice_get (flat_map owned_methods es) (k + p) ≡ Some found)
 
 flat_found : (next : ℕ) (es : List (ClassName × Declaration)) (n p : ℕ) (found : ClassName × Method) → option_and_then (of_class p) (slice_get es n) ≡ Some found → FoundFlat next es n p found
 flat_found next [] n p found h = absurd (none_is_some found h)
 flat_found next (e ∷ es) zero p found h =
     let first : next ≡ next + 0 = omega arith in
     let place : 0 + p ≡ p = omega arith in
-    (0, ap Some first, ap (slice_get (owned_methods e ++ flat_map owned_methods es)) place ∙ get_before (owned_methods e) (flat_map owned_methods es) p found (slice_get-map (λ m. (e.0, m)) e.1.methods p ∙ h))
+    (0, refl, ap Some first, ap (slice_get (owned_methods e ++ flat_map owned_methods es)) place ∙ get_before (owned_methods e) (flat_map owned_methods es) p found (slice_get-map (λ m. (e.0, m)) e.1.methods p ∙ h))
 flat_found next (e ∷ es) (suc n) p found h =
     let further : FoundFlat (next + length e.1.methods) es n p found = flat_found (next + length e.1.methods) es n p found h in
     let own : length (owned_methods e) ≡ length e.1.methods = owned_count e in
+    let both : length (owned_methods e ++ flat_map owned_methods (take n es)) ≡ length (owned_methods e) + length (flat_map owned_methods (take n es)) = length-append (owned_methods e) (flat_map owned_methods (take n es)) in
+    let before : further.0 ≡ length (flat_map owned_methods (take n es)) = further.1 in
+    let counted : length e.1.methods + further.0 ≡ length (owned_methods e ++ flat_map owned_methods (take n es)) = omega arith in
     let first : (next + length e.1.methods) + further.0 ≡ next + (length e.1.methods + further.0) = omega arith in
     let place : (length e.1.methods + further.0) + p ≡ length (owned_methods e) + (further.0 + p) = omega arith in
-    (length e.1.methods + further.0, further.1 ∙ ap Some first, behind_from (owned_methods e) (flat_map owned_methods es) (further.0 + p) ((length e.1.methods + further.0) + p) place ∙ further.2)
+    (length e.1.methods + further.0, counted, further.2 ∙ ap Some first, behind_from (owned_methods e) (flat_map owned_methods es) (further.0 + p) ((length e.1.methods + further.0) + p) place ∙ further.3)
 
 module _ (tree : Tree) (n p : ℕ) (found : ClassName × Method) (h : method_at tree (n, p) ≡ Some found) where
+  abbrev flat : FoundFlat 0 (declarations tree) n p found
+  flat = flat_found 0 (declarations tree) n p found h
+
   -- a method's class has a first number
-  pub first_is_there : slice_get (first_numbers 0 (declarations tree)) n ≡ None → ⊥
-  first_is_there e =
-      let flat : FoundFlat 0 (declarations tree) n p found = flat_found 0 (declarations tree) n p found h in
-      none_is_some (0 + flat.0) (sym e ∙ flat.1)
+  pub first_is_there : (numbers : List ℕ) → numbers ≡ first_numbers 0 (declarations tree) → slice_get numbers n ≡ None → ⊥
+  first_is_there numbers same e = none_is_some (0 + flat.0) (sym e ∙ ap (λ ns. slice_get ns n) same ∙ flat.2)
 
   -- the method is as far behind it as it is behind the first of its class
-  pub found_behind : (first : ℕ) → slice_get (first_numbers 0 (declarations tree)) n ≡ Some first → slice_get (all_methods tree) (first + p) ≡ Some found
-  found_behind first e =
-      let flat : FoundFlat 0 (declarations tree) n p found = flat_found 0 (declarations tree) n p found h in
-      let both : Some first ≡ Some (0 + flat.0) = sym e ∙ flat.1 in
-      let same : first ≡ 0 + flat.0 = cc in
+  pub number_behind : (numbers : List ℕ) (first : ℕ) → numbers ≡ first_numbers 0 (declarations tree) → slice_get numbers n ≡ Some first →
+      (first + p ≡ flat_number tree n p) × (slice_get (all_methods tree) (first + p) ≡ Some found) × (first + p < length (all_methods tree))
+  number_behind numbers first same e =
+      let both : Some first ≡ Some (0 + flat.0) = sym e ∙ ap (λ ns. slice_get ns n) same ∙ flat.2 in
+      let known : first ≡ 0 + flat.0 = cc in
+      let before : flat.0 ≡ length (flat_map owned_methods (take n (declarations tree))) = flat.1 in
+      let counted : first + p ≡ flat_number tree n p = omega arith in
       let place : first + p ≡ flat.0 + p = omega arith in
-      ap (slice_get (all_methods tree)) place ∙ flat.2
+      let there : slice_get (all_methods tree) (first + p) ≡ Some found = ap (slice_get (all_methods tree)) place ∙ flat.3 in
+      (counted, there, slice_get_within (all_methods tree) (first + p) found there)

@@ -1,5 +1,5 @@
 -- All methods of a tree, by flat numbers.
-use Rattle.std.specs.Prelude.{ℕ, ◌+◌, List, [], ◌∷◌, length, map, flat_map}
+use Rattle.std.specs.Prelude.{ℕ, ◌+◌, List, [], ◌∷◌, length, map, flat_map, take}
 use Rattle.cil_model.specs.declared.types.ClassName.{ClassName}
 use Rattle.cil_model.specs.declared.trees.Tree.{Tree}
 use Rattle.cil_model.specs.declared.trees.Method.{Method}
@@ -13,6 +13,10 @@ owned_methods e = map (λ m. (e.0, m)) e.1.methods
 -- the methods of all classes, in the order of the classes' numbers; a method's flat number is its place here
 abbrev pub all_methods : Tree → List (ClassName × Method)
 all_methods tree = flat_map owned_methods (declarations tree)
+
+-- the flat number of the method at a place of a class: the methods of the classes before it, and the place
+abbrev pub flat_number : Tree → ℕ → ℕ → ℕ
+flat_number tree n p = length (flat_map owned_methods (take n (declarations tree))) + p
 
 -- the flat number of the first method of each class, where that of the first class is given
 abbrev pub first_numbers : ℕ → List (ClassName × Declaration) → List ℕ

@@ -4,6 +4,8 @@
 mod actions;
 mod methods;
 mod table;
+#[cfg(test)]
+mod tests;
 
 pub use actions::Action;
 pub use methods::TableMethod;

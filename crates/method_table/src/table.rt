@@ -8,7 +8,7 @@ ghost use Rattle.name_tables.specs.Entries.{entry_of};
 ghost use Rattle.name_tables.specs.Numbers.{declarations, method_at};
 ghost use Rattle.resolved_code.specs.Resolved.{AllAlike};
 ghost use Rattle.metadata.specs.Contents.{BothAlike};
-ghost use Rattle.method_table.specs.AllMethods.{all_methods, first_numbers};
+ghost use Rattle.method_table.specs.AllMethods.{all_methods, flat_number, first_numbers};
 ghost use Rattle.method_table.specs.Prepared.{IsTableMethod};
 
 use crate::methods::{TableMethod, class_methods};
@@ -116,7 +116,8 @@ impl MethodTable {
     /// The flat number of a method, by its class and its place there. Where no method is there, any number. Takes constant time, and
     /// no memory.
     pub fn number(&self, member: MemberNumber) -> u32
-        ensures { (tree : Tree) → IsMethodTable tree self.now → (c : ClassName) (m : Method) → method_at tree (member.class, member.place) ≡ Some (c, m) → slice_get (all_methods tree) result ≡ Some (c, m) }
+        ensures counted { (tree : Tree) → IsMethodTable tree self.now → (c : ClassName) (m : Method) → method_at tree (member.class, member.place) ≡ Some (c, m) → result ≡ flat_number tree member.class member.place }
+        ensures found { (tree : Tree) → IsMethodTable tree self.now → (c : ClassName) (m : Method) → method_at tree (member.class, member.place) ≡ Some (c, m) → slice_get (all_methods tree) result ≡ Some (c, m) }
     {
         match first_at(self.first.as_slice(), member.class) {
             None => u32::MAX,
