@@ -9,11 +9,41 @@ use Rattle.name_tables.specs.declared.lookups.MemberNumber.{MemberNumber}
 use Rattle.name_tables.specs.Numbers.{field_at}
 use Rattle.resolved_code.specs.declared.operations.Operation.{Operation}
 use Rattle.resolved_code.specs.declared.operations.Operation.TheVariants.{NoOperation, LoadInt32, LoadInt64, LoadNull, LoadString, LoadArgument, StoreArgument, LoadLocal, StoreLocal, Duplicate, Pop, Binary, Unary, Shift, Compare, ConvertInt32, ConvertInt64, Branch, BranchTrue, BranchFalse, BranchCompare, Switch}
+use Rattle.object_memory.specs.declared.values.ValueKind.{ValueKind}
+use Rattle.method_table.specs.Prepared.{kind_of_type}
 use Rattle.object_memory.specs.declared.addresses.TheConstants.{FIRST_LITERAL}
 use Rattle.object_memory.specs.declared.values.Value.TheVariants.{Int32, Int64, Ref}
 use Rattle.object_memory.specs.Cells.{null, literal}
 use Rattle.threads_monitors.specs.Frames.{Frames}
 use Rattle.frame_instructions.specs.Frames.{Turn, jump, onward, leaves, argument_turn, local_turn, store_argument_turn, store_local_turn, duplicate_turn, pop_turn, binary_turn, unary_turn, shift_turn, compare_turn, convert_32_turn, convert_64_turn, branch_true_turn, branch_false_turn, branch_compare_turn, switch_turn}
+
+-- ---- operands
+
+-- a number of 32 bits
+abbrev pub small : ℕ → Option ℕ
+small n = if nat_lt n (2 ^ 32) then Some n else None
+
+-- the key of a field
+abbrev pub key_at : ClassName × Field → FieldKey
+key_at found = record { declared_in = found.0; name = found.1.name }
+
+-- the slot of an instance field
+abbrev pub slot_in : Tree → ClassName × Field → Option ℕ
+slot_in tree found = if found.1.is_static then None else option_and_then small (instance_slot tree (key_at found))
+
+abbrev pub slot_at : Tree → MemberNumber → Option ℕ
+slot_at tree n = option_and_then (slot_in tree) (field_at tree (n.class, n.place))
+
+-- the number of a static field
+abbrev pub static_in : Tree → ClassName × Field → Option ℕ
+static_in tree found = if found.1.is_static then option_and_then small (static_slot tree (key_at found)) else None
+
+abbrev pub static_at : Tree → MemberNumber → Option ℕ
+static_at tree n = option_and_then (static_in tree) (field_at tree (n.class, n.place))
+
+-- what a field holds
+abbrev pub held_at : Tree → MemberNumber → Option ValueKind
+held_at tree n = option_map (λ (found : ClassName × Field). kind_of_type found.1.field_type) (field_at tree (n.class, n.place))
 
 -- ---- instructions that touch frames alone
 

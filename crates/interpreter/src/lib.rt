@@ -2,3 +2,4 @@
 #![tactic(auto)]
 
 pub mod frame_operations;
+pub mod operands;
