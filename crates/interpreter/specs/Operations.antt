@@ -8,14 +8,26 @@ use Rattle.cil_model.specs.Fields.{FieldKey, instance_slot, static_slot}
 use Rattle.name_tables.specs.declared.lookups.MemberNumber.{MemberNumber}
 use Rattle.name_tables.specs.Numbers.{field_at}
 use Rattle.resolved_code.specs.declared.operations.Operation.{Operation}
-use Rattle.resolved_code.specs.declared.operations.Operation.TheVariants.{NoOperation, LoadInt32, LoadInt64, LoadNull, LoadString, LoadArgument, StoreArgument, LoadLocal, StoreLocal, Duplicate, Pop, Binary, Unary, Shift, Compare, ConvertInt32, ConvertInt64, Branch, BranchTrue, BranchFalse, BranchCompare, Switch}
+use Rattle.resolved_code.specs.declared.operations.Operation.TheVariants.{NoOperation, LoadInt32, LoadInt64, LoadNull, LoadString, LoadArgument, StoreArgument, LoadLocal, StoreLocal, Duplicate, Pop, Binary, Unary, Shift, Compare, ConvertInt32, ConvertInt64, Branch, BranchTrue, BranchFalse, BranchCompare, Switch, LoadField, StoreField, LoadStaticField, StoreStaticField, NewArray, LoadLength, LoadElementInt32, LoadElementInt64, LoadElementReference, StoreElementInt32, StoreElementInt64, StoreElementReference, CastClass, IsInstance}
 use Rattle.object_memory.specs.declared.values.ValueKind.{ValueKind}
 use Rattle.method_table.specs.Prepared.{kind_of_type}
 use Rattle.object_memory.specs.declared.addresses.TheConstants.{FIRST_LITERAL}
 use Rattle.object_memory.specs.declared.values.Value.TheVariants.{Int32, Int64, Ref}
 use Rattle.object_memory.specs.Cells.{null, literal}
+use Rattle.object_memory.specs.declared.kinds.ArrayElement.{ArrayElement}
+use Rattle.object_memory.specs.declared.kinds.ElementType.{ElementType}
+use Rattle.object_memory.specs.declared.kinds.ElementType.TheVariants.{Int32 as HeldInt32, Int64 as HeldInt64, Object as HeldObject, String as HeldString, Class as HeldClass}
+use Rattle.object_memory.specs.declared.values.Value.{Value}
+use Rattle.object_memory.specs.declared.values.ValueKind.TheVariants.{Int32 as Int32Kind, Int64 as Int64Kind, Ref as RefKind}
+use Rattle.object_memory.specs.Objects.{Objects}
+use Rattle.resolved_code.specs.declared.types.NumberedElement.{NumberedElement}
+use Rattle.resolved_code.specs.declared.types.NumberedElement.TheVariants.{Int32 as NumberedInt32, Int64 as NumberedInt64, Object as NumberedObject, String as NumberedString, Class as NumberedClass}
+use Rattle.resolved_code.specs.declared.types.NumberedType.{NumberedType}
+use Rattle.object_instructions.specs.ObjectTurns.{ObjectTurn, load_field_turn, store_field_turn, load_length_turn, load_element_turn, store_element_turn, new_array_turn, load_static_turn, store_static_turn}
+use Rattle.type_instructions.specs.TypeTurns.{cast_class_turn, is_instance_turn, store_reference_turn}
+use Rattle.threads_monitors.specs.declared.effects.Effect.{Effect}
 use Rattle.threads_monitors.specs.Frames.{Frames}
-use Rattle.frame_instructions.specs.Frames.{Turn, jump, onward, leaves, argument_turn, local_turn, store_argument_turn, store_local_turn, duplicate_turn, pop_turn, binary_turn, unary_turn, shift_turn, compare_turn, convert_32_turn, convert_64_turn, branch_true_turn, branch_false_turn, branch_compare_turn, switch_turn}
+use Rattle.frame_instructions.specs.Frames.{Turn, given, jump, onward, leaves, argument_turn, local_turn, store_argument_turn, store_local_turn, duplicate_turn, pop_turn, binary_turn, unary_turn, shift_turn, compare_turn, convert_32_turn, convert_64_turn, branch_true_turn, branch_false_turn, branch_compare_turn, switch_turn}
 
 -- ---- operands
 
@@ -84,3 +96,46 @@ branch_rule (BranchFalse place) m = branch_false_turn place m
 branch_rule (BranchCompare op place) m = branch_compare_turn op place m
 branch_rule (Switch places) m = switch_turn places m
 branch_rule _ m = None
+
+-- ---- instructions on objects
+
+-- what an array of these elements is made by: a class's number of 16 bits, and few brackets
+abbrev pub element_held : NumberedElement → Option ElementType
+element_held NumberedInt32 = Some HeldInt32
+element_held NumberedInt64 = Some HeldInt64
+element_held NumberedObject = Some HeldObject
+element_held NumberedString = Some HeldString
+element_held (NumberedClass n) = if nat_lt n (2 ^ 16) then Some (HeldClass n) else None
+
+abbrev pub array_held : NumberedType → Option ArrayElement
+array_held t = if nat_lt t.brackets 256 then option_map (λ e. record { element = e; brackets = t.brackets }) (element_held t.element) else None
+
+-- fields (III.4.10, III.4.28)
+abbrev pub field_rule : Tree → Operation → Frames → Objects → ObjectTurn
+field_rule tree (LoadField owner field) m o = given (slot_at tree field) (λ slot. given (held_at tree field) (λ kind. load_field_turn kind slot m o))
+field_rule tree (StoreField owner field) m o = given (slot_at tree field) (λ slot. store_field_turn slot m o)
+field_rule tree _ m o = None
+
+-- arrays (III.4.8, III.4.12, III.4.20, III.4.27)
+abbrev pub array_rule : Operation → Frames → Objects → ObjectTurn
+array_rule (NewArray t) m o = given (array_held t) (λ element. new_array_turn element m o)
+array_rule LoadLength m o = load_length_turn m o
+array_rule LoadElementInt32 m o = load_element_turn Int32Kind m o
+array_rule LoadElementInt64 m o = load_element_turn Int64Kind m o
+array_rule LoadElementReference m o = load_element_turn RefKind m o
+array_rule StoreElementInt32 m o = store_element_turn m o
+array_rule StoreElementInt64 m o = store_element_turn m o
+array_rule _ m o = None
+
+-- what asks for an object's own class (III.4.3, III.4.6, III.4.27)
+abbrev pub type_rule : Tree → Operation → Frames → Objects → ObjectTurn
+type_rule tree (CastClass t) m o = cast_class_turn tree t m o
+type_rule tree (IsInstance t) m o = is_instance_turn tree t m o
+type_rule tree StoreElementReference m o = store_reference_turn tree m o
+type_rule tree _ m o = None
+
+-- static fields (III.4.14, III.4.30): the frames and the static fields
+abbrev pub static_rule : Tree → Operation → Frames → List Value → Option (Frames × List Value × Effect)
+static_rule tree (LoadStaticField field) m statics = given (static_at tree field) (λ n. option_map (λ (t : Frames × Effect). (t.0, statics, t.1)) (load_static_turn n m statics))
+static_rule tree (StoreStaticField field) m statics = given (static_at tree field) (λ n. store_static_turn n m statics)
+static_rule tree _ m statics = None

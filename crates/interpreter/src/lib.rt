@@ -2,4 +2,5 @@
 #![tactic(auto)]
 
 pub mod frame_operations;
+pub mod object_operations;
 pub mod operands;
