@@ -1,7 +1,7 @@
 // `newobj`.
 
 ghost use Rattle.std.specs.Prelude.{◌≡◌, IsSome, Some};
-ghost use Rattle.call_instructions.specs.Calls.{new_object_turn, new_plain_object_turn};
+ghost use Rattle.call_instructions.specs.Calls.{called, new_object_turn, new_plain_object_turn};
 
 use crate::calls::{Callee, construct};
 use cil_model::reports::Fault;
@@ -18,8 +18,8 @@ pub fn new_object(
     slots: u32,
     callee: Callee,
 ) -> Effect
-    requires { IsSome (new_object_turn class slots callee frames.old heap.old) }
-    ensures { Some (frames.new, heap.new, result) ≡ new_object_turn class slots callee.entry frames.old heap.old }
+    requires { IsSome (new_object_turn class slots (called callee) frames.old heap.old) }
+    ensures { Some (frames.new, heap.new, result) ≡ new_object_turn class slots (called callee.entry) frames.old heap.old }
 {
     if frames.is_full() {
         return Effect::Raises(Fault::StackOverflow);

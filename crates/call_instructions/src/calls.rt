@@ -1,7 +1,7 @@
 // Calls of methods with code.
 
 ghost use Rattle.std.specs.Prelude.{◌≡◌, ◌<◌, ◌+◌, length, IsSome, Some};
-ghost use Rattle.call_instructions.specs.Calls.{call_turn, construct_turn, behind, entered};
+ghost use Rattle.call_instructions.specs.Calls.{called, call_turn, construct_turn};
 
 use cil_model::reports::Fault;
 use object_memory::{Addr, Value, ValueKind};
@@ -18,8 +18,8 @@ pub struct Callee<'a> {
 /// `call` of a method with code (ECMA-335 III.3.19), and `callvirt` of the one that was chosen. Where there are as many frames
 /// as there may be, it raises `StackOverflow`. It takes no memory.
 pub fn call(frames: &mut FrameMemory, callee: Callee) -> Effect
-    requires { IsSome (call_turn callee frames.old) }
-    ensures { Some (frames.new, result) ≡ call_turn callee.entry frames.old }
+    requires { IsSome (call_turn (called callee) frames.old) }
+    ensures { Some (frames.new, result) ≡ call_turn (called callee.entry) frames.old }
 {
     if frames.is_full() {
         return Effect::Raises(Fault::StackOverflow);
@@ -32,8 +32,8 @@ pub fn call(frames: &mut FrameMemory, callee: Callee) -> Effect
 /// The constructor's frame of `newobj` (ECMA-335 III.4.21) for an object that was born: the object is its first argument, and
 /// is pushed at its end. There are fewer frames than there may be. It takes no memory.
 pub fn construct(frames: &mut FrameMemory, callee: Callee, object: Addr) -> Effect
-    requires { IsSome (construct_turn callee object frames.old) }
-    ensures { Some (frames.new, result) ≡ construct_turn callee.entry object frames.old }
+    requires { IsSome (construct_turn (called callee) object frames.old) }
+    ensures { Some (frames.new, result) ≡ construct_turn (called callee.entry) object frames.old }
 {
     frames.insert(callee.arguments - 1, Value::Ref(object));
     frames.set_place(frames.place() + 1);
