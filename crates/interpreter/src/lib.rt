@@ -4,3 +4,4 @@
 pub mod frame_operations;
 pub mod object_operations;
 pub mod operands;
+pub mod outcomes;

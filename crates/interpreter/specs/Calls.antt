@@ -1,0 +1,127 @@
+-- What runs for calls, newobj and ret, and for the built-in members (III.3.19, III.4.2, III.4.21, III.3.57, Partition IV). A rule has no
+-- answer where it is not that rule's instruction, or where an operand is missing or of another kind.
+use Rattle.std.specs.Prelude.{ℕ, ◌-◌, ◌==◌, ◌^◌, if◌then◌else◌, nat_lt, is_some, List, ◌∷◌, length, Option, Some, None, option_map, option_and_then, slice_get}
+use Rattle.std.specs.Option.{option_map_or}
+use Rattle.cil_model.specs.declared.types.ClassName.{ClassName}
+use Rattle.cil_model.specs.declared.trees.Tree.{Tree}
+use Rattle.cil_model.specs.declared.trees.Method.{Method}
+use Rattle.cil_model.specs.declared.reports.Fault.TheVariants.{NullReference}
+use Rattle.cil_model.specs.Bodies.{argument_types}
+use Rattle.cil_model.specs.Chains.{is_virtual}
+use Rattle.cil_model.specs.Declarations.{string_name}
+use Rattle.cil_model.specs.Fields.{slot_types}
+use Rattle.cil_model.specs.Slots.{target}
+use Rattle.cil_model.specs.Mentions.{literals_of}
+use Rattle.reference_machine.specs.BuiltIn.{Action, Construct, Write, Enter, Exit, Start, Join, action_of}
+use Rattle.name_tables.specs.declared.lookups.MemberNumber.{MemberNumber}
+use Rattle.name_tables.specs.Numbers.{method_at}
+use Rattle.resolved_code.specs.Numbered.{class_name}
+use Rattle.resolved_code.specs.declared.operations.Operation.{Operation}
+use Rattle.resolved_code.specs.declared.operations.Operation.TheVariants.{Call, CallVirtual, NewObject, Return}
+use Rattle.object_memory.specs.declared.addresses.Addr.{Addr}
+use Rattle.object_memory.specs.declared.kinds.Kind.{Kind}
+use Rattle.object_memory.specs.declared.kinds.Kind.TheVariants.{Instance, Array}
+use Rattle.object_memory.specs.declared.values.Value.{Value}
+use Rattle.object_memory.specs.declared.values.Value.TheVariants.{Ref}
+use Rattle.object_memory.specs.Cells.{Cell, cell_at, literal_number}
+use Rattle.object_memory.specs.Objects.{Objects}
+use Rattle.method_table.specs.AllMethods.{all_methods}
+use Rattle.method_table.specs.MethodNumbers.{number_of}
+use Rattle.method_table.specs.Prepared.{local_kinds}
+use Rattle.threads_monitors.specs.Frames.{Frames}
+use Rattle.threads_monitors.specs.declared.effects.Effect.{Effect}
+use Rattle.threads_monitors.specs.declared.effects.Effect.TheVariants.{Raises}
+use Rattle.frame_instructions.specs.Frames.{Turn, given, with_top, onward}
+use Rattle.object_instructions.specs.ObjectTurns.{ObjectTurn, beside}
+use Rattle.call_instructions.specs.Calls.{Called, call_turn, new_object_turn, new_plain_object_turn, return_turn}
+use Rattle.built_in_instructions.specs.BuiltInTurns.{enter_turn, exit_turn, write_turn}
+use Rattle.interpreter.specs.Operations.{small}
+use Rattle.interpreter.specs.declared.outcomes.Outcome.{Outcome}
+use Rattle.interpreter.specs.declared.outcomes.Outcome.TheVariants.{Comes, Starts, Joins}
+
+-- the frames, the objects and the printed bytes after an instruction, and what it comes to
+abbrev pub CallTurn : Type 0
+CallTurn = Option (Frames × Objects × List ℕ × Outcome)
+
+-- a turn of frames and objects beside the printed bytes
+abbrev pub beside_console : List ℕ → ObjectTurn → CallTurn
+beside_console console turn = option_map (λ (t : Frames × Objects × Effect). (t.0, t.1, console, Comes t.2)) turn
+
+-- ---- built-in members
+
+-- the topmost value, where it is a reference
+abbrev pub top_reference : List Value → Option Addr
+top_reference (Ref a ∷ rest) = Some a
+top_reference _ = None
+
+-- asks for something of another thread; the operand stays until it is done
+abbrev pub asks : (Addr → Outcome) → Frames → Objects → List ℕ → CallTurn
+asks what m o console = option_map (λ a. (m, o, console, what a)) (top_reference m.running.stack)
+
+-- what a member without code does
+abbrev pub act_turn : Tree → ℕ → Action → Frames → Objects → List ℕ → CallTurn
+act_turn tree thread Construct m o console = with_top m (λ v n. beside_console console (beside o (onward n)))
+act_turn tree thread Write m o console = option_map (λ (t : Frames × List ℕ × Effect). (t.0, o, t.1, Comes t.2)) (write_turn (literals_of tree) console m)
+act_turn tree thread Enter m o console = beside_console console (enter_turn thread m o)
+act_turn tree thread Exit m o console = beside_console console (exit_turn thread m o)
+act_turn tree thread Start m o console = asks Starts m o console
+act_turn tree thread Join m o console = asks Joins m o console
+
+-- ---- calls
+
+-- a method as it is called, under its number
+abbrev pub called_as : ClassName × Method → ℕ → Called
+called_as found n = record { method = n; arguments = length (argument_types found.1 found.0); locals = local_kinds found.1 }
+
+-- a method that runs: an action of its own, or a frame (III.3.19)
+abbrev pub run_turn : Tree → ℕ → ClassName × Method → Frames → Objects → List ℕ → CallTurn
+run_turn tree thread found m o console =
+    option_map_or (λ a. act_turn tree thread a m o console) (action_of found.0 found.1)
+    (given (number_of tree found) (λ n. beside_console console (beside o (call_turn (called_as found n) m))))
+
+-- the class of an object; an array has none
+abbrev pub class_of_kind : Tree → Kind → Option ClassName
+class_of_kind tree (Instance c) = class_name tree c
+class_of_kind tree (Array a) = None
+
+-- of what lies at an address: a literal is a string
+abbrev pub class_at : Tree → Objects → Addr → Option ClassName
+class_at tree o a = option_map_or (λ n. Some string_name) (literal_number a) (option_and_then (λ (c : Cell). class_of_kind tree c.kind) (cell_at o.block a))
+
+-- the method that runs for an object: the target for its class; one that isn't virtual runs itself
+abbrev pub chosen : Tree → Objects → Addr → ClassName × Method → Option (ClassName × Method)
+chosen tree o a found = if is_virtual found.1.kind then option_and_then (λ d. target tree d found.0 found.1) (class_at tree o a) else Some found
+
+-- callvirt (III.4.2) on this object
+abbrev pub receive : Tree → ℕ → ClassName × Method → Value → Frames → Objects → List ℕ → CallTurn
+receive tree thread found (Ref a) m o console =
+    if a.number == 0 then Some (m, o, console, Comes (Raises NullReference))
+    else given (chosen tree o a found) (λ run. run_turn tree thread run m o console)
+receive tree thread found _ m o console = None
+
+abbrev pub virtual_turn : Tree → ℕ → ClassName × Method → Frames → Objects → List ℕ → CallTurn
+virtual_turn tree thread found m o console =
+    given (slice_get m.running.stack (length (argument_types found.1 found.0) - 1)) (λ v. receive tree thread found v m o console)
+
+-- newobj (III.4.21): at once where the constructor is built in
+abbrev pub new_turn : Tree → ℕ → ClassName × Method → Frames → Objects → ObjectTurn
+new_turn tree class found m o =
+    given (small (length (slot_types tree found.0))) (λ slots.
+    if is_some (action_of found.0 found.1) then new_plain_object_turn class slots m o
+    else given (number_of tree found) (λ n. new_object_turn class slots (called_as found n) m o))
+
+-- ret (III.3.57)
+abbrev pub return_rule : Tree → Frames → Turn
+return_rule tree m = given (slice_get (all_methods tree) m.running.method) (λ found. return_turn (is_some found.1.signature.return_type) m)
+
+-- calls, newobj and ret
+abbrev pub call_rule : Tree → ℕ → Operation → Frames → Objects → List ℕ → CallTurn
+call_rule tree thread (Call is_instance owner method) m o console =
+    given (method_at tree (method.class, method.place)) (λ found. run_turn tree thread found m o console)
+call_rule tree thread (CallVirtual owner method) m o console =
+    given (method_at tree (method.class, method.place)) (λ found. virtual_turn tree thread found m o console)
+call_rule tree thread (NewObject method) m o console =
+    given (method_at tree (method.class, method.place)) (λ found. beside_console console (
+    if nat_lt method.class (2 ^ 16) then new_turn tree method.class found m o else None))
+call_rule tree thread Return m o console = beside_console console (beside o (return_rule tree m))
+call_rule tree thread _ m o console = None
