@@ -79,6 +79,10 @@ run_turn tree thread found m o console =
     option_map_or (λ a. act_turn tree thread a m o console) (action_of found.0 found.1)
     (given (number_of tree found) (λ n. beside_console console (beside o (call_turn (called_as found n) m))))
 
+-- the same of the method of a number
+abbrev pub run_at : Tree → ℕ → MemberNumber → Frames → Objects → List ℕ → CallTurn
+run_at tree thread n m o console = given (method_at tree (n.class, n.place)) (λ found. run_turn tree thread found m o console)
+
 -- the class of an object; an array has none
 abbrev pub class_of_kind : Tree → Kind → Option ClassName
 class_of_kind tree (Instance c) = class_name tree c
@@ -116,8 +120,7 @@ return_rule tree m = given (slice_get (all_methods tree) m.running.method) (λ f
 
 -- calls, newobj and ret
 abbrev pub call_rule : Tree → ℕ → Operation → Frames → Objects → List ℕ → CallTurn
-call_rule tree thread (Call is_instance owner method) m o console =
-    given (method_at tree (method.class, method.place)) (λ found. run_turn tree thread found m o console)
+call_rule tree thread (Call is_instance owner method) m o console = run_at tree thread method m o console
 call_rule tree thread (CallVirtual owner method) m o console =
     given (method_at tree (method.class, method.place)) (λ found. virtual_turn tree thread found m o console)
 call_rule tree thread (NewObject method) m o console =
