@@ -1,2 +1,3 @@
 pub mod AllMethods
 pub mod Prepared
+pub mod MethodNumbers
