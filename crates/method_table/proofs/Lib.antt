@@ -1,2 +1,3 @@
 pub mod ActionLaws
 pub mod FlatLaws
+pub mod NumberLaws

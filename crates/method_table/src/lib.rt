@@ -2,6 +2,7 @@
 #![tactic(auto)]
 
 mod actions;
+pub mod laws;
 mod methods;
 mod table;
 #[cfg(test)]
