@@ -2,28 +2,25 @@
 
 ghost use Rattle.std.specs.Prelude.{◌≡◌, IsSome, Some, IfOk, OnErr};
 ghost use Rattle.class_layout.specs.Laid.{IsLayout};
-ghost use Rattle.method_table.specs.Prepared.{action_named, IsMethodTable};
-ghost use Rattle.interpreter.specs.Calls.{act_turn, asks, return_rule, top_reference};
-ghost use Rattle.interpreter.specs.declared.outcomes.Outcome.TheVariants.{Starts, Joins};
+ghost use Rattle.method_table.specs.Prepared.{action_named, IsMethodTable, IsTableMethod};
+ghost use Rattle.cil_model.specs.declared.types.ClassName.{ClassName};
+ghost use Rattle.cil_model.specs.declared.trees.Method.{Method};
+ghost use Rattle.name_tables.specs.Numbers.{method_at};
+ghost use Rattle.interpreter.specs.Calls.{act_turn, return_rule, run_at, top_reference};
 
 use crate::outcomes::Outcome;
 use built_in_instructions::{locks, printing};
+use call_instructions::Callee;
+use call_instructions::calls::call;
 use call_instructions::returns::return_from;
 use cil_model::memory::NoMemory;
 use class_layout::Layout;
 use frame_instructions::stack;
 use metadata::Program;
-use method_table::{Action, MethodTable};
+use method_table::{Action, MethodTable, TableMethod};
+use name_tables::lookups::MemberNumber;
 use object_memory::{Addr, Heap, Value};
 use threads_monitors::{Effect, FrameMemory};
-
-/// The program that runs: its resolved code, its layout and its methods.
-#[derive(Clone, Copy)]
-pub struct Code<'a> {
-    pub program: &'a Program,
-    pub layout: &'a Layout,
-    pub table: &'a MethodTable,
-}
 
 /// The reference on top of the running frame's stack. It stays there.
 fn top_reference(frames: &FrameMemory) -> Addr
@@ -71,4 +68,49 @@ fn return_operation(program: &Program, table: &MethodTable, frames: &mut FrameMe
         None => unreachable!(),
     };
     return_from(frames, has_value)
+}
+
+/// What a call needs to know of a method, by its member's number.
+fn entry<'a>(program: &Program, table: &'a MethodTable, method: MemberNumber) -> &'a TableMethod
+    requires table { IsMethodTable program.now table.now }
+    requires there { IsSome (method_at program.now (method.class, method.place)) }
+    ensures { (found : ClassName × Method) → method_at program.now (method.class, method.place) ≡ Some found → IsTableMethod program.now found result.now }
+{
+    let _program = program;
+    match table.method(table.number(method)) {
+        Some(entry) => entry,
+        None => unreachable!(),
+    }
+}
+
+/// Calls a method (ECMA-335 III.3.19): a built-in member without code does its action, another gets a frame.
+fn run(
+    program: &Program,
+    layout: &Layout,
+    table: &MethodTable,
+    thread: u8,
+    method: MemberNumber,
+    frames: &mut FrameMemory,
+    heap: &mut Heap,
+    console: &mut Vec<u8>,
+) -> Result<Outcome, NoMemory>
+    requires layout { IsLayout program.now layout.now }
+    requires table { IsMethodTable program.now table.now }
+    requires there { IsSome (run_at program.now thread method frames.old heap.old console.old.items) }
+    ensures done { IfOk result (λ outcome. Some (frames.new, heap.new, console.new.items, outcome) ≡ run_at program.now thread method frames.old heap.old console.old.items) }
+    ensures refused { OnErr result ((frames.new ≡ frames.old) × (heap.new ≡ heap.old) × (console.new.items ≡ console.old.items)) }
+{
+    let _layout = layout;
+    let entry = entry(program, table, method);
+    match entry.action {
+        Some(action) => act(program, thread, action, frames, heap, console),
+        None => {
+            let callee = Callee {
+                method: table.number(method),
+                arguments: entry.arguments,
+                locals: entry.locals.as_slice(),
+            };
+            Ok(Outcome::Comes(call(frames, callee)))
+        }
+    }
 }
