@@ -1,1 +1,3 @@
 pub mod Running
+pub mod Choosing
+pub mod Receiving

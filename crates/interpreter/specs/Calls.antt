@@ -1,6 +1,6 @@
 -- What runs for calls, newobj and ret, and for the built-in members (III.3.19, III.4.2, III.4.21, III.3.57, Partition IV). A rule has no
 -- answer where it is not that rule's instruction, or where an operand is missing or of another kind.
-use Rattle.std.specs.Prelude.{ℕ, ◌-◌, ◌==◌, ◌^◌, if◌then◌else◌, nat_lt, is_some, List, ◌∷◌, length, Option, Some, None, option_map, option_and_then, slice_get}
+use Rattle.std.specs.Prelude.{ℕ, zero, suc, ◌==◌, ◌^◌, if◌then◌else◌, nat_lt, is_some, List, ◌∷◌, length, Option, Some, None, option_map, option_and_then, slice_get}
 use Rattle.std.specs.Option.{option_map_or}
 use Rattle.cil_model.specs.declared.types.ClassName.{ClassName}
 use Rattle.cil_model.specs.declared.trees.Tree.{Tree}
@@ -8,7 +8,6 @@ use Rattle.cil_model.specs.declared.trees.Method.{Method}
 use Rattle.cil_model.specs.declared.reports.Fault.TheVariants.{NullReference}
 use Rattle.cil_model.specs.Bodies.{argument_types}
 use Rattle.cil_model.specs.Chains.{is_virtual}
-use Rattle.cil_model.specs.Declarations.{string_name}
 use Rattle.cil_model.specs.Fields.{slot_types}
 use Rattle.cil_model.specs.Slots.{target}
 use Rattle.cil_model.specs.Mentions.{literals_of}
@@ -83,29 +82,46 @@ run_turn tree thread found m o console =
 abbrev pub run_at : Tree → ℕ → MemberNumber → Frames → Objects → List ℕ → CallTurn
 run_at tree thread n m o console = given (method_at tree (n.class, n.place)) (λ found. run_turn tree thread found m o console)
 
--- the class of an object; an array has none
-abbrev pub class_of_kind : Tree → Kind → Option ClassName
-class_of_kind tree (Instance c) = class_name tree c
-class_of_kind tree (Array a) = None
+-- the number of the class of an object of this kind; an array has none
+abbrev pub class_of_kind : Kind → Option ℕ
+class_of_kind (Instance c) = Some c
+class_of_kind (Array a) = None
 
--- of what lies at an address: a literal is a string
-abbrev pub class_at : Tree → Objects → Addr → Option ClassName
-class_at tree o a = option_map_or (λ n. Some string_name) (literal_number a) (option_and_then (λ (c : Cell). class_of_kind tree c.kind) (cell_at o.block a))
+-- of what lies at an address: a literal is of the second class, System.String
+abbrev pub class_at : Objects → Addr → Option (Option ℕ)
+class_at o a = option_map_or (λ n. Some (Some 1)) (literal_number a) (option_map (λ (c : Cell). class_of_kind c.kind) (cell_at o.block a))
 
--- the method that runs for an object: the target for its class; one that isn't virtual runs itself
+-- the method that runs for an object: the target for its class; on an array one that isn't virtual runs itself
+abbrev pub chosen_by : Tree → ClassName × Method → Option ℕ → Option (ClassName × Method)
+chosen_by tree found (Some n) = option_and_then (λ d. target tree d found.0 found.1) (class_name tree n)
+chosen_by tree found None = if is_virtual found.1.kind then None else Some found
+
 abbrev pub chosen : Tree → Objects → Addr → ClassName × Method → Option (ClassName × Method)
-chosen tree o a found = if is_virtual found.1.kind then option_and_then (λ d. target tree d found.0 found.1) (class_at tree o a) else Some found
+chosen tree o a found = option_and_then (chosen_by tree found) (class_at o a)
 
--- callvirt (III.4.2) on this object
-abbrev pub receive : Tree → ℕ → ClassName × Method → Value → Frames → Objects → List ℕ → CallTurn
-receive tree thread found (Ref a) m o console =
-    if a.number == 0 then Some (m, o, console, Comes (Raises NullReference))
-    else given (chosen tree o a found) (λ run. run_turn tree thread run m o console)
-receive tree thread found _ m o console = None
+-- the same of the method of a number
+abbrev pub chosen_at : Tree → Objects → Addr → MemberNumber → Option (ClassName × Method)
+chosen_at tree o a n = option_and_then (chosen tree o a) (method_at tree (n.class, n.place))
 
-abbrev pub virtual_turn : Tree → ℕ → ClassName × Method → Frames → Objects → List ℕ → CallTurn
-virtual_turn tree thread found m o console =
-    given (slice_get m.running.stack (length (argument_types found.1 found.0) - 1)) (λ v. receive tree thread found v m o console)
+-- the method that an object runs for the method of a number
+abbrev pub run_chosen : Tree → ℕ → Addr → MemberNumber → Frames → Objects → List ℕ → CallTurn
+run_chosen tree thread a n m o console = given (chosen_at tree o a n) (λ run. run_turn tree thread run m o console)
+
+-- the object on which a method with so many operands is called
+abbrev pub receiver_in : Option Value → Option Addr
+receiver_in (Some (Ref a)) = Some a
+receiver_in _ = None
+
+abbrev pub receiver : List Value → ℕ → Option Addr
+receiver stack zero = None
+receiver stack (suc n) = receiver_in (slice_get stack n)
+
+-- callvirt (III.4.2)
+abbrev pub virtual_at : Tree → ℕ → MemberNumber → Frames → Objects → List ℕ → CallTurn
+virtual_at tree thread n m o console =
+    given (method_at tree (n.class, n.place)) (λ found.
+    given (receiver m.running.stack (length (argument_types found.1 found.0))) (λ a.
+    if a.number == 0 then Some (m, o, console, Comes (Raises NullReference)) else run_chosen tree thread a n m o console))
 
 -- newobj (III.4.21): at once where the constructor is built in
 abbrev pub new_turn : Tree → ℕ → ClassName × Method → Frames → Objects → ObjectTurn
@@ -121,8 +137,7 @@ return_rule tree m = given (slice_get (all_methods tree) m.running.method) (λ f
 -- calls, newobj and ret
 abbrev pub call_rule : Tree → ℕ → Operation → Frames → Objects → List ℕ → CallTurn
 call_rule tree thread (Call is_instance owner method) m o console = run_at tree thread method m o console
-call_rule tree thread (CallVirtual owner method) m o console =
-    given (method_at tree (method.class, method.place)) (λ found. virtual_turn tree thread found m o console)
+call_rule tree thread (CallVirtual owner method) m o console = virtual_at tree thread method m o console
 call_rule tree thread (NewObject method) m o console =
     given (method_at tree (method.class, method.place)) (λ found. beside_console console (
     if nat_lt method.class (2 ^ 16) then new_turn tree method.class found m o else None))

@@ -6,14 +6,16 @@ ghost use Rattle.method_table.specs.Prepared.{action_named, IsMethodTable, IsTab
 ghost use Rattle.cil_model.specs.declared.types.ClassName.{ClassName};
 ghost use Rattle.cil_model.specs.declared.trees.Method.{Method};
 ghost use Rattle.name_tables.specs.Numbers.{method_at};
-ghost use Rattle.interpreter.specs.Calls.{act_turn, return_rule, run_at, top_reference};
+ghost use Rattle.interpreter.specs.Calls.{act_turn, receiver, return_rule, run_at, run_chosen, top_reference, virtual_at};
 
 use crate::outcomes::Outcome;
+use crate::targets::chosen;
 use built_in_instructions::{locks, printing};
 use call_instructions::Callee;
 use call_instructions::calls::call;
 use call_instructions::returns::return_from;
 use cil_model::memory::NoMemory;
+use cil_model::reports::Fault;
 use class_layout::Layout;
 use frame_instructions::stack;
 use metadata::Program;
@@ -112,5 +114,66 @@ fn run(
             };
             Ok(Outcome::Comes(call(frames, callee)))
         }
+    }
+}
+
+/// Calls the method that an object runs for another (ECMA-335 III.4.2), which is not null.
+fn run_chosen(
+    program: &Program,
+    layout: &Layout,
+    table: &MethodTable,
+    thread: u8,
+    method: MemberNumber,
+    object: Addr,
+    frames: &mut FrameMemory,
+    heap: &mut Heap,
+    console: &mut Vec<u8>,
+) -> Result<Outcome, NoMemory>
+    requires layout { IsLayout program.now layout.now }
+    requires table { IsMethodTable program.now table.now }
+    requires there { IsSome (run_chosen program.now thread object method frames.old heap.old console.old.items) }
+    ensures done { IfOk result (λ outcome. Some (frames.new, heap.new, console.new.items, outcome) ≡ run_chosen program.now thread object method frames.old heap.old console.old.items) }
+    ensures refused { OnErr result ((frames.new ≡ frames.old) × (heap.new ≡ heap.old) × (console.new.items ≡ console.old.items)) }
+{
+    let target = chosen(program, layout, heap, object, method);
+    run(
+        program, layout, table, thread, target, frames, heap, console,
+    )
+}
+
+/// `callvirt` (ECMA-335 III.4.2). Null raises `NullReference`.
+fn call_virtual(
+    program: &Program,
+    layout: &Layout,
+    table: &MethodTable,
+    thread: u8,
+    method: MemberNumber,
+    frames: &mut FrameMemory,
+    heap: &mut Heap,
+    console: &mut Vec<u8>,
+) -> Result<Outcome, NoMemory>
+    requires layout { IsLayout program.now layout.now }
+    requires table { IsMethodTable program.now table.now }
+    requires there { IsSome (virtual_at program.now thread method frames.old heap.old console.old.items) }
+    ensures done { IfOk result (λ outcome. Some (frames.new, heap.new, console.new.items, outcome) ≡ virtual_at program.now thread method frames.old heap.old console.old.items) }
+    ensures refused { OnErr result ((frames.new ≡ frames.old) × (heap.new ≡ heap.old) × (console.new.items ≡ console.old.items)) }
+{
+    let object = receiver(frames, entry(program, table, method).arguments);
+    if object.is_null() {
+        return Ok(Outcome::Comes(Effect::Raises(Fault::NullReference)));
+    }
+    run_chosen(
+        program, layout, table, thread, method, object, frames, heap, console,
+    )
+}
+
+/// The object on which a method with so many operands is called, `this` counted. It stays on the stack.
+fn receiver(frames: &FrameMemory, operands: usize) -> Addr
+    requires { IsSome (receiver frames.now.running.stack operands) }
+    ensures { receiver frames.now.running.stack operands ≡ Some result }
+{
+    match frames.operand(operands - 1) {
+        Value::Ref(address) => address,
+        _ => unreachable!(),
     }
 }

@@ -6,3 +6,4 @@ pub mod frame_operations;
 pub mod object_operations;
 pub mod operands;
 pub mod outcomes;
+pub mod targets;

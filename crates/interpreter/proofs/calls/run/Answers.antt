@@ -27,7 +27,7 @@ call-requires c =
     let known : IsTableMethod c.args.program.now found.0 c.entry-entry.result.now = c.entry-entry.ensures found.0 found.1 in
     let acts : action_of found.0.0 found.0.1 ≡ None = sym known.action ∙ ap (option_map action_named) c.in-None.is in
     let numbered : number_of c.args.program.now found.0 ≡ Some c.number.result =
-        number_of_place c.args.program.now c.requires.layout.legal c.number.result found.0 (c.number.ensures.found c.args.program.now c.requires.table found.0.0 found.0.1 found.1) in
+    number_of_place c.args.program.now c.requires.layout.legal c.number.result found.0 (c.number.ensures.found c.args.program.now c.requires.table found.0.0 found.0.1 found.1) in
     let runs = run_calls c.args.program.now c.args.thread c.args.method found.0 found.1 c.args.frames.now c.args.heap.now c.args.console.now.items c.number.result acts numbered in
     let callee = called_alike c.args.program.now found.0 c.entry-entry.result.now c.number.result c.as_slice.result.now known c.as_slice.ensures.value in
     subst (λ x. IsSome (call_turn x c.args.frames.now)) (sym callee)
@@ -47,7 +47,7 @@ returns-in-None-clause-done c =
     let known : IsTableMethod c.args.program.now found.0 c.entry-entry.result.now = c.entry-entry.ensures found.0 found.1 in
     let acts : action_of found.0.0 found.0.1 ≡ None = sym known.action ∙ ap (option_map action_named) c.in-None.is in
     let numbered : number_of c.args.program.now found.0 ≡ Some c.number.result =
-        number_of_place c.args.program.now c.requires.layout.legal c.number.result found.0 (c.number.ensures.found c.args.program.now c.requires.table found.0.0 found.0.1 found.1) in
+    number_of_place c.args.program.now c.requires.layout.legal c.number.result found.0 (c.number.ensures.found c.args.program.now c.requires.table found.0.0 found.0.1 found.1) in
     let runs = run_calls c.args.program.now c.args.thread c.args.method found.0 found.1 c.args.frames.now c.args.heap.now c.args.console.now.items c.number.result acts numbered in
     let callee = called_alike c.args.program.now found.0 c.entry-entry.result.now c.number.result c.as_slice.result.now known c.as_slice.ensures.value in
     ap (λ t. beside_console c.args.console.now.items (beside c.args.heap.now t)) (c.call.ensures ∙ ap (λ x. call_turn x c.args.frames.now) callee) ∙ sym runs
