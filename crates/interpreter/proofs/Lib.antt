@@ -1,3 +1,4 @@
 pub mod Running
 pub mod Choosing
 pub mod Receiving
+pub mod Making

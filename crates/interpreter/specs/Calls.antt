@@ -123,12 +123,24 @@ virtual_at tree thread n m o console =
     given (receiver m.running.stack (length (argument_types found.1 found.0))) (λ a.
     if a.number == 0 then Some (m, o, console, Comes (Raises NullReference)) else run_chosen tree thread a n m o console))
 
--- newobj (III.4.21): at once where the constructor is built in
-abbrev pub new_turn : Tree → ℕ → ClassName × Method → Frames → Objects → ObjectTurn
-new_turn tree class found m o =
-    given (small (length (slot_types tree found.0))) (λ slots.
-    if is_some (action_of found.0 found.1) then new_plain_object_turn class slots m o
-    else given (number_of tree found) (λ n. new_object_turn class slots (called_as found n) m o))
+-- the number of a member's class, of 16 bits
+abbrev pub class_in : MemberNumber → Option ℕ
+class_in n = if nat_lt n.class (2 ^ 16) then Some n.class else None
+
+-- how many slots the objects of its class have
+abbrev pub slots_at : Tree → MemberNumber → Option ℕ
+slots_at tree n = option_and_then (λ c. small (length (slot_types tree c))) (class_name tree n.class)
+
+-- an object, at once where its constructor is built in (III.4.21)
+abbrev pub made : Tree → ℕ → ℕ → ClassName × Method → Frames → Objects → ObjectTurn
+made tree class slots found m o =
+    option_map_or (λ a. new_plain_object_turn class slots m o) (action_of found.0 found.1)
+    (given (number_of tree found) (λ n. new_object_turn class slots (called_as found n) m o))
+
+-- newobj (III.4.21)
+abbrev pub new_at : Tree → MemberNumber → Frames → Objects → ObjectTurn
+new_at tree n m o =
+    given (class_in n) (λ class. given (slots_at tree n) (λ slots. given (method_at tree (n.class, n.place)) (λ found. made tree class slots found m o)))
 
 -- ret (III.3.57)
 abbrev pub return_rule : Tree → Frames → Turn
@@ -138,8 +150,6 @@ return_rule tree m = given (slice_get (all_methods tree) m.running.method) (λ f
 abbrev pub call_rule : Tree → ℕ → Operation → Frames → Objects → List ℕ → CallTurn
 call_rule tree thread (Call is_instance owner method) m o console = run_at tree thread method m o console
 call_rule tree thread (CallVirtual owner method) m o console = virtual_at tree thread method m o console
-call_rule tree thread (NewObject method) m o console =
-    given (method_at tree (method.class, method.place)) (λ found. beside_console console (
-    if nat_lt method.class (2 ^ 16) then new_turn tree method.class found m o else None))
+call_rule tree thread (NewObject method) m o console = beside_console console (new_at tree method m o)
 call_rule tree thread Return m o console = beside_console console (beside o (return_rule tree m))
 call_rule tree thread _ m o console = None

@@ -6,8 +6,9 @@ ghost use Rattle.method_table.specs.Prepared.{action_named, IsMethodTable, IsTab
 ghost use Rattle.cil_model.specs.declared.types.ClassName.{ClassName};
 ghost use Rattle.cil_model.specs.declared.trees.Method.{Method};
 ghost use Rattle.name_tables.specs.Numbers.{method_at};
-ghost use Rattle.interpreter.specs.Calls.{act_turn, receiver, return_rule, run_at, run_chosen, top_reference, virtual_at};
+ghost use Rattle.interpreter.specs.Calls.{act_turn, call_rule, receiver, return_rule, run_at, run_chosen, top_reference, virtual_at};
 
+use crate::births::new_operation;
 use crate::outcomes::Outcome;
 use crate::targets::chosen;
 use built_in_instructions::{locks, printing};
@@ -22,6 +23,7 @@ use metadata::Program;
 use method_table::{Action, MethodTable, TableMethod};
 use name_tables::lookups::MemberNumber;
 use object_memory::{Addr, Heap, Value};
+use resolved_code::operations::Operation;
 use threads_monitors::{Effect, FrameMemory};
 
 /// The reference on top of the running frame's stack. It stays there.
@@ -73,7 +75,11 @@ fn return_operation(program: &Program, table: &MethodTable, frames: &mut FrameMe
 }
 
 /// What a call needs to know of a method, by its member's number.
-fn entry<'a>(program: &Program, table: &'a MethodTable, method: MemberNumber) -> &'a TableMethod
+pub(crate) fn entry<'a>(
+    program: &Program,
+    table: &'a MethodTable,
+    method: MemberNumber,
+) -> &'a TableMethod
     requires table { IsMethodTable program.now table.now }
     requires there { IsSome (method_at program.now (method.class, method.place)) }
     ensures { (found : ClassName × Method) → method_at program.now (method.class, method.place) ≡ Some found → IsTableMethod program.now found result.now }
@@ -174,6 +180,43 @@ fn receiver(frames: &FrameMemory, operands: usize) -> Addr
 {
     match frames.operand(operands - 1) {
         Value::Ref(address) => address,
+        _ => unreachable!(),
+    }
+}
+
+/// `call`, `callvirt`, `newobj` and `ret` (ECMA-335 III.3.19, III.4.2, III.4.21, III.3.57). `NoMemory` of a print alone, where nothing
+/// is changed.
+pub fn call_operation(
+    program: &Program,
+    layout: &Layout,
+    table: &MethodTable,
+    thread: u8,
+    operation: &Operation,
+    frames: &mut FrameMemory,
+    heap: &mut Heap,
+    console: &mut Vec<u8>,
+) -> Result<Outcome, NoMemory>
+    requires layout { IsLayout program.now layout.now }
+    requires table { IsMethodTable program.now table.now }
+    requires there { IsSome (call_rule program.now thread operation.now frames.old heap.old console.old.items) }
+    ensures done { IfOk result (λ outcome. Some (frames.new, heap.new, console.new.items, outcome) ≡ call_rule program.now thread operation.now frames.old heap.old console.old.items) }
+    ensures refused { OnErr result ((frames.new ≡ frames.old) × (heap.new ≡ heap.old) × (console.new.items ≡ console.old.items)) }
+{
+    match operation {
+        Operation::Call { method, .. } => {
+            run(
+                program, layout, table, thread, *method, frames, heap, console,
+            )
+        }
+        Operation::CallVirtual { method, .. } => {
+            call_virtual(
+                program, layout, table, thread, *method, frames, heap, console,
+            )
+        }
+        Operation::NewObject(method) => Ok(Outcome::Comes(new_operation(
+            program, layout, table, *method, frames, heap,
+        ))),
+        Operation::Return => Ok(Outcome::Comes(return_operation(program, table, frames))),
         _ => unreachable!(),
     }
 }

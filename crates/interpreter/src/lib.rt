@@ -1,6 +1,7 @@
 //! Which function runs for each resolved instruction.
 #![tactic(auto)]
 
+pub mod births;
 pub mod calls;
 pub mod frame_operations;
 pub mod object_operations;

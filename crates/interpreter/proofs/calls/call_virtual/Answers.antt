@@ -10,14 +10,14 @@ use Rattle.interpreter.proofs.calls.call_virtual.Goals as goal
 pub receiver-object-requires : goal.receiver-object-requires
 receiver-object-requires c =
     let call : Receiving c.args.program.now c.args.thread c.args.method c.args.frames.now c.args.heap.now c.args.console.now.items =
-        receiving c.args.program.now c.args.thread c.args.method c.args.frames.now c.args.heap.now c.args.console.now.items c.requires.there in
+    receiving c.args.program.now c.args.thread c.args.method c.args.frames.now c.args.heap.now c.args.console.now.items c.requires.there in
     let known : IsTableMethod c.args.program.now call.found c.entry.result.now = c.entry.ensures call.found call.found_is in
     subst (λ k. IsSome (receiver c.args.frames.now.running.stack k)) (sym known.arguments) (ap is_some call.object_is)
 
 pub returns-then-is_null-clause-done : goal.returns-then-is_null-clause-done
 returns-then-is_null-clause-done c =
     let call : Receiving c.args.program.now c.args.thread c.args.method c.args.frames.now c.args.heap.now c.args.console.now.items =
-        receiving c.args.program.now c.args.thread c.args.method c.args.frames.now c.args.heap.now c.args.console.now.items c.requires.there in
+    receiving c.args.program.now c.args.thread c.args.method c.args.frames.now c.args.heap.now c.args.console.now.items c.requires.there in
     let known : IsTableMethod c.args.program.now call.found c.entry.result.now = c.entry.ensures call.found call.found_is in
     let named : receiver c.args.frames.now.running.stack c.entry.result.now.arguments ≡ Some call.object = ap (receiver c.args.frames.now.running.stack) known.arguments ∙ call.object_is in
     let same : call.object ≡ c.receiver-object.result = same_some call.object c.receiver-object.result (sym named ∙ c.receiver-object.ensures) in
@@ -27,7 +27,7 @@ returns-then-is_null-clause-done c =
 pub run_chosen-requires-clause-there : goal.run_chosen-requires-clause-there
 run_chosen-requires-clause-there c =
     let call : Receiving c.args.program.now c.args.thread c.args.method c.args.frames.now c.args.heap.now c.args.console.now.items =
-        receiving c.args.program.now c.args.thread c.args.method c.args.frames.now c.args.heap.now c.args.console.now.items c.requires.there in
+    receiving c.args.program.now c.args.thread c.args.method c.args.frames.now c.args.heap.now c.args.console.now.items c.requires.there in
     let known : IsTableMethod c.args.program.now call.found c.entry.result.now = c.entry.ensures call.found call.found_is in
     let named : receiver c.args.frames.now.running.stack c.entry.result.now.arguments ≡ Some call.object = ap (receiver c.args.frames.now.running.stack) known.arguments ∙ call.object_is in
     let same : call.object ≡ c.receiver-object.result = same_some call.object c.receiver-object.result (sym named ∙ c.receiver-object.ensures) in
@@ -37,7 +37,7 @@ run_chosen-requires-clause-there c =
 pub returns-clause-done : goal.returns-clause-done
 returns-clause-done c =
     let call : Receiving c.args.program.now c.args.thread c.args.method c.args.frames.now c.args.heap.now c.args.console.now.items =
-        receiving c.args.program.now c.args.thread c.args.method c.args.frames.now c.args.heap.now c.args.console.now.items c.requires.there in
+    receiving c.args.program.now c.args.thread c.args.method c.args.frames.now c.args.heap.now c.args.console.now.items c.requires.there in
     let known : IsTableMethod c.args.program.now call.found c.entry.result.now = c.entry.ensures call.found call.found_is in
     let named : receiver c.args.frames.now.running.stack c.entry.result.now.arguments ≡ Some call.object = ap (receiver c.args.frames.now.running.stack) known.arguments ∙ call.object_is in
     let same : call.object ≡ c.receiver-object.result = same_some call.object c.receiver-object.result (sym named ∙ c.receiver-object.ensures) in
