@@ -5,7 +5,7 @@ use crate::sources::{JOINER, LOCKER};
 use crate::stage::{Action, Stage};
 use crate::stories::{budget, main_story, repeated, steps, tell_report};
 use cil_model::memory::NoMemory;
-use cil_model::reports::Fault;
+use cil_model::reports::{End, Fault, Report};
 use std::alloc::Global;
 use std::test::Fail;
 
@@ -247,5 +247,44 @@ fn the_seventeenth_thread_is_not_started(rt: HostRuntime) -> Result<(), Fail> {
     let expected = repeated(rt.alloc(), "r", 94, "[TooManyThreads]rrrrrrrrrrrrrrra ")?;
     assert_eq!(rt; told.as_str(), expected.as_str());
     assert_eq!(rt; acted.as_str(), told.as_str());
+    Ok(())
+}
+
+/// A step, and once more where it wanted memory: want of memory has changed nothing.
+fn act_at_last(stage: &mut Stage, thread: u8, action: Action) -> Result<Report, NoMemory> {
+    match stage.act(thread, action) {
+        Ok(report) => Ok(report),
+        Err(_) => stage.act(thread, action),
+    }
+}
+
+fn stage_at_last(alloc: Global, budget: u32) -> Result<Stage, NoMemory> {
+    match Stage::new(alloc, budget, 2) {
+        Ok(stage) => Ok(stage),
+        Err(_) => Stage::new(alloc, budget, 2),
+    }
+}
+
+#[test]
+fn a_start_that_wanted_memory_is_made_once_there_is_some(rt: HostRuntime) -> Result<(), Fail> {
+    let mut stage = stage_at_last(rt.alloc(), 50)?;
+    for (thread, action, report) in [
+        (1, Action::Other, Report::Absent),
+        (0, Action::Start(0), Report::Ran),
+        (0, Action::Join(0), Report::Blocked),
+        (1, Action::Other, Report::Ran),
+        (0, Action::Start(1), Report::Ran),
+        (2, Action::Other, Report::Ran),
+        (3, Action::Other, Report::Absent),
+        (1, Action::Return, Report::Ended(End::Done)),
+        (0, Action::Join(0), Report::Ran),
+        (
+            0,
+            Action::Start(0),
+            Report::Ended(End::Fault(Fault::ThreadState)),
+        ),
+    ] {
+        assert_eq!(rt; act_at_last(&mut stage, thread, action)?, report);
+    }
     Ok(())
 }
