@@ -1,6 +1,6 @@
 -- What instructions that touch frames alone do to them (III.3; the limits are this profile's). A rule has no answer where an
 -- operand is missing or of another kind, or where the frame has no room: no verified program comes there.
-use Rattle.std.specs.Prelude.{ℕ, ◌+◌, ℤ, pos, Bool, true, false, not, ◌==◌, ◌%◌, ◌^◌, if◌then◌else◌, nat_lt, List, [], ◌∷◌, length, Option, Some, None, option_map, option_and_then, Result, Ok, Err, slice_get}
+use Rattle.std.specs.Prelude.{ℕ, ◌+◌, ℤ, pos, Bool, true, false, not, ◌==◌, ◌%◌, ◌^◌, if◌then◌else◌, nat_lt, List, [], ◌∷◌, length, Option, Some, None, Result, Ok, Err, slice_get}
 use Rattle.std.specs.Int.{w32, w64, cast_signed, cast_unsigned}
 use Rattle.std.specs.Ordering.{int_eq}
 use Rattle.cil_model.specs.declared.instructions.BinaryOperation.{BinaryOperation}

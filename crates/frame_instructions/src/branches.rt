@@ -80,3 +80,6 @@ pub fn switch(frames: &mut FrameMemory, places: &[u32]) -> Effect
         _ => unreachable!(),
     }
 }
+
+#[cfg(test)]
+mod tests;
