@@ -1,14 +1,12 @@
 -- What instructions do to objects, arrays and static fields (III.4). A rule has no answer where an operand is missing or of another
 -- kind, or where there is no such object or slot: no verified program comes there.
-use Rattle.std.specs.Prelude.{ℕ, ◌==◌, ℤ, pos, negsuc, Bool, true, false, if◌then◌else◌, nat_lt, List, [], ◌∷◌, length, Option, Some, None, option_map, slice_get, slice_set}
-use Rattle.cil_model.specs.declared.reports.Fault.{Fault}
+use Rattle.std.specs.Prelude.{ℕ, ◌==◌, ℤ, pos, negsuc, if◌then◌else◌, nat_lt, List, [], ◌∷◌, length, Option, Some, None, option_map, slice_get, slice_set}
 use Rattle.cil_model.specs.declared.reports.Fault.TheVariants.{NullReference, IndexOutOfRange, Overflow, OutOfMemory}
 use Rattle.object_memory.specs.declared.addresses.Addr.{Addr}
 use Rattle.object_memory.specs.declared.kinds.ArrayElement.{ArrayElement}
-use Rattle.object_memory.specs.declared.kinds.Kind.{Kind}
 use Rattle.object_memory.specs.declared.kinds.Kind.TheVariants.{Array}
 use Rattle.object_memory.specs.declared.values.Value.{Value}
-use Rattle.object_memory.specs.declared.values.Value.TheVariants.{Int32, Int64, Native, Ref}
+use Rattle.object_memory.specs.declared.values.Value.TheVariants.{Int32, Native, Ref}
 use Rattle.object_memory.specs.declared.values.ValueKind.{ValueKind}
 use Rattle.object_memory.specs.Cells.{Cell, cell_at}
 use Rattle.object_memory.specs.Objects.{Objects, with_birth, with_slot}
@@ -16,7 +14,7 @@ use Rattle.object_memory.specs.Values.{value_word, value_in}
 use Rattle.threads_monitors.specs.Frames.{Frames, with_stack}
 use Rattle.threads_monitors.specs.declared.effects.Effect.{Effect}
 use Rattle.threads_monitors.specs.declared.effects.Effect.TheVariants.{Raises}
-use Rattle.frame_instructions.specs.Frames.{Turn, with_top, leaves, onward}
+use Rattle.frame_instructions.specs.Frames.{Turn, leaves, onward}
 
 -- the frames and the objects after an instruction, and what it comes to; or it has no answer
 abbrev pub ObjectTurn : Type 0
