@@ -1,13 +1,12 @@
 -- What calls and returns do to frames (III.3.19, III.4.21, III.3.57). A rule has no answer where an operand is missing or of another
 -- kind, or where there is no room for it: no verified program comes there.
-use Rattle.std.specs.Prelude.{ℕ, ◌+◌, ◌-◌, ◌==◌, Bool, true, false, ◌&&◌, if◌then◌else◌, nat_lt, nat_le, List, [], ◌∷◌, length, Option, Some, None}
+use Rattle.std.specs.Prelude.{ℕ, ◌+◌, ◌-◌, ◌==◌, Bool, true, false, ◌&&◌, if◌then◌else◌, nat_lt, nat_le, ◌∷◌, length, Option, Some, None}
 use Rattle.cil_model.specs.declared.limits.TheConstants.{MOST_INSTRUCTIONS}
 use Rattle.cil_model.specs.declared.reports.Fault.TheVariants.{OutOfMemory, StackOverflow}
 use Rattle.object_memory.specs.declared.addresses.Addr.{Addr}
 use Rattle.object_memory.specs.declared.values.Value.{Value}
 use Rattle.object_memory.specs.declared.values.Value.TheVariants.{Ref}
 use Rattle.threads_monitors.specs.Frames.{Frames, size, with_place, with_stack, with_inserted, with_call, returned}
-use Rattle.threads_monitors.specs.declared.effects.Effect.{Effect}
 use Rattle.threads_monitors.specs.declared.effects.Effect.TheVariants.{GoesOn, Returns, Raises}
 use Rattle.object_memory.specs.declared.kinds.Kind.TheVariants.{Instance}
 use Rattle.object_memory.specs.Objects.{Objects, with_birth}
