@@ -40,3 +40,6 @@ pub fn exit(frames: &mut FrameMemory, heap: &mut Heap, thread: u8) -> Effect
         other => other,
     }
 }
+
+#[cfg(test)]
+mod tests;

@@ -69,3 +69,6 @@ pub fn write(
     frames.pop();
     Ok(go_on(frames))
 }
+
+#[cfg(test)]
+mod tests;

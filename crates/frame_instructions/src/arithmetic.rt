@@ -130,3 +130,6 @@ fn in_64_bits(value: Value) -> Value
         Value::Ref(_) => unreachable!(),
     }
 }
+
+#[cfg(test)]
+mod tests;

@@ -80,3 +80,6 @@ pub fn switch(frames: &mut FrameMemory, places: &[usize]) -> Effect
         _ => unreachable!(),
     }
 }
+
+#[cfg(test)]
+mod tests;

@@ -62,3 +62,6 @@ pub fn pop(frames: &mut FrameMemory) -> Effect
     frames.pop();
     go_on(frames)
 }
+
+#[cfg(test)]
+mod tests;

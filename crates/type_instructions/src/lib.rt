@@ -6,4 +6,6 @@
 #![tactic(auto)]
 
 pub mod casts;
+#[cfg(test)]
+mod tests;
 pub mod types;
