@@ -1,5 +1,5 @@
 -- The object that newobj makes.
-use Rattle.std.proofs.Common.{◌<◌, ◌^◌, Bool, true, false, if◌then◌else◌, nat_lt, length, arith, option_and_then, ◌≡◌, ℕ, Option, Some, None, refl, sym, ap, ◌∙◌, subst}
+use Rattle.std.proofs.Common.{◌<◌, ◌^◌, Bool, true, false, if◌then◌else◌, nat_lt, length, arith, option_and_then, ◌≡◌, ℕ, Option, Some, None, refl, ap, ◌∙◌}
 use Rattle.std.specs.Prelude.{IsSome, is_some}
 use Rattle.std.specs.Option.{option_map_or}
 use Rattle.std.proofs.lemmas.Bool.Decides.{nat_tests}

@@ -1,11 +1,10 @@
 -- What runs for a method of a number, by what the method table knows of it.
-use Rattle.std.proofs.Common.{◌≡◌, ℕ, List, Option, Some, None, option_map, option_and_then, refl, sym, ap, ◌∙◌, subst}
-use Rattle.std.specs.Prelude.{IsSome, is_some, slice_get, length}
+use Rattle.std.proofs.Common.{◌≡◌, ℕ, List, Option, Some, None, option_map, refl, ap, ◌∙◌, subst}
+use Rattle.std.specs.Prelude.{IsSome, length}
 use Rattle.cil_model.specs.Bodies.{argument_types}
 use Rattle.object_memory.specs.declared.values.ValueKind.{ValueKind}
 use Rattle.method_table.specs.Prepared.{IsTableMethod}
 use Rattle.method_table.specs.declared.methods.TableMethod.{TableMethod}
-use Rattle.call_instructions.specs.Calls.{Called}
 use Rattle.std.specs.Option.{option_map_or}
 use Rattle.cil_model.specs.declared.types.ClassName.{ClassName}
 use Rattle.cil_model.specs.declared.trees.Tree.{Tree}
@@ -17,11 +16,10 @@ use Rattle.metadata.specs.Contents.{BothAlike}
 use Rattle.object_memory.specs.Objects.{Objects}
 use Rattle.method_table.specs.MethodNumbers.{number_of}
 use Rattle.threads_monitors.specs.Frames.{Frames}
-use Rattle.threads_monitors.specs.declared.effects.Effect.{Effect}
 use Rattle.frame_instructions.specs.Frames.{Turn, given}
 use Rattle.object_instructions.specs.ObjectTurns.{beside}
 use Rattle.call_instructions.specs.Calls.{call_turn}
-use Rattle.interpreter.specs.Calls.{CallTurn, beside_console, act_turn, called_as, run_turn, run_at}
+use Rattle.interpreter.specs.Calls.{beside_console, act_turn, called_as, run_turn, run_at}
 
 -- ---- options
 

@@ -1,6 +1,6 @@
 -- What runs for each resolved instruction (III.3, III.4). A rule has no answer where it is not that rule's instruction, or where an operand
 -- is missing or of another kind: no verified program comes there.
-use Rattle.std.specs.Prelude.{◌≡◌, ℕ, ◌^◌, if◌then◌else◌, nat_lt, List, Option, Some, None, option_map, option_and_then}
+use Rattle.std.specs.Prelude.{ℕ, ◌^◌, if◌then◌else◌, nat_lt, List, Option, Some, None, option_map, option_and_then}
 use Rattle.cil_model.specs.declared.types.ClassName.{ClassName}
 use Rattle.cil_model.specs.declared.trees.Tree.{Tree}
 use Rattle.cil_model.specs.declared.trees.Field.{Field}

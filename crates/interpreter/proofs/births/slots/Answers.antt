@@ -1,4 +1,4 @@
-use Rattle.std.proofs.Common.{◌≡◌, ◌<◌, ap, sym, subst, ◌∙◌, arith, Some, ◌^◌}
+use Rattle.std.proofs.Common.{◌<◌, ap, sym, subst, ◌∙◌, arith, Some, ◌^◌}
 use Rattle.interpreter.proofs.Making.{Sized, sized}
 use Rattle.interpreter.proofs.births.slots.Goals as goal
 

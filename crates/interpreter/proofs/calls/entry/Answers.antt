@@ -1,7 +1,5 @@
-use Rattle.std.proofs.Common.{◌≡◌, ap, option_map}
+use Rattle.std.proofs.Common.{ap, option_map}
 use Rattle.std.specs.Prelude.{slice_get}
-use Rattle.cil_model.specs.declared.types.ClassName.{ClassName}
-use Rattle.cil_model.specs.declared.trees.Method.{Method}
 use Rattle.name_tables.specs.Numbers.{method_at}
 use Rattle.method_table.specs.AllMethods.{all_methods}
 use Rattle.method_table.specs.Prepared.{IsTableMethod}

@@ -1,15 +1,13 @@
 use Rattle.std.proofs.Common.{◌≡◌, ap, sym, subst, ◌∙◌, option_map, Some, None}
 use Rattle.std.specs.Prelude.{IsSome, IfOk}
-use Rattle.cil_model.specs.declared.types.ClassName.{ClassName}
-use Rattle.cil_model.specs.declared.trees.Method.{Method}
 use Rattle.name_tables.specs.Numbers.{method_at}
 use Rattle.reference_machine.specs.BuiltIn.{action_of}
 use Rattle.method_table.specs.MethodNumbers.{number_of}
 use Rattle.method_table.specs.Prepared.{action_named, IsTableMethod}
 use Rattle.method_table.proofs.NumberLaws.{number_of_place}
-use Rattle.call_instructions.specs.Calls.{Called, call_turn}
+use Rattle.call_instructions.specs.Calls.{call_turn}
 use Rattle.object_instructions.specs.ObjectTurns.{beside}
-use Rattle.interpreter.specs.Calls.{beside_console, called_as, act_turn, run_at}
+use Rattle.interpreter.specs.Calls.{beside_console, called_as}
 use Rattle.interpreter.proofs.Running.{there_is, given_there, called_alike, run_acts, run_calls, call_there}
 use Rattle.interpreter.proofs.calls.run.Goals as goal
 
