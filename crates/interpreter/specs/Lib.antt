@@ -1,2 +1,3 @@
 pub mod Operations
 pub mod Calls
+pub mod Instructions

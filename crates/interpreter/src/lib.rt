@@ -4,6 +4,7 @@
 pub mod births;
 pub mod calls;
 pub mod frame_operations;
+pub mod instructions;
 pub mod object_operations;
 pub mod operands;
 pub mod outcomes;

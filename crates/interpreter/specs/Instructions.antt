@@ -1,0 +1,79 @@
+-- What one instruction of a thread does to all that it may change.
+use Rattle.std.specs.Prelude.{ℕ, List, Option, Some, None, option_map}
+use Rattle.cil_model.specs.declared.trees.Tree.{Tree}
+use Rattle.resolved_code.specs.declared.operations.Operation.{Operation}
+use Rattle.resolved_code.specs.declared.operations.Operation.TheVariants.{NoOperation, LoadInt32, LoadInt64, LoadNull, LoadString, LoadArgument, StoreArgument, LoadLocal, StoreLocal, Duplicate, Pop, Binary, Unary, Shift, Compare, ConvertInt32, ConvertInt64, Branch, BranchTrue, BranchFalse, BranchCompare, Switch, LoadField, StoreField, LoadStaticField, StoreStaticField, NewArray, LoadLength, LoadElementInt32, LoadElementInt64, LoadElementReference, StoreElementInt32, StoreElementInt64, StoreElementReference, CastClass, IsInstance, Call, CallVirtual, NewObject, Return}
+use Rattle.object_memory.specs.declared.values.Value.{Value}
+use Rattle.object_memory.specs.Objects.{Objects}
+use Rattle.threads_monitors.specs.Frames.{Frames}
+use Rattle.threads_monitors.specs.declared.effects.Effect.{Effect}
+use Rattle.frame_instructions.specs.Frames.{Turn}
+use Rattle.object_instructions.specs.ObjectTurns.{ObjectTurn}
+use Rattle.interpreter.specs.declared.outcomes.Outcome.{Outcome}
+use Rattle.interpreter.specs.declared.outcomes.Outcome.TheVariants.{Comes}
+use Rattle.interpreter.specs.Operations.{constant_rule, stack_rule, arithmetic_rule, branch_rule, field_rule, array_rule, type_rule, static_rule}
+use Rattle.interpreter.specs.Calls.{CallTurn, call_rule}
+
+-- the frames of the thread, the objects, the static fields and the printed bytes after an instruction, and what it comes to
+abbrev pub MachineTurn : Type 0
+MachineTurn = Option (Frames × Objects × List Value × List ℕ × Outcome)
+
+module _ (o : Objects) (statics : List Value) (console : List ℕ) where
+  -- what changes the frames alone
+  abbrev pub of_frames : Turn → MachineTurn
+  of_frames turn = option_map (λ (t : Frames × Effect). (t.0, o, statics, console, Comes t.1)) turn
+
+  -- what changes objects too
+  abbrev pub of_objects : ObjectTurn → MachineTurn
+  of_objects turn = option_map (λ (t : Frames × Objects × Effect). (t.0, t.1, statics, console, Comes t.2)) turn
+
+  -- or static fields
+  abbrev pub of_statics : Option (Frames × List Value × Effect) → MachineTurn
+  of_statics turn = option_map (λ (t : Frames × List Value × Effect). (t.0, o, t.1, console, Comes t.2)) turn
+
+  -- or the printed bytes
+  abbrev pub of_calls : CallTurn → MachineTurn
+  of_calls turn = option_map (λ (t : Frames × Objects × List ℕ × Outcome). (t.0, t.1, statics, t.2, t.3)) turn
+
+-- each resolved instruction, by the group that it belongs to (III.3, III.4)
+abbrev pub operation_turn : Tree → ℕ → Operation → Frames → Objects → List Value → List ℕ → MachineTurn
+operation_turn tree thread NoOperation m o ss c = of_frames o ss c (constant_rule NoOperation m)
+operation_turn tree thread (LoadInt32 z) m o ss c = of_frames o ss c (constant_rule (LoadInt32 z) m)
+operation_turn tree thread (LoadInt64 z) m o ss c = of_frames o ss c (constant_rule (LoadInt64 z) m)
+operation_turn tree thread LoadNull m o ss c = of_frames o ss c (constant_rule LoadNull m)
+operation_turn tree thread (LoadString n) m o ss c = of_frames o ss c (constant_rule (LoadString n) m)
+operation_turn tree thread (LoadArgument n) m o ss c = of_frames o ss c (stack_rule (LoadArgument n) m)
+operation_turn tree thread (StoreArgument n) m o ss c = of_frames o ss c (stack_rule (StoreArgument n) m)
+operation_turn tree thread (LoadLocal n) m o ss c = of_frames o ss c (stack_rule (LoadLocal n) m)
+operation_turn tree thread (StoreLocal n) m o ss c = of_frames o ss c (stack_rule (StoreLocal n) m)
+operation_turn tree thread Duplicate m o ss c = of_frames o ss c (stack_rule Duplicate m)
+operation_turn tree thread Pop m o ss c = of_frames o ss c (stack_rule Pop m)
+operation_turn tree thread (Binary op) m o ss c = of_frames o ss c (arithmetic_rule (Binary op) m)
+operation_turn tree thread (Unary op) m o ss c = of_frames o ss c (arithmetic_rule (Unary op) m)
+operation_turn tree thread (Shift op) m o ss c = of_frames o ss c (arithmetic_rule (Shift op) m)
+operation_turn tree thread (Compare op) m o ss c = of_frames o ss c (arithmetic_rule (Compare op) m)
+operation_turn tree thread ConvertInt32 m o ss c = of_frames o ss c (arithmetic_rule ConvertInt32 m)
+operation_turn tree thread ConvertInt64 m o ss c = of_frames o ss c (arithmetic_rule ConvertInt64 m)
+operation_turn tree thread (Branch place) m o ss c = of_frames o ss c (branch_rule (Branch place) m)
+operation_turn tree thread (BranchTrue place) m o ss c = of_frames o ss c (branch_rule (BranchTrue place) m)
+operation_turn tree thread (BranchFalse place) m o ss c = of_frames o ss c (branch_rule (BranchFalse place) m)
+operation_turn tree thread (BranchCompare op place) m o ss c = of_frames o ss c (branch_rule (BranchCompare op place) m)
+operation_turn tree thread (Switch places) m o ss c = of_frames o ss c (branch_rule (Switch places) m)
+operation_turn tree thread (LoadField owner field) m o ss c = of_objects o ss c (field_rule tree (LoadField owner field) m o)
+operation_turn tree thread (StoreField owner field) m o ss c = of_objects o ss c (field_rule tree (StoreField owner field) m o)
+operation_turn tree thread (LoadStaticField field) m o ss c = of_statics o ss c (static_rule tree (LoadStaticField field) m ss)
+operation_turn tree thread (StoreStaticField field) m o ss c = of_statics o ss c (static_rule tree (StoreStaticField field) m ss)
+operation_turn tree thread (NewArray t) m o ss c = of_objects o ss c (array_rule (NewArray t) m o)
+operation_turn tree thread LoadLength m o ss c = of_objects o ss c (array_rule LoadLength m o)
+operation_turn tree thread LoadElementInt32 m o ss c = of_objects o ss c (array_rule LoadElementInt32 m o)
+operation_turn tree thread LoadElementInt64 m o ss c = of_objects o ss c (array_rule LoadElementInt64 m o)
+operation_turn tree thread LoadElementReference m o ss c = of_objects o ss c (array_rule LoadElementReference m o)
+operation_turn tree thread StoreElementInt32 m o ss c = of_objects o ss c (array_rule StoreElementInt32 m o)
+operation_turn tree thread StoreElementInt64 m o ss c = of_objects o ss c (array_rule StoreElementInt64 m o)
+operation_turn tree thread StoreElementReference m o ss c = of_objects o ss c (type_rule tree StoreElementReference m o)
+operation_turn tree thread (CastClass t) m o ss c = of_objects o ss c (type_rule tree (CastClass t) m o)
+operation_turn tree thread (IsInstance t) m o ss c = of_objects o ss c (type_rule tree (IsInstance t) m o)
+operation_turn tree thread (Call b owner method) m o ss c = of_calls o ss c (call_rule tree thread (Call b owner method) m o c)
+operation_turn tree thread (CallVirtual owner method) m o ss c = of_calls o ss c (call_rule tree thread (CallVirtual owner method) m o c)
+operation_turn tree thread (NewObject method) m o ss c = of_calls o ss c (call_rule tree thread (NewObject method) m o c)
+operation_turn tree thread Return m o ss c = of_calls o ss c (call_rule tree thread Return m o c)
