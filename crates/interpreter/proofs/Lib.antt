@@ -2,3 +2,4 @@ pub mod Running
 pub mod Choosing
 pub mod Receiving
 pub mod Making
+pub mod Placing

@@ -1,5 +1,11 @@
 -- What one instruction of a thread does to all that it may change.
-use Rattle.std.specs.Prelude.{ℕ, List, Option, Some, None, option_map}
+use Rattle.std.specs.Prelude.{◌≡◌, ℕ, List, Option, Some, option_map, option_and_then, slice_get}
+use Rattle.cil_model.specs.declared.types.ClassName.{ClassName}
+use Rattle.cil_model.specs.declared.trees.Line.{Line}
+use Rattle.cil_model.specs.declared.trees.Method.{Method}
+use Rattle.cil_model.specs.Bodies.{lines_of}
+use Rattle.resolved_code.specs.Resolved.{IsOperation}
+use Rattle.method_table.specs.AllMethods.{all_methods}
 use Rattle.cil_model.specs.declared.trees.Tree.{Tree}
 use Rattle.resolved_code.specs.declared.operations.Operation.{Operation}
 use Rattle.resolved_code.specs.declared.operations.Operation.TheVariants.{NoOperation, LoadInt32, LoadInt64, LoadNull, LoadString, LoadArgument, StoreArgument, LoadLocal, StoreLocal, Duplicate, Pop, Binary, Unary, Shift, Compare, ConvertInt32, ConvertInt64, Branch, BranchTrue, BranchFalse, BranchCompare, Switch, LoadField, StoreField, LoadStaticField, StoreStaticField, NewArray, LoadLength, LoadElementInt32, LoadElementInt64, LoadElementReference, StoreElementInt32, StoreElementInt64, StoreElementReference, CastClass, IsInstance, Call, CallVirtual, NewObject, Return}
@@ -77,3 +83,21 @@ operation_turn tree thread (Call b owner method) m o ss c = of_calls o ss c (cal
 operation_turn tree thread (CallVirtual owner method) m o ss c = of_calls o ss c (call_rule tree thread (CallVirtual owner method) m o c)
 operation_turn tree thread (NewObject method) m o ss c = of_calls o ss c (call_rule tree thread (NewObject method) m o c)
 operation_turn tree thread Return m o ss c = of_calls o ss c (call_rule tree thread Return m o c)
+
+-- ---- the instruction at a frame's place
+
+-- the method of the frame
+abbrev pub method_of : Tree → Frames → Option (ClassName × Method)
+method_of tree m = slice_get (all_methods tree) m.running.method
+
+-- its line
+abbrev pub line_at : Tree → Frames → Option Line
+line_at tree m = option_and_then (λ (found : ClassName × Method). slice_get (lines_of found.1) m.running.place) (method_of tree m)
+
+-- a resolved instruction that stands for the one there
+pub record IsAt (tree : Tree) (m : Frames) (op : Operation) : Type 0 where
+  pub found : ClassName × Method
+  pub line : Line
+  pub found_is : method_of tree m ≡ Some found
+  pub line_is : slice_get (lines_of found.1) m.running.place ≡ Some line
+  pub stands : IsOperation tree (lines_of found.1) line.instruction op

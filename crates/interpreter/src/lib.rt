@@ -8,4 +8,5 @@ pub mod instructions;
 pub mod object_operations;
 pub mod operands;
 pub mod outcomes;
+pub mod places;
 pub mod targets;
