@@ -101,3 +101,9 @@ pub record IsAt (tree : Tree) (m : Frames) (op : Operation) : Type 0 where
   pub found_is : method_of tree m ≡ Some found
   pub line_is : slice_get (lines_of found.1) m.running.place ≡ Some line
   pub stands : IsOperation tree (lines_of found.1) line.instruction op
+
+-- what a thread's next instruction has done: its answer is that of a resolved instruction there
+pub record IsDone (tree : Tree) (thread : ℕ) (m : Frames) (o : Objects) (ss : List Value) (c : List ℕ) (answer : Frames × Objects × List Value × List ℕ × Outcome) : Type 0 where
+  pub operation : Operation
+  pub at : IsAt tree m operation
+  pub is : Some answer ≡ operation_turn tree thread operation m o ss c

@@ -1,17 +1,23 @@
 // The instruction at a frame's place.
 
-ghost use Rattle.std.specs.Prelude.{◌≡◌, Some, IsSome, option_map, slice_get};
+ghost use Rattle.std.specs.Prelude.{◌≡◌, Some, IsSome, IfOk, OnErr, option_map};
 ghost use Rattle.cil_model.specs.declared.trees.Tree.{Tree};
 ghost use Rattle.cil_model.specs.declared.trees.MethodKind.{MethodKind};
 ghost use Rattle.cil_model.specs.declared.trees.Code.{Code};
 ghost use Rattle.cil_model.specs.Bodies.{code_of};
 ghost use Rattle.metadata.specs.Contents.{BothAlike};
 ghost use Rattle.resolved_code.specs.Resolved.{IsBody, IsResolvedKind};
+ghost use Rattle.class_layout.specs.Laid.{IsLayout};
 ghost use Rattle.method_table.specs.Prepared.{IsMethodTable};
-ghost use Rattle.interpreter.specs.Instructions.{IsAt, line_at};
+ghost use Rattle.interpreter.specs.Instructions.{IsAt, IsDone, line_at, operation_turn};
 
+use crate::instructions::operation_done;
+use crate::outcomes::Outcome;
+use cil_model::memory::NoMemory;
+use class_layout::Layout;
 use metadata::Program;
 use method_table::MethodTable;
+use object_memory::{Heap, Value};
 use resolved_code::classes::{Body, ResolvedKind};
 use resolved_code::operations::Operation;
 use threads_monitors::FrameMemory;
@@ -48,4 +54,29 @@ pub fn operation_at<'a>(
         unreachable!()
     };
     &body.operations.as_slice()[frames.place() as usize]
+}
+
+/// Does the instruction at the running frame's place (ECMA-335 III.3, III.4). `NoMemory` of a print alone, where nothing is
+/// changed; no other instruction takes memory.
+pub fn instruction(
+    program: &Program,
+    layout: &Layout,
+    table: &MethodTable,
+    thread: u8,
+    frames: &mut FrameMemory,
+    heap: &mut Heap,
+    statics: &mut [Value],
+    console: &mut Vec<u8>,
+) -> Result<Outcome, NoMemory>
+    requires layout { IsLayout program.now layout.now }
+    requires table { IsMethodTable program.now table.now }
+    requires place { IsSome (line_at program.now frames.old) }
+    requires there { (op : Operation) → IsAt program.now frames.old op → IsSome (operation_turn program.now thread op frames.old heap.old statics.old console.old.items) }
+    ensures done { IfOk result (λ outcome. IsDone program.now thread frames.old heap.old statics.old console.old.items (frames.new, heap.new, statics.new, console.new.items, outcome)) }
+    ensures refused { OnErr result ((frames.new ≡ frames.old) × (heap.new ≡ heap.old) × (statics.new ≡ statics.old) × (console.new.items ≡ console.old.items)) }
+{
+    let operation = operation_at(program, table, frames);
+    operation_done(
+        program, layout, table, thread, operation, frames, heap, statics, console,
+    )
 }
