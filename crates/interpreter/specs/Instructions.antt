@@ -1,5 +1,6 @@
 -- What one instruction of a thread does to all that it may change.
-use Rattle.std.specs.Prelude.{◌≡◌, ℕ, List, Option, Some, option_map, option_and_then, slice_get}
+use Rattle.std.specs.Prelude.{◌≡◌, ℕ, List, Option, Some, option_map, option_and_then, slice_get, FitsSigned}
+use Rattle.std.specs.Int.{w32, w64}
 use Rattle.cil_model.specs.declared.types.ClassName.{ClassName}
 use Rattle.cil_model.specs.declared.trees.Line.{Line}
 use Rattle.cil_model.specs.declared.trees.Method.{Method}
@@ -94,6 +95,12 @@ method_of tree m = slice_get (all_methods tree) m.running.method
 abbrev pub line_at : Tree → Frames → Option Line
 line_at tree m = option_and_then (λ (found : ClassName × Method). slice_get (lines_of found.1) m.running.place) (method_of tree m)
 
+-- the integer of a constant has the bits of its size (III.3.40)
+abbrev pub HasSmallConstant : Operation → Type 0
+HasSmallConstant (LoadInt32 z) = FitsSigned w32 z
+HasSmallConstant (LoadInt64 z) = FitsSigned w64 z
+HasSmallConstant _ = Unit {0}
+
 -- a resolved instruction that stands for the one there
 pub record IsAt (tree : Tree) (m : Frames) (op : Operation) : Type 0 where
   pub found : ClassName × Method
@@ -106,4 +113,5 @@ pub record IsAt (tree : Tree) (m : Frames) (op : Operation) : Type 0 where
 pub record IsDone (tree : Tree) (thread : ℕ) (m : Frames) (o : Objects) (ss : List Value) (c : List ℕ) (answer : Frames × Objects × List Value × List ℕ × Outcome) : Type 0 where
   pub operation : Operation
   pub at : IsAt tree m operation
+  pub constant : HasSmallConstant operation
   pub is : Some answer ≡ operation_turn tree thread operation m o ss c

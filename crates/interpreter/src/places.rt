@@ -1,6 +1,7 @@
 // The instruction at a frame's place.
 
-ghost use Rattle.std.specs.Prelude.{◌≡◌, Some, IsSome, IfOk, OnErr, option_map};
+ghost use Rattle.std.specs.Prelude.{◌≡◌, FitsSigned, Some, IsSome, IfOk, OnErr, option_map};
+ghost use Rattle.std.specs.Int.{w32, w64};
 ghost use Rattle.cil_model.specs.declared.trees.Tree.{Tree};
 ghost use Rattle.cil_model.specs.declared.trees.MethodKind.{MethodKind};
 ghost use Rattle.cil_model.specs.declared.trees.Code.{Code};
@@ -9,7 +10,7 @@ ghost use Rattle.metadata.specs.Contents.{BothAlike};
 ghost use Rattle.resolved_code.specs.Resolved.{IsBody, IsResolvedKind};
 ghost use Rattle.class_layout.specs.Laid.{IsLayout};
 ghost use Rattle.method_table.specs.Prepared.{IsMethodTable};
-ghost use Rattle.interpreter.specs.Instructions.{IsAt, IsDone, line_at, operation_turn};
+ghost use Rattle.interpreter.specs.Instructions.{HasSmallConstant, IsAt, IsDone, line_at, operation_turn};
 
 use crate::instructions::operation_done;
 use crate::outcomes::Outcome;
@@ -31,6 +32,29 @@ fn body_of(kind: &ResolvedKind) -> Option<&Body>
         | ResolvedKind::Instance(body)
         | ResolvedKind::Virtual { body, .. } => Some(body),
         ResolvedKind::Abstract { .. } => None,
+    }
+}
+
+/// A number of 32 bits is one.
+fn has_32_bits(_number: i32)
+    ensures { FitsSigned w32 _number }
+{
+}
+
+/// A number of 64 bits is one.
+fn has_64_bits(_number: i64)
+    ensures { FitsSigned w64 _number }
+{
+}
+
+/// The integers of constants have the bits of their sizes.
+fn constants_are_small(operation: &Operation)
+    ensures { HasSmallConstant operation.now }
+{
+    match operation {
+        Operation::LoadInt32(number) => has_32_bits(*number),
+        Operation::LoadInt64(number) => has_64_bits(*number),
+        _ => (),
     }
 }
 
@@ -71,11 +95,12 @@ pub fn instruction(
     requires layout { IsLayout program.now layout.now }
     requires table { IsMethodTable program.now table.now }
     requires place { IsSome (line_at program.now frames.old) }
-    requires there { (op : Operation) → IsAt program.now frames.old op → IsSome (operation_turn program.now thread op frames.old heap.old statics.old console.old.items) }
+    requires there { (op : Operation) → IsAt program.now frames.old op → HasSmallConstant op → IsSome (operation_turn program.now thread op frames.old heap.old statics.old console.old.items) }
     ensures done { IfOk result (λ outcome. IsDone program.now thread frames.old heap.old statics.old console.old.items (frames.new, heap.new, statics.new, console.new.items, outcome)) }
     ensures refused { OnErr result ((frames.new ≡ frames.old) × (heap.new ≡ heap.old) × (statics.new ≡ statics.old) × (console.new.items ≡ console.old.items)) }
 {
     let operation = operation_at(program, table, frames);
+    constants_are_small(operation);
     operation_done(
         program, layout, table, thread, operation, frames, heap, statics, console,
     )

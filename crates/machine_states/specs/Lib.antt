@@ -1,0 +1,4 @@
+pub mod Agreement
+pub mod MachineContents
+pub mod StandsFor
+pub mod Turns

@@ -1,0 +1,22 @@
+-- What a machine holds (this profile).
+use Rattle.std.specs.Prelude.{ℕ, ◌+◌, List}
+use Rattle.cil_model.specs.declared.trees.Tree.{Tree}
+use Rattle.cil_model.specs.declared.limits.Limits.{Limits}
+use Rattle.cil_model.specs.declared.limits.TheConstants.{MOST_ARGUMENTS, MOST_LOCALS}
+use Rattle.object_memory.specs.declared.values.Value.{Value}
+use Rattle.object_memory.specs.Objects.{Objects}
+use Rattle.threads_monitors.specs.declared.threads.Thread.{Thread}
+
+-- the program with the limits of its run, the threads by number, the objects, the static fields by number, and what was printed
+pub record Content : Type 0 where
+  pub tree : Tree
+  pub limits : Limits
+  pub threads : List Thread
+  pub objects : Objects
+  pub statics : List Value
+  pub printed : List ℕ
+
+-- How many values a frame may hold: arguments, locals, and as many on the stack as a method may have, 64; and one more, the new
+-- object that newobj puts beneath the operands of a constructor before they become its arguments.
+abbrev pub frame_room : ℕ
+frame_room = MOST_ARGUMENTS + (MOST_LOCALS + 65)

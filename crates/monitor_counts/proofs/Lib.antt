@@ -1,0 +1,5 @@
+pub mod ChangedEntries
+pub mod StateChanges
+pub mod InstructionSteps
+pub mod CountedSteps
+pub mod CountedOpenings

@@ -1,0 +1,6 @@
+//! The machine: its threads, its heap, and what it does on each event.
+#![tactic(auto)]
+
+mod engine;
+mod openings;
+mod steps;
