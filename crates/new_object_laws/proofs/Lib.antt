@@ -1,0 +1,4 @@
+pub mod Lists
+pub mod Zeros
+pub mod Constructors
+pub mod Births
