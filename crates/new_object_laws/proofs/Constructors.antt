@@ -1,5 +1,5 @@
 -- What a constructor is that newobj finds: a method of the class itself, with an argument for the object and one for each parameter.
-use Rattle.std.proofs.Common.{◌≡◌, ◌≤◌, ◌<◌, ◌^◌, ℕ, zero, suc, Bool, true, false, if◌then◌else◌, List, [], ◌∷◌, length, find, Option, Some, None, option_map, option_and_then, slice_get, refl, sym, ap, ◌∙◌, subst, arith}
+use Rattle.std.proofs.Common.{◌≡◌, ◌≤◌, ◌<◌, ◌^◌, ℕ, suc, true, if◌then◌else◌, List, ◌∷◌, length, find, Option, Some, None, option_map, option_and_then, slice_get, sym, ap, ◌∙◌, arith}
 use Rattle.std.specs.Prelude.{not, ◌&&◌, nat_lt}
 use Rattle.std.specs.Option.{option_map_or}
 use Rattle.std.proofs.lemmas.Bool.Decides.{nat_tests}
@@ -10,7 +10,6 @@ use Rattle.cil_model.specs.declared.instructions.MethodName.TheVariants.{Constru
 use Rattle.cil_model.specs.declared.limits.TheConstants.{MOST_ARGUMENTS, MOST_LOCALS}
 use Rattle.cil_model.specs.declared.trees.Tree.{Tree}
 use Rattle.cil_model.specs.declared.trees.Method.{Method}
-use Rattle.cil_model.specs.declared.trees.Code.{Code}
 use Rattle.cil_model.specs.Same.{same_flag, same_method_name, same_signature}
 use Rattle.cil_model.specs.Declarations.{Declaration}
 use Rattle.cil_model.specs.Assignable.{type_of_class}
@@ -59,8 +58,8 @@ own_class tree c k parameters m h = by_found (find (λ (y : Method). same_method
     by_found None e = none_is_some (k, m) e
     by_found (Some x) e = ap (λ (p : ClassName × Method). p.0) (same_some (c, x) (k, m) e)
 
--- a number that is small passes the test
-small_test : (n most : ℕ) → n < most → nat_lt n most ≡ true
+-- a number that is below passes the test
+pub small_test : (n most : ℕ) → n < most → nat_lt n most ≡ true
 small_test n most h = grind (arith, nat_tests)
 
 module _ (tree : Tree) (legal : IsLegal tree) (c : ClassName) (parameters : List DeclaredType) (number : MemberNumber) (is : IsMethod tree true (constructor_reference c parameters) number) where

@@ -11,17 +11,15 @@ use Rattle.cil_model.specs.declared.types.Element.TheVariants.{Int32 as Int32Ele
 use Rattle.cil_model.specs.declared.trees.Tree.{Tree}
 use Rattle.cil_model.specs.declared.trees.Method.{Method}
 use Rattle.cil_model.specs.declared.trees.Code.{Code}
-use Rattle.cil_model.specs.Assignable.{is_reference, is_reference_element}
+use Rattle.cil_model.specs.Assignable.{is_reference_element}
 use Rattle.cil_model.specs.Bodies.{code_of}
 use Rattle.cil_model.specs.Chains.{is_thread_class}
 use Rattle.cil_model.specs.Fields.{FieldKey, instance_fields, slot_types}
-use Rattle.reference_machine.specs.Values.{Value as StateValue, Int32 as Int32Value, Int64 as Int64Value, Null, zero_of, integer_zero}
+use Rattle.reference_machine.specs.Values.{Value as StateValue, Null, zero_of, integer_zero}
 use Rattle.reference_machine.specs.States.{zeroed, new_instance}
 use Rattle.resolved_code.specs.Numbered.{class_name}
 use Rattle.object_memory.specs.declared.kinds.Kind.TheVariants.{Instance}
-use Rattle.object_memory.specs.declared.values.Value.{Value}
 use Rattle.object_memory.specs.declared.values.Value.TheVariants.{Int32, Int64, Ref}
-use Rattle.object_memory.specs.declared.values.ValueKind.{ValueKind}
 use Rattle.object_memory.specs.Cells.{null}
 use Rattle.method_table.specs.Prepared.{kind_at, kind_of_type, local_kinds}
 use Rattle.threads_monitors.specs.Frames.{zero_value}
