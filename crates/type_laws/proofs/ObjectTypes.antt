@@ -1,5 +1,5 @@
 -- What lies at an address is of the type of the object that has that address.
-use Rattle.std.proofs.Common.{◌≡◌, ℕ, zero, suc, ◌==◌, Bool, true, false, if◌then◌else◌, List, Option, Some, None, option_map, option_and_then, slice_get, refl, sym, ap, ◌∙◌, subst, arith}
+use Rattle.std.proofs.Common.{◌≡◌, ℕ, zero, suc, ◌==◌, true, false, if◌then◌else◌, List, Option, Some, option_map, option_and_then, slice_get, refl, sym, ap, ◌∙◌, subst, arith}
 use Rattle.std.specs.Option.{option_map_or}
 use Rattle.std.proofs.lemmas.Bool.Decides.{nat_tests}
 use Rattle.cil_model.specs.declared.trees.Tree.{Tree}
@@ -19,7 +19,7 @@ use Rattle.object_memory.specs.declared.kinds.ArrayElement.{ArrayElement}
 use Rattle.object_memory.specs.declared.kinds.Kind.{Kind}
 use Rattle.object_memory.specs.declared.kinds.Kind.TheVariants.{Instance, Array}
 use Rattle.object_memory.specs.declared.values.Value.{Value}
-use Rattle.object_memory.specs.Cells.{Cell, cell_at, literal_number}
+use Rattle.object_memory.specs.Cells.{Cell, cell_at}
 use Rattle.object_memory.specs.Objects.{Objects}
 use Rattle.type_instructions.specs.TypeTurns.{held_type, type_of_kind, type_of_address, may_stand, may_stand_as}
 use Rattle.machine_states.specs.Agreement.{Agree}
@@ -88,6 +88,7 @@ pub record IsArrayAt (tree : Tree) (name : Names) (o : Objects) (s : State) (a :
   pub kind : cell.kind ≡ Array holds
   pub held : type_at tree (held_type holds) ≡ Some t
   pub words : Agree (IsWord name) cell.slots elements
+  pub of_contents : IsOfContents tree name cell.kind cell.slots (IsArray t elements) object.thread
 
 -- a cell that stands for an array is one
 array_kind : (tree : Tree) (name : Names) (k : Kind) (slots : List ℕ) (t : DeclaredType) (elements : List StateValue) (thread : Option ℕ) → IsOfContents tree name k slots (IsArray t elements) thread →
@@ -101,7 +102,8 @@ pub array_there : (tree : Tree) (name : Names) (o : Objects) (s : State) → IsH
 array_there tree name o s heap a n t elements named e =
     let at : IsBornAt tree name o s a.number n = heap.born a.number n named in
     let contents : at.object.contents ≡ IsArray t elements = array_contents at.object.contents t elements (sym (ap (option_and_then (λ (x : HeapObject). elements_of_contents x.contents)) at.is) ∙ e) in
-    let kind = array_kind tree name at.cell.kind at.cell.slots t elements at.object.thread (subst (λ c. IsOfContents tree name at.cell.kind at.cell.slots c at.object.thread) contents at.stands.contents) in
+    let of_contents : IsOfContents tree name at.cell.kind at.cell.slots (IsArray t elements) at.object.thread = subst (λ c. IsOfContents tree name at.cell.kind at.cell.slots c at.object.thread) contents at.stands.contents in
+    let kind = array_kind tree name at.cell.kind at.cell.slots t elements at.object.thread of_contents in
     record {
       cell = at.cell;
       lies = at.lies;
@@ -113,4 +115,5 @@ array_there tree name o s heap a n t elements named e =
       kind = kind.1;
       held = kind.2;
       words = kind.3;
+      of_contents = of_contents;
     }
