@@ -1,0 +1,3 @@
+pub mod ObjectTypes
+pub mod Casts
+pub mod Stores
