@@ -37,13 +37,9 @@ use Rattle.machine_states.specs.StandsFor.{Names, IsValue, int32, int64, native,
 use Rattle.machine_states.proofs.Statements.{CellsMayChange, LiteralsMayChange}
 use Rattle.machine_states.proofs.Instructions.{IsSetting, AsksFor, DoesAlike}
 use Rattle.machine_states.proofs.Going.{own_frame, next_alike, onward_alike, onward_is}
-use Rattle.call_laws.proofs.Monitors.{IsMonitorAt, IsChanged, monitor_there}
+use Rattle.call_laws.proofs.Locking.{enters_alike, exits_alike}
 use Rattle.call_laws.proofs.OneOperand.{one_taken, single_operand}
 use Rattle.call_laws.proofs.Printing.{named_not_null, line_alike, memory_printed}
-
--- so few entries can be counted
-few_entries : (count left budget : ℕ) → count + left ≤ budget → budget ≤ MOST_BUDGET → nat_lt count (2 ^ 32 - 1) ≡ true
-few_entries count left budget h k = grind (arith, nat_tests, h, k)
 
 module _ (cells_may_change : CellsMayChange) (literals_may_change : LiteralsMayChange)
     (here : Setting) (name : Names) (m : Frames) (o : Objects) (statics : List Value) (printed : List ℕ) (s : State) (f : StateFrame) (below : List StateFrame) (i : Instruction) (operation : Operation)
@@ -121,3 +117,31 @@ module _ (cells_may_change : CellsMayChange) (literals_may_change : LiteralsMayC
         by_value w x is (native z fits) t = elim t [ ]
         by_value w x is null_reference t = joins_of null is
         by_value w x is (reference a n named) t = joins_of a is
+
+    -- ---- any of them
+
+    acts : (a : Action) → Acts a
+    acts Construct t = constructs t
+    acts Write t = writes t
+    acts Enter t = enters_alike cells_may_change literals_may_change here name m o statics printed s f below i operation at rest rest' others v u top stands t
+    acts Exit t = exits_alike cells_may_change literals_may_change here name m o statics printed s f below i operation at rest rest' others v u top stands t
+    acts Start t = starts t
+    acts Join t = joins t
+
+  -- ---- an action on the uppermost values
+
+  pub acts_alike : (a : Action) (n : ℕ) → nat_le n (length f.stack) ≡ true → IsTypedEffect here.tree (act here s f below a (reverse (take n f.stack)) (drop n f.stack)) →
+      Alike (act_turn here.tree here.thread a m o printed) (act here s f below a (reverse (take n f.stack)) (drop n f.stack))
+  acts_alike a n enough typed = by_operand (single_operand here s f below a (reverse (take n f.stack)) (drop n f.stack) typed)
+    where
+      by_stack : (u : StateValue) → f.stack ≡ u ∷ drop n f.stack → IsTypedEffect here.tree (act here s f below a (u ∷ []) (drop n f.stack)) →
+          (vs : List Value) → m.running.stack ≡ vs → Agree (IsValue name) vs (u ∷ drop n f.stack) → Alike (act_turn here.tree here.thread a m o printed) (act here s f below a (u ∷ []) (drop n f.stack))
+      by_stack u top' t [] top h = elim h [ ]
+      by_stack u top' t (v ∷ vs) top h = acts v vs u (drop n f.stack) top top' h.0 h.1 a t
+
+      by_operand : (u : StateValue) × (reverse (take n f.stack) ≡ u ∷ []) → Alike (act_turn here.tree here.thread a m o printed) (act here s f below a (reverse (take n f.stack)) (drop n f.stack))
+      by_operand (u, is) =
+          let top' : f.stack ≡ u ∷ drop n f.stack = one_taken n f.stack u enough is in
+          subst (λ x. Alike (act_turn here.tree here.thread a m o printed) (act here s f below a x (drop n f.stack))) (sym is)
+          (by_stack u top' (subst (λ x. IsTypedEffect here.tree (act here s f below a x (drop n f.stack))) is typed) m.running.stack refl
+          (subst (λ x. Agree (IsValue name) m.running.stack x) top' (own_frame here name m o statics printed s f below i operation at).stack))

@@ -4,4 +4,7 @@ pub mod OneOperand
 pub mod Entering
 pub mod Monitors
 pub mod Printing
+pub mod Locking
 pub mod Acting
+pub mod Running
+pub mod Calling
