@@ -8,3 +8,4 @@ pub mod Locking
 pub mod Acting
 pub mod Running
 pub mod Calling
+pub mod Returning
