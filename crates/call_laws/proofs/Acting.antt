@@ -1,45 +1,37 @@
 -- Built-in members do the same on both machines.
-use Rattle.std.proofs.Common.{◌≡◌, ◌≤◌, ◌+◌, ◌-◌, ◌^◌, ℕ, Bool, true, false, ◌||◌, List, [], ◌∷◌, ◌++◌, length, take, drop, reverse, Option, Some, None, option_map, option_and_then, refl, sym, ap, ◌∙◌, subst, arith}
-use Rattle.std.specs.Prelude.{nat_lt, nat_le, ◌==◌, if◌then◌else◌}
-use Rattle.std.proofs.lemmas.Bool.Decides.{nat_tests}
+use Rattle.std.proofs.Common.{◌≡◌, ◌+◌, ℕ, true, List, [], ◌∷◌, ◌++◌, length, take, drop, reverse, Option, Some, None, option_map, refl, sym, ap, ◌∙◌, subst}
+use Rattle.std.specs.Prelude.{nat_le}
 use Rattle.cil_model.specs.declared.instructions.Instruction.{Instruction}
-use Rattle.cil_model.specs.declared.limits.TheConstants.{MOST_BUDGET}
-use Rattle.cil_model.specs.declared.reports.Fault.{Fault}
-use Rattle.cil_model.specs.declared.reports.Fault.TheVariants.{ArgumentNull, SynchronizationLock}
 use Rattle.cil_model.specs.Mentions.{literals_of}
-use Rattle.reference_machine.specs.Values.{ObjectName, Value as StateValue}
-use Rattle.reference_machine.specs.States.{Monitor as StateMonitor, Free as IsFree, Held as IsHeld, Frame as StateFrame, State, monitor_of, with_monitor as with_state_monitor}
+use Rattle.reference_machine.specs.Values.{Value as StateValue}
+use Rattle.reference_machine.specs.States.{Frame as StateFrame, State}
 use Rattle.reference_machine.specs.Effects.{Setting, Effect as StateEffect, given as given_there, onward as onward_frame}
-use Rattle.reference_machine.specs.BuiltIn.{Action, Construct, Write, Enter, Exit, Start, Join, act, line_of as state_line_of, enter, exit}
+use Rattle.reference_machine.specs.BuiltIn.{Action, Construct, Write, Enter, Exit, Start, Join, act, line_of as state_line_of}
 use Rattle.type_soundness.proofs.Running.{IsTypedEffect}
-use Rattle.monitor_counts.specs.Counts.{IsCountedMonitor}
 use Rattle.resolved_code.specs.declared.operations.Operation.{Operation}
 use Rattle.object_memory.specs.declared.addresses.Addr.{Addr}
-use Rattle.object_memory.specs.declared.monitors.Monitor.{Monitor}
-use Rattle.object_memory.specs.declared.monitors.Monitor.TheVariants.{Free, Held}
 use Rattle.object_memory.specs.declared.values.Value.{Value}
 use Rattle.object_memory.specs.declared.values.Value.TheVariants.{Ref}
 use Rattle.object_memory.specs.Cells.{null}
-use Rattle.object_memory.specs.Objects.{Objects, monitor_at, with_monitor}
+use Rattle.object_memory.specs.Objects.{Objects}
 use Rattle.threads_monitors.specs.Frames.{Frames, with_place, with_stack}
-use Rattle.threads_monitors.specs.Monitors.{entered, left, with_monitor_or, with_entry, with_exit}
 use Rattle.threads_monitors.specs.declared.effects.Effect.{Effect}
-use Rattle.threads_monitors.specs.declared.effects.Effect.TheVariants.{GoesOn, Blocks, Raises}
+use Rattle.threads_monitors.specs.declared.effects.Effect.TheVariants.{GoesOn}
 use Rattle.frame_instructions.specs.Frames.{given, top_of, onward}
 use Rattle.object_instructions.specs.ObjectTurns.{beside}
-use Rattle.built_in_instructions.specs.BuiltInTurns.{reference_from, carried, is_countable, line_of, printed as printed_line}
+use Rattle.built_in_instructions.specs.BuiltInTurns.{line_of, printed as printed_line}
 use Rattle.interpreter.specs.Calls.{CallTurn, act_turn, asks, beside_console, top_reference}
 use Rattle.interpreter.specs.Instructions.{of_calls}
 use Rattle.interpreter.specs.declared.outcomes.Outcome.{Outcome}
 use Rattle.interpreter.specs.declared.outcomes.Outcome.TheVariants.{Comes, Starts, Joins}
 use Rattle.machine_states.specs.Agreement.{Agree}
-use Rattle.machine_states.specs.StandsFor.{Names, IsValue, int32, int64, native, null_reference, reference, IsMonitor}
+use Rattle.machine_states.specs.StandsFor.{Names, IsValue, int32, int64, native, null_reference, reference}
 use Rattle.machine_states.proofs.Statements.{CellsMayChange, LiteralsMayChange}
 use Rattle.machine_states.proofs.Instructions.{IsSetting, AsksFor, DoesAlike}
 use Rattle.machine_states.proofs.Going.{own_frame, next_alike, onward_alike, onward_is}
 use Rattle.call_laws.proofs.Locking.{enters_alike, exits_alike}
 use Rattle.call_laws.proofs.OneOperand.{one_taken, single_operand}
-use Rattle.call_laws.proofs.Printing.{named_not_null, line_alike, memory_printed}
+use Rattle.call_laws.proofs.Printing.{line_alike, memory_printed}
 
 module _ (cells_may_change : CellsMayChange) (literals_may_change : LiteralsMayChange)
     (here : Setting) (name : Names) (m : Frames) (o : Objects) (statics : List Value) (printed : List ℕ) (s : State) (f : StateFrame) (below : List StateFrame) (i : Instruction) (operation : Operation)

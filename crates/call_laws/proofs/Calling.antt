@@ -1,5 +1,5 @@
 -- A call does the same on both machines.
-use Rattle.std.proofs.Common.{◌≡◌, ℕ, Bool, true, false, not, List, ◌∷◌, length, take, drop, reverse, Option, Some, None, refl, sym, ap, ◌∙◌, subst}
+use Rattle.std.proofs.Common.{◌≡◌, ℕ, Bool, true, false, not, List, ◌∷◌, length, take, drop, reverse, Some, refl, sym, ap, subst}
 use Rattle.std.specs.Prelude.{nat_le, if◌then◌else◌}
 use Rattle.cil_model.specs.declared.instructions.Instruction.TheVariants as Named
 use Rattle.cil_model.specs.declared.instructions.MethodReference.{MethodReference}
@@ -16,16 +16,14 @@ use Rattle.reference_machine.specs.Steps.{run_method, operands, execute}
 use Rattle.type_soundness.proofs.FoundMethods.{IsFound, found}
 use Rattle.type_soundness.proofs.Running.{IsTypedEffect}
 use Rattle.name_tables.specs.declared.lookups.MemberNumber.{MemberNumber}
-use Rattle.name_tables.specs.Numbers.{method_at}
 use Rattle.resolved_code.specs.Numbered.{class_name}
 use Rattle.resolved_code.specs.Resolved.{IsMethod}
-use Rattle.resolved_code.specs.declared.operations.Operation.{Operation}
 use Rattle.resolved_code.specs.declared.operations.Operation.TheVariants as Resolved
 use Rattle.object_memory.specs.declared.values.Value.{Value}
 use Rattle.object_memory.specs.Objects.{Objects}
 use Rattle.threads_monitors.specs.Frames.{Frames}
 use Rattle.frame_instructions.specs.Frames.{given}
-use Rattle.interpreter.specs.Calls.{CallTurn, run_turn}
+use Rattle.interpreter.specs.Calls.{run_turn}
 use Rattle.interpreter.specs.Instructions.{MachineTurn, of_calls, operation_turn}
 use Rattle.machine_states.specs.StandsFor.{Names}
 use Rattle.machine_states.proofs.Statements.{CellsMayChange, LiteralsMayChange}

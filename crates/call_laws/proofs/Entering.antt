@@ -1,15 +1,14 @@
 -- A call puts a frame on the frames of both machines, where there may be one more.
-use Rattle.std.proofs.Common.{◌≡◌, ◌≤◌, ◌+◌, ℕ, suc, Bool, true, false, ◌&&◌, List, [], ◌∷◌, length, map, take, drop, reverse, Option, Some, None, slice_get, refl, sym, ap, ◌∙◌, subst, arith}
+use Rattle.std.proofs.Common.{◌≡◌, ◌≤◌, ◌+◌, ℕ, suc, Bool, true, false, ◌&&◌, List, ◌∷◌, length, take, drop, reverse, Option, Some, None, refl, ap, ◌∙◌, arith}
 use Rattle.std.specs.Prelude.{nat_lt, nat_le, if◌then◌else◌, ◌==◌}
 use Rattle.std.proofs.lemmas.Bool.Decides.{nat_tests}
 use Rattle.cil_model.specs.declared.instructions.Instruction.{Instruction}
-use Rattle.cil_model.specs.declared.limits.TheConstants.{MOST_ARGUMENTS, MOST_LOCALS, MOST_INSTRUCTIONS}
+use Rattle.cil_model.specs.declared.limits.TheConstants.{MOST_ARGUMENTS, MOST_LOCALS}
 use Rattle.cil_model.specs.declared.reports.Fault.TheVariants.{StackOverflow}
 use Rattle.cil_model.specs.declared.types.ClassName.{ClassName}
 use Rattle.cil_model.specs.declared.trees.Method.{Method}
 use Rattle.cil_model.specs.declared.trees.Code.{Code}
 use Rattle.cil_model.specs.Bodies.{argument_types, code_of}
-use Rattle.reference_machine.specs.Values.{Value as StateValue, zero_of}
 use Rattle.reference_machine.specs.States.{Frame as StateFrame, State}
 use Rattle.reference_machine.specs.Effects.{Setting, Effect as StateEffect, Goes, Raises as StateRaises, given as given_there, new_frame as new_state_frame, after}
 use Rattle.reference_machine.specs.Steps.{is_too_deep, frame_for}
@@ -17,21 +16,18 @@ use Rattle.type_soundness.specs.TypedStates.{IsTypedFrame}
 use Rattle.type_soundness.proofs.Running.{IsTypedEffect}
 use Rattle.resolved_code.specs.declared.operations.Operation.{Operation}
 use Rattle.object_memory.specs.declared.values.Value.{Value}
-use Rattle.object_memory.specs.declared.values.ValueKind.{ValueKind}
 use Rattle.object_memory.specs.Objects.{Objects}
-use Rattle.method_table.specs.AllMethods.{all_methods}
 use Rattle.method_table.specs.MethodNumbers.{number_of}
 use Rattle.method_table.specs.Prepared.{local_kinds}
-use Rattle.threads_monitors.specs.Frames.{Frame, Frames, with_place, with_call}
+use Rattle.threads_monitors.specs.Frames.{Frames, with_place, with_call}
 use Rattle.threads_monitors.specs.declared.effects.Effect.TheVariants.{GoesOn, Raises}
 use Rattle.frame_instructions.specs.Frames.{given}
 use Rattle.object_instructions.specs.ObjectTurns.{beside}
-use Rattle.call_instructions.specs.Calls.{Called, is_full, behind, entered, call_turn}
+use Rattle.call_instructions.specs.Calls.{is_full, behind, entered, call_turn}
 use Rattle.interpreter.specs.Calls.{called_as, beside_console}
 use Rattle.interpreter.specs.Instructions.{of_calls}
 use Rattle.interpreter.specs.declared.outcomes.Outcome.TheVariants.{Comes}
 use Rattle.legal_sizes.proofs.MethodSizes.{arguments_few, locals_few}
-use Rattle.machine_states.specs.Agreement.{Agree}
 use Rattle.machine_states.specs.MachineContents.{frame_room}
 use Rattle.machine_states.specs.StandsFor.{Names, IsValue, IsFrame, AreFrames}
 use Rattle.machine_states.proofs.AgreeLaws.{agree_length, agree_take, agree_drop, agree_reverse}
@@ -49,17 +45,21 @@ full_test a b c d same depth few = by_test (nat_le d (suc b)) refl
     by_test true e = grind (arith, nat_tests, same, depth, few, e)
     by_test false e = grind (arith, nat_tests, same, depth, few, e)
 
+-- there may be one more
 not_full_test : (a b c d : ℕ) → a ≡ b → c ≡ d → nat_le d (suc b) ≡ false → (nat_lt (a + 1) c ≡ true) × (suc (suc a) ≤ d)
 not_full_test a b c d same depth e = (grind (arith, nat_tests, same, depth, e), grind (arith, nat_tests, same, depth, e))
 
-few_test : (a l r x y : ℕ) → a ≤ MOST_ARGUMENTS → l ≡ x → x ≤ MOST_LOCALS → r ≡ frame_room → nat_le (a + l) r ≡ true
-few_test a l r x y one same two room = grind (arith, nat_tests, one, same, two, room)
+-- and as many arguments and locals as a frame has room for
+few_test : (a l r x : ℕ) → a ≤ MOST_ARGUMENTS → l ≡ x → x ≤ MOST_LOCALS → r ≡ frame_room → nat_le (a + l) r ≡ true
+few_test a l r x one same two room = grind (arith, nat_tests, one, same, two, room)
 
 module _ (here : Setting) (name : Names) (m : Frames) (o : Objects) (statics : List Value) (printed : List ℕ) (s : State) (f : StateFrame) (below : List StateFrame) (i : Instruction) (operation : Operation)
     (at : IsSetting here name m o statics printed s f below i operation) where
+  -- both machines have as many below
   frames_below : length m.below ≡ length below
   frames_below = agree_length (IsFrame here.tree name) m.below below at.frames.frames.1
 
+  -- so both have as many as there may be, or neither
   pub full_alike : is_full m ≡ is_too_deep here s f below
   full_alike = full_test (length m.below) (length below) m.depth here.limits.depth frames_below at.frames.depth at.frames.few
 
@@ -76,7 +76,7 @@ module _ (here : Setting) (name : Names) (m : Frames) (o : Objects) (statics : L
 
       small_enough : nat_le (count + length (local_kinds found.1)) m.room ≡ true
       small_enough =
-          few_test count (length (local_kinds found.1)) m.room (length code.locals) 0
+          few_test count (length (local_kinds found.1)) m.room (length code.locals)
           (arguments_few here.tree at.running.accepted.legal found.0 typed.is_declared.0 found.1 typed.is_declared.1) (local_count found.1 code coded)
           (locals_few here.tree at.running.accepted.legal found.0 typed.is_declared.0 found.1 typed.is_declared.1 code coded) at.frames.room
 

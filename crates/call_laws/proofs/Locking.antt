@@ -1,5 +1,5 @@
 -- Monitors are entered and left alike on both machines.
-use Rattle.std.proofs.Common.{◌≡◌, ◌≤◌, ◌+◌, ◌-◌, ◌^◌, ℕ, Bool, true, false, ◌||◌, List, [], ◌∷◌, Option, Some, None, option_and_then, refl, sym, ap, ◌∙◌, subst, arith}
+use Rattle.std.proofs.Common.{◌≡◌, ◌≤◌, ◌+◌, ◌-◌, ◌^◌, ℕ, Bool, true, false, ◌||◌, List, [], ◌∷◌, Some, None, option_and_then, refl, sym, ap, ◌∙◌, subst, arith}
 use Rattle.std.specs.Prelude.{nat_lt, nat_le, ◌==◌, if◌then◌else◌, is_some}
 use Rattle.std.proofs.lemmas.Bool.Decides.{nat_tests}
 use Rattle.cil_model.specs.declared.instructions.Instruction.{Instruction}
@@ -103,8 +103,8 @@ module _ (cells_may_change : CellsMayChange) (literals_may_change : LiteralsMayC
     exit_alike Free IsFree h is = raises_alike turn SynchronizationLock is
     exit_alike (Held owner count) (IsHeld owner' count') h is =
         by_owner (owner' == here.thread) (
-          is ∙ ap (λ x. carrying (with_monitor_or o a (Raises SynchronizationLock) (if x == here.thread then Some (if nat_le count 1 then Free else Held here.thread (count - 1)) else None))) h.0 ∙
-          ap (λ x. carrying (with_monitor_or o a (Raises SynchronizationLock) (if owner' == here.thread then Some (if nat_le x 1 then Free else Held here.thread (x - 1)) else None))) h.1
+        is ∙ ap (λ x. carrying (with_monitor_or o a (Raises SynchronizationLock) (if x == here.thread then Some (if nat_le count 1 then Free else Held here.thread (count - 1)) else None))) h.0 ∙
+        ap (λ x. carrying (with_monitor_or o a (Raises SynchronizationLock) (if owner' == here.thread then Some (if nat_le x 1 then Free else Held here.thread (x - 1)) else None))) h.1
         )
       where
         by_owner : (b : Bool) → turn ≡ carrying (with_monitor_or o a (Raises SynchronizationLock) (if b then Some (if nat_le count' 1 then Free else Held here.thread (count' - 1)) else None)) →
@@ -136,22 +136,22 @@ module _ (cells_may_change : CellsMayChange) (literals_may_change : LiteralsMayC
       enters_object : Alike (act_turn here.tree here.thread Enter m o printed) (act here s f below Enter (Reference n ∷ []) rest')
       enters_object =
           subst (λ x. Alike (act_turn here.tree here.thread Enter m o printed) (given_there x (enter here s f below n rest'))) (sym there.state_held) (
-            entry_alike a n named there (act_turn here.tree here.thread Enter m o printed) there.monitor there.state_monitor there.stands (
-              enter_is ∙
-              ap (λ b. enters_by b (is_countable (monitor_at o a)) (if b then (o, Raises ArgumentNull) else with_monitor_or o a Blocks (option_and_then (entered here.thread) (monitor_at o a)))) not_null ∙
-              ap (λ x. enters_by false (is_countable x) (with_monitor_or o a Blocks (option_and_then (entered here.thread) x))) there.held ∙
-              ap (λ b. enters_by false b (with_monitor_or o a Blocks (entered here.thread there.monitor))) (countable here.limits s there.monitor there.state_monitor at.budget there.stands there.counted)
-            )
+          entry_alike a n named there (act_turn here.tree here.thread Enter m o printed) there.monitor there.state_monitor there.stands (
+          enter_is ∙
+          ap (λ b. enters_by b (is_countable (monitor_at o a)) (if b then (o, Raises ArgumentNull) else with_monitor_or o a Blocks (option_and_then (entered here.thread) (monitor_at o a)))) not_null ∙
+          ap (λ x. enters_by false (is_countable x) (with_monitor_or o a Blocks (option_and_then (entered here.thread) x))) there.held ∙
+          ap (λ b. enters_by false b (with_monitor_or o a Blocks (entered here.thread there.monitor))) (countable here.limits s there.monitor there.state_monitor at.budget there.stands there.counted)
+          )
           )
 
       exits_object : Alike (act_turn here.tree here.thread Exit m o printed) (act here s f below Exit (Reference n ∷ []) rest')
       exits_object =
           subst (λ x. Alike (act_turn here.tree here.thread Exit m o printed) (given_there x (exit here s f below n rest'))) (sym there.state_held) (
-            exit_alike a n named there (act_turn here.tree here.thread Exit m o printed) there.monitor there.state_monitor there.stands (
-              exit_is ∙
-              ap (λ b. enters_by b (is_some (monitor_at o a)) (if b then (o, Raises ArgumentNull) else with_monitor_or o a (Raises SynchronizationLock) (option_and_then (left here.thread) (monitor_at o a)))) not_null ∙
-              ap (λ x. enters_by false (is_some x) (with_monitor_or o a (Raises SynchronizationLock) (option_and_then (left here.thread) x))) there.held
-            )
+          exit_alike a n named there (act_turn here.tree here.thread Exit m o printed) there.monitor there.state_monitor there.stands (
+          exit_is ∙
+          ap (λ b. enters_by b (is_some (monitor_at o a)) (if b then (o, Raises ArgumentNull) else with_monitor_or o a (Raises SynchronizationLock) (option_and_then (left here.thread) (monitor_at o a)))) not_null ∙
+          ap (λ x. enters_by false (is_some x) (with_monitor_or o a (Raises SynchronizationLock) (option_and_then (left here.thread) x))) there.held
+          )
           )
 
   pub enters_alike : (v : Value) (u : StateValue) → m.running.stack ≡ v ∷ rest → IsValue name v u → IsTypedEffect here.tree (act here s f below Enter (u ∷ []) rest') →

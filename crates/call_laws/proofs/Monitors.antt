@@ -1,18 +1,18 @@
 -- The monitor at an address and that of the object which has it, and what both are once they have changed.
-use Rattle.std.proofs.Common.{◌≡◌, ◌≤◌, ◌+◌, ℕ, List, Option, Some, None, option_map, slice_get, refl, sym, ap, ◌∙◌, subst}
+use Rattle.std.proofs.Common.{◌≡◌, ℕ, List, Some, option_map, slice_get, refl, sym, ap, ◌∙◌, subst}
 use Rattle.std.specs.Prelude.{unwrap_or}
 use Rattle.std.specs.Option.{option_map_or}
 use Rattle.cil_model.specs.declared.trees.Tree.{Tree}
 use Rattle.cil_model.specs.declared.limits.Limits.{Limits}
 use Rattle.reference_machine.specs.Values.{ObjectName, Born, Literal}
-use Rattle.reference_machine.specs.States.{Monitor as StateMonitor, HeapObject, Thread, State, object_at, with_object, monitor_of, with_monitor as with_state_monitor}
+use Rattle.reference_machine.specs.States.{Monitor as StateMonitor, HeapObject, State, with_object, monitor_of, with_monitor as with_state_monitor}
 use Rattle.monitor_counts.specs.Counts.{IsCountedMonitor, IsCounted}
 use Rattle.object_memory.specs.declared.addresses.Addr.{Addr}
 use Rattle.object_memory.specs.declared.monitors.Monitor.{Monitor}
 use Rattle.object_memory.specs.declared.values.Value.{Value}
-use Rattle.object_memory.specs.Cells.{Cell, cell_at, literal_number, store_monitor}
+use Rattle.object_memory.specs.Cells.{Cell, cell_at, store_monitor}
 use Rattle.object_memory.specs.Objects.{Objects, monitor_at, with_monitor, with_literal_monitor, with_cell}
-use Rattle.machine_states.specs.StandsFor.{Names, IsMonitor, IsBornAt, IsLiteralAt, IsHeap, IsMemory}
+use Rattle.machine_states.specs.StandsFor.{Names, IsMonitor, IsBornAt, IsLiteralAt, IsMemory}
 use Rattle.machine_states.proofs.Statements.{CellsMayChange, LiteralsMayChange}
 
 module _ (tree : Tree) (name : Names) (o : Objects) (statics : List Value) (printed : List ℕ) (limits : Limits) (s : State) (a : Addr) (n : ObjectName) where
@@ -54,11 +54,11 @@ module _ (cells_may_change : CellsMayChange) (literals_may_change : LiteralsMayC
           let state_is : with_state_monitor s (Born n) changed ≡ after = ap (λ x. unwrap_or (option_map (λ (y : HeapObject). with_object s (Born n) (record y { monitor = changed })) x) s) here.is in
           let objects_are : with_monitor o a new ≡ with_cell (store_monitor new) o a = ap (λ x. option_map_or (with_literal_monitor o new) x (with_cell (store_monitor new) o a)) here.no_literal in
           let known : IsMemory tree name (with_cell (store_monitor new) o a) statics printed after =
-              record {
-                heap = cells_may_change tree name o s memory.heap a n named (store_monitor new) (λ c. refl) here.cell here.lies (record here.object { monitor = changed }) (record { contents = here.stands.contents; monitor = h });
-                static_values = memory.static_values;
-                printed_is = memory.printed_is;
-              }
+          record {
+            heap = cells_may_change tree name o s memory.heap a n named (store_monitor new) (λ c. refl) here.cell here.lies (record here.object { monitor = changed }) (record { contents = here.stands.contents; monitor = h });
+            static_values = memory.static_values;
+            printed_is = memory.printed_is;
+          }
           in record {
             memory = subst (λ x. IsMemory tree name x statics printed (with_state_monitor s (Born n) changed)) (sym objects_are) (subst (λ x. IsMemory tree name (with_cell (store_monitor new) o a) statics printed x) (sym state_is) known);
             others = ap (λ (x : State). x.threads) state_is;

@@ -10,11 +10,13 @@ use Rattle.method_table.specs.MethodNumbers.{number_of}
 use Rattle.method_table.proofs.FlatLaws.{first_is_there, number_behind}
 use Rattle.method_table.proofs.NumberLaws.{number_of_place}
 
+-- a method's number, at which it stands
 pub record IsNumbered (tree : Tree) (found : ClassName × Method) : Type 0 where
   pub number : ℕ
   pub is : number_of tree found ≡ Some number
   pub there : slice_get (all_methods tree) number ≡ Some found
 
+-- that of a method at a place of a class
 pub method_numbered : (tree : Tree) → IsLegal tree → (class place : ℕ) (found : ClassName × Method) → method_at tree (class, place) ≡ Some found → IsNumbered tree found
 method_numbered tree legal class place found at = by_first (slice_get (first_numbers 0 (declarations tree)) class) refl
   where

@@ -1,21 +1,19 @@
 -- A line that is printed is the same on both machines.
-use Rattle.std.proofs.Common.{◌≡◌, ℕ, zero, suc, Bool, false, List, [], ◌∷◌, ◌++◌, Option, Some, None, option_map, slice_get, refl, sym, ap, ◌∙◌, arith}
+use Rattle.std.proofs.Common.{◌≡◌, ℕ, zero, suc, false, List, [], ◌∷◌, ◌++◌, Some, None, option_map, slice_get, sym, ap, ◌∙◌, arith}
 use Rattle.std.specs.Prelude.{if◌then◌else◌, ◌==◌}
 use Rattle.std.specs.Option.{option_map_or}
 use Rattle.std.proofs.lemmas.Bool.Decides.{nat_tests}
 use Rattle.cil_model.specs.declared.trees.Tree.{Tree}
 use Rattle.cil_model.specs.Fields.{FieldKey}
 use Rattle.cil_model.specs.Mentions.{literals_of}
-use Rattle.cil_model.proofs.BelowLaws.{none_is_some, same_some}
+use Rattle.cil_model.proofs.BelowLaws.{none_is_some}
 use Rattle.reference_machine.specs.Values.{ObjectName, Born, Literal, Value as StateValue}
 use Rattle.reference_machine.specs.States.{Thread, State}
 use Rattle.reference_machine.specs.BuiltIn.{line_of as state_line_of}
-use Rattle.object_memory.specs.declared.addresses.Addr.{Addr}
 use Rattle.object_memory.specs.declared.values.Value.{Value}
-use Rattle.object_memory.specs.declared.values.Value.TheVariants.{Ref}
 use Rattle.object_memory.specs.Cells.{literal_number}
 use Rattle.object_memory.specs.Objects.{Objects}
-use Rattle.built_in_instructions.specs.BuiltInTurns.{line_of, text_at}
+use Rattle.built_in_instructions.specs.BuiltInTurns.{line_of}
 use Rattle.machine_states.specs.StandsFor.{Names, IsValue, int32, int64, native, null_reference, reference, IsLiteralAt, IsHeap, IsMemory}
 
 -- the address of an object isn't null

@@ -1,5 +1,5 @@
 -- A return does the same on both machines.
-use Rattle.std.proofs.Common.{◌≡◌, ◌≤◌, ◌<◌, ◌+◌, ℕ, suc, Bool, true, false, List, [], ◌∷◌, length, Option, Some, None, slice_get, refl, sym, ap, ◌∙◌, subst, arith}
+use Rattle.std.proofs.Common.{◌≡◌, ◌≤◌, ◌<◌, ℕ, suc, Bool, true, false, List, [], ◌∷◌, length, Option, Some, None, refl, sym, ap, ◌∙◌, subst, arith}
 use Rattle.std.specs.Prelude.{nat_lt, ◌==◌, if◌then◌else◌, is_some}
 use Rattle.std.specs.Option.{option_map_or}
 use Rattle.std.proofs.lemmas.Bool.Decides.{nat_tests}
@@ -13,7 +13,6 @@ use Rattle.reference_machine.specs.Effects.{Setting, Effect as StateEffect, Goes
 use Rattle.reference_machine.specs.Steps.{leave, leave_value, execute}
 use Rattle.type_soundness.specs.TypedStates.{AreWaiting, gives as type_gives}
 use Rattle.type_soundness.proofs.Running.{IsTypedEffect}
-use Rattle.resolved_code.specs.declared.operations.Operation.{Operation}
 use Rattle.resolved_code.specs.declared.operations.Operation.TheVariants as Resolved
 use Rattle.object_memory.specs.declared.addresses.Addr.{Addr}
 use Rattle.object_memory.specs.declared.values.Value.{Value}
@@ -29,7 +28,7 @@ use Rattle.interpreter.specs.Instructions.{MachineTurn, of_calls, operation_turn
 use Rattle.interpreter.specs.declared.outcomes.Outcome.TheVariants.{Comes}
 use Rattle.machine_states.specs.Agreement.{Agree}
 use Rattle.machine_states.specs.MachineContents.{frame_room}
-use Rattle.machine_states.specs.StandsFor.{Names, IsValue, reference, IsObject, IsFrame, AreFrames}
+use Rattle.machine_states.specs.StandsFor.{Names, IsValue, reference, IsObject, IsFrame}
 use Rattle.machine_states.proofs.Instructions.{IsSetting, GoesAlike, DoesAlike}
 use Rattle.machine_states.proofs.Going.{own_frame, room_left}
 use Rattle.machine_states.proofs.Operands.{fine, one_operand}

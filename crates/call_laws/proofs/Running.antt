@@ -1,32 +1,22 @@
 -- A method that is found runs alike on both machines: an action of its own, or a frame.
-use Rattle.std.proofs.Common.{◌≡◌, ℕ, true, List, length, take, drop, reverse, Option, Some, None, refl}
-use Rattle.std.specs.Prelude.{nat_le, if◌then◌else◌}
+use Rattle.std.proofs.Common.{List, length, take, drop, reverse, Option, Some, None}
+use Rattle.std.specs.Prelude.{if◌then◌else◌}
 use Rattle.std.specs.Option.{option_map_or}
-use Rattle.cil_model.specs.declared.instructions.Instruction.{Instruction}
 use Rattle.cil_model.specs.declared.reports.Fault.TheVariants.{StackOverflow}
-use Rattle.cil_model.specs.declared.types.ClassName.{ClassName}
-use Rattle.cil_model.specs.declared.trees.Method.{Method}
 use Rattle.cil_model.specs.Bodies.{argument_types}
 use Rattle.reference_machine.specs.Values.{Value as StateValue}
-use Rattle.reference_machine.specs.States.{Frame as StateFrame, State}
-use Rattle.reference_machine.specs.Effects.{Setting, Effect as StateEffect, Raises as StateRaises}
+use Rattle.reference_machine.specs.Effects.{Effect as StateEffect, Raises as StateRaises}
 use Rattle.reference_machine.specs.BuiltIn.{Action, action_of, act}
-use Rattle.reference_machine.specs.Steps.{is_too_deep, frame_for, run_method}
+use Rattle.reference_machine.specs.Steps.{is_too_deep, frame_for}
 use Rattle.type_soundness.proofs.Running.{IsTypedEffect}
-use Rattle.name_tables.specs.Numbers.{method_at}
-use Rattle.resolved_code.specs.declared.operations.Operation.{Operation}
-use Rattle.object_memory.specs.declared.values.Value.{Value}
-use Rattle.object_memory.specs.Objects.{Objects}
 use Rattle.method_table.specs.MethodNumbers.{number_of}
-use Rattle.threads_monitors.specs.Frames.{Frames}
 use Rattle.frame_instructions.specs.Frames.{given}
 use Rattle.object_instructions.specs.ObjectTurns.{beside}
 use Rattle.call_instructions.specs.Calls.{call_turn}
-use Rattle.interpreter.specs.Calls.{CallTurn, act_turn, called_as, beside_console, run_turn}
+use Rattle.interpreter.specs.Calls.{CallTurn, act_turn, called_as, beside_console}
 use Rattle.interpreter.specs.Instructions.{of_calls}
-use Rattle.machine_states.specs.StandsFor.{Names}
 use Rattle.machine_states.proofs.Statements.{CellsMayChange, LiteralsMayChange, MethodsRunAlike}
-use Rattle.machine_states.proofs.Instructions.{IsSetting, DoesAlike}
+use Rattle.machine_states.proofs.Instructions.{DoesAlike}
 use Rattle.call_laws.proofs.Numbering.{method_numbered}
 use Rattle.call_laws.proofs.Entering.{enters_alike}
 use Rattle.call_laws.proofs.Acting.{acts_alike}

@@ -1,5 +1,5 @@
 -- What the locals of a new frame hold: zeros of the same kinds.
-use Rattle.std.proofs.Common.{◌≡◌, ℕ, zero, suc, pos, List, [], ◌∷◌, ◌++◌, map, length, Option, Some, None, FitsSigned, refl, sym, ap, subst, arith}
+use Rattle.std.proofs.Common.{◌≡◌, ℕ, zero, suc, pos, List, [], ◌∷◌, ◌++◌, map, length, Some, FitsSigned, refl, sym, ap, subst}
 use Rattle.std.proofs.Math.Facts.{sfits_lit}
 use Rattle.std.specs.Prelude.{if◌then◌else◌, flat_map, option_to_list}
 use Rattle.std.specs.Int.{w32, w64}
@@ -16,6 +16,7 @@ use Rattle.threads_monitors.specs.Frames.{zero_value}
 use Rattle.machine_states.specs.Agreement.{Agree}
 use Rattle.machine_states.specs.StandsFor.{Names, IsValue, int32, int64, null_reference}
 
+-- 0 has the bits of either size
 zero_fits_32 : FitsSigned w32 (pos 0)
 zero_fits_32 = sfits_lit tt
 
@@ -35,6 +36,7 @@ module _ (name : Names) where
       by_type String zero = null_reference
       by_type (Class c) zero = null_reference
 
+  -- those of a list
   zeros_stand : (ts : List DeclaredType) → Agree (IsValue name) (map zero_value (map kind_of_type (ts ++ []))) (map zero_of ts)
   zeros_stand [] = tt
   zeros_stand (t ∷ ts) = (zero_stands t, zeros_stand ts)
