@@ -1,0 +1,11 @@
+pub mod Zeros
+pub mod Numbering
+pub mod OneOperand
+pub mod Entering
+pub mod Monitors
+pub mod Printing
+pub mod Locking
+pub mod Acting
+pub mod Running
+pub mod Calling
+pub mod Returning
