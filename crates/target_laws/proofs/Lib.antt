@@ -1,0 +1,3 @@
+pub mod ObjectClasses
+pub mod ChosenMethods
+pub mod VirtualCalls
