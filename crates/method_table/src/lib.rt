@@ -9,5 +9,5 @@ mod table;
 mod tests;
 
 pub use actions::Action;
-pub use methods::TableMethod;
+pub use methods::{TableMethod, value_kind};
 pub use table::MethodTable;

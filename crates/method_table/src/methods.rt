@@ -35,7 +35,8 @@ pub struct TableMethod {
     pub action: Option<Action>,
 }
 
-fn value_kind(declared: &DeclaredType) -> ValueKind
+/// What a place of a type holds: an integer of its size, else a reference (ECMA-335 I.8.2.1).
+pub fn value_kind(declared: &DeclaredType) -> ValueKind
     ensures { result ≡ kind_of_type declared.now }
 {
     if declared.brackets > 0 {

@@ -1,6 +1,5 @@
 //! The machine: its threads, its heap, and what it does on each event.
 #![tactic(auto)]
 
-mod engine;
-mod openings;
+mod beginnings;
 mod steps;

@@ -232,8 +232,8 @@ impl FrameMemory {
     }
 }
 
-/// 0 of the kind, or null.
-fn zero(kind: ValueKind) -> Value
+/// 0 of the kind, or null: what a location holds at first (ECMA-335 I.12.3.2.2).
+pub fn zero_value(kind: ValueKind) -> Value
     ensures { result ≡ zero_value kind }
 {
     match kind {
@@ -251,7 +251,7 @@ fn push_zeros(values: &mut Vec<Value>, kinds: &[ValueKind])
     ensures capacity { vec_capacity values.new ≡ vec_capacity values.old }
 {
     for kind in kinds {
-        values.push_reserved(zero(*kind));
+        values.push_reserved(zero_value(*kind));
     }
 }
 

@@ -8,6 +8,6 @@ mod monitors;
 mod threads;
 
 pub use effects::Effect;
-pub use frames::FrameMemory;
+pub use frames::{FrameMemory, zero_value};
 pub use monitors::{enter, exit};
-pub use threads::{Beginning, Standing, Thread, join, start};
+pub use threads::{Beginning, Standing, Thread, join, start, start_fault};

@@ -132,8 +132,9 @@ fn thread_on(heap: &Heap, object: Addr) -> Option<u64>
     heap.slot(object, THREAD_SLOT).checked_sub(1)
 }
 
-/// Why no thread can be started on an object, in the order of the checks. None where one can.
-fn start_fault(threads: &[Thread], heap: &Heap, object: Addr) -> Option<Fault>
+/// Why no thread can be started on an object, in the order of the checks: `NullReference` for null, `ThreadState` where one was
+/// started on it already, `TooManyThreads` where 16 were started in all. None where one can.
+pub fn start_fault(threads: &[Thread], heap: &Heap, object: Addr) -> Option<Fault>
     requires there { object ≢ null → 0 < length (slots_at heap.now.block object) }
     ensures { result ≡ start_fault threads.now heap.now object }
 {

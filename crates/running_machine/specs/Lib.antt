@@ -1,0 +1,4 @@
+pub mod Views
+pub mod Runs
+pub mod Refusals
+pub mod Statics

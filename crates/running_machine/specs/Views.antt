@@ -1,0 +1,31 @@
+-- What callers see of a machine, and what it keeps true.
+use Rattle.std.specs.Prelude.{◌≡◌, ℕ, IsTrue, Some, slice_get}
+use Rattle.cil_model.specs.Ranges.{are_in_range}
+use Rattle.reference_machine.specs.States.{State}
+use Rattle.method_table.specs.Prepared.{IsMethodTable}
+use Rattle.threads_monitors.specs.Frames.{Frames}
+use Rattle.threads_monitors.specs.declared.threads.Standing.TheVariants.{Live}
+use Rattle.interpreter.specs.Instructions.{IsDone}
+use Rattle.machine_states.specs.MachineContents.{Content}
+use Rattle.machine_states.specs.StandsFor.{Represents}
+use Rattle.machine_states.specs.Turns.{Answer}
+use Rattle.step_laws.specs.Ready.{IsReady, IsAnswerable}
+use Rattle.running_machine.specs.declared.engine.Engine.{Engine}
+
+-- the content of an engine, without the tables that it runs by
+abbrev pub content_of : Engine → Content
+content_of e = record { tree = e.program; limits = e.limits; threads = e.threads.items; objects = e.heap; statics = e.statics.items; printed = e.console.items }
+
+-- each live thread is ready, and what its instruction asks of other threads can be answered
+pub record CanGoOn (e : Engine) : Type 0 where
+  pub table : IsMethodTable e.program e.table
+  pub limits : IsTrue (are_in_range e.limits)
+  pub ready : (t left : ℕ) (m : Frames) → slice_get e.threads.items t ≡ Some (record { standing = Live m; steps_left = left }) → IsReady (content_of e) t m
+  pub answerable : (t left : ℕ) (m : Frames) → slice_get e.threads.items t ≡ Some (record { standing = Live m; steps_left = left }) → (a : Answer) →
+      IsDone e.program t m e.heap e.statics.items e.console.items a → IsAnswerable (content_of e) t left a a.4
+
+-- the table of methods is the program's, and the content represents a state of the reference machine
+pub record IsSound (e : Engine) : Type 0 where
+  pub table : IsMethodTable e.program e.table
+  pub state : State
+  pub represents : Represents (content_of e) state

@@ -1,0 +1,128 @@
+//! What a machine does on each event.
+
+ghost use Rattle.std.specs.Prelude.{◌≡◌, ◌≢◌, ◌<◌, IfOk, OnErr, IsSome, None, Some, length, true};
+ghost use Rattle.cil_model.specs.Ranges.{are_in_range};
+ghost use Rattle.object_memory.specs.Cells.{null, slots_at};
+ghost use Rattle.cil_model.specs.declared.events.Event.TheVariants.{Step as StepOf, Ack as AckOf};
+ghost use Rattle.threads_monitors.specs.Threads.{is_live_at, start_fault};
+ghost use Rattle.method_table.specs.Prepared.{IsMethodTable};
+ghost use Rattle.machine_states.specs.Turns.{IsTurn, started, thread_for};
+ghost use Rattle.running_machine.specs.Views.{CanGoOn, content_of};
+
+use crate::beginnings::beginning_on;
+use crate::steps::{answer, instruct};
+use cil_model::events::Event;
+use cil_model::limits::Limits;
+use cil_model::memory::NoMemory;
+use cil_model::reports::Report;
+use interpreter::outcomes::Outcome;
+use method_table::MethodTable;
+use object_memory::{Addr, Heap, Value};
+use std::alloc::Global;
+use threads_monitors::{Effect, Thread, join, start, start_fault};
+use verifier::Verified;
+
+/// A program with its table of methods, and all that changes while it runs.
+#[derive(Debug, Drop)]
+pub struct Engine {
+    pub program: Verified,
+    pub table: MethodTable,
+    pub limits: Limits,
+    pub threads: Vec<Thread>,
+    pub heap: Heap,
+    pub statics: Vec<Value>,
+    pub console: Vec<u8>,
+}
+
+impl Engine {
+    /// What an event does. Want of memory, which a print or a start alone can meet, changes nothing.
+    pub fn step(&mut self, alloc: Global, event: Event) -> Result<Report, NoMemory>
+        requires ready { CanGoOn self.old }
+        ensures turns { IfOk result (λ report. IsTurn (content_of self.old) event (content_of self.new, report)) }
+        ensures table { IsMethodTable self.new.program self.new.table }
+        ensures refused { OnErr result (content_of self.new ≡ content_of self.old) }
+    {
+        match event {
+            Event::Step(thread) if self.is_live(thread) => self.step_thread(alloc, thread),
+            Event::Step(_) => Ok(Report::Absent),
+            Event::Ack(thread) => Ok(self.acknowledge(thread)),
+            Event::Gc => Ok(Report::Waiting),
+        }
+    }
+
+    /// A step of a live thread.
+    fn step_thread(&mut self, alloc: Global, number: u8) -> Result<Report, NoMemory>
+        requires ready { CanGoOn self.old }
+        requires live { is_live_at self.old.threads.items number ≡ true }
+        ensures turns { IfOk result (λ report. IsTurn (content_of self.old) (StepOf number) (content_of self.new, report)) }
+        ensures table { IsMethodTable self.new.program self.new.table }
+        ensures refused { OnErr result (content_of self.new ≡ content_of self.old) }
+    {
+        let outcome = instruct(
+            &mut self.threads[usize::from(number)],
+            number,
+            self.program.program(),
+            self.program.layout(),
+            &self.table,
+            &mut self.heap,
+            &mut self.statics,
+            &mut self.console,
+        )?;
+        match outcome {
+            Outcome::Comes(effect) => Ok(self.threads[usize::from(number)].settle(effect)),
+            Outcome::Starts(object) => {
+                let effect = self.start(alloc, object)?;
+                Ok(answer(&mut self.threads[usize::from(number)], effect))
+            }
+            Outcome::Joins(object) => {
+                let effect = join(&self.threads, &self.heap, object);
+                Ok(answer(&mut self.threads[usize::from(number)], effect))
+            }
+        }
+    }
+
+    /// Starts a thread on an object, or tells why there is none. `NoMemory` where there is none for its frames; nothing is changed then.
+    fn start(&mut self, alloc: Global, object: Addr) -> Result<Effect, NoMemory>
+        requires table { IsMethodTable self.old.program self.old.table }
+        requires limits { are_in_range self.old.limits ≡ true }
+        requires slot { object ≢ null → 0 < length (slots_at self.old.heap.block object) }
+        requires there { start_fault self.old.threads.items self.old.heap object ≡ None → IsSome (thread_for self.old.program self.old.limits self.old.heap object) }
+        ensures started { IfOk result (λ effect. Some (self.new.threads.items, self.new.heap, effect) ≡ started self.old.program self.old.limits self.old.threads.items self.old.heap object) }
+        ensures others { IfOk result (λ _. content_of self.new ≡ record (content_of self.old) { threads = self.new.threads.items; objects = self.new.heap }) }
+        ensures table { self.new.table ≡ self.old.table }
+        ensures refused { OnErr result (content_of self.new ≡ content_of self.old) }
+    {
+        if let Some(fault) = start_fault(&self.threads, &self.heap, object) {
+            return Ok(Effect::Raises(fault));
+        }
+        let beginning = beginning_on(
+            self.program.program(),
+            self.program.layout(),
+            &self.table,
+            self.limits,
+            &self.heap,
+            object,
+        );
+        start(alloc, &mut self.threads, &mut self.heap, object, beginning)
+    }
+
+    /// What an acknowledgement reports: nothing is posted until there is a collector.
+    fn acknowledge(&self, thread: u8) -> Report
+        ensures { IsTurn (content_of self.now) (AckOf thread) (content_of self.now, result) }
+    {
+        if self.is_live(thread) {
+            Report::NothingPosted
+        } else {
+            Report::Absent
+        }
+    }
+
+    /// Whether the thread was started and hasn't ended.
+    pub fn is_live(&self, thread: u8) -> bool
+        ensures { result ≡ is_live_at self.now.threads.items thread }
+    {
+        self.threads
+            .get(usize::from(thread))
+            .is_some_and(Thread::is_live)
+    }
+}
