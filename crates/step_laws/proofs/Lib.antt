@@ -1,3 +1,5 @@
 pub mod Settings
 pub mod Settling
 pub mod ThreadObjects
+pub mod Requests
+pub mod Joins
