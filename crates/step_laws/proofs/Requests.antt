@@ -61,7 +61,7 @@ module _ (c : Content) (s : State) (r : Represents c s) (t left : ℕ) (m : Fram
       ((object ≡ null) × (e ≡ StateRaises NullReference)) ⊎
       ((number : ℕ) × (x : IsThreadObject c.tree r.stands.name c.objects s object number) × (e ≡ go (Born number) x.object) × ((object.number == 0) ≡ false) × (r.stands.name object.number ≡ Some (Born number)))
 
-  done_typed : IsTypedEffect c.tree (done c s r t left m there false)
+  pub done_typed : IsTypedEffect c.tree (done c s r t left m there false)
   done_typed = instruction_typed here s running below instruction (is_running c s r t left m there false).2
 
   pub asked_of : (action : Action) (go : List StateValue → ObjectName → HeapObject → StateEffect) →
