@@ -5,3 +5,5 @@ pub mod Requests
 pub mod Joins
 pub mod Beginnings
 pub mod Starts
+pub mod StartSteps
+pub mod Steps

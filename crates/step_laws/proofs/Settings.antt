@@ -134,8 +134,8 @@ module _ (each : InstructionsAreAlike) where
       each (setting_of c t refused) r.stands.name m c.objects c.statics c.printed s (is_alive c s r t left m there).running (is_alive c s r t left m there).below
       (is_running c s r t left m there refused).0 operation (in_setting c s r t left m there refused operation at constant)
 
-  pub thread_ready : (c : Content) (s : State) → Represents c s → (t left : ℕ) (m : Frames) → slice_get c.threads t ≡ Some (record { standing = Live m; steps_left = left }) → IsReady c t m
-  thread_ready c s r t left m there = record {
+  pub live_is_ready : (c : Content) (s : State) → Represents c s → (t left : ℕ) (m : Frames) → slice_get c.threads t ≡ Some (record { standing = Live m; steps_left = left }) → IsReady c t m
+  live_is_ready c s r t left m there = record {
     place = subst IsSome (sym line_is) line_there;
     there = λ operation at constant. subst IsSome (sym (does_alike c s r t left m there false operation at constant).is) refl;
   }

@@ -63,7 +63,7 @@ last_is_there (y ∷ ys) x = last_is_there ys x
 module _ (c : Content) (s : State) (r : Represents c s) (t left : ℕ) (m : Frames) (there : slice_get c.threads t ≡ Some (record { standing = Live m; steps_left = left })) where
   module _ (rest : List StateValue) (object : Addr) (number : ℕ) (x : IsThreadObject c.tree r.stands.name c.objects s object number) where
     -- the state once a thread was started at the beginning of a method
-    abbrev state_with : ClassName × Method → Code → State
+    abbrev pub state_with : ClassName × Method → Code → State
     state_with found code = with_thread (here c s r t left m there) s (running c s r t left m there) (below c s r t left m there) (Born number) x.object (new_frame found.0 found.1 code (Reference (Born number) ∷ []) None)
 
     -- where the thread of the object begins, on both
