@@ -7,3 +7,5 @@ pub mod Beginnings
 pub mod Starts
 pub mod StartSteps
 pub mod Steps
+pub mod LiteralNames
+pub mod OpeningContents
