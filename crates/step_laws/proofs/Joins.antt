@@ -1,12 +1,11 @@
 -- A thread waits for another alike on both machines.
-use Rattle.std.proofs.Common.{◌≡◌, ◌==◌, if◌then◌else◌, ℕ, Bool, true, false, is_none, List, [], ◌∷◌, drop, Option, Some, None, option_map, unwrap_or, slice_get, slice_set, refl, inl, inr, sym, ap, ◌∙◌, subst}
+use Rattle.std.proofs.Common.{◌≡◌, if◌then◌else◌, ℕ, Bool, true, false, is_none, List, ◌∷◌, drop, Option, Some, None, option_map, unwrap_or, slice_get, refl, inl, inr, sym, ap, ◌∙◌, subst}
 use Rattle.std.specs.Option.{option_map_or}
 use Rattle.cil_model.specs.declared.reports.End.{End}
 use Rattle.cil_model.specs.declared.reports.Fault.TheVariants.{NullReference, ThreadState}
-use Rattle.cil_model.specs.declared.reports.Report.{Report}
-use Rattle.reference_machine.specs.Values.{ObjectName, Value as StateValue}
-use Rattle.reference_machine.specs.States.{HeapObject, Frame as StateFrame, Thread as StateThread, State, is_live, is_live_thread}
-use Rattle.reference_machine.specs.Effects.{Effect as StateEffect, Blocks as StateBlocks, Raises as StateRaises, onward}
+use Rattle.reference_machine.specs.Values.{Value as StateValue}
+use Rattle.reference_machine.specs.States.{Frame as StateFrame, Thread as StateThread, State, is_live, is_live_thread}
+use Rattle.reference_machine.specs.Effects.{Blocks as StateBlocks, Raises as StateRaises, onward}
 use Rattle.reference_machine.specs.BuiltIn.{Join, join}
 use Rattle.resolved_code.specs.declared.operations.Operation.{Operation}
 use Rattle.object_memory.specs.declared.addresses.Addr.{Addr}
@@ -20,13 +19,13 @@ use Rattle.threads_monitors.specs.declared.threads.Thread.{Thread}
 use Rattle.interpreter.specs.declared.outcomes.Outcome.TheVariants.{Comes, Joins}
 use Rattle.interpreter.specs.Instructions.{HasSmallConstant, IsAt}
 use Rattle.machine_states.specs.MachineContents.{Content}
-use Rattle.machine_states.specs.StandsFor.{Names, IsThread, StandsAlike, Represents}
+use Rattle.machine_states.specs.StandsFor.{IsThread, StandsAlike, Represents}
 use Rattle.machine_states.specs.Turns.{after_request, counted}
 use Rattle.machine_states.proofs.AgreeLaws.{agree_get, agree_beyond}
 use Rattle.machine_states.proofs.Going.{next_alike}
 use Rattle.machine_states.proofs.Instructions.{GoesAlike, ComesAlike, is_refused_effect}
 use Rattle.step_laws.proofs.Settling.{Follows, done, comes}
-use Rattle.step_laws.proofs.ThreadObjects.{IsThreadObject, thread_on_is}
+use Rattle.step_laws.proofs.ThreadObjects.{thread_on_is}
 use Rattle.step_laws.proofs.Requests.{here, running, below, instruction, Asks, IsAskedOf, asked_of, rest_agrees, setting}
 
 -- ---- which threads live
@@ -89,7 +88,7 @@ module _ (c : Content) (s : State) (r : Represents c s) (t left : ℕ) (m : Fram
   joins threads same object asks =
       let joined : IsJoined (join_effect c.threads c.objects object) =
       join_alike object asks.operand asks.rest asks.stack
-          (asked_of c s r t left m there Join (λ rest n. join (here c s r t left m there) s (running c s r t left m there) (below c s r t left m there) rest) (λ v rest. refl) object (m, c.objects, c.statics, c.printed, Joins object) asks) in
+      (asked_of c s r t left m there Join (λ rest n. join (here c s r t left m there) s (running c s r t left m there) (below c s r t left m there) rest) (λ v rest. refl) object (m, c.objects, c.statics, c.printed, Joins object) asks) in
       subst (λ ts. Follows c s t (counted (record c { threads = ts }) t left (join_effect ts c.objects object) (after_request (join_effect ts c.objects object) m))) (sym same)
       (comes c s r t left m there c.threads (λ x. refl) false (join_effect c.threads c.objects object) joined.0
       (after_request (join_effect c.threads c.objects object) m, c.objects, c.statics, c.printed, Comes (join_effect c.threads c.objects object)) joined.1)

@@ -12,7 +12,7 @@ use Rattle.cil_model.specs.Same.{same_text}
 use Rattle.cil_model.proofs.BelowLaws.{none_is_some, same_some}
 use Rattle.cil_model.proofs.SameLaws.{never, if_true, is_not, same_text_itself}
 use Rattle.reference_machine.specs.Values.{ObjectName, Literal}
-use Rattle.reference_machine.specs.States.{Monitor, Free, entry_at}
+use Rattle.reference_machine.specs.States.{Free, entry_at}
 use Rattle.type_soundness.proofs.SourceLaws.{kept_from}
 use Rattle.legal_sizes.proofs.MethodSizes.{literals_few}
 use Rattle.object_memory.specs.declared.addresses.TheConstants.{ADDRESSES, FIRST_LITERAL}

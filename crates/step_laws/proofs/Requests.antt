@@ -1,5 +1,5 @@
 -- What an instruction asks of other threads, on both machines.
-use Rattle.std.proofs.Common.{◌≡◌, ◌≢◌, ◌<◌, ◌+◌, ◌⊎◌, ◌==◌, ℕ, suc, Bool, true, false, List, [], ◌∷◌, length, drop, Option, Some, None, option_map, unwrap_or, slice_get, refl, inl, inr, sym, ap, ◌∙◌, subst, arith}
+use Rattle.std.proofs.Common.{◌≡◌, ◌≢◌, ◌<◌, ◌+◌, ◌⊎◌, ◌==◌, ℕ, suc, true, false, List, [], ◌∷◌, length, drop, Some, option_map, unwrap_or, slice_get, refl, inl, inr, sym, ap, ◌∙◌, subst, arith}
 use Rattle.std.specs.Prelude.{nat_lt}
 use Rattle.std.proofs.lemmas.Bool.Decides.{nat_tests}
 use Rattle.cil_model.specs.declared.instructions.Instruction.{Instruction}
@@ -21,7 +21,7 @@ use Rattle.threads_monitors.specs.declared.threads.Standing.TheVariants.{Live}
 use Rattle.interpreter.specs.Instructions.{HasSmallConstant, IsAt}
 use Rattle.machine_states.specs.Agreement.{Agree}
 use Rattle.machine_states.specs.MachineContents.{Content}
-use Rattle.machine_states.specs.StandsFor.{Names, IsValue, IsFrame, AreFrames, Represents}
+use Rattle.machine_states.specs.StandsFor.{IsValue, IsFrame, AreFrames, Represents}
 use Rattle.machine_states.specs.Turns.{Answer, after_request}
 use Rattle.machine_states.proofs.AgreeLaws.{agree_length, agree_drop}
 use Rattle.machine_states.proofs.Going.{moved_frames, place_is_small}

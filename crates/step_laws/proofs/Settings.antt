@@ -20,13 +20,11 @@ use Rattle.type_soundness.proofs.Running.{IsRunning, runs_at}
 use Rattle.type_soundness.specs.TypedStates.{AreTypedFrames}
 use Rattle.resolved_code.specs.Resolved.{IsOperation}
 use Rattle.resolved_code.specs.declared.operations.Operation.{Operation}
-use Rattle.method_table.specs.AllMethods.{all_methods}
 use Rattle.threads_monitors.specs.Frames.{Frames}
 use Rattle.threads_monitors.specs.declared.threads.Standing.TheVariants.{Live}
-use Rattle.threads_monitors.specs.declared.threads.Thread.{Thread}
 use Rattle.interpreter.specs.Instructions.{HasSmallConstant, IsAt, line_at, operation_turn}
 use Rattle.machine_states.specs.MachineContents.{Content}
-use Rattle.machine_states.specs.StandsFor.{Names, IsFrame, AreFrames, IsThread, StandsAlike, StandsBy, Represents}
+use Rattle.machine_states.specs.StandsFor.{Names, IsFrame, AreFrames, IsThread, StandsAlike, Represents}
 use Rattle.machine_states.proofs.AgreeLaws.{agree_at}
 use Rattle.machine_states.proofs.Instructions.{IsSetting, DoesAlike, InstructionsAreAlike}
 use Rattle.step_laws.specs.Ready.{IsReady}
@@ -34,10 +32,10 @@ use Rattle.step_laws.specs.Ready.{IsReady}
 -- ---- limits
 
 between_low : (low high n : ℕ) → IsTrue (is_between low high n) → low ≤ n
-between_low low high n h = let first : IsTrue (nat_le low n) = both_first _ _ h in grind (arith, nat_tests)
+between_low low high n h = let first : IsTrue (nat_le low n) = both_first (nat_le low n) (nat_le n high) h in grind (arith, nat_tests)
 
 between_high : (low high n : ℕ) → IsTrue (is_between low high n) → n ≤ high
-between_high low high n h = let second : IsTrue (nat_le n high) = both_second _ _ h in grind (arith, nat_tests)
+between_high low high n h = let second : IsTrue (nat_le n high) = both_second (nat_le low n) (nat_le n high) h in grind (arith, nat_tests)
 
 module _ (limits : Limits) (h : IsTrue (are_in_range limits)) where
   budget_between : IsTrue (is_between 1 MOST_BUDGET limits.budget)

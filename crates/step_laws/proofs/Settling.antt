@@ -1,21 +1,19 @@
 -- What a step comes to on both machines, by the effect of its instruction.
-use Rattle.std.proofs.Common.{◌≡◌, ◌-◌, ◌==◌, if◌then◌else◌, is_none, ℕ, zero, suc, Bool, false, List, [], ◌∷◌, Option, Some, None, slice_get, slice_set, refl, sym, ap, ◌∙◌, subst, arith}
+use Rattle.std.proofs.Common.{◌≡◌, ◌-◌, ◌==◌, if◌then◌else◌, is_none, ℕ, zero, suc, Bool, false, List, [], ◌∷◌, Some, None, slice_get, slice_set, refl, sym, ap, ◌∙◌, subst, arith}
 use Rattle.std.proofs.lemmas.Bool.Decides.{nat_tests}
 use Rattle.std.specs.Option.{option_map_or}
-use Rattle.cil_model.specs.declared.instructions.Instruction.{Instruction}
-use Rattle.cil_model.specs.declared.limits.Limits.{Limits}
 use Rattle.cil_model.specs.declared.reports.End.{End}
 use Rattle.cil_model.specs.declared.reports.End.TheVariants.{Done, Budget, Fault as ByFault}
 use Rattle.cil_model.specs.declared.reports.Fault.{Fault}
 use Rattle.cil_model.specs.declared.reports.Fault.TheVariants as Faults
 use Rattle.cil_model.specs.declared.reports.Report.{Report}
-use Rattle.cil_model.specs.declared.reports.Report.TheVariants.{Ran, Blocked, Ended as HasEnded, Absent}
+use Rattle.cil_model.specs.declared.reports.Report.TheVariants.{Blocked, Ended as HasEnded, Absent}
 use Rattle.cil_model.specs.declared.trees.Tree.{Tree}
 use Rattle.cil_model.specs.Fields.{FieldKey}
 use Rattle.cil_model.specs.Same.{same_text}
 use Rattle.reference_machine.specs.Values.{Value as StateValue}
 use Rattle.reference_machine.specs.States.{entry_at, Frame as StateFrame, Thread as StateThread, State}
-use Rattle.reference_machine.specs.Effects.{Setting, Effect as StateEffect, Goes, Blocks as StateBlocks, Raises as StateRaises, given}
+use Rattle.reference_machine.specs.Effects.{Effect as StateEffect, Goes, Blocks as StateBlocks, Raises as StateRaises, given}
 use Rattle.reference_machine.specs.Steps.{Outcome, Answers, execute, effect_of, with_thread_at, ended_as, goes_on, settled as state_settled, step_of, step}
 use Rattle.reference_machine.specs.Runs.{is_refusal}
 use Rattle.type_soundness.specs.TypedStates.{IsTyped}

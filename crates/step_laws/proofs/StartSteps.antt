@@ -1,5 +1,5 @@
 -- The step of a thread that starts another.
-use Rattle.std.proofs.Common.{◌≡◌, ◌+◌, ◌==◌, if◌then◌else◌, ℕ, suc, Bool, false, List, [], ◌∷◌, ◌++◌, length, Option, Some, None, option_map, slice_get, slice_set, refl, inl, inr, sym, ap, ◌∙◌, subst, arith}
+use Rattle.std.proofs.Common.{◌≡◌, ◌+◌, if◌then◌else◌, ℕ, suc, false, List, [], ◌∷◌, ◌++◌, length, Some, None, option_map, slice_get, slice_set, refl, inl, inr, sym, ap, ◌∙◌, subst, arith}
 use Rattle.std.specs.Prelude.{IsSome}
 use Rattle.std.specs.Option.{option_map_or}
 use Rattle.std.proofs.lemmas.List.{length-set}
@@ -7,8 +7,8 @@ use Rattle.cil_model.specs.declared.reports.Fault.{Fault}
 use Rattle.cil_model.specs.declared.reports.Fault.TheVariants.{NullReference}
 use Rattle.cil_model.specs.declared.reports.Report.{Report}
 use Rattle.cil_model.proofs.BelowLaws.{none_is_some, same_some}
-use Rattle.reference_machine.specs.Values.{ObjectName, Born, Value as StateValue}
-use Rattle.reference_machine.specs.States.{HeapObject, Thread as StateThread, State, with_object}
+use Rattle.reference_machine.specs.Values.{Born, Value as StateValue}
+use Rattle.reference_machine.specs.States.{HeapObject, State, with_object}
 use Rattle.reference_machine.specs.Effects.{Raises as StateRaises, new_frame, after}
 use Rattle.reference_machine.specs.BuiltIn.{Start, start}
 use Rattle.reference_machine.specs.Values.{Reference}
@@ -27,7 +27,7 @@ use Rattle.threads_monitors.specs.declared.threads.Thread.{Thread}
 use Rattle.interpreter.specs.Instructions.{HasSmallConstant, IsAt}
 use Rattle.interpreter.specs.declared.outcomes.Outcome.TheVariants.{Comes, Starts}
 use Rattle.machine_states.specs.MachineContents.{Content}
-use Rattle.machine_states.specs.StandsFor.{IsValue, reference, thread_word, IsCell, IsOfContents, IsHeap, IsThread, StandsBy, Represents}
+use Rattle.machine_states.specs.StandsFor.{reference, thread_word, IsCell, IsOfContents, IsHeap, IsThread, StandsBy, Represents}
 use Rattle.machine_states.specs.Turns.{Answer, after_request, counted, started, thread_at, thread_for}
 use Rattle.machine_states.proofs.AgreeLaws.{agree_append, agree_length}
 use Rattle.machine_states.proofs.Instructions.{is_refused_fault}

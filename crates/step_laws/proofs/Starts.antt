@@ -1,13 +1,9 @@
 -- A thread starts another alike on both machines.
-use Rattle.std.proofs.Common.{◌≡◌, ◌≤◌, ◌+◌, ◌⊎◌, ◌==◌, if◌then◌else◌, ℕ, zero, suc, Bool, true, false, is_some, List, [], ◌∷◌, ◌++◌, length, Option, Some, None, option_map, option_and_then, slice_get, slice_set, refl, inl, inr, sym, ap, ◌∙◌, subst, arith}
+use Rattle.std.proofs.Common.{◌≡◌, ◌==◌, if◌then◌else◌, ℕ, Bool, true, false, is_some, List, [], ◌∷◌, ◌++◌, length, Option, Some, None, option_map, option_and_then, slice_get, refl, ap, ◌∙◌, subst}
 use Rattle.std.specs.Prelude.{nat_le}
-use Rattle.std.specs.Option.{option_map_or}
-use Rattle.std.proofs.lemmas.List.{length-set}
 use Rattle.cil_model.specs.declared.limits.TheConstants.{MOST_THREADS}
 use Rattle.cil_model.specs.declared.reports.Fault.{Fault}
 use Rattle.cil_model.specs.declared.reports.Fault.TheVariants.{NullReference, ThreadState, TooManyThreads}
-use Rattle.cil_model.specs.declared.reports.Report.{Report}
-use Rattle.cil_model.specs.declared.trees.Tree.{Tree}
 use Rattle.cil_model.specs.declared.trees.Method.{Method}
 use Rattle.cil_model.specs.declared.trees.Code.{Code}
 use Rattle.cil_model.specs.declared.types.ClassName.{ClassName}
@@ -15,45 +11,30 @@ use Rattle.cil_model.specs.Bodies.{code_of}
 use Rattle.cil_model.specs.Chains.{methods_in}
 use Rattle.cil_model.specs.Declarations.{thread_name, run_method}
 use Rattle.cil_model.specs.Slots.{target}
-use Rattle.cil_model.proofs.BelowLaws.{same_some}
 use Rattle.name_tables.specs.Numbers.{method_at}
-use Rattle.reference_machine.specs.Values.{ObjectName, Born, Value as StateValue, Reference}
-use Rattle.reference_machine.specs.States.{HeapObject, Frame as StateFrame, Thread as StateThread, State, class_of, with_object}
-use Rattle.reference_machine.specs.Effects.{Effect as StateEffect, Raises as StateRaises, Sticks, given, new_frame, after, onward}
-use Rattle.reference_machine.specs.BuiltIn.{Start, with_thread, begin, start}
+use Rattle.reference_machine.specs.Values.{Born, Value as StateValue, Reference}
+use Rattle.reference_machine.specs.States.{Thread as StateThread, State, class_of}
+use Rattle.reference_machine.specs.Effects.{Effect as StateEffect, Raises as StateRaises, Sticks, given, new_frame, onward}
+use Rattle.reference_machine.specs.BuiltIn.{with_thread, begin, start}
 use Rattle.type_soundness.specs.TypedStates.{AreTypedFrames}
 use Rattle.type_soundness.proofs.Running.{IsTypedEffect}
-use Rattle.resolved_code.specs.Numbered.{class_name}
-use Rattle.resolved_code.specs.declared.operations.Operation.{Operation}
 use Rattle.method_table.specs.AllMethods.{all_methods}
 use Rattle.method_table.specs.MethodNumbers.{number_of}
 use Rattle.method_table.proofs.NumberLaws.{declared_is_numbered}
 use Rattle.object_memory.specs.declared.addresses.Addr.{Addr}
-use Rattle.object_memory.specs.declared.values.Value.{Value}
 use Rattle.object_memory.specs.declared.values.Value.TheVariants.{Ref}
-use Rattle.object_memory.specs.Cells.{Cell, null, store_slot}
-use Rattle.object_memory.specs.Objects.{Objects, with_slot}
 use Rattle.threads_monitors.specs.Frames.{Frames}
-use Rattle.threads_monitors.specs.Threads.{start_fault, thread_on, with_start}
-use Rattle.threads_monitors.specs.declared.effects.Effect.{Effect}
-use Rattle.threads_monitors.specs.declared.effects.Effect.TheVariants.{GoesOn, Raises}
+use Rattle.threads_monitors.specs.Threads.{start_fault, thread_on}
 use Rattle.threads_monitors.specs.declared.threads.Standing.TheVariants.{Live}
-use Rattle.threads_monitors.specs.declared.threads.Thread.{Thread}
 use Rattle.interpreter.specs.Calls.{chosen, chosen_at, chosen_by}
-use Rattle.interpreter.specs.Instructions.{HasSmallConstant, IsAt}
-use Rattle.interpreter.specs.declared.outcomes.Outcome.TheVariants.{Comes, Starts}
-use Rattle.machine_states.specs.Agreement.{Agree}
 use Rattle.machine_states.specs.MachineContents.{Content}
-use Rattle.machine_states.specs.StandsFor.{Names, IsValue, reference, thread_word, IsCell, IsOfContents, IsHeap, IsThread, StandsBy, Represents}
-use Rattle.machine_states.specs.Turns.{after_request, counted, run_member, started, thread_at, thread_for}
-use Rattle.machine_states.proofs.AgreeLaws.{agree_append, agree_length}
+use Rattle.machine_states.specs.StandsFor.{IsThread, Represents}
+use Rattle.machine_states.specs.Turns.{run_member, thread_at, thread_for}
+use Rattle.machine_states.proofs.AgreeLaws.{agree_length}
 use Rattle.machine_states.proofs.Instructions.{is_refused_fault}
-use Rattle.machine_states.proofs.Statements.{CellsMayChange}
-use Rattle.step_laws.proofs.Settings.{depth_is_some, is_alive}
-use Rattle.step_laws.proofs.Settling.{heap_beside, Follows, done, finish, comes}
-use Rattle.step_laws.proofs.Beginnings.{beginning_stands}
+use Rattle.step_laws.proofs.Settling.{done}
 use Rattle.step_laws.proofs.ThreadObjects.{IsThreadObject, thread_on_is, class_at_is, own_class_is}
-use Rattle.step_laws.proofs.Requests.{here, running, below, Asks, IsAskedOf, done_typed, asked_of, popped_frames}
+use Rattle.step_laws.proofs.Requests.{here, running, below, done_typed}
 
 -- the last of a list
 last_is_there : {X : Type 0} (xs : List X) (x : X) → slice_get (xs ++ x ∷ []) (length xs) ≡ Some x

@@ -1,5 +1,5 @@
 -- Each step of a thread comes to the same on both machines.
-use Rattle.std.proofs.Common.{◌≡◌, ◌-◌, if◌then◌else◌, is_none, ℕ, zero, suc, Bool, false, List, [], ◌∷◌, Option, Some, None, option_map, slice_get, slice_set, refl, sym, ap, ◌∙◌, subst}
+use Rattle.std.proofs.Common.{◌≡◌, ◌-◌, if◌then◌else◌, is_none, ℕ, zero, suc, Bool, false, List, [], ◌∷◌, Option, Some, None, slice_get, slice_set, refl, sym, ap, ◌∙◌, subst}
 use Rattle.std.specs.Option.{option_map_or}
 use Rattle.cil_model.specs.declared.events.Event.TheVariants.{Step}
 use Rattle.cil_model.specs.declared.reports.End.{End}
@@ -10,8 +10,6 @@ use Rattle.reference_machine.specs.States.{Frame as StateFrame, Thread as StateT
 use Rattle.reference_machine.specs.Steps.{Answers, effect_of, settled, step, step_of}
 use Rattle.reference_machine.specs.Runs.{is_refusal}
 use Rattle.object_memory.specs.declared.addresses.Addr.{Addr}
-use Rattle.object_memory.specs.declared.values.Value.{Value}
-use Rattle.object_memory.specs.Objects.{Objects}
 use Rattle.threads_monitors.specs.Frames.{Frames}
 use Rattle.threads_monitors.specs.declared.threads.Standing.{Standing}
 use Rattle.threads_monitors.specs.declared.threads.Standing.TheVariants.{Live, Ended}
@@ -22,9 +20,9 @@ use Rattle.interpreter.specs.declared.outcomes.Outcome.TheVariants.{Comes, Start
 use Rattle.reference_machine.specs.BuiltIn.{Action, Start, Join, start, join}
 use Rattle.machine_states.specs.MachineContents.{Content}
 use Rattle.machine_states.specs.StandsFor.{IsThread, StandsAlike, Represents}
-use Rattle.machine_states.specs.Turns.{Answer, IsStandingTurn, IsThreadTurn, IsTurn, finished, left_by}
+use Rattle.machine_states.specs.Turns.{Answer, IsStandingTurn, IsThreadTurn, IsTurn, finished}
 use Rattle.machine_states.proofs.AgreeLaws.{agree_at, agree_get}
-use Rattle.machine_states.proofs.Instructions.{InstructionsAreAlike, DoesAlike, ComesAlike, is_refused_effect, is_refused_outcome}
+use Rattle.machine_states.proofs.Instructions.{InstructionsAreAlike, ComesAlike, is_refused_effect, is_refused_outcome}
 use Rattle.machine_states.proofs.Statements.{CellsMayChange}
 use Rattle.step_laws.specs.Ready.{IsReady, IsAnswerable}
 use Rattle.step_laws.proofs.Settings.{setting_of, is_alive, does_alike, live_is_ready}
