@@ -1,0 +1,4 @@
+pub mod Words
+pub mod Things
+pub mod Parts
+pub mod Arrays
