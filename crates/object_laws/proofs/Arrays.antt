@@ -1,8 +1,6 @@
 -- Loads and stores of elements, and lengths.
-use Rattle.std.proofs.Common.{◌≡◌, ◌≤◌, ◌<◌, ◌+◌, ℕ, zero, suc, ℤ, pos, Bool, true, false, IsTrue, if◌then◌else◌, List, [], ◌∷◌, length, Option, Some, None, option_map, option_and_then, slice_get, slice_set, refl, sym, ap, ◌∙◌, subst, arith}
+use Rattle.std.proofs.Common.{◌≡◌, ◌≤◌, ℕ, zero, suc, Bool, true, false, IsTrue, if◌then◌else◌, List, ◌∷◌, length, Option, Some, None, option_map, option_and_then, slice_get, slice_set, refl, sym, ap, ◌∙◌, subst, arith}
 use Rattle.std.proofs.Math.ListN.{length-set}
-use Rattle.std.specs.Prelude.{FitsSigned}
-use Rattle.std.specs.Int.{w64}
 use Rattle.cil_model.specs.declared.instructions.Instruction.{Instruction}
 use Rattle.cil_model.specs.declared.instructions.Instruction.TheVariants as Named
 use Rattle.cil_model.specs.declared.types.Element.TheVariants.{Int32 as Int32Element, Int64 as Int64Element, Object, String, Class}
@@ -15,19 +13,17 @@ use Rattle.cil_model.proofs.SameLaws.{same_type_equal}
 use Rattle.cil_model.proofs.BelowLaws.{none_is_some, same_some}
 use Rattle.reference_machine.specs.Values.{ObjectName, Born, Value as StateValue, same_kind}
 use Rattle.reference_machine.specs.States.{Array as IsArray, HeapObject, Frame as StateFrame, State, same_kind_or_none, replaced_at, elements_of_contents, array_at, with_object, with_element}
-use Rattle.reference_machine.specs.Effects.{Setting, Effect as StateEffect, given as state_given, onward as onward_frame}
+use Rattle.reference_machine.specs.Effects.{Setting, given as state_given, onward as onward_frame}
 use Rattle.reference_machine.specs.Steps.{execute, next, element, load_element, store_element}
 use Rattle.type_soundness.proofs.Running.{IsTypedEffect}
 use Rattle.type_soundness.proofs.StateChanges.{element_typed, array_typed}
 use Rattle.resolved_code.specs.declared.operations.Operation.{Operation}
 use Rattle.resolved_code.specs.declared.operations.Operation.TheVariants as Resolved
 use Rattle.object_memory.specs.declared.addresses.Addr.{Addr}
-use Rattle.object_memory.specs.declared.kinds.Kind.{Kind}
-use Rattle.object_memory.specs.declared.kinds.Kind.TheVariants.{Array}
 use Rattle.object_memory.specs.declared.values.Value.{Value}
 use Rattle.object_memory.specs.declared.values.ValueKind.{ValueKind}
 use Rattle.object_memory.specs.declared.values.ValueKind.TheVariants as Kind
-use Rattle.object_memory.specs.Cells.{Cell, cell_at, store_slot as with_cell_slot}
+use Rattle.object_memory.specs.Cells.{Cell, store_slot as with_cell_slot}
 use Rattle.object_memory.specs.Objects.{Objects, with_slot}
 use Rattle.object_memory.specs.Values.{value_word, value_in}
 use Rattle.threads_monitors.specs.Frames.{Frames, with_stack}
@@ -42,7 +38,7 @@ use Rattle.machine_states.proofs.Instructions.{IsSetting, DoesAlike}
 use Rattle.machine_states.proofs.Operands.{fine, two_operands, three_operands}
 use Rattle.object_laws.proofs.Words.{lost, word_value, kind_fits}
 use Rattle.object_laws.proofs.Things.{IsArrayThere}
-use Rattle.object_laws.proofs.Parts.{Alike, Fine, objects_turn, alike_turn, given_alike, left_alike, stored_alike, memory_with, element_alike}
+use Rattle.object_laws.proofs.Parts.{alike_turn, given_alike, left_alike, stored_alike, memory_with, element_alike}
 
 -- ---- the state after a store
 

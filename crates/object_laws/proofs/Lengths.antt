@@ -1,10 +1,8 @@
 -- The length of an array, and new arrays.
-use Rattle.std.proofs.Common.{◌≡◌, ◌≤◌, ◌<◌, ◌+◌, ◌==◌, ◌^◌, ℕ, zero, suc, ℤ, pos, negsuc, Bool, true, false, IsTrue, if◌then◌else◌, List, [], ◌∷◌, length, replicate, Option, Some, None, option_map, slice_get, refl, sym, ap, ◌∙◌, subst, arith}
-use Rattle.std.specs.Prelude.{nat_lt, FitsSigned}
-use Rattle.std.specs.Int.{w32, w64}
+use Rattle.std.proofs.Common.{◌≡◌, ◌≤◌, ◌<◌, ◌+◌, ◌==◌, ◌^◌, ℕ, zero, suc, ℤ, pos, negsuc, Bool, true, false, if◌then◌else◌, List, [], ◌∷◌, length, replicate, Option, Some, None, option_map, refl, sym, ap, ◌∙◌, subst, arith}
+use Rattle.std.specs.Prelude.{nat_lt}
 use Rattle.std.proofs.lemmas.Bool.Decides.{nat_tests}
 use Rattle.std.proofs.lemmas.List.Sums.{sum_by-cons}
-use Rattle.cil_model.specs.declared.instructions.Instruction.{Instruction}
 use Rattle.cil_model.specs.declared.instructions.Instruction.TheVariants as Named
 use Rattle.cil_model.specs.declared.limits.TheConstants.{MOST_WORDS, MOST_BRACKETS}
 use Rattle.cil_model.specs.declared.reports.Fault.TheVariants.{Overflow, OutOfMemory, NullReference}
@@ -17,14 +15,12 @@ use Rattle.cil_model.specs.Assignable.{is_reference}
 use Rattle.cil_model.specs.Fields.{FieldKey}
 use Rattle.cil_model.specs.Legality.{IsLegal}
 use Rattle.cil_model.proofs.BelowLaws.{none_is_some, same_some}
-use Rattle.reference_machine.specs.Values.{ObjectName, Value as StateValue, Int32 as Int32Value, Int64 as Int64Value, Native as NativeValue, Null, Reference, integer_zero, zero_of}
+use Rattle.reference_machine.specs.Values.{ObjectName, Value as StateValue, Int32 as Int32Value, Native as NativeValue, Null, Reference, integer_zero, zero_of}
 use Rattle.reference_machine.specs.Arithmetic.{as_index}
 use Rattle.reference_machine.specs.States.{Array as IsArray, Frame as StateFrame, State, array_at, next_name, with_birth as with_state_birth}
-use Rattle.reference_machine.specs.Effects.{Setting, Effect as StateEffect, Raises as StateRaises, given as state_given, not_null, onward as onward_frame}
+use Rattle.reference_machine.specs.Effects.{Setting, Raises as StateRaises, given as state_given, not_null, onward as onward_frame}
 use Rattle.reference_machine.specs.Steps.{execute, next, new_array}
-use Rattle.type_soundness.proofs.Running.{IsTypedEffect}
 use Rattle.resolved_code.specs.Numbered.{class_name, element_at, type_at}
-use Rattle.resolved_code.specs.declared.operations.Operation.{Operation}
 use Rattle.resolved_code.specs.declared.operations.Operation.TheVariants as Resolved
 use Rattle.resolved_code.specs.declared.types.NumberedElement.{NumberedElement}
 use Rattle.resolved_code.specs.declared.types.NumberedElement.TheVariants.{Int32 as NumberedInt32, Int64 as NumberedInt64, Object as NumberedObject, String as NumberedString, Class as NumberedClass}
@@ -38,18 +34,18 @@ use Rattle.object_memory.specs.declared.kinds.ElementType.TheVariants.{Int32 as 
 use Rattle.object_memory.specs.declared.kinds.Kind.TheVariants.{Array}
 use Rattle.object_memory.specs.declared.values.Value.{Value}
 use Rattle.object_memory.specs.declared.values.Value.TheVariants.{Int32, Int64, Native, Ref}
-use Rattle.object_memory.specs.Cells.{Cell, size, used_words, cell_from, cell_at, null}
+use Rattle.object_memory.specs.Cells.{Cell, size, used_words, cell_from, null}
 use Rattle.object_memory.specs.Objects.{Objects, with_birth}
 use Rattle.type_instructions.specs.TypeTurns.{numbered, held_type}
 use Rattle.threads_monitors.specs.Frames.{Frames, with_place, with_stack}
 use Rattle.threads_monitors.specs.declared.effects.Effect.TheVariants.{GoesOn, Raises}
-use Rattle.frame_instructions.specs.Frames.{given, leaves, with_top}
+use Rattle.frame_instructions.specs.Frames.{given, leaves}
 use Rattle.object_instructions.specs.ObjectTurns.{beside, object_of, index_of, slots_of, leaves_born, new_array_of, new_array_turn}
 use Rattle.interpreter.specs.declared.outcomes.Outcome.TheVariants.{Comes}
 use Rattle.interpreter.specs.Instructions.{operation_turn, of_objects}
 use Rattle.interpreter.specs.Operations.{element_held, array_held}
 use Rattle.machine_states.specs.Agreement.{Agree}
-use Rattle.machine_states.specs.StandsFor.{Names, IsValue, native, int32, int64, null_reference, reference, IsWord, IsOfContents, IsMemory}
+use Rattle.machine_states.specs.StandsFor.{Names, IsValue, native, int32, int64, null_reference, reference, IsWord, IsMemory}
 use Rattle.machine_states.proofs.AgreeLaws.{agree_length, agree_weaken}
 use Rattle.machine_states.proofs.Extending.{value_extends, values_extend}
 use Rattle.machine_states.proofs.Going.{leaves_is, onward_alike}

@@ -1,5 +1,5 @@
 -- What instructions on objects, arrays and static fields are put together from, beside the same of the reference machine.
-use Rattle.std.proofs.Common.{◌≡◌, ◌≤◌, ◌<◌, ◌+◌, ◌⊎◌, ◌==◌, ℕ, ℤ, pos, negsuc, Bool, true, false, IsTrue, if◌then◌else◌, List, [], ◌∷◌, length, Option, Some, None, option_map, slice_get, get_or, refl, inl, inr, sym, ap, ◌∙◌, subst, arith}
+use Rattle.std.proofs.Common.{◌≡◌, ◌≤◌, ◌<◌, ◌+◌, ◌⊎◌, ◌==◌, ℕ, ℤ, pos, negsuc, Bool, true, false, IsTrue, if◌then◌else◌, List, ◌∷◌, length, Option, Some, None, option_map, slice_get, get_or, refl, inl, inr, sym, ap, ◌∙◌, subst, arith}
 use Rattle.std.specs.Prelude.{nat_lt}
 use Rattle.std.specs.Option.{option_map_or}
 use Rattle.std.proofs.lemmas.Bool.Decides.{nat_tests}
@@ -13,7 +13,7 @@ use Rattle.reference_machine.specs.Values.{ObjectName, Born, Value as StateValue
 use Rattle.reference_machine.specs.States.{HeapObject, Frame as StateFrame, State, array_at, with_object}
 use Rattle.reference_machine.specs.Arithmetic.{as_index}
 use Rattle.reference_machine.specs.Effects.{Setting, Effect as StateEffect, Raises as StateRaises, Sticks, given as state_given, not_null, onward as onward_frame}
-use Rattle.reference_machine.specs.Steps.{execute, element, in_range as state_in_range}
+use Rattle.reference_machine.specs.Steps.{element, in_range as state_in_range}
 use Rattle.type_soundness.proofs.Running.{IsTypedEffect}
 use Rattle.resolved_code.specs.declared.operations.Operation.{Operation}
 use Rattle.object_memory.specs.declared.addresses.Addr.{Addr}
@@ -27,7 +27,7 @@ use Rattle.object_instructions.specs.ObjectTurns.{ObjectTurn, beside, object_of,
 use Rattle.interpreter.specs.declared.outcomes.Outcome.TheVariants.{Comes}
 use Rattle.interpreter.specs.Instructions.{MachineTurn, of_objects}
 use Rattle.machine_states.specs.Agreement.{Agree}
-use Rattle.machine_states.specs.StandsFor.{Names, IsValue, int32, int64, native, null_reference, reference, IsWord, IsCell, IsHeap, IsMemory}
+use Rattle.machine_states.specs.StandsFor.{Names, IsValue, int32, int64, native, null_reference, reference, IsWord, IsCell, IsMemory}
 use Rattle.machine_states.proofs.AgreeLaws.{agree_length}
 use Rattle.machine_states.proofs.Instructions.{IsSetting, DoesAlike}
 use Rattle.machine_states.proofs.Going.{leaves_is, onward_is, next_alike, onward_alike}
@@ -55,6 +55,10 @@ module _ (here : Setting) (name : Names) (m : Frames) (o : Objects) (statics : L
   pub given_alike : {X : Type 0} (turn : MachineTurn) (x : Option X) (go : X → StateEffect) → Fine (state_given x go) → ((y : X) → x ≡ Some y → Fine (go y) → Alike turn (go y)) → Alike turn (state_given x go)
   given_alike turn None go t each = elim t [ ]
   given_alike turn (Some y) go t each = each y refl t
+
+  -- what is known to be there
+  pub known_alike : {X : Type 0} (turn : MachineTurn) (x : Option X) (y : X) → x ≡ Some y → (go : X → StateEffect) → Fine (state_given x go) → (Fine (go y) → Alike turn (go y)) → Alike turn (state_given x go)
+  known_alike {X} turn x y is go t each = subst (λ (z : Option X). Fine (state_given z go) → Alike turn (state_given z go)) (sym is) each t
 
   -- ---- how an instruction ends
 
@@ -101,7 +105,7 @@ module _ (here : Setting) (name : Names) (m : Frames) (o : Objects) (statics : L
   object_alike v u null_reference k go go' t each = raised_alike k NullReference
   object_alike v u (reference a n is) k go go' t each =
       alike_turn (objects_turn (if a.number == 0 then Some (k, o, Raises NullReference) else go a)) (objects_turn (go a)) (go' n)
-          (ap (λ b. objects_turn (if b then Some (k, o, Raises NullReference) else go a)) (not_null_address here.tree name o s at.memory.heap a n is)) (each a n is t)
+      (ap (λ b. objects_turn (if b then Some (k, o, Raises NullReference) else go a)) (not_null_address here.tree name o s at.memory.heap a n is)) (each a n is t)
 
   -- an index or a length
   pub same_index : (v : Value) (u : StateValue) → IsValue name v u → index_in v ≡ as_index u
@@ -168,8 +172,8 @@ module _ (here : Setting) (name : Names) (m : Frames) (o : Objects) (statics : L
       in_array a n type elements named there z false passed t' array = elim t' [ ]
       in_array a n type elements named there z true passed t' array =
           alike_turn (objects_turn (index_turn k go a z)) (objects_turn (slots_turn k go a z array.thing.cell.slots)) (tested_by go' n type elements z true)
-              (ap (λ (c : Option Cell). objects_turn (given (option_map (λ (y : Cell). y.slots) c) (slots_turn k go a z))) array.thing.lies)
-              (place_alike z array.thing.cell.slots elements (agree_length (IsWord name) array.thing.cell.slots elements array.values) k (go a) (go' n type) t' (each a n type elements named there array passed))
+          (ap (λ (c : Option Cell). objects_turn (given (option_map (λ (y : Cell). y.slots) c) (slots_turn k go a z))) array.thing.lies)
+          (place_alike z array.thing.cell.slots elements (agree_length (IsWord name) array.thing.cell.slots elements array.values) k (go a) (go' n type) t' (each a n type elements named there array passed))
 
       at_address : (a : Addr) (n : ObjectName) → name a.number ≡ Some n → Fine (state_given (as_index x) (λ z. state_given (array_at s n) (λ (held : DeclaredType × List StateValue). tested_by go' n held.0 held.1 z (test held.0)))) →
           Alike (objects_turn (index_of w (index_turn k go a))) (state_given (as_index x) (λ z. state_given (array_at s n) (λ (held : DeclaredType × List StateValue). tested_by go' n held.0 held.1 z (test held.0))))

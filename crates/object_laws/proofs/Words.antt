@@ -1,5 +1,5 @@
 -- The value in a word that holds it, read as of its kind.
-use Rattle.std.proofs.Common.{◌≡◌, ◌<◌, ◌%◌, ◌-◌, ◌^◌, ℕ, zero, suc, ℤ, pos, negsuc, Option, Some, Bool, true, false, IsTrue, if◌then◌else◌, refl, sym, ap, ◌∙◌, subst, arith}
+use Rattle.std.proofs.Common.{◌≡◌, ◌<◌, ◌%◌, ℕ, zero, suc, ℤ, pos, negsuc, Some, false, IsTrue, if◌then◌else◌, refl, sym, ap, ◌∙◌, subst, arith}
 use Rattle.std.specs.Prelude.{FitsSigned}
 use Rattle.std.specs.Int.{w32, w64, cast_unsigned, cast_signed}
 use Rattle.std.proofs.lemmas.Int.{to_z-of_z}
@@ -7,14 +7,13 @@ use Rattle.cil_model.specs.declared.types.Element.{Element}
 use Rattle.cil_model.specs.declared.types.Element.TheVariants.{Int32 as Int32Element, Int64 as Int64Element, Object, String, Class}
 use Rattle.cil_model.specs.declared.types.DeclaredType.{DeclaredType}
 use Rattle.cil_model.specs.declared.trees.Tree.{Tree}
-use Rattle.cil_model.specs.Assignable.{is_reference, is_reference_element}
+use Rattle.cil_model.specs.Assignable.{is_reference_element}
 use Rattle.cil_model.specs.Legality.{IsLegal}
 use Rattle.reference_machine.specs.Values.{Value as StateValue, Int32 as Int32Value, Int64 as Int64Value, Native as NativeValue, Null, Reference, ObjectName, integer_zero, zero_of, same_kind}
 use Rattle.reference_machine.specs.States.{State}
 use Rattle.type_soundness.specs.TypedStates.{HasType}
 use Rattle.type_soundness.proofs.Operands.{kinds_agree}
 use Rattle.type_soundness.proofs.Openings.{zero_typed}
-use Rattle.object_memory.specs.declared.addresses.Addr.{Addr}
 use Rattle.object_memory.specs.declared.addresses.TheConstants.{ADDRESSES}
 use Rattle.object_memory.specs.declared.values.Value.{Value}
 use Rattle.object_memory.specs.declared.values.Value.TheVariants.{Int32, Int64, Native, Ref}
