@@ -1,0 +1,10 @@
+pub mod Words
+pub mod Things
+pub mod Parts
+pub mod Arrays
+pub mod Lengths
+pub mod Chains
+pub mod Placed
+pub mod Statics
+pub mod FieldSlots
+pub mod Fields
