@@ -1,8 +1,8 @@
 -- Instructions that touch frames alone do the same on both machines.
-use Rattle.std.proofs.Common.{◌≡◌, ◌<◌, ◌+◌, ℕ, ℤ, pos, negsuc, Bool, true, false, not, List, ◌∷◌, map, length, Option, Some, None, option_map, slice_get, slice_set, refl, sym, ap, ◌∙◌, subst, arith}
+use Rattle.std.proofs.Common.{◌≡◌, ◌<◌, ◌+◌, ℕ, ℤ, not, List, ◌∷◌, map, Some, None, option_map, slice_get, slice_set, sym, ap, ◌∙◌, subst, arith}
 use Rattle.std.specs.Prelude.{if◌then◌else◌}
 use Rattle.std.specs.Int.{w32, cast_unsigned}
-use Rattle.std.proofs.lemmas.Option.{slice_get-map, slice_get_within}
+use Rattle.std.proofs.lemmas.Option.{slice_get-map}
 use Rattle.cil_model.specs.declared.instructions.Instruction.{Instruction}
 use Rattle.cil_model.specs.declared.instructions.Instruction.TheVariants as Named
 use Rattle.cil_model.specs.declared.instructions.BinaryOperation.{BinaryOperation}
@@ -10,15 +10,13 @@ use Rattle.cil_model.specs.declared.instructions.UnaryOperation.{UnaryOperation}
 use Rattle.cil_model.specs.declared.instructions.ShiftOperation.{ShiftOperation}
 use Rattle.cil_model.specs.declared.instructions.Comparison.{Comparison}
 use Rattle.cil_model.specs.declared.instructions.BranchComparison.{BranchComparison}
-use Rattle.cil_model.specs.Bodies.{lines_of, place_of, at_place}
+use Rattle.cil_model.specs.Bodies.{lines_of, place_of}
 use Rattle.cil_model.specs.Mentions.{literals_of}
-use Rattle.cil_model.specs.Stacks.{take_one}
-use Rattle.cil_model.proofs.BelowLaws.{none_is_some, same_some}
-use Rattle.reference_machine.specs.Values.{Literal, Reference, Value as StateValue, same_kind}
+use Rattle.reference_machine.specs.Values.{Literal, Reference, Value as StateValue}
 use Rattle.reference_machine.specs.Arithmetic.{binary_value, unary_value, shift_value, compare_values, branch_values, is_set as is_set_value, not_option, convert_32, convert_64, one_or_zero as one_or_zero_value}
-use Rattle.reference_machine.specs.States.{Frame as StateFrame, State, same_kind_or_none}
-use Rattle.reference_machine.specs.Effects.{Setting, Effect as StateEffect, Goes, Sticks, given as given_value, unless_fault, after}
-use Rattle.reference_machine.specs.Steps.{next, branch_if as branch_to, stored as stored_value, to_label, switch_on as switch_labels, execute}
+use Rattle.reference_machine.specs.States.{Frame as StateFrame, State}
+use Rattle.reference_machine.specs.Effects.{Setting, Goes, given as given_value, unless_fault, after}
+use Rattle.reference_machine.specs.Steps.{next, branch_if as branch_to, stored as stored_value, switch_on as switch_labels, execute}
 use Rattle.resolved_code.specs.declared.operations.Operation.{Operation}
 use Rattle.resolved_code.specs.declared.operations.Operation.TheVariants as Resolved
 use Rattle.object_memory.specs.declared.addresses.TheConstants.{ADDRESSES, FIRST_LITERAL}
@@ -27,17 +25,17 @@ use Rattle.object_memory.specs.declared.values.Value.TheVariants.{Ref}
 use Rattle.object_memory.specs.Cells.{literal}
 use Rattle.object_memory.specs.Objects.{Objects}
 use Rattle.threads_monitors.specs.Frames.{Frames, with_stack, with_argument, with_local}
-use Rattle.frame_instructions.specs.Frames.{with_top, given, leaves, onward, stored, leaves_result, binary_result, unary_result, shift_result, comparison, branch_test, one_or_zero, is_set, in_32_bits, in_64_bits, branch_if, to_place, switch_on}
+use Rattle.frame_instructions.specs.Frames.{leaves, onward, stored, leaves_result, binary_result, unary_result, shift_result, comparison, branch_test, one_or_zero, is_set, in_32_bits, in_64_bits, branch_if, switch_on}
 use Rattle.interpreter.specs.Instructions.{of_frames, operation_turn}
 use Rattle.machine_states.specs.Agreement.{Agree}
 use Rattle.machine_states.specs.StandsFor.{Names, IsValue, int32, int64, null_reference, reference}
-use Rattle.machine_states.proofs.AgreeLaws.{agree_length, agree_set}
+use Rattle.machine_states.proofs.AgreeLaws.{agree_set}
 use Rattle.machine_states.proofs.Instructions.{IsSetting, DoesAlike}
 use Rattle.machine_states.proofs.Going.{own_frame}
 use Rattle.machine_states.proofs.Operands.{fine, one_operand}
-use Rattle.frame_laws.proofs.Meeting.{Meets, IsResult, Same, Opposite, meets_at, meets_opposite}
+use Rattle.frame_laws.proofs.Meeting.{IsResult, Same, Opposite, meets_opposite}
 use Rattle.frame_laws.proofs.ValueResults.{comparison_meets, branch_test_meets, is_set_meets, binary_meets, unary_meets, shift_meets, narrow_meets, wide_meets, one_or_zero_alike}
-use Rattle.frame_laws.proofs.Taking.{Alike, Typed, below_test, changed_does, onward_does, leaves_does, pushes_does, result_does, jump_does, branch_does, given_alike, one_given, two_given}
+use Rattle.frame_laws.proofs.Taking.{to_label_does, load_does, store_does, value_does, Alike, Typed, below_test, changed_does, onward_does, leaves_does, pushes_does, result_does, jump_does, branch_does, one_given, two_given}
 
 module _ (here : Setting) (name : Names) (m : Frames) (o : Objects) (statics : List Value) (printed : List ℕ) (s : State) (f : StateFrame) (below : List StateFrame) where
   -- a machine at an instruction
@@ -74,43 +72,11 @@ module _ (here : Setting) (name : Names) (m : Frames) (o : Objects) (statics : L
 
   -- ---- arguments and locals
 
-  -- the value at a signed place
-  values_meet : (vs : List Value) (us : List StateValue) → Agree (IsValue name) vs us → (n : ℤ) → Meets (IsValue name) (at_place vs n) (at_place us n)
-  values_meet vs us h (pos n) = meets_at (IsValue name) vs us h n
-  values_meet vs us h (negsuc n) = tt
-
-  -- it is pushed
-  loads_alike : (i : Instruction) (operation : Operation) (at : At i operation) (vs : List Value) (us : List StateValue) → Agree (IsValue name) vs us → (n : ℤ) →
-      Typed here name m o statics printed s f below i operation at (given_value (at_place us n) (λ u. next here s f below (u ∷ f.stack))) →
-      Alike here name m o statics printed s f below _ _ at (given (at_place vs n) (λ v. leaves v m)) (given_value (at_place us n) (λ u. next here s f below (u ∷ f.stack)))
-  loads_alike i operation at vs us h n typed =
-      given_alike here name m o statics printed s f below _ _ at (IsValue name) (at_place vs n) (at_place us n) (λ v. leaves v m) (λ u. next here s f below (u ∷ f.stack)) (values_meet vs us h n) typed (λ v u k t. pushes_does here name m o statics printed s f below _ _ at v u k)
-
   pub load_argument_alike : (n : ℤ) → At (Named.LoadArgument n) (Resolved.LoadArgument n) → Does (Named.LoadArgument n) (Resolved.LoadArgument n)
-  load_argument_alike n at = loads_alike _ _ at m.running.arguments f.arguments (own_frame here name m o statics printed s f below _ _ at).arguments n (fine here name m o statics printed s f below _ _ at)
+  load_argument_alike n at = load_does here name m o statics printed s f below _ _ at m.running.arguments f.arguments (own_frame here name m o statics printed s f below _ _ at).arguments n (fine here name m o statics printed s f below _ _ at)
 
   pub load_local_alike : (n : ℤ) → At (Named.LoadLocal n) (Resolved.LoadLocal n) → Does (Named.LoadLocal n) (Resolved.LoadLocal n)
-  load_local_alike n at = loads_alike _ _ at m.running.locals f.locals (own_frame here name m o statics printed s f below _ _ at).locals n (fine here name m o statics printed s f below _ _ at)
-
-  -- a value is stored at a place that is there
-  stores_alike : (i : Instruction) (operation : Operation) (at : At i operation) (vs : List Value) (us : List StateValue) → Agree (IsValue name) vs us → (n : ℤ) (u : StateValue) (store : ℕ → Frames) (go : List StateValue → StateEffect) →
-      Typed here name m o statics printed s f below _ _ at (given_value (stored_value here s f below n u us) go) →
-      ((k : ℕ) → Alike here name m o statics printed s f below _ _ at (onward (store k)) (go (slice_set us k u))) →
-      Alike here name m o statics printed s f below _ _ at (stored store vs n) (given_value (stored_value here s f below n u us) go)
-  stores_alike i operation at vs us h (negsuc n) u store go typed each = elim typed [ ]
-  stores_alike i operation at vs us h (pos n) u store go typed each = by_old (slice_get us n) refl typed
-    where
-      by_old : (old : Option StateValue) → slice_get us n ≡ old → Typed here name m o statics printed s f below _ _ at (given_value (same_kind_or_none old u (slice_set us n u)) go) →
-          Alike here name m o statics printed s f below _ _ at (stored store vs (pos n)) (given_value (same_kind_or_none old u (slice_set us n u)) go)
-      by_old None is t = elim t [ ]
-      by_old (Some old) is t = by_kind (same_kind old u) t
-        where
-          inside : n < length vs
-          inside = subst (λ k. n < k) (sym (agree_length (IsValue name) vs us h)) (slice_get_within us n old is)
-
-          by_kind : (same : Bool) → Typed here name m o statics printed s f below _ _ at (given_value (if same then Some (slice_set us n u) else None) go) → Alike here name m o statics printed s f below _ _ at (stored store vs (pos n)) (given_value (if same then Some (slice_set us n u) else None) go)
-          by_kind true t' = subst (λ b. Alike here name m o statics printed s f below _ _ at (if b then onward (store n) else None) (go (slice_set us n u))) (sym (below_test n (length vs) inside)) (each n)
-          by_kind false t' = elim t' [ ]
+  load_local_alike n at = load_does here name m o statics printed s f below _ _ at m.running.locals f.locals (own_frame here name m o statics printed s f below _ _ at).locals n (fine here name m o statics printed s f below _ _ at)
 
   pub store_argument_alike : (n : ℤ) → At (Named.StoreArgument n) (Resolved.StoreArgument n) → Does (Named.StoreArgument n) (Resolved.StoreArgument n)
   store_argument_alike n at =
@@ -118,7 +84,7 @@ module _ (here : Setting) (name : Names) (m : Frames) (o : Objects) (statics : L
       one_operand here name m o statics printed s f below _ _ at (of_frames o statics printed) (λ v k. stored (λ i. with_argument k i v) k.running.arguments n)
       (λ u rest. given_value (stored_value here s f below n u f.arguments) (λ arguments. Goes (after (record f { arguments = arguments }) rest ∷ below) s)) (fine here name m o statics printed s f below _ _ at)
       (λ v rest u rest' is is' h k shorter t.
-      stores_alike _ _ at m.running.arguments f.arguments own.arguments n u (λ i. with_argument (with_stack m rest) i v) (λ arguments. Goes (after (record f { arguments = arguments }) rest' ∷ below) s) t
+      store_does here name m o statics printed s f below _ _ at m.running.arguments f.arguments own.arguments n u (λ i. with_argument (with_stack m rest) i v) (λ arguments. Goes (after (record f { arguments = arguments }) rest' ∷ below) s) t
       (λ i. changed_does here name m o statics printed s f below _ _ at (slice_set m.running.arguments i v) m.running.locals rest (slice_set f.arguments i u) f.locals rest' (agree_set (IsValue name) m.running.arguments f.arguments own.arguments i v u h) own.locals k))
 
   pub store_local_alike : (n : ℤ) → At (Named.StoreLocal n) (Resolved.StoreLocal n) → Does (Named.StoreLocal n) (Resolved.StoreLocal n)
@@ -127,7 +93,7 @@ module _ (here : Setting) (name : Names) (m : Frames) (o : Objects) (statics : L
       one_operand here name m o statics printed s f below _ _ at (of_frames o statics printed) (λ v k. stored (λ i. with_local k i v) k.running.locals n)
       (λ u rest. given_value (stored_value here s f below n u f.locals) (λ locals. Goes (after (record f { locals = locals }) rest ∷ below) s)) (fine here name m o statics printed s f below _ _ at)
       (λ v rest u rest' is is' h k shorter t.
-      stores_alike _ _ at m.running.locals f.locals own.locals n u (λ i. with_local (with_stack m rest) i v) (λ locals. Goes (after (record f { locals = locals }) rest' ∷ below) s) t
+      store_does here name m o statics printed s f below _ _ at m.running.locals f.locals own.locals n u (λ i. with_local (with_stack m rest) i v) (λ locals. Goes (after (record f { locals = locals }) rest' ∷ below) s) t
       (λ i. changed_does here name m o statics printed s f below _ _ at m.running.arguments (slice_set m.running.locals i v) rest f.arguments (slice_set f.locals i u) rest' own.arguments (agree_set (IsValue name) m.running.locals f.locals own.locals i v u h) k))
 
   -- ---- the stack
@@ -143,21 +109,13 @@ module _ (here : Setting) (name : Names) (m : Frames) (o : Objects) (statics : L
 
   -- ---- arithmetic
 
-  -- a value of one operand takes its place
-  value_alike : (i : Instruction) (operation : Operation) (at : At i operation) (result : Value → Option Value) (result' : StateValue → Option StateValue) →
-      ((v : Value) (u : StateValue) → IsValue name v u → Meets (IsValue name) (result v) (result' u)) →
-      Typed here name m o statics printed s f below _ _ at (take_one Sticks f.stack (λ u rest. given_value (result' u) (λ x. next here s f below (x ∷ rest)))) →
-      Alike here name m o statics printed s f below _ _ at (with_top m (λ v n. given (result v) (λ x. leaves x n))) (take_one Sticks f.stack (λ u rest. given_value (result' u) (λ x. next here s f below (x ∷ rest))))
-  value_alike i operation at result result' meets typed =
-      one_given here name m o statics printed s f below _ _ at (IsValue name) result result' leaves (λ u rest. next here s f below (u ∷ rest)) meets typed (λ v u h rest rest' k shorter t. leaves_does here name m o statics printed s f below _ _ at v u h rest rest' k shorter)
-
   pub binary_alike : (op : BinaryOperation) → At (Named.Binary op) (Resolved.Binary op) → Does (Named.Binary op) (Resolved.Binary op)
   binary_alike op at =
       two_given here name m o statics printed s f below _ _ at (IsResult name) (binary_result op) (binary_value op) (λ r n. leaves_result n r) (λ r rest. unless_fault r (λ u. next here s f below (u ∷ rest)))
       (binary_meets name op) (fine here name m o statics printed s f below _ _ at) (λ r r' h rest rest' k shorter t. result_does here name m o statics printed s f below _ _ at r r' h rest rest' k shorter)
 
   pub unary_alike : (op : UnaryOperation) → At (Named.Unary op) (Resolved.Unary op) → Does (Named.Unary op) (Resolved.Unary op)
-  unary_alike op at = value_alike _ _ at (unary_result op) (unary_value op) (unary_meets name op) (fine here name m o statics printed s f below _ _ at)
+  unary_alike op at = value_does here name m o statics printed s f below _ _ at (unary_result op) (unary_value op) (unary_meets name op) (fine here name m o statics printed s f below _ _ at)
 
   pub shift_alike : (op : ShiftOperation) → At (Named.Shift op) (Resolved.Shift op) → Does (Named.Shift op) (Resolved.Shift op)
   shift_alike op at =
@@ -170,10 +128,10 @@ module _ (here : Setting) (name : Names) (m : Frames) (o : Objects) (statics : L
       (comparison_meets here.tree name o s at.memory.heap op) (fine here name m o statics printed s f below _ _ at) (λ a b e rest rest' k shorter t. leaves_does here name m o statics printed s f below _ _ at (one_or_zero a) (one_or_zero_value b) (one_or_zero_alike name a b e) rest rest' k shorter)
 
   pub convert_int32_alike : At Named.ConvertInt32 Resolved.ConvertInt32 → Does Named.ConvertInt32 Resolved.ConvertInt32
-  convert_int32_alike at = value_alike _ _ at in_32_bits convert_32 (narrow_meets name) (fine here name m o statics printed s f below _ _ at)
+  convert_int32_alike at = value_does here name m o statics printed s f below _ _ at in_32_bits convert_32 (narrow_meets name) (fine here name m o statics printed s f below _ _ at)
 
   pub convert_int64_alike : At Named.ConvertInt64 Resolved.ConvertInt64 → Does Named.ConvertInt64 Resolved.ConvertInt64
-  convert_int64_alike at = value_alike _ _ at in_64_bits convert_64 (wide_meets name) (fine here name m o statics printed s f below _ _ at)
+  convert_int64_alike at = value_does here name m o statics printed s f below _ _ at in_64_bits convert_64 (wide_meets name) (fine here name m o statics printed s f below _ _ at)
 
   -- ---- branches
 
@@ -197,14 +155,6 @@ module _ (here : Setting) (name : Names) (m : Frames) (o : Objects) (statics : L
       two_given here name m o statics printed s f below _ _ at Same (branch_test op) (branch_values op) (λ holds n. branch_if holds place n) (λ holds rest. branch_to here s f below holds label rest)
       (branch_test_meets here.tree name o s at.memory.heap op) (fine here name m o statics printed s f below _ _ at) (λ a b e rest rest' k shorter t. branch_does here name m o statics printed s f below _ _ at label place is a b e rest rest' k)
 
-  -- the label of a number and its place
-  to_label_alike : (i : Instruction) (operation : Operation) (at : At i operation) (place : Option ℕ) (label : Option (List ℕ)) → option_map (λ l. place_of l (lines_of f.method)) label ≡ option_map Some place →
-      (rest : List Value) (rest' : List StateValue) → Agree (IsValue name) rest rest' → Alike here name m o statics printed s f below _ _ at (to_place place (with_stack m rest)) (to_label here s f below label rest')
-  to_label_alike i operation at None None is rest rest' k = onward_does here name m o statics printed s f below _ _ at rest rest' k
-  to_label_alike i operation at (Some place) (Some label) is rest rest' k = jump_does here name m o statics printed s f below _ _ at label place (same_some (place_of label (lines_of f.method)) (Some place) is) rest rest' k
-  to_label_alike i operation at (Some place) None is rest rest' k = none_is_some (Some place) is
-  to_label_alike i operation at None (Some label) is rest rest' k = none_is_some (place_of label (lines_of f.method)) (sym is)
-
   pub switch_alike : (labels : List (List ℕ)) (places : List ℕ) → map (λ label. place_of label (lines_of f.method)) labels ≡ map Some places →
       At (Named.Switch labels) (Resolved.Switch places) → Does (Named.Switch labels) (Resolved.Switch places)
   switch_alike labels places is at =
@@ -215,5 +165,5 @@ module _ (here : Setting) (name : Names) (m : Frames) (o : Objects) (statics : L
 
       by_value : (v : Value) (u : StateValue) → IsValue name v u → (rest : List Value) (rest' : List StateValue) → Agree (IsValue name) rest rest' → Typed here name m o statics printed s f below _ _ at (switch_labels here s f below labels u rest') →
           Alike here name m o statics printed s f below _ _ at (switch_on places v (with_stack m rest)) (switch_labels here s f below labels u rest')
-      by_value v u (int32 z fits) rest rest' k t = to_label_alike _ _ at (slice_get places (cast_unsigned w32 z)) (slice_get labels (cast_unsigned w32 z)) (chosen (cast_unsigned w32 z)) rest rest' k
+      by_value v u (int32 z fits) rest rest' k t = to_label_does here name m o statics printed s f below _ _ at (slice_get places (cast_unsigned w32 z)) (slice_get labels (cast_unsigned w32 z)) (chosen (cast_unsigned w32 z)) rest rest' k
       by_value v u h rest rest' k t = elim t [ ]

@@ -1,36 +1,39 @@
 -- How an instruction goes on, in a frame and in the one that it stands for, with what was computed of its operands.
-use Rattle.std.proofs.Common.{◌≡◌, ◌≤◌, ◌<◌, ◌+◌, ℕ, Bool, true, false, List, [], ◌∷◌, length, Option, Some, None, Result, Ok, Err, refl, sym, ap, subst, arith}
+use Rattle.std.proofs.Common.{◌≡◌, ◌≤◌, ◌<◌, ◌+◌, ℕ, ℤ, pos, negsuc, Bool, true, false, List, [], ◌∷◌, length, Option, Some, None, option_map, slice_get, slice_set, Result, Ok, Err, refl, sym, ap, subst, arith}
 use Rattle.std.specs.Prelude.{if◌then◌else◌, nat_lt}
 use Rattle.std.specs.Option.{option_map_or}
 use Rattle.std.proofs.lemmas.Bool.Decides.{nat_tests}
+use Rattle.std.proofs.lemmas.Option.{slice_get_within}
 use Rattle.cil_model.specs.declared.instructions.Instruction.{Instruction}
 use Rattle.cil_model.specs.declared.limits.TheConstants.{MOST_INSTRUCTIONS}
 use Rattle.cil_model.specs.declared.reports.Fault.{Fault}
 use Rattle.cil_model.specs.declared.trees.Code.{Code}
 use Rattle.cil_model.specs.declared.trees.Line.{Line}
-use Rattle.cil_model.specs.Bodies.{lines_of, place_of}
+use Rattle.cil_model.specs.Bodies.{lines_of, place_of, at_place}
 use Rattle.cil_model.specs.Stacks.{take_one, take_two}
-use Rattle.reference_machine.specs.Values.{Value as StateValue}
-use Rattle.reference_machine.specs.States.{Frame as StateFrame, State}
+use Rattle.cil_model.proofs.BelowLaws.{none_is_some, same_some}
+use Rattle.reference_machine.specs.Values.{Value as StateValue, same_kind}
+use Rattle.reference_machine.specs.States.{Frame as StateFrame, State, same_kind_or_none}
 use Rattle.reference_machine.specs.Effects.{Setting, Effect as StateEffect, Goes, Raises as StateRaises, Sticks, given as given_value, unless_fault, after}
-use Rattle.reference_machine.specs.Steps.{next, jump as jump_to, branch_if as branch_to}
+use Rattle.reference_machine.specs.Steps.{next, jump as jump_to, branch_if as branch_to, stored as stored_value, to_label}
 use Rattle.type_soundness.proofs.Running.{IsTypedEffect}
 use Rattle.resolved_code.specs.declared.operations.Operation.{Operation}
 use Rattle.object_memory.specs.declared.values.Value.{Value}
 use Rattle.object_memory.specs.Objects.{Objects}
 use Rattle.threads_monitors.specs.Frames.{Frames, with_place, with_stack}
 use Rattle.threads_monitors.specs.declared.effects.Effect.TheVariants.{GoesOn, Raises}
-use Rattle.frame_instructions.specs.Frames.{Turn, jump, onward, branch_if, leaves, with_top, given, leaves_result}
+use Rattle.frame_instructions.specs.Frames.{Turn, jump, onward, branch_if, leaves, with_top, given, leaves_result, stored, to_place}
 use Rattle.interpreter.specs.declared.outcomes.Outcome.TheVariants.{Comes}
 use Rattle.interpreter.specs.Instructions.{of_frames}
 use Rattle.legal_sizes.proofs.MethodSizes.{instructions_few}
 use Rattle.legal_sizes.proofs.Lists.{found_within}
 use Rattle.machine_states.specs.Agreement.{Agree}
 use Rattle.machine_states.specs.StandsFor.{Names, IsValue, IsFrame, AreFrames}
+use Rattle.machine_states.proofs.AgreeLaws.{agree_length}
 use Rattle.machine_states.proofs.Instructions.{IsSetting, DoesAlike}
 use Rattle.machine_states.proofs.Going.{own_frame, place_is_small, onward_is, leaves_is, moved_frames, next_alike, jump_alike}
 use Rattle.machine_states.proofs.Operands.{one_operand, two_operands}
-use Rattle.frame_laws.proofs.Meeting.{Meets, IsResult}
+use Rattle.frame_laws.proofs.Meeting.{Meets, IsResult, meets_at}
 
 -- a number below another passes the test
 pub below_test : (m n : ℕ) → m < n → nat_lt m n ≡ true
@@ -136,6 +139,14 @@ module _ (here : Setting) (name : Names) (m : Frames) (o : Objects) (statics : L
         by_test true = jump_does rest rest' k
         by_test false = onward_does rest rest' k
 
+  -- the label of a number and its place
+  pub to_label_does : (place : Option ℕ) (label : Option (List ℕ)) → option_map (λ l. place_of l (lines_of f.method)) label ≡ option_map Some place →
+      (rest : List Value) (rest' : List StateValue) → Stands rest rest' → Alike (to_place place (with_stack m rest)) (to_label here s f below label rest')
+  to_label_does None None is rest rest' k = onward_does rest rest' k
+  to_label_does (Some place) (Some label) is rest rest' k = jump_does label place (same_some (place_of label (lines_of f.method)) (Some place) is) rest rest' k
+  to_label_does (Some place) None is rest rest' k = none_is_some (Some place) is
+  to_label_does None (Some label) is rest rest' k = none_is_some (place_of label (lines_of f.method)) (sym is)
+
   -- ---- with what was computed
 
   module _ {X Y : Type 0} (R : X → Y → Type 0) where
@@ -167,3 +178,45 @@ module _ (here : Setting) (name : Names) (m : Frames) (o : Objects) (statics : L
         two_operands here name m o statics printed s f below i operation at (of_frames o statics printed) (λ v w n. given (result v w) (λ x. go x n)) (λ u x rest. given_value (result' u x) (λ y. go' y rest)) t
         (λ v w rest u x rest' is is' h h' k shorter t'.
         given_alike (result v w) (result' u x) (λ z. go z (with_stack m rest)) (λ y. go' y rest') (meets v w u x h h') t' (λ z y r t''. each z y r rest rest' k (omega (arith, shorter)) t''))
+
+  -- a value of one operand takes its place
+  pub value_does : (result : Value → Option Value) (result' : StateValue → Option StateValue) →
+      ((v : Value) (u : StateValue) → IsValue name v u → Meets (IsValue name) (result v) (result' u)) →
+      Typed (take_one Sticks f.stack (λ u rest. given_value (result' u) (λ x. next here s f below (x ∷ rest)))) →
+      Alike (with_top m (λ v n. given (result v) (λ x. leaves x n))) (take_one Sticks f.stack (λ u rest. given_value (result' u) (λ x. next here s f below (x ∷ rest))))
+  value_does result result' meets typed =
+      one_given (IsValue name) result result' leaves (λ u rest. next here s f below (u ∷ rest)) meets typed (λ v u h rest rest' k shorter t. leaves_does v u h rest rest' k shorter)
+
+  -- ---- at a place of a frame
+
+  -- the value at a signed place
+  values_meet : (vs : List Value) (us : List StateValue) → Stands vs us → (n : ℤ) → Meets (IsValue name) (at_place vs n) (at_place us n)
+  values_meet vs us h (pos n) = meets_at (IsValue name) vs us h n
+  values_meet vs us h (negsuc n) = tt
+
+  -- it is pushed
+  pub load_does : (vs : List Value) (us : List StateValue) → Stands vs us → (n : ℤ) →
+      Typed (given_value (at_place us n) (λ u. next here s f below (u ∷ f.stack))) →
+      Alike (given (at_place vs n) (λ v. leaves v m)) (given_value (at_place us n) (λ u. next here s f below (u ∷ f.stack)))
+  load_does vs us h n typed =
+      given_alike (IsValue name) (at_place vs n) (at_place us n) (λ v. leaves v m) (λ u. next here s f below (u ∷ f.stack)) (values_meet vs us h n) typed (λ v u k t. pushes_does v u k)
+
+  -- a value is stored at a place that is there
+  pub store_does : (vs : List Value) (us : List StateValue) → Stands vs us → (n : ℤ) (u : StateValue) (store : ℕ → Frames) (go : List StateValue → StateEffect) →
+      Typed (given_value (stored_value here s f below n u us) go) →
+      ((k : ℕ) → Alike (onward (store k)) (go (slice_set us k u))) →
+      Alike (stored store vs n) (given_value (stored_value here s f below n u us) go)
+  store_does vs us h (negsuc n) u store go typed each = elim typed [ ]
+  store_does vs us h (pos n) u store go typed each = by_old (slice_get us n) refl typed
+    where
+      by_old : (old : Option StateValue) → slice_get us n ≡ old → Typed (given_value (same_kind_or_none old u (slice_set us n u)) go) →
+          Alike (stored store vs (pos n)) (given_value (same_kind_or_none old u (slice_set us n u)) go)
+      by_old None is t = elim t [ ]
+      by_old (Some old) is t = by_kind (same_kind old u) t
+        where
+          inside : n < length vs
+          inside = subst (λ k. n < k) (sym (agree_length (IsValue name) vs us h)) (slice_get_within us n old is)
+
+          by_kind : (same : Bool) → Typed (given_value (if same then Some (slice_set us n u) else None) go) → Alike (stored store vs (pos n)) (given_value (if same then Some (slice_set us n u) else None) go)
+          by_kind true t' = subst (λ b. Alike (if b then onward (store n) else None) (go (slice_set us n u))) (sym (below_test n (length vs) inside)) (each n)
+          by_kind false t' = elim t' [ ]
