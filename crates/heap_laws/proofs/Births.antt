@@ -32,6 +32,7 @@ module _ (o : Objects) (k : Kind) (count : ℕ) where
   abbrev pub answer : Bool → Objects × Option Addr
   answer t = (record o { block = (outcome t).0 }, (outcome t).1)
 
+  -- one that is refused leaves the objects as they are
   refused_by : (o' : Objects) (t : Bool) → ◌≡◌ {A = Objects × Option Addr} (answer t) (o', None) → o' ≡ o
   refused_by o' true e = none_is_some (next_address o.block) (sym (ap (λ (x : Objects × Option Addr). x.1) e))
   refused_by o' false e = sym (ap (λ (x : Objects × Option Addr). x.0) e)
@@ -42,10 +43,12 @@ module _ (o : Objects) (k : Kind) (count : ℕ) where
 
 -- ---- lists with one more
 
+-- one cell more takes its own size
 used_more : (cs : List Cell) (c : Cell) → used_words (cs ++ c ∷ []) ≡ used_words cs + size c
 used_more [] c = omega (arith, sum_by-cons size c [])
 used_more (d ∷ cs) c = omega (arith, sum_by-cons size d (cs ++ c ∷ []), sum_by-cons size d cs, used_more cs c)
 
+-- what is there stays where one more comes behind it
 get_stays : {X : Type 0} (xs : List X) (y : X) (n : ℕ) (x : X) → slice_get xs n ≡ Some x → slice_get (xs ++ y ∷ []) n ≡ Some x
 get_stays [] y n x e = none_is_some x e
 get_stays (z ∷ zs) y zero x e = e
@@ -67,15 +70,19 @@ module _ (tree : Tree) (name : Names) (o : Objects) (s : State) (h : IsHeap tree
   abbrev place : ℕ
   place = o.block.start + used_words o.block.cells
 
+  -- the objects with the new cell
   abbrev after : Objects
   after = record o { block = record o.block { cells = o.block.cells ++ new_cell k count ∷ [] } }
 
+  -- the next name at the new address, and all others as before
   abbrev names : Names
   names b = if b == place then Some (Born (length s.objects)) else name b
 
+  -- what is born
   abbrev object : HeapObject
   object = record { contents = contents; monitor = IsFree; thread = None }
 
+  -- the new address lies below those of the literals
   place_low : place < FIRST_LITERAL
   place_low = omega (arith, h.start, h.within, h.words)
 
@@ -85,6 +92,7 @@ module _ (tree : Tree) (name : Names) (o : Objects) (s : State) (h : IsHeap tree
   nobody : cell_at o.block (record { number = place }) ≡ None
   nobody = subst (λ x. cell_from o.block.start o.block.cells x ≡ None) (omega arith) (none_beyond o.block.start o.block.cells 0)
 
+  -- so it had no name
   unnamed : (n : ObjectName) → name place ≡ Some n → ⊥
   unnamed (Born n) is = lost (h.born place n is)
     where
@@ -95,12 +103,15 @@ module _ (tree : Tree) (name : Names) (o : Objects) (s : State) (h : IsHeap tree
       lost : IsLiteralAt tree o s place characters → ⊥
       lost l = none_is_some l.number (sym no_literal ∙ l.numbered)
 
+  -- the new address has the next name
   named : names place ≡ Some (Born (length s.objects))
   named = if_true (place == place) (Some (Born (length s.objects))) (name place) (grind (arith, nat_tests))
 
+  -- each other address has the name that it had
   named_else : (b : ℕ) → b ≢ place → names b ≡ name b
   named_else b apart = if_false (b == place) (Some (Born (length s.objects))) (name b) (grind (arith, nat_tests))
 
+  -- nothing lost its name
   extends : Extends name names
   extends b n is = named_else b (λ e. unnamed n (subst (λ x. name x ≡ Some n) e is)) ∙ is
 
@@ -119,12 +130,15 @@ module _ (tree : Tree) (name : Names) (o : Objects) (s : State) (h : IsHeap tree
       by_test true test is' = inl ((grind (arith, nat_tests)), same_some (Born (length s.objects)) n is')
       by_test false test is' = inr is'
 
+  -- an object that was born lies at the address afterwards
   abbrev BornThen : ℕ → ℕ → Type 0
   BornThen b n = IsBornAt tree names after (with_state_birth s contents) b n
 
+  -- there is room for the cell
   granted : outcome o k count (nat_le (3 + count) (free_words o.block)) ≡ outcome o k count true
   granted = let test : nat_le (3 + count) (free_words o.block) ≡ true = grind (arith, nat_tests) in ap (outcome o k count) test
 
+  -- the new object lies at the new address
   born_here : BornThen place (length s.objects)
   born_here = record {
     no_literal = no_literal;
@@ -135,6 +149,7 @@ module _ (tree : Tree) (name : Names) (o : Objects) (s : State) (h : IsHeap tree
     stands = record { contents = stands names; monitor = tt };
   }
 
+  -- the others lie where they lay
   born_before : (b n : ℕ) → IsBornAt tree name o s b n → BornThen b n
   born_before b n x = record {
     no_literal = x.no_literal;
@@ -145,6 +160,7 @@ module _ (tree : Tree) (name : Names) (o : Objects) (s : State) (h : IsHeap tree
     stands = cell_extends name names extends tree x.cell x.object x.stands;
   }
 
+  -- so do the literals
   literal_before : (b : ℕ) (characters : List ℕ) → IsLiteralAt tree o s b characters → IsLiteralAt tree after (with_state_birth s contents) b characters
   literal_before b characters l = record {
     number = l.number;
@@ -157,6 +173,7 @@ module _ (tree : Tree) (name : Names) (o : Objects) (s : State) (h : IsHeap tree
     stands = l.stands;
   }
 
+  -- each object that has a name lies at its address
   born_then : (b n : ℕ) → names b ≡ Some (Born n) → BornThen b n
   born_then b n is = by_name (either b (Born n) is)
     where
@@ -166,6 +183,7 @@ module _ (tree : Tree) (name : Names) (o : Objects) (s : State) (h : IsHeap tree
           subst (λ x. BornThen x n) (sym lies) (subst (λ x. BornThen place x) number born_here)
       by_name (inr was) = born_before b n (h.born b n was)
 
+  -- so does each literal
   literal_then : (b : ℕ) (characters : List ℕ) → names b ≡ Some (Literal characters) → IsLiteralAt tree after (with_state_birth s contents) b characters
   literal_then b characters is = by_name (either b (Literal characters) is)
     where
@@ -176,6 +194,7 @@ module _ (tree : Tree) (name : Names) (o : Objects) (s : State) (h : IsHeap tree
       by_name (inl (lies, same)) = absurd (lost same)
       by_name (inr was) = literal_before b characters (h.literals b characters was)
 
+  -- each named address has 32 bits
   small_then : (b : ℕ) (n : ObjectName) → names b ≡ Some n → b < ADDRESSES
   small_then b n is = by_name (either b n is)
     where
@@ -183,6 +202,7 @@ module _ (tree : Tree) (name : Names) (o : Objects) (s : State) (h : IsHeap tree
       by_name (inl (lies, same)) = omega (arith, lies, place_low)
       by_name (inr was) = h.small b n was
 
+  -- no two addresses have one name
   apart_then : (b c : ℕ) (n : ObjectName) → names b ≡ Some n → names c ≡ Some n → b ≡ c
   apart_then b c n is is' = by_names (either b n is) (either c n is')
     where
@@ -192,6 +212,7 @@ module _ (tree : Tree) (name : Names) (o : Objects) (s : State) (h : IsHeap tree
       by_names (inr was) (inl (lies, same)) = absurd (fresh b (was ∙ ap Some (sym same)))
       by_names (inr was) (inr was') = h.apart b c n was was'
 
+  -- all of it
   birth_stands : IsBirth tree name s contents after (next_address o.block)
   birth_stands = record {
     names = names;
@@ -210,6 +231,7 @@ module _ (tree : Tree) (name : Names) (o : Objects) (s : State) (h : IsHeap tree
     };
   }
 
+-- the same by whether there is room
 births_by : (tree : Tree) (name : Names) (o : Objects) (s : State) → IsHeap tree name o s → (k : Kind) (count : ℕ) (contents : Contents) → ((names : Names) → IsOfContents tree names k (replicate count 0) contents None) →
     (born : Objects) (a : Addr) (t : Bool) → nat_le (3 + count) (free_words o.block) ≡ t → ◌≡◌ {A = Objects × Option Addr} (answer o k count t) (born, Some a) → IsBirth tree name s contents born a
 births_by tree name o s h k count contents stands born a true test e =

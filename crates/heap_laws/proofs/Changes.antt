@@ -91,12 +91,15 @@ module _ (tree : Tree) (name : Names) (o : Objects) (s : State) (h : IsHeap tree
     sizes_stay : (c : Cell) → size (change c) ≡ size c
     sizes_stay c = ap (λ l. 3 + l) (keeps c)
 
+    -- an address has one name
     same_name : (m : ObjectName) (b : ℕ) → b ≡ a.number → name b ≡ Some m → Born n ≡ m
     same_name m b is named' = same_some (Born n) m (sym named ∙ ap name (sym is) ∙ named')
 
+    -- another address has another name
     other_number : (b k : ℕ) → name b ≡ Some (Born k) → a.number ≢ b → k ≡ n → ⊥
     other_number b k named' apart same = apart (h.apart a.number b (Born n) named (subst (λ x. name b ≡ Some (Born x)) same named'))
 
+    -- an object of another name stays
     object_stays : (k : ℕ) (x : HeapObject) → (k ≡ n → ⊥) → slice_get s.objects k ≡ Some x → slice_get (slice_set s.objects n object) k ≡ Some x
     object_stays k x apart is = by_place (set_or_stays s.objects n k object x is)
       where
@@ -104,9 +107,11 @@ module _ (tree : Tree) (name : Names) (o : Objects) (s : State) (h : IsHeap tree
         by_place (inl same) = elim (apart same) [ ]
         by_place (inr stays) = stays
 
+    -- an object that was born lies at the address after the change
     abbrev BornAfter : ℕ → ℕ → Type 0
     BornAfter b k = IsBornAt tree name (with_cell change o a) (with_object s (Born n) object) b k
 
+    -- each object that has a name lies at its address
     born_after : (b k : ℕ) → name b ≡ Some (Born k) → BornAfter b k
     born_after b k named' = by_place (b == a.number) refl
       where
@@ -140,6 +145,7 @@ module _ (tree : Tree) (name : Names) (o : Objects) (s : State) (h : IsHeap tree
               stands = was.stands;
             }
 
+    -- so does each literal
     literal_after : (b : ℕ) (characters : List ℕ) → IsLiteralAt tree o s b characters → IsLiteralAt tree (with_cell change o a) (with_object s (Born n) object) b characters
     literal_after b characters l = record {
       number = l.number;
@@ -152,6 +158,7 @@ module _ (tree : Tree) (name : Names) (o : Objects) (s : State) (h : IsHeap tree
       stands = l.stands;
     }
 
+    -- all of it
     cell_changes : IsHeap tree name (with_cell change o a) (with_object s (Born n) object)
     cell_changes = record {
       start = h.start;
@@ -171,9 +178,11 @@ module _ (tree : Tree) (name : Names) (o : Objects) (s : State) (h : IsHeap tree
     own_literal : IsLiteralAt tree o s a.number characters
     own_literal = h.literals a.number characters named
 
+    -- a literal has the address after the change
     abbrev LiteralThen : ℕ → List ℕ → Type 0
     LiteralThen b characters' = IsLiteralAt tree (with_literal_monitor o m own_literal.number) (with_state_monitor s (Literal characters) u) b characters'
 
+    -- another literal has its address and its monitor
     other_literal : (b : ℕ) (characters' : List ℕ) → IsLiteralAt tree o s b characters' → same_text characters characters' ≡ false → LiteralThen b characters'
     other_literal b characters' l apart = record {
       number = l.number;
@@ -198,6 +207,7 @@ module _ (tree : Tree) (name : Names) (o : Objects) (s : State) (h : IsHeap tree
         by_place (inl same) = elim (clash (same_place same)) [ ]
         by_place (inr stays) = stays
 
+    -- each literal has them
     literal_then : (b : ℕ) (characters' : List ℕ) → name b ≡ Some (Literal characters') → LiteralThen b characters'
     literal_then b characters' named' = by_text (same_text characters characters') refl
       where
@@ -221,9 +231,11 @@ module _ (tree : Tree) (name : Names) (o : Objects) (s : State) (h : IsHeap tree
             (subst (λ x. LiteralThen a.number x) same own_then)
         by_text false test = other_literal b characters' (h.literals b characters' named') test
 
+    -- the objects that were born lie where they lay
     born_then : (b k : ℕ) → IsBornAt tree name o s b k → IsBornAt tree name (with_literal_monitor o m own_literal.number) (with_state_monitor s (Literal characters) u) b k
     born_then b k l = record { no_literal = l.no_literal; cell = l.cell; lies = l.lies; object = l.object; is = l.is; stands = l.stands }
 
+    -- all of it, by the number of the literal
     numbered_changes : IsHeap tree name (with_literal_monitor o m own_literal.number) (with_state_monitor s (Literal characters) u)
     numbered_changes = record {
       start = h.start;
@@ -237,11 +249,14 @@ module _ (tree : Tree) (name : Names) (o : Objects) (s : State) (h : IsHeap tree
       each_literal = h.each_literal;
     }
 
+    -- and by its address
     monitor_changes : IsHeap tree name (with_monitor o a m) (with_state_monitor s (Literal characters) u)
     monitor_changes = subst (λ (l : Option ℕ). IsHeap tree name (option_map_or (with_literal_monitor o m) l (with_cell (store_monitor m) o a)) (with_state_monitor s (Literal characters) u)) (sym own_literal.numbered) numbered_changes
 
+-- a cell may become that of another object
 pub cells_may_change : CellsMayChange
 cells_may_change tree name o s h a n named change keeps cell lies object stands = cell_changes tree name o s h a n named change keeps cell lies object stands
 
+-- a literal may get another monitor
 pub literals_may_change : LiteralsMayChange
 literals_may_change tree name o s h a characters named m u stands = monitor_changes tree name o s h a characters named m u stands

@@ -1,6 +1,5 @@
 -- Loads and stores of elements, and lengths.
 use Rattle.std.proofs.Common.{◌≡◌, ◌≤◌, ℕ, zero, suc, Bool, true, false, IsTrue, if◌then◌else◌, List, ◌∷◌, length, Option, Some, None, option_map, option_and_then, slice_get, slice_set, refl, sym, ap, ◌∙◌, subst, arith}
-use Rattle.std.proofs.Math.ListN.{length-set}
 use Rattle.cil_model.specs.declared.instructions.Instruction.{Instruction}
 use Rattle.cil_model.specs.declared.instructions.Instruction.TheVariants as Named
 use Rattle.cil_model.specs.declared.types.Element.TheVariants.{Int32 as Int32Element, Int64 as Int64Element, Object, String, Class}
@@ -24,12 +23,12 @@ use Rattle.object_memory.specs.declared.values.Value.{Value}
 use Rattle.object_memory.specs.declared.values.ValueKind.{ValueKind}
 use Rattle.object_memory.specs.declared.values.ValueKind.TheVariants as Kind
 use Rattle.object_memory.specs.Cells.{Cell, store_slot as with_cell_slot}
-use Rattle.object_memory.specs.Objects.{Objects, with_slot}
-use Rattle.object_memory.specs.Values.{value_word, value_in}
+use Rattle.object_memory.specs.Objects.{Objects}
+use Rattle.object_memory.specs.Values.{value_word}
 use Rattle.threads_monitors.specs.Frames.{Frames, with_stack}
-use Rattle.frame_instructions.specs.Frames.{given, leaves, onward}
+use Rattle.frame_instructions.specs.Frames.{given}
 use Rattle.method_table.specs.Prepared.{kind_at, kind_of_type}
-use Rattle.object_instructions.specs.ObjectTurns.{beside, object_of, index_of, slots_of, place_in, in_range, load_slot, store_slot, load_element_turn, store_element_turn}
+use Rattle.object_instructions.specs.ObjectTurns.{object_of, index_of, slots_of, place_in, in_range, load_slot, store_slot, load_element_turn, store_element_turn}
 use Rattle.interpreter.specs.Instructions.{operation_turn, of_objects}
 use Rattle.machine_states.specs.Agreement.{Agree}
 use Rattle.machine_states.specs.StandsFor.{Names, IsValue, IsWord, IsOfContents, IsCell}
@@ -38,7 +37,7 @@ use Rattle.machine_states.proofs.Instructions.{IsSetting, DoesAlike}
 use Rattle.machine_states.proofs.Operands.{fine, two_operands, three_operands}
 use Rattle.object_laws.proofs.Words.{lost, word_value, kind_fits}
 use Rattle.object_laws.proofs.Things.{IsArrayThere}
-use Rattle.object_laws.proofs.Parts.{alike_turn, given_alike, left_alike, stored_alike, memory_with, element_alike}
+use Rattle.object_laws.proofs.Parts.{given_alike, loaded_alike, replaced_alike, element_alike}
 
 -- ---- the state after a store
 
@@ -62,9 +61,11 @@ element_stored s k object t elements n v s' there holds is =
 
 -- ---- kinds of elements
 
+-- the kind of an element that is an integer of the type
 of_integer : (t : DeclaredType) (e : Element) → IsTrue (same_type (plain e) t) → kind_at e 0 ≡ kind_of_type t
 of_integer t e same = ap kind_of_type (same_type_equal (plain e) t same)
 
+-- the kind of a reference
 reference_kind : (e : Element) (n : ℕ) → IsTrue (is_reference_element e n) → Kind.Ref ≡ kind_at e n
 reference_kind e (suc n) h = refl
 reference_kind Int32Element zero h = lost h
@@ -84,22 +85,14 @@ module _ (here : Setting) (name : Names) (m : Frames) (o : Objects) (statics : L
     slot_loaded a n t elements named there array kind fits slot old found rest rest' k shorter =
         let held = agree_get (IsWord name) array.thing.cell.slots elements array.values slot old found in
         let same = fits ∙ kind_fits here.tree at.running.accepted.legal s old t (element_typed here.tree at.running.accepted.legal s t elements slot old (array_typed here.tree at.running.accepted.legal s at.running.typed n t elements there) found) in
-        alike_turn here name m o statics printed s f below i operation at _ (of_objects o statics printed (beside o (leaves (value_in kind held.0) (with_stack m rest)))) _
-        (ap (λ (c : Option Cell). of_objects o statics printed (given (option_map (λ (y : Cell). y.slots) c) (λ slots. given (slice_get slots slot) (λ w. beside o (leaves (value_in kind w) (with_stack m rest)))))) array.thing.lies ∙
-        ap (λ x. of_objects o statics printed (given x (λ w. beside o (leaves (value_in kind w) (with_stack m rest))))) held.1)
-        (left_alike here name m o statics printed s f below i operation at (value_in kind held.0) old (word_value name at.memory.heap.small held.0 old kind held.2 same) rest rest' k shorter)
+        loaded_alike here name m o statics printed s f below i operation at a array.thing.cell array.thing.lies slot held.0 held.1 kind old (word_value name at.memory.heap.small held.0 old kind held.2 same) rest rest' k shorter
 
     -- an array's element is stored
     slot_stored : (a : Addr) (n : ObjectName) (t : DeclaredType) (elements : List StateValue) → name a.number ≡ Some n → (array : IsArrayThere here.tree name o s at.memory.heap a n t elements) →
         (v : Value) (u : StateValue) → IsValue name v u → (slot : ℕ) (old : StateValue) → slice_get elements slot ≡ Some old → (rest : List Value) (rest' : List StateValue) → Agree (IsValue name) rest rest' →
         IsTypedEffect here.tree (state_given (with_element s n slot u) (λ s'. onward_frame f below s' rest')) →
         DoesAlike here name m o statics printed s f below (of_objects o statics printed (store_slot v slot a (with_stack m rest) o)) (state_given (with_element s n slot u) (λ s'. onward_frame f below s' rest'))
-    slot_stored a n t elements named array v u stands slot old found rest rest' k typed =
-        let held = agree_get (IsWord name) array.thing.cell.slots elements array.values slot old found in
-        alike_turn here name m o statics printed s f below i operation at _ (of_objects o statics printed (beside (with_slot o a slot (value_word v)) (onward (with_stack m rest)))) _
-        (ap (λ (c : Option Cell). of_objects o statics printed (given (option_map (λ (y : Cell). y.slots) c) (λ slots. given (slice_get slots slot) (λ w. beside (with_slot o a slot (value_word v)) (onward (with_stack m rest)))))) array.thing.lies ∙
-        ap (λ x. of_objects o statics printed (given x (λ w. beside (with_slot o a slot (value_word v)) (onward (with_stack m rest))))) held.1)
-        (given_alike here name m o statics printed s f below i operation at _ (with_element s n slot u) (λ s'. onward_frame f below s' rest') typed after)
+    slot_stored a n t elements named array v u stands slot old found rest rest' k typed = given_alike here name m o statics printed s f below i operation at _ (with_element s n slot u) (λ s'. onward_frame f below s' rest') typed after
       where
         cell : Cell
         cell = array.thing.cell
@@ -114,19 +107,19 @@ module _ (here : Setting) (name : Names) (m : Frames) (o : Objects) (statics : L
         changed : IsCell here.tree name (with_cell_slot slot (value_word v) cell) object
         changed = record { contents = contents; monitor = array.thing.stands.monitor }
 
-        own_name : name a.number ≡ Some (Born array.thing.number)
-        own_name = named ∙ ap Some array.thing.name_is
+        held : (w : ℕ) × (slice_get cell.slots slot ≡ Some w) × IsWord name w old
+        held = agree_get (IsWord name) cell.slots elements array.values slot old found
 
         after : (s' : State) → with_element s n slot u ≡ Some s' → IsTypedEffect here.tree (onward_frame f below s' rest') →
-            DoesAlike here name m o statics printed s f below (of_objects o statics printed (beside (with_slot o a slot (value_word v)) (onward (with_stack m rest)))) (onward_frame f below s' rest')
+            DoesAlike here name m o statics printed s f below (of_objects o statics printed (store_slot v slot a (with_stack m rest) o)) (onward_frame f below s' rest')
         after s' is t' =
             let same : s' ≡ with_object s (Born array.thing.number) object = element_stored s array.thing.number array.object t elements slot u s' array.thing.there array.holds (subst (λ x. with_element s x slot u ≡ Some s') array.thing.name_is is) in
-            subst (λ x. DoesAlike here name m o statics printed s f below (of_objects o statics printed (beside (with_slot o a slot (value_word v)) (onward (with_stack m rest)))) (onward_frame f below x rest')) (sym same)
-            (stored_alike here name m o statics printed s f below i operation at (with_slot o a slot (value_word v)) (with_object s (Born array.thing.number) object) refl
-            (memory_with here name m o statics printed s f below i operation at a array.thing.number own_name (with_cell_slot slot (value_word v)) (λ c. length-set c.slots slot (value_word v)) cell array.thing.lies object changed) rest rest' k)
+            subst (λ x. DoesAlike here name m o statics printed s f below (of_objects o statics printed (store_slot v slot a (with_stack m rest) o)) (onward_frame f below x rest')) (sym same)
+            (replaced_alike here name m o statics printed s f below i operation at a cell array.thing.lies slot held.0 held.1 array.thing.number (named ∙ ap Some array.thing.name_is) v object changed rest rest' k)
 
     -- ---- ldelem and stelem
 
+    -- ldelem.i4, ldelem.i8 and ldelem.ref, by what elements they are for
     load_alike : (test : DeclaredType → Bool) (kind : ValueKind) → ((t : DeclaredType) → IsTrue (test t) → kind ≡ kind_of_type t) → IsTypedEffect here.tree (load_element here s f below test) →
         DoesAlike here name m o statics printed s f below (of_objects o statics printed (load_element_turn kind m o)) (load_element here s f below test)
     load_alike test kind fits typed =
@@ -139,6 +132,7 @@ module _ (here : Setting) (name : Names) (m : Frames) (o : Objects) (statics : L
         (λ a n type elements named there array passed slot old found t'.
         slot_loaded a n type elements named there array kind (fits type passed) slot old found rest rest' k (omega (arith, shorter))))
 
+    -- stelem.i4 and stelem.i8
     store_alike : (test : DeclaredType → Bool) → IsTypedEffect here.tree (store_element here s f below test) →
         DoesAlike here name m o statics printed s f below (of_objects o statics printed (store_element_turn m o)) (store_element here s f below test)
     store_alike test typed =
@@ -153,9 +147,11 @@ module _ (here : Setting) (name : Names) (m : Frames) (o : Objects) (statics : L
 
   -- ---- each instruction
 
+  -- a machine is at the instruction
   abbrev At : Instruction → Operation → Type 0
   At i operation = IsSetting here name m o statics printed s f below i operation
 
+  -- it does the same
   abbrev IsAlike : Instruction → Operation → Type 0
   IsAlike i operation = DoesAlike here name m o statics printed s f below (operation_turn here.tree here.thread operation m o statics printed) (execute here s f below i)
 

@@ -112,6 +112,7 @@ module _ (tree : Tree) where
 
   -- ---- chains
 
+  -- nothing is above what has no base
   none_in : (n : ℕ) (d : ClassName) → IsTrue (list_any (same_class d) (chain_within tree n None)) → ⊥
   none_in zero d h = lost h
   none_in (suc n) d h = lost h

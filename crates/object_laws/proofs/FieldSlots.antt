@@ -64,9 +64,11 @@ module _ (tree : Tree) (legal : IsLegal tree) (r : FieldReference) (field : Memb
   abbrev pub key : FieldKey
   key = key_of (is.declared_in, is.found)
 
+  -- the look-up finds the field in its class, which is in the chain of the owner
   found : (find (asked false r) (fields_in tree is.declared_in) ≡ Some is.found) × IsTrue (list_any (same_class is.declared_in) (chain_of tree r.owner))
   found = found_in tree false r is.declared_in is.found is.finds
 
+  -- it is an instance field
   no_static : is.found.is_static ≡ false
   no_static = found_flag tree false r is.declared_in is.found is.finds
 
@@ -74,6 +76,7 @@ module _ (tree : Tree) (legal : IsLegal tree) (r : FieldReference) (field : Memb
   no_object : is.declared_in ≡ object_name → ⊥
   no_object = no_field_of_object tree is.declared_in (asked false r) is.found found.0
 
+  -- its key is among those of the class
   among : IsTrue (list_any (has_key key) (instance_fields tree is.declared_in))
   among = among_own tree is.declared_in (asked false r) is.found found.0 (subst (λ b. IsTrue (same_flag b false)) (sym no_static) refl)
 
@@ -83,15 +86,18 @@ module _ (tree : Tree) (legal : IsLegal tree) (r : FieldReference) (field : Memb
 
   -- ---- its number and its kind
 
+  -- the slot: behind the hidden one
   abbrev pub slot : ℕ
   slot = length (hidden_slots tree is.declared_in) + position.0
 
+  -- it is the one that the machine computes
   pub slot_is : slot_at tree field ≡ Some slot
   slot_is =
       let instance_is : instance_slot tree key ≡ Some slot = position.1 (length (hidden_slots tree is.declared_in)) in
       ap (option_and_then (slot_in tree)) is.numbered ∙ ap (λ b. if b then None else option_and_then small (instance_slot tree key)) no_static ∙ ap (option_and_then small) instance_is ∙
       is_small slot (instance_slot_small tree legal key slot field.class (class_of_field tree field.class field.place is.declared_in is.found is.numbered) instance_is)
 
+  -- so is the kind of what it holds
   pub held_is : held_at tree field ≡ Some (kind_of_type is.found.field_type)
   held_is = ap (option_map (λ (x : ClassName × Field). kind_of_type x.1.field_type)) is.numbered
 
@@ -101,9 +107,11 @@ module _ (tree : Tree) (legal : IsLegal tree) (r : FieldReference) (field : Memb
   abbrev alone : State
   alone = record { objects = record { contents = Instance r.owner []; monitor = Free; thread = None } ∷ []; literal_monitors = []; statics = []; threads = []; printed = [] }
 
+  -- its only object has the field
   of_owner : HasField tree alone (Born 0) key r.field_type
   of_owner = field_there tree legal alone r is.declared_in is.found is.finds (Born 0) (record { own = type_of_class r.owner; is = refl; fits = test_is_complete tree legal (type_of_class r.owner) (type_of_class r.owner) to_itself; monitor = refl })
 
+  -- and is of the owner
   owner_is : of_owner.class_name ≡ r.owner
   owner_is =
       let contents : Instance of_owner.class_name of_owner.fields ≡ Instance r.owner [] = sym of_owner.holds ∙ ap (λ (x : HeapObject). x.contents) (sym (same_some (record { contents = Instance r.owner []; monitor = Free; thread = None }) of_owner.object of_owner.there)) in
@@ -125,6 +133,7 @@ module _ (tree : Tree) (legal : IsLegal tree) (r : FieldReference) (field : Memb
     pub changed : (u : StateValue) → with_entry same_key key u fields ≡ slice_set fields position.0 (entry.0, u)
     pub typed : HasType tree s v is.found.field_type
 
+  -- a field of an object that has it is at its place, with a value of its type
   pub field_at_slot : (s : State) (c : ClassName) (fields : List (FieldKey × StateValue)) (v : StateValue) → HaveFieldTypes tree s fields (instance_fields tree c) → entry_at same_key key fields ≡ Some v → IsFieldAt s c fields v
   field_at_slot s c fields v typed value =
       let own = type_there tree s key v fields (instance_fields tree c) typed value in

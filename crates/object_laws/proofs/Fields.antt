@@ -1,6 +1,5 @@
 -- Loads and stores of instance fields.
 use Rattle.std.proofs.Common.{◌≡◌, ◌≤◌, ℕ, Bool, true, false, if◌then◌else◌, List, ◌∷◌, length, Option, Some, None, option_map, option_and_then, slice_get, slice_set, refl, sym, ap, ◌∙◌, subst}
-use Rattle.std.proofs.Math.ListN.{length-set}
 use Rattle.cil_model.specs.declared.instructions.Instruction.{Instruction}
 use Rattle.cil_model.specs.declared.instructions.Instruction.TheVariants as Named
 use Rattle.cil_model.specs.declared.instructions.FieldReference.{FieldReference}
@@ -10,7 +9,7 @@ use Rattle.cil_model.specs.Chains.{find_field, is_thread_class}
 use Rattle.cil_model.specs.Fields.{FieldKey, same_key}
 use Rattle.cil_model.proofs.BelowLaws.{none_is_some, same_some}
 use Rattle.name_tables.specs.declared.lookups.MemberNumber.{MemberNumber}
-use Rattle.reference_machine.specs.Values.{ObjectName, Born, Value as StateValue, same_kind}
+use Rattle.reference_machine.specs.Values.{ObjectName, Value as StateValue, same_kind}
 use Rattle.reference_machine.specs.States.{Contents, Instance as IsInstance, Array as IsArray, HeapObject, Frame as StateFrame, State, entry_at, with_entry, same_kind_or_none, replaced_entry, object_at, with_object, fields_of_contents, with_fields, field_value, with_field}
 use Rattle.reference_machine.specs.Effects.{Setting, given as state_given, not_null, onward as onward_frame}
 use Rattle.reference_machine.specs.Steps.{execute, key_of, next}
@@ -23,13 +22,13 @@ use Rattle.resolved_code.specs.declared.operations.Operation.TheVariants as Reso
 use Rattle.object_memory.specs.declared.addresses.Addr.{Addr}
 use Rattle.object_memory.specs.declared.values.Value.{Value}
 use Rattle.object_memory.specs.declared.values.ValueKind.{ValueKind}
-use Rattle.object_memory.specs.Cells.{Cell, store_slot as with_cell_slot}
-use Rattle.object_memory.specs.Objects.{Objects, with_slot}
-use Rattle.object_memory.specs.Values.{value_word, value_in}
+use Rattle.object_memory.specs.Cells.{store_slot as with_cell_slot}
+use Rattle.object_memory.specs.Objects.{Objects}
+use Rattle.object_memory.specs.Values.{value_word}
 use Rattle.threads_monitors.specs.Frames.{Frames, with_stack}
-use Rattle.frame_instructions.specs.Frames.{given, leaves, onward}
+use Rattle.frame_instructions.specs.Frames.{given}
 use Rattle.method_table.specs.Prepared.{kind_of_type}
-use Rattle.object_instructions.specs.ObjectTurns.{beside, object_of, load_slot, store_slot, load_field_turn, store_field_turn}
+use Rattle.object_instructions.specs.ObjectTurns.{object_of, load_slot, store_slot, load_field_turn, store_field_turn}
 use Rattle.interpreter.specs.Instructions.{operation_turn, of_objects}
 use Rattle.interpreter.specs.Operations.{held_at}
 use Rattle.machine_states.specs.Agreement.{Agree}
@@ -39,7 +38,7 @@ use Rattle.machine_states.proofs.Instructions.{IsSetting, DoesAlike}
 use Rattle.machine_states.proofs.Operands.{fine, one_operand, two_operands}
 use Rattle.object_laws.proofs.Words.{word_value, kind_fits}
 use Rattle.object_laws.proofs.Things.{IsInstanceThere, instance_there}
-use Rattle.object_laws.proofs.Parts.{alike_turn, given_alike, known_alike, left_alike, stored_alike, memory_with, object_alike}
+use Rattle.object_laws.proofs.Parts.{alike_turn, given_alike, known_alike, loaded_alike, replaced_alike, object_alike}
 use Rattle.object_laws.proofs.FieldSlots.{slot_get, slot_set, position, slot, slot_is, held_is, IsFieldAt, field_at_slot}
 
 -- ---- what the reference machine finds
@@ -53,6 +52,7 @@ pub record IsFieldOf (s : State) (n : ObjectName) (k : FieldKey) (v : StateValue
   pub holds : object.contents ≡ IsInstance class fields
   pub found : entry_at same_key k fields ≡ Some v
 
+-- a value that is found is of such an object
 field_of : (s : State) (n : ObjectName) (k : FieldKey) (v : StateValue) → field_value s n k ≡ Some v → IsFieldOf s n k v
 field_of s n k v is = by_object (object_at s n) refl is
   where
@@ -70,6 +70,7 @@ pub record IsStored (s : State) (n : ObjectName) (k : FieldKey) (v : StateValue)
   pub field : IsFieldOf s n k old
   pub is : s' ≡ with_object s n (record field.object { contents = IsInstance field.class (with_entry same_key k v field.fields) })
 
+-- a store that is done changes such an object
 stored_in : (s : State) (n : ObjectName) (k : FieldKey) (v : StateValue) (s' : State) → with_field s n k v ≡ Some s' → IsStored s n k v s'
 stored_in s n k v s' is = by_object (object_at s n) refl is
   where
@@ -102,6 +103,7 @@ module _ (here : Setting) (name : Names) (m : Frames) (o : Objects) (statics : L
     abbrev own_key : FieldKey
     own_key = key_of (is.declared_in, is.found)
 
+    -- its slot, and its place among the fields
     abbrev own_slot : ℕ
     own_slot = slot here.tree at.running.accepted.legal r field is
 
@@ -114,17 +116,21 @@ module _ (here : Setting) (name : Names) (m : Frames) (o : Objects) (statics : L
       thing : IsInstanceThere here.tree name o s at.memory.heap a n own.class own.fields own.object
       thing = instance_there here.tree name o s at.memory.heap a n own.class own.fields own.object named own.there own.holds
 
+      -- the field is at its place
       at_slot : IsFieldAt here.tree at.running.accepted.legal r field is s own.class own.fields v
       at_slot =
           let contents : IsTypedContents here.tree s (IsInstance own.class own.fields) = subst (λ c. IsTypedContents here.tree s c) own.holds (contents_typed here.tree at.running.accepted.legal s at.running.typed n own.object own.there) in
           field_at_slot here.tree at.running.accepted.legal r field is s own.class own.fields v contents.2 own.found
 
+      -- a word holds the value of a field
       abbrev HoldsField : ℕ → FieldKey × StateValue → Type 0
       HoldsField w x = IsWord name w x.1
 
+      -- a word holds its value
       word : (w : ℕ) × (slice_get thing.contents.words own_place ≡ Some w) × IsWord name w at_slot.entry.1
       word = agree_get HoldsField thing.contents.words own.fields thing.contents.values own_place at_slot.entry at_slot.there
 
+      -- the word is in its slot
       word_there : slice_get thing.thing.cell.slots own_slot ≡ Some word.0
       word_there =
           ap (λ l. slice_get l own_slot) thing.contents.slots_are ∙
@@ -136,10 +142,8 @@ module _ (here : Setting) (name : Names) (m : Frames) (o : Objects) (statics : L
       field_loaded rest rest' k shorter =
           let kind : ValueKind = kind_of_type is.found.field_type in
           let holds : IsWord name word.0 v = subst (λ x. IsWord name word.0 x) at_slot.value_is word.2 in
-          alike_turn here name m o statics printed s f below i operation at _ (of_objects o statics printed (beside o (leaves (value_in kind word.0) (with_stack m rest)))) _
-          (ap (λ (c : Option Cell). of_objects o statics printed (given (option_map (λ (y : Cell). y.slots) c) (λ slots. given (slice_get slots own_slot) (λ w. beside o (leaves (value_in kind w) (with_stack m rest)))))) thing.thing.lies ∙
-          ap (λ x. of_objects o statics printed (given x (λ w. beside o (leaves (value_in kind w) (with_stack m rest))))) word_there)
-          (left_alike here name m o statics printed s f below i operation at (value_in kind word.0) v (word_value name at.memory.heap.small word.0 v kind holds (kind_fits here.tree at.running.accepted.legal s v is.found.field_type at_slot.typed)) rest rest' k shorter)
+          loaded_alike here name m o statics printed s f below i operation at a thing.thing.cell thing.thing.lies own_slot word.0 word_there kind v
+          (word_value name at.memory.heap.small word.0 v kind holds (kind_fits here.tree at.running.accepted.legal s v is.found.field_type at_slot.typed)) rest rest' k shorter
 
       -- another value is stored
       module _ (w : Value) (u : StateValue) (stands : IsValue name w u) where
@@ -168,16 +172,13 @@ module _ (here : Setting) (name : Names) (m : Frames) (o : Objects) (statics : L
         field_stored : (rest : List Value) (rest' : List StateValue) → Agree (IsValue name) rest rest' →
             DoesAlike here name m o statics printed s f below (of_objects o statics printed (store_slot w own_slot a (with_stack m rest) o)) (onward_frame f below (with_object s n object_after) rest')
         field_stored rest rest' k =
-            alike_turn here name m o statics printed s f below i operation at _ (of_objects o statics printed (beside (with_slot o a own_slot (value_word w)) (onward (with_stack m rest)))) _
-            (ap (λ (c : Option Cell). of_objects o statics printed (given (option_map (λ (y : Cell). y.slots) c) (λ slots. given (slice_get slots own_slot) (λ x. beside (with_slot o a own_slot (value_word w)) (onward (with_stack m rest)))))) thing.thing.lies ∙
-            ap (λ x. of_objects o statics printed (given x (λ y. beside (with_slot o a own_slot (value_word w)) (onward (with_stack m rest))))) word_there)
-            (subst (λ x. DoesAlike here name m o statics printed s f below (of_objects o statics printed (beside (with_slot o a own_slot (value_word w)) (onward (with_stack m rest)))) (onward_frame f below (with_object s x object_after) rest')) (sym thing.thing.name_is)
-            (stored_alike here name m o statics printed s f below i operation at (with_slot o a own_slot (value_word w)) (with_object s (Born thing.thing.number) object_after) refl
-            (memory_with here name m o statics printed s f below i operation at a thing.thing.number (named ∙ ap Some thing.thing.name_is) (with_cell_slot own_slot (value_word w)) (λ c. length-set c.slots own_slot (value_word w)) thing.thing.cell thing.thing.lies object_after stands_after) rest rest' k))
+            subst (λ x. DoesAlike here name m o statics printed s f below (of_objects o statics printed (store_slot w own_slot a (with_stack m rest) o)) (onward_frame f below (with_object s x object_after) rest')) (sym thing.thing.name_is)
+            (replaced_alike here name m o statics printed s f below i operation at a thing.thing.cell thing.thing.lies own_slot word.0 word_there thing.thing.number (named ∙ ap Some thing.thing.name_is) w object_after stands_after rest rest' k)
 
   -- ---- ldfld
 
   module _ (r : FieldReference) (owner : ℕ) (field : MemberNumber) (named : class_name here.tree owner ≡ Some r.owner) (finds : IsField here.tree false r field) (at : IsSetting here name m o statics printed s f below (Named.LoadField r) (Resolved.LoadField owner field)) where
+    -- the whole instruction
     pub load_field_alike : DoesAlike here name m o statics printed s f below (operation_turn here.tree here.thread (Resolved.LoadField owner field) m o statics printed) (execute here s f below (Named.LoadField r))
     load_field_alike =
         let slot_there = slot_is here.tree at.running.accepted.legal r field finds in
@@ -207,6 +208,7 @@ module _ (here : Setting) (name : Names) (m : Frames) (o : Objects) (statics : L
         subst (λ x. DoesAlike here name m o statics printed s f below (of_objects o statics printed (store_slot w (slot here.tree at.running.accepted.legal r field finds) a (with_stack m rest) o)) (onward_frame f below x rest')) (sym stored.is)
         (field_stored (Named.StoreField r) (Resolved.StoreField owner field) at r field finds a n here_named stored.old stored.field w u stands rest rest' k)
 
+    -- the whole instruction
     pub store_field_alike : DoesAlike here name m o statics printed s f below (operation_turn here.tree here.thread (Resolved.StoreField owner field) m o statics printed) (execute here s f below (Named.StoreField r))
     store_field_alike =
         let slot_there = slot_is here.tree at.running.accepted.legal r field finds in

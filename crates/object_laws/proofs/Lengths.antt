@@ -125,6 +125,7 @@ zero_word name t = by_test (is_reference t) t.element
     by_test false StringElement = first
     by_test false (ClassElement c) = first
 
+-- so do many
 zero_words : (name : Names) (t : DeclaredType) (n : ℕ) → Agree (IsWord name) (replicate n 0) (replicate n (zero_of t))
 zero_words name t zero = tt
 zero_words name t (suc n) = (zero_word name t, zero_words name t n)
@@ -132,6 +133,7 @@ zero_words name t (suc n) = (zero_word name t, zero_words name t n)
 module _ (here : Setting) (name : Names) (m : Frames) (o : Objects) (statics : List Value) (printed : List ℕ) (s : State) (f : StateFrame) (below : List StateFrame) where
   -- ---- ldlen
 
+  -- the length of the array is that of the cell
   pub load_length_alike : IsSetting here name m o statics printed s f below Named.LoadLength Resolved.LoadLength →
       DoesAlike here name m o statics printed s f below (operation_turn here.tree here.thread Resolved.LoadLength m o statics printed) (execute here s f below Named.LoadLength)
   load_length_alike at =
@@ -196,6 +198,7 @@ module _ (here : Setting) (name : Names) (m : Frames) (o : Objects) (statics : L
     counted_alike element element_is (negsuc count) rest rest' k shorter = raised_alike here name m o statics printed s f below (Named.NewArray t) (Resolved.NewArray n) at (with_stack m rest) Overflow
     counted_alike element element_is (pos count) rest rest' k shorter = born_alike element element_is count (with_birth o (Array element) count).0 (with_birth o (Array element) count).1 refl rest rest' k shorter
 
+    -- the whole instruction
     pub new_array_alike : DoesAlike here name m o statics printed s f below (operation_turn here.tree here.thread (Resolved.NewArray n) m o statics printed) (execute here s f below (Named.NewArray t))
     new_array_alike =
         let shallow : t.brackets < 256 =

@@ -1,6 +1,7 @@
 -- What instructions on objects, arrays and static fields are put together from, beside the same of the reference machine.
 use Rattle.std.proofs.Common.{◌≡◌, ◌≤◌, ◌<◌, ◌+◌, ◌⊎◌, ◌==◌, ℕ, ℤ, pos, negsuc, Bool, true, false, IsTrue, if◌then◌else◌, List, ◌∷◌, length, Option, Some, None, option_map, slice_get, get_or, refl, inl, inr, sym, ap, ◌∙◌, subst, arith}
 use Rattle.std.specs.Prelude.{nat_lt}
+use Rattle.std.proofs.Math.ListN.{length-set}
 use Rattle.std.specs.Option.{option_map_or}
 use Rattle.std.proofs.lemmas.Bool.Decides.{nat_tests}
 use Rattle.std.proofs.lemmas.Option.{slice_get_within, slice_get_cases}
@@ -18,12 +19,14 @@ use Rattle.type_soundness.proofs.Running.{IsTypedEffect}
 use Rattle.resolved_code.specs.declared.operations.Operation.{Operation}
 use Rattle.object_memory.specs.declared.addresses.Addr.{Addr}
 use Rattle.object_memory.specs.declared.values.Value.{Value}
-use Rattle.object_memory.specs.Cells.{Cell, cell_at}
-use Rattle.object_memory.specs.Objects.{Objects, with_cell}
+use Rattle.object_memory.specs.declared.values.ValueKind.{ValueKind}
+use Rattle.object_memory.specs.Cells.{Cell, cell_at, store_slot as with_cell_slot}
+use Rattle.object_memory.specs.Values.{value_word, value_in}
+use Rattle.object_memory.specs.Objects.{Objects, with_cell, with_slot}
 use Rattle.threads_monitors.specs.Frames.{Frames, with_place, with_stack}
 use Rattle.threads_monitors.specs.declared.effects.Effect.TheVariants.{GoesOn, Raises}
 use Rattle.frame_instructions.specs.Frames.{given, onward, leaves}
-use Rattle.object_instructions.specs.ObjectTurns.{ObjectTurn, beside, object_of, index_in, index_of, slots_of, place_in, in_range}
+use Rattle.object_instructions.specs.ObjectTurns.{ObjectTurn, beside, object_of, index_in, index_of, slots_of, load_slot, store_slot, place_in, in_range}
 use Rattle.interpreter.specs.declared.outcomes.Outcome.TheVariants.{Comes}
 use Rattle.interpreter.specs.Instructions.{MachineTurn, of_objects}
 use Rattle.machine_states.specs.Agreement.{Agree}
@@ -36,12 +39,15 @@ use Rattle.object_laws.proofs.Things.{not_null_address, IsArrayThere, array_ther
 
 module _ (here : Setting) (name : Names) (m : Frames) (o : Objects) (statics : List Value) (printed : List ℕ) (s : State) (f : StateFrame) (below : List StateFrame) (i : Instruction) (operation : Operation)
     (at : IsSetting here name m o statics printed s f below i operation) where
+  -- the machine does what the reference machine does
   abbrev pub Alike : MachineTurn → StateEffect → Type 0
   Alike turn e = DoesAlike here name m o statics printed s f below turn e
 
+  -- the effect is typed, so the instruction isn't stuck
   abbrev pub Fine : StateEffect → Type 0
   Fine e = IsTypedEffect here.tree e
 
+  -- a turn on objects as one of the machine
   abbrev pub objects_turn : ObjectTurn → MachineTurn
   objects_turn turn = of_objects o statics printed turn
 
@@ -76,7 +82,7 @@ module _ (here : Setting) (name : Names) (m : Frames) (o : Objects) (statics : L
   }
 
   -- another memory is left
-  pub stored_alike : (o' : Objects) (s' : State) → s'.threads ≡ s.threads → IsMemory here.tree name o' statics printed s' → (rest : List Value) (rest' : List StateValue) → Agree (IsValue name) rest rest' →
+  stored_alike : (o' : Objects) (s' : State) → s'.threads ≡ s.threads → IsMemory here.tree name o' statics printed s' → (rest : List Value) (rest' : List StateValue) → Agree (IsValue name) rest rest' →
       Alike (objects_turn (beside o' (onward (with_stack m rest)))) (onward_frame f below s' rest')
   stored_alike o' s' others memory rest rest' k = record {
     answer = (with_place (with_stack m rest) (m.running.place + 1), o', statics, printed, Comes GoesOn);
@@ -85,13 +91,35 @@ module _ (here : Setting) (name : Names) (m : Frames) (o : Objects) (statics : L
   }
 
   -- the memory with another object in the place of one
-  pub memory_with : (a : Addr) (n : ℕ) → name a.number ≡ Some (Born n) → (change : Cell → Cell) → ((c : Cell) → length (change c).slots ≡ length c.slots) → (cell : Cell) → cell_at o.block a ≡ Some cell →
+  memory_with : (a : Addr) (n : ℕ) → name a.number ≡ Some (Born n) → (change : Cell → Cell) → ((c : Cell) → length (change c).slots ≡ length c.slots) → (cell : Cell) → cell_at o.block a ≡ Some cell →
       (object : HeapObject) → IsCell here.tree name (change cell) object → IsMemory here.tree name (with_cell change o a) statics printed (with_object s (Born n) object)
   memory_with a n named change keeps cell lies object stands = record {
     heap = cells_may_change here.tree name o s at.memory.heap a n named change keeps cell lies object stands;
     static_values = at.memory.static_values;
     printed_is = at.memory.printed_is;
   }
+
+  -- ---- slots
+
+  module _ (a : Addr) (cell : Cell) (lies : cell_at o.block a ≡ Some cell) (slot word : ℕ) (there : slice_get cell.slots slot ≡ Some word) where
+    -- a turn that asks for a slot that is there
+    slot_turn : (go : ℕ → ObjectTurn) → objects_turn (given (slots_of o a) (λ slots. given (slice_get slots slot) go)) ≡ objects_turn (go word)
+    slot_turn go = ap (λ (c : Option Cell). objects_turn (given (option_map (λ (y : Cell). y.slots) c) (λ slots. given (slice_get slots slot) go))) lies ∙ ap (λ x. objects_turn (given x go)) there
+
+    -- its value is loaded
+    pub loaded_alike : (kind : ValueKind) (u : StateValue) → IsValue name (value_in kind word) u → (rest : List Value) (rest' : List StateValue) → Agree (IsValue name) rest rest' → length rest ≤ length m.running.stack →
+        Alike (objects_turn (load_slot kind slot a (with_stack m rest) o)) (onward_frame f below s (u ∷ rest'))
+    loaded_alike kind u stands rest rest' k shorter =
+        alike_turn (objects_turn (load_slot kind slot a (with_stack m rest) o)) (objects_turn (beside o (leaves (value_in kind word) (with_stack m rest)))) (onward_frame f below s (u ∷ rest'))
+        (slot_turn (λ w. beside o (leaves (value_in kind w) (with_stack m rest)))) (left_alike (value_in kind word) u stands rest rest' k shorter)
+
+    -- another value is stored there, and the object changes alike
+    pub replaced_alike : (n : ℕ) → name a.number ≡ Some (Born n) → (v : Value) (object : HeapObject) → IsCell here.tree name (with_cell_slot slot (value_word v) cell) object → (rest : List Value) (rest' : List StateValue) → Agree (IsValue name) rest rest' →
+        Alike (objects_turn (store_slot v slot a (with_stack m rest) o)) (onward_frame f below (with_object s (Born n) object) rest')
+    replaced_alike n named v object stands rest rest' k =
+        alike_turn (objects_turn (store_slot v slot a (with_stack m rest) o)) (objects_turn (beside (with_slot o a slot (value_word v)) (onward (with_stack m rest)))) (onward_frame f below (with_object s (Born n) object) rest')
+        (slot_turn (λ w. beside (with_slot o a slot (value_word v)) (onward (with_stack m rest))))
+        (stored_alike (with_slot o a slot (value_word v)) (with_object s (Born n) object) refl (memory_with a n named (with_cell_slot slot (value_word v)) (λ c. length-set c.slots slot (value_word v)) cell lies object stands) rest rest' k)
 
   -- ---- operands
 
@@ -117,12 +145,14 @@ module _ (here : Setting) (name : Names) (m : Frames) (o : Objects) (statics : L
 
   -- ---- elements
 
+  -- tests of a place
   is_inside : (n count : ℕ) → n < count → nat_lt n count ≡ true
   is_inside n count h = grind (arith, nat_tests)
 
   is_outside : (n count : ℕ) → count ≤ n → nat_lt n count ≡ false
   is_outside n count h = grind (arith, nat_tests)
 
+  -- where there is no element the place is outside
   none_is_outside : {X : Type 0} (xs : List X) (n : ℕ) → slice_get xs n ≡ None → length xs ≤ n
   none_is_outside {X} xs n none = by_case (slice_get_cases xs n).1
     where
@@ -153,9 +183,11 @@ module _ (here : Setting) (name : Names) (m : Frames) (o : Objects) (statics : L
   abbrev slots_turn : Frames → (Addr → ℕ → ObjectTurn) → Addr → ℤ → List ℕ → ObjectTurn
   slots_turn k go a z slots = in_range (place_in z (length slots)) k o (λ slot. go a slot)
 
+  -- by the index
   abbrev index_turn : Frames → (Addr → ℕ → ObjectTurn) → Addr → ℤ → ObjectTurn
   index_turn k go a z = given (slots_of o a) (slots_turn k go a z)
 
+  -- by whether the elements pass the test
   abbrev tested_by : (ObjectName → DeclaredType → ℕ → StateValue → StateEffect) → ObjectName → DeclaredType → List StateValue → ℤ → Bool → StateEffect
   tested_by go' n type elements z b = if b then state_in_range here s f below (slice_get elements) (go' n type) z else Sticks
 

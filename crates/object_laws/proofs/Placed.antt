@@ -36,6 +36,7 @@ pub record IsPlaced (k : FieldKey) (fs : List (FieldKey × DeclaredType)) (es : 
   pub found : entry_at same_key k es ≡ Some entry.1
   pub changed : (v : StateValue) → with_entry same_key k v es ≡ slice_set es place (entry.0, v)
 
+-- each key of the first ones has such an entry
 pub placed : (tree : Tree) (s : State) (k : FieldKey) (fs more : List (FieldKey × DeclaredType)) (es : List (FieldKey × StateValue)) → HaveFieldTypes tree s es (fs ++ more) → IsTrue (list_any (has_key k) fs) → IsPlaced k fs es
 placed tree s k [] more es h is = lost is
 placed tree s k (f ∷ fs) more [] h is = elim h [ ]

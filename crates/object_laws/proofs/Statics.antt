@@ -75,6 +75,7 @@ module _ (here : Setting) (name : Names) (m : Frames) (o : Objects) (statics : L
   -- ---- the number of a static field
 
   module _ (i : Instruction) (operation : Operation) (at : IsSetting here name m o statics printed s f below i operation) (r : FieldReference) (field : MemberNumber) (is : IsField here.tree true r field) where
+    -- its key, and the entry under it
     abbrev key : FieldKey
     key = key_of (is.declared_in, is.found)
 
@@ -82,21 +83,25 @@ module _ (here : Setting) (name : Names) (m : Frames) (o : Objects) (statics : L
     place = placed here.tree s key (static_fields here.tree) [] s.statics (subst (λ fs. HaveFieldTypes here.tree s s.statics fs) (sym (append-nil (static_fields here.tree))) at.running.typed.statics)
         (key_there key r.field_type (static_fields here.tree) (static_field_there here.tree at.running.accepted.legal r is.declared_in is.found is.finds))
 
+    -- the place of the entry is the number that the machine computes
     number_is : static_at here.tree field ≡ Some place.place
     number_is =
         let slot : static_slot here.tree key ≡ Some place.place = (let e : 0 + place.place ≡ place.place = omega arith in place.position 0 ∙ ap Some e) in
         ap (option_and_then (static_in here.tree)) is.numbered ∙ ap (λ b. if b then option_and_then small (static_slot here.tree key) else None) (found_flag here.tree true r is.declared_in is.found is.finds) ∙
         ap (option_and_then small) slot ∙ is_small place.place (static_slot_small here.tree at.running.accepted.legal key place.place slot)
 
+    -- the machine holds the same value there
     held : (v : Value) × (slice_get statics place.place ≡ Some v) × IsValue name v place.entry.1
     held = agree_get HoldsStatic statics s.statics at.memory.static_values place.place place.entry place.there
 
   -- ---- ldsfld
 
   module _ (r : FieldReference) (field : MemberNumber) (is : IsField here.tree true r field) (at : IsSetting here name m o statics printed s f below (Named.LoadStaticField r) (Resolved.LoadStaticField field)) where
+    -- the turn, by the number of the field
     abbrev loads : ℕ → Option (Frames × List Value × Effect)
     loads n = option_map (λ (t : Frames × Effect). (t.0, statics, t.1)) (load_static_turn n m statics)
 
+    -- once the value is found
     load_after : (n : ℕ) (v : Value) (u : StateValue) → slice_get statics n ≡ Some v → IsValue name v u → DoesAlike here name m o statics printed s f below (of_statics o statics printed (loads n)) (next here s f below (u ∷ f.stack))
     load_after n v u there stands = record {
       answer = (with_place (with_stack m (v ∷ m.running.stack)) (m.running.place + 1), o, statics, printed, Comes GoesOn);
@@ -105,6 +110,7 @@ module _ (here : Setting) (name : Names) (m : Frames) (o : Objects) (statics : L
       alike = λ refused. next_alike here name m o statics printed s f below (Named.LoadStaticField r) (Resolved.LoadStaticField field) at (v ∷ m.running.stack) (u ∷ f.stack) (stands, (own_frame here name m o statics printed s f below (Named.LoadStaticField r) (Resolved.LoadStaticField field) at).stack);
     }
 
+    -- the whole instruction
     pub load_static_field_alike : DoesAlike here name m o statics printed s f below (operation_turn here.tree here.thread (Resolved.LoadStaticField field) m o statics printed) (execute here s f below (Named.LoadStaticField r))
     load_static_field_alike =
         let own = place (Named.LoadStaticField r) (Resolved.LoadStaticField field) at r field is in
@@ -119,12 +125,15 @@ module _ (here : Setting) (name : Names) (m : Frames) (o : Objects) (statics : L
   -- ---- stsfld
 
   module _ (r : FieldReference) (field : MemberNumber) (is : IsField here.tree true r field) (at : IsSetting here name m o statics printed s f below (Named.StoreStaticField r) (Resolved.StoreStaticField field)) where
+    -- the turn, by the number of the field
     abbrev stores : ℕ → Value → Frames → Option (Frames × List Value × Effect)
     stores n v k = if nat_lt n (length statics) then option_map (λ (t : Frames × Effect). (t.0, slice_set statics n v, t.1)) (onward k) else None
 
+    -- the number is one of the static fields
     inside : (n : ℕ) → n < length statics → nat_lt n (length statics) ≡ true
     inside n h = grind (arith, nat_tests)
 
+    -- once the fields agree
     store_after : (n : ℕ) (v : Value) (entries : List (FieldKey × StateValue)) → n < length statics → Agree HoldsStatic (slice_set statics n v) entries → (rest : List Value) (rest' : List StateValue) → Agree (IsValue name) rest rest' →
         DoesAlike here name m o statics printed s f below (of_statics o statics printed (stores n v (with_stack m rest))) (onward_frame f below (record s { statics = entries }) rest')
     store_after n v entries near agree rest rest' k = record {
@@ -137,6 +146,7 @@ module _ (here : Setting) (name : Names) (m : Frames) (o : Objects) (statics : L
         memory : IsMemory here.tree name o (slice_set statics n v) printed (record s { statics = entries })
         memory = record { heap = heap_beside here.tree name o s at.memory.heap (record s { statics = entries }) refl refl; static_values = agree; printed_is = at.memory.printed_is }
 
+    -- the whole instruction
     pub store_static_field_alike : DoesAlike here name m o statics printed s f below (operation_turn here.tree here.thread (Resolved.StoreStaticField field) m o statics printed) (execute here s f below (Named.StoreStaticField r))
     store_static_field_alike =
         let own = place (Named.StoreStaticField r) (Resolved.StoreStaticField field) at r field is in

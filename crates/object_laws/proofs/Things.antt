@@ -41,6 +41,7 @@ module _ (tree : Tree) (name : Names) (o : Objects) (s : State) (h : IsHeap tree
     pub lies : cell_at o.block a ≡ Some cell
     pub stands : IsCell tree name cell object
 
+  -- each object that is there has one
   pub thing_there : (a : Addr) (n : ObjectName) (object : HeapObject) → name a.number ≡ Some n → object_at s n ≡ Some object → IsThere a n object
   thing_there a (Literal characters) object named there = none_is_some object there
   thing_there a (Born number) object named there =
@@ -66,6 +67,7 @@ module _ (tree : Tree) (name : Names) (o : Objects) (s : State) (h : IsHeap tree
     pub type_is : type_at tree (held_type kind) ≡ Some t
     pub values : Agree (IsWord name) thing.cell.slots elements
 
+  -- an array that the reference machine finds is there
   pub array_there : (a : Addr) (n : ObjectName) (t : DeclaredType) (elements : List StateValue) → name a.number ≡ Some n → array_at s n ≡ Some (t, elements) → IsArrayThere a n t elements
   array_there a n t elements named held = by_object (object_at s n) refl held
     where
@@ -95,6 +97,7 @@ module _ (tree : Tree) (name : Names) (o : Objects) (s : State) (h : IsHeap tree
     pub kind_is : thing.cell.kind ≡ Instance kind
     pub contents : IsInstanceCell tree name kind thing.cell.slots c fields object.thread
 
+  -- so is an object of a class
   pub instance_there : (a : Addr) (n : ObjectName) (c : ClassName) (fields : List (FieldKey × StateValue)) (object : HeapObject) → name a.number ≡ Some n → object_at s n ≡ Some object → object.contents ≡ IsInstance c fields → IsInstanceThere a n c fields object
   instance_there a n c fields object named there holds = with_thing (thing_there a n object named there)
     where
