@@ -1,4 +1,0 @@
-pub mod Views
-pub mod Runs
-pub mod Refusals
-pub mod Statics

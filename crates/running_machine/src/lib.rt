@@ -1,5 +1,0 @@
-//! The machine: its threads, its heap, and what it does on each event.
-#![tactic(auto)]
-
-mod beginnings;
-mod steps;
