@@ -1,1 +1,2 @@
 pub mod Declared
+pub mod OpeningLaws

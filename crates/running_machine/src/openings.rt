@@ -3,19 +3,18 @@
 ghost use Rattle.std.specs.Prelude.{◌≡◌, ◌++◌, Some, IfOk, OnOk, true, map, filter, replicate};
 ghost use Rattle.std.specs.List.{flat_map};
 ghost use Rattle.cil_model.specs.Ranges.{are_in_range};
-ghost use Rattle.cil_model.specs.Declarations.{fields_of as declared_fields};
 ghost use Rattle.cil_model.specs.Fields.{static_fields};
 ghost use Rattle.method_table.specs.Prepared.{IsMethodTable, kind_of_type};
 ghost use Rattle.object_memory.specs.Objects.{no_objects};
 ghost use Rattle.machine_states.specs.Turns.{opening_content};
 ghost use Rattle.running_machine.specs.Views.{content_of};
-ghost use Rattle.running_machine.specs.Statics.{zeros_of};
+ghost use Rattle.running_machine.specs.Statics.{declared_fields, zeros_of};
 
 use crate::beginnings::beginning;
 use crate::engine::Engine;
-use cil_model::limits::Limits;
+use cil_model::limits::{Limits, MOST_WORDS};
 use cil_model::memory::NoMemory;
-use cil_model::trees::Class;
+use cil_model::trees::{Class, ClassKind, Field};
 use method_table::{MethodTable, value_kind};
 use name_tables::classes::fields_of;
 use object_memory::{Heap, Value};
@@ -24,16 +23,11 @@ use std::alloc::Global;
 use threads_monitors::{Thread, zero_value};
 use verifier::Verified;
 
-/// Appends what the static fields of a class hold at first.
-fn push_statics(
-    alloc: Global,
-    statics: &mut Vec<Value>,
-    class: &Class,
-) -> Result<(), NoMemory>
-    ensures { OnOk result (statics.new.items ≡ statics.old.items ++ zeros_of (declared_fields class.now)) }
+/// Appends what the static fields among these hold at first.
+fn push_zeros(statics: &mut Vec<Value>, fields: &[&Field]) -> Result<(), NoMemory>
+    ensures { OnOk result (statics.new.items ≡ statics.old.items ++ zeros_of (map (λ f. f.now) fields.now)) }
 {
-    let fields = fields_of(alloc, class)?;
-    for field in fields.as_slice() {
+    for field in fields {
         if field.is_static {
             statics.push(zero_value(value_kind(&field.field_type)))?;
         }
@@ -41,9 +35,23 @@ fn push_statics(
     Ok(())
 }
 
+/// Appends what the static fields of a class hold at first. An interface has none, whatever its text lists.
+fn push_statics(
+    alloc: Global,
+    statics: &mut Vec<Value>,
+    class: &Class,
+) -> Result<(), NoMemory>
+    ensures { OnOk result (statics.new.items ≡ statics.old.items ++ zeros_of (declared_fields class.now)) }
+{
+    match &class.kind {
+        ClassKind::Interface => Ok(()),
+        ClassKind::Class { .. } => push_zeros(statics, fields_of(alloc, class)?.as_slice()),
+    }
+}
+
 /// What all static fields hold at first, class by class, in source order.
 fn opening_statics(alloc: Global, classes: &[Class]) -> Result<Vec<Value>, NoMemory>
-    ensures { IfOk result (λ v. v.items ≡ flat_map (λ class. zeros_of (declared_fields class)) (map (λ c. c.now) classes.now)) }
+    ensures { IfOk result (λ v. v.items ≡ flat_map (λ class. zeros_of (declared_fields class)) classes.now) }
 {
     let mut statics = Vec::new(alloc);
     for class in classes {
@@ -59,6 +67,9 @@ fn opening_heap(alloc: Global, words: u32, literals: usize) -> Result<Heap, NoMe
     let Ok(literals) = u32::try_from(literals) else {
         return Err(NoMemory);
     };
+    if words > MOST_WORDS {
+        return Err(NoMemory);
+    }
     let block = Block::new(alloc, words as usize)?;
     Heap::new(alloc, block, literals)
 }
