@@ -1,2 +1,3 @@
 pub mod Declared
 pub mod OpeningLaws
+pub mod Following

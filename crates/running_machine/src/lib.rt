@@ -2,4 +2,9 @@
 #![tactic(auto)]
 
 mod beginnings;
+mod engine;
+mod machine;
+mod openings;
 mod steps;
+
+pub use machine::{Machine, Refused};
