@@ -1,1 +1,5 @@
 pub mod Declared
+pub mod Asking
+pub mod Stepping
+pub mod Indexed
+pub mod Requests
