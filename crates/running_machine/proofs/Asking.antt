@@ -27,7 +27,7 @@ use Rattle.call_instructions.specs.Calls.{call_turn}
 use Rattle.built_in_instructions.specs.BuiltInTurns.{enter_turn, exit_turn, write_turn}
 use Rattle.interpreter.specs.Operations.{constant_rule, stack_rule, arithmetic_rule, branch_rule, field_rule, array_rule, type_rule, static_rule}
 use Rattle.interpreter.specs.Instructions.{IsDone, MachineTurn, of_frames, of_objects, of_statics, of_calls, operation_turn}
-use Rattle.interpreter.specs.Calls.{CallTurn, act_turn, asks, beside_console, called_as, call_rule, chosen_at, new_at, receiver, return_rule, run_at, run_chosen, run_turn, top_reference, virtual_at}
+use Rattle.interpreter.specs.Calls.{CallTurn, act_turn, beside_console, called_as, call_rule, chosen_at, new_at, receiver, return_rule, run_chosen, run_turn, top_reference, virtual_at}
 use Rattle.interpreter.specs.declared.outcomes.Outcome.{Outcome}
 use Rattle.interpreter.specs.declared.outcomes.Outcome.TheVariants.{Comes, Starts, Joins}
 use Rattle.machine_states.specs.Turns.{Answer}

@@ -2,4 +2,5 @@
 #![tactic(auto)]
 
 mod beginnings;
+mod engine;
 mod steps;

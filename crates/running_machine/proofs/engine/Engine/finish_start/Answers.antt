@@ -1,6 +1,4 @@
 use Rattle.running_machine.specs.Views.{content_of}
-use Rattle.machine_states.specs.Turns.{started}
-use Rattle.threads_monitors.specs.Threads.{start_fault}
 use Rattle.interpreter.specs.declared.outcomes.Outcome.TheVariants.{Starts}
 use Rattle.running_machine.specs.Finishing.{live_thread}
 use Rattle.running_machine.proofs.Stepping.{started_keeps}

@@ -1,4 +1,4 @@
-use Rattle.std.proofs.Common.{◌≡◌, List, Option, Some, None, sym, ap, ◌∙◌, subst}
+use Rattle.std.proofs.Common.{◌≡◌, List, Some, None, sym, ap, ◌∙◌, subst}
 use Rattle.std.specs.Prelude.{IsSome, [], ◌∷◌}
 use Rattle.std.proofs.lemmas.Result.{IfOk-weaker}
 use Rattle.cil_model.specs.declared.trees.Tree.{Tree}

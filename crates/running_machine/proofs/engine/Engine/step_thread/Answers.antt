@@ -1,4 +1,4 @@
-use Rattle.std.proofs.Common.{◌≡◌, ◌∙◌}
+use Rattle.std.proofs.Common.{◌∙◌}
 use Rattle.std.proofs.lemmas.Result.{IfOk-weaker, on_err_weaker}
 use Rattle.running_machine.specs.Views.{content_of}
 use Rattle.running_machine.proofs.Stepping.{can_finish, refused_back, turn_of_halves}
