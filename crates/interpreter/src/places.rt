@@ -38,14 +38,12 @@ fn body_of(kind: &ResolvedKind) -> Option<&Body>
 /// A number of 32 bits is one.
 fn has_32_bits(_number: i32)
     ensures { FitsSigned w32 _number }
-{
-}
+{}
 
 /// A number of 64 bits is one.
 fn has_64_bits(_number: i64)
     ensures { FitsSigned w64 _number }
-{
-}
+{}
 
 /// The integers of constants have the bits of their sizes.
 fn constants_are_small(operation: &Operation)

@@ -1,4 +1,5 @@
 pub mod Views
+pub mod Finishing
 pub mod Runs
 pub mod Refusals
 pub mod Statics

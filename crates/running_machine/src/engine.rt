@@ -1,13 +1,18 @@
 //! What a machine does on each event.
 
-ghost use Rattle.std.specs.Prelude.{◌≡◌, ◌≢◌, ◌<◌, IfOk, OnErr, IsSome, None, Some, length, true};
+ghost use Rattle.std.specs.Prelude.{◌≡◌, ◌≢◌, ◌<◌, ℕ, IfOk, OnErr, IsSome, None, Some, length, slice_get, true};
 ghost use Rattle.cil_model.specs.Ranges.{are_in_range};
 ghost use Rattle.object_memory.specs.Cells.{null, slots_at};
+ghost use Rattle.object_memory.specs.declared.addresses.Addr.{Addr as AnyAddr};
+ghost use Rattle.cil_model.specs.declared.limits.TheConstants.{MOST_INSTRUCTIONS};
 ghost use Rattle.cil_model.specs.declared.events.Event.TheVariants.{Step as StepOf, Ack as AckOf};
+ghost use Rattle.threads_monitors.specs.Frames.{Frames};
 ghost use Rattle.threads_monitors.specs.Threads.{is_live_at, start_fault};
+ghost use Rattle.interpreter.specs.declared.outcomes.Outcome.TheVariants.{Starts as StartsOn, Joins as JoinsOn};
 ghost use Rattle.method_table.specs.Prepared.{IsMethodTable};
-ghost use Rattle.machine_states.specs.Turns.{IsTurn, started, thread_for};
+ghost use Rattle.machine_states.specs.Turns.{IsTurn, counted, started, thread_for};
 ghost use Rattle.running_machine.specs.Views.{CanGoOn, content_of};
+ghost use Rattle.running_machine.specs.Finishing.{CanFinish, IsInstructed, answered, finish, live_thread};
 
 use crate::beginnings::beginning_on;
 use crate::steps::{answer, instruct};
@@ -23,7 +28,7 @@ use threads_monitors::{Effect, Thread, join, start, start_fault};
 use verifier::Verified;
 
 /// A program with its table of methods, and all that changes while it runs.
-#[derive(Debug, Drop)]
+#[derive(Drop)]
 pub struct Engine {
     pub program: Verified,
     pub table: MethodTable,
@@ -58,7 +63,19 @@ impl Engine {
         ensures table { IsMethodTable self.new.program self.new.table }
         ensures refused { OnErr result (content_of self.new ≡ content_of self.old) }
     {
-        let outcome = instruct(
+        let outcome = self.instruct(number)?;
+        self.finish(alloc, number, outcome)
+    }
+
+    /// The instruction at a live thread's place, whose step isn't counted yet.
+    fn instruct(&mut self, number: u8) -> Result<Outcome, NoMemory>
+        requires ready { CanGoOn self.old }
+        requires live { is_live_at self.old.threads.items number ≡ true }
+        ensures instructed { IfOk result (λ outcome. IsInstructed (content_of self.old) number outcome (content_of self.new)) }
+        ensures table { IsMethodTable self.new.program self.new.table }
+        ensures refused { OnErr result (content_of self.new ≡ content_of self.old) }
+    {
+        instruct(
             &mut self.threads[usize::from(number)],
             number,
             self.program.program(),
@@ -67,18 +84,72 @@ impl Engine {
             &mut self.heap,
             &mut self.statics,
             &mut self.console,
-        )?;
+        )
+    }
+
+    /// Counts the step of a live thread whose instruction came to this, and reports it. A start alone can be refused.
+    fn finish(&mut self, alloc: Global, number: u8, outcome: Outcome) -> Result<Report, NoMemory>
+        requires table { IsMethodTable self.old.program self.old.table }
+        requires limits { are_in_range self.old.limits ≡ true }
+        requires live { is_live_at self.old.threads.items number ≡ true }
+        requires can { (left : ℕ) (m : Frames) → slice_get self.old.threads.items number ≡ Some (live_thread left m) → CanFinish (content_of self.old) m outcome }
+        ensures finished { IfOk result (λ report. (left : ℕ) (m : Frames) → slice_get self.old.threads.items number ≡ Some (live_thread left m) → finish (content_of self.old) number left m outcome ≡ Some (content_of self.new, report)) }
+        ensures table { IsMethodTable self.new.program self.new.table }
+        ensures refused { OnErr result ((object : AnyAddr) × (outcome ≡ StartsOn object) × (content_of self.new ≡ content_of self.old)) }
+    {
         match outcome {
-            Outcome::Comes(effect) => Ok(self.threads[usize::from(number)].settle(effect)),
-            Outcome::Starts(object) => {
-                let effect = self.start(alloc, object)?;
-                Ok(answer(&mut self.threads[usize::from(number)], effect))
-            }
-            Outcome::Joins(object) => {
-                let effect = join(&self.threads, &self.heap, object);
-                Ok(answer(&mut self.threads[usize::from(number)], effect))
-            }
+            Outcome::Comes(effect) => Ok(self.settle(number, effect)),
+            Outcome::Starts(object) => self.finish_start(alloc, number, object),
+            Outcome::Joins(object) => Ok(self.finish_join(number, object)),
         }
+    }
+
+    /// Counts the step of a live thread that asked for a thread to start on an object, and reports it.
+    fn finish_start(&mut self, alloc: Global, number: u8, object: Addr) -> Result<Report, NoMemory>
+        requires table { IsMethodTable self.old.program self.old.table }
+        requires limits { are_in_range self.old.limits ≡ true }
+        requires live { is_live_at self.old.threads.items number ≡ true }
+        requires can { (left : ℕ) (m : Frames) → slice_get self.old.threads.items number ≡ Some (live_thread left m) → CanFinish (content_of self.old) m (StartsOn object) }
+        ensures finished { IfOk result (λ report. (left : ℕ) (m : Frames) → slice_get self.old.threads.items number ≡ Some (live_thread left m) → finish (content_of self.old) number left m (StartsOn object) ≡ Some (content_of self.new, report)) }
+        ensures table { IsMethodTable self.new.program self.new.table }
+        ensures refused { OnErr result (content_of self.new ≡ content_of self.old) }
+    {
+        let effect = self.start(alloc, object)?;
+        Ok(self.answer(number, effect))
+    }
+
+    /// Counts the step of a live thread that asked for the end of another, and reports it.
+    fn finish_join(&mut self, number: u8, object: Addr) -> Report
+        requires table { IsMethodTable self.old.program self.old.table }
+        requires live { is_live_at self.old.threads.items number ≡ true }
+        requires can { (left : ℕ) (m : Frames) → slice_get self.old.threads.items number ≡ Some (live_thread left m) → CanFinish (content_of self.old) m (JoinsOn object) }
+        ensures finished { (left : ℕ) (m : Frames) → slice_get self.old.threads.items number ≡ Some (live_thread left m) → finish (content_of self.old) number left m (JoinsOn object) ≡ Some (content_of self.new, result) }
+        ensures table { IsMethodTable self.new.program self.new.table }
+    {
+        let effect = join(&self.threads, &self.heap, object);
+        self.answer(number, effect)
+    }
+
+    /// Counts a step of a live thread whose instruction came to this for the thread itself, and reports it.
+    fn settle(&mut self, number: u8, effect: Effect) -> Report
+        requires table { IsMethodTable self.old.program self.old.table }
+        requires live { is_live_at self.old.threads.items number ≡ true }
+        ensures counted { (left : ℕ) (m : Frames) → slice_get self.old.threads.items number ≡ Some (live_thread left m) → counted (content_of self.old) number left effect m ≡ (content_of self.new, result) }
+        ensures table { IsMethodTable self.new.program self.new.table }
+    {
+        self.threads[usize::from(number)].settle(effect)
+    }
+
+    /// Counts the step of a live thread that asked for something of another thread, and reports it.
+    fn answer(&mut self, number: u8, effect: Effect) -> Report
+        requires table { IsMethodTable self.old.program self.old.table }
+        requires live { is_live_at self.old.threads.items number ≡ true }
+        requires operand { (left : ℕ) (m : Frames) → slice_get self.old.threads.items number ≡ Some (live_thread left m) → 0 < length m.running.stack }
+        requires behind { (left : ℕ) (m : Frames) → slice_get self.old.threads.items number ≡ Some (live_thread left m) → m.running.place < MOST_INSTRUCTIONS }
+        ensures answered { (left : ℕ) (m : Frames) → slice_get self.old.threads.items number ≡ Some (live_thread left m) → answered (content_of self.old) number left m effect ≡ (content_of self.new, result) }
+        ensures table { IsMethodTable self.new.program self.new.table }
+    {
+        answer(&mut self.threads[usize::from(number)], effect)
     }
 
     /// Starts a thread on an object, or tells why there is none. `NoMemory` where there is none for its frames; nothing is changed then.
@@ -89,7 +160,7 @@ impl Engine {
         requires there { start_fault self.old.threads.items self.old.heap object ≡ None → IsSome (thread_for self.old.program self.old.limits self.old.heap object) }
         ensures started { IfOk result (λ effect. Some (self.new.threads.items, self.new.heap, effect) ≡ started self.old.program self.old.limits self.old.threads.items self.old.heap object) }
         ensures others { IfOk result (λ _. content_of self.new ≡ record (content_of self.old) { threads = self.new.threads.items; objects = self.new.heap }) }
-        ensures table { self.new.table ≡ self.old.table }
+        ensures table { IsMethodTable self.new.program self.new.table }
         ensures refused { OnErr result (content_of self.new ≡ content_of self.old) }
     {
         if let Some(fault) = start_fault(&self.threads, &self.heap, object) {

@@ -57,7 +57,7 @@ impl From<NoMemory> for Refused {
 }
 
 /// A machine that runs a verified program, one event at a time.
-#[derive(Debug, Drop)]
+#[derive(Drop)]
 pub struct Machine {
     engine: Engine,
 }
