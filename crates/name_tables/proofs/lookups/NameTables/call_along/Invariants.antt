@@ -2,7 +2,7 @@ use Rattle.std.proofs.Common.{◌≡◌, drop}
 use Rattle.name_tables.specs.Keys.{called_of_key}
 use Rattle.name_tables.specs.Numbers.{nearest_number, place_in}
 use Rattle.name_tables.specs.Sameness.{same_called, called_of}
-use Rattle.name_tables.proofs.lookups.NameTables.nearest_call.Given as goal
+use Rattle.name_tables.proofs.lookups.NameTables.call_along.Given as goal
 
 abbrev pub invariant-loop-class : goal.invariant-loop-class
 invariant-loop-class l =
