@@ -34,6 +34,18 @@ pub place_of_row : {K X Y : Type 0} (view : K → X) (part : Y → List X) (test
 place_of_row view part test rows ys e n =
     sym (position_from-map view test 0 (slice_index_or rows n [])) ∙ ap (position_from test 0) (map_at view rows n ∙ ap (λ rs. slice_index_or rs n []) e) ∙ place_at part test ys n
 
+-- ---- lines
+
+pub line_of_none : (bases : List (Option ℕ)) (m : ℕ) → lines.line_within bases m None ≡ []
+line_of_none bases zero = refl
+line_of_none bases (suc m) = refl
+
+pub line_of_some : (bases : List (Option ℕ)) (m n : ℕ) → 0 < m → lines.line_within bases m (Some n) ≡ n ∷ lines.line_within bases (m - 1) (lines.base_in bases n)
+line_of_some bases zero n h = absurd (omega (arith, h))
+line_of_some bases (suc m) n h =
+    let k : suc m - 1 ≡ m = omega arith in
+    ap (λ x. n ∷ lines.line_within bases x (lines.base_in bases n)) (sym k)
+
 -- ---- bases
 
 module _ (tree : Tree) where
@@ -72,6 +84,10 @@ module _ (tree : Tree) where
           let k : suc m - 1 ≡ m = omega arith in
           ap (λ b. n ∷ lines.line_within (base_numbers tree) m b) (base_in_numbers n) ∙ ap (λ ns. n ∷ ns) (further (base_at tree n)) ∙
           ap (λ x. n ∷ numbers_within tree x (base_at tree n)) (sym k) ∙ sym (numbers_of_known tree (suc m) c n (omega arith) e)
+
+  -- the classes from a class on are its chain
+  pub whole_line : (c : ClassName) (o : Option ℕ) (m : ℕ) → o ≡ class_number tree c → m ≡ longest_chain tree → lines.line_within (base_numbers tree) m o ≡ chain_numbers tree c
+  whole_line c o m e k = ap (lines.line_within (base_numbers tree) m) e ∙ ap (λ n. lines.line_within (base_numbers tree) n (class_number tree c)) k ∙ line_is_chain (longest_chain tree) (Some c)
 
   nearest_same : (place other : ℕ → Option ℕ) → ((n : ℕ) → place n ≡ other n) → (ns : List ℕ) → lines.nearest place ns ≡ nearest_number other ns
   nearest_same place other same [] = refl

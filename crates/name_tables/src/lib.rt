@@ -3,6 +3,7 @@
 
 pub mod bodies;
 pub mod built_in;
+pub mod chains;
 pub mod class_tables;
 pub mod classes;
 mod inherited;

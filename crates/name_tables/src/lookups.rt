@@ -5,17 +5,18 @@ ghost use Rattle.std.specs.List.{cons_option};
 ghost use Rattle.cil_model.specs.Bodies.{virtual_reference, constructor_reference};
 ghost use Rattle.cil_model.specs.Chains.{find_field, find_method};
 ghost use Rattle.inheritance.specs.Ledgers.{pair_of};
+ghost use Rattle.inheritance.specs.Lines.{base_in};
 ghost use Rattle.name_tables.specs.BuiltInTable.{built_in_entry};
 ghost use Rattle.cil_model.specs.Declarations.{built_ins};
 ghost use Rattle.name_tables.specs.Keys.{class_of_key, field_of_key, called_of_key, reference_of_keys};
-ghost use Rattle.name_tables.specs.Members.{field_key_number, call_key_number, field_place, call_place, IsMemberTable};
+ghost use Rattle.name_tables.specs.Members.{base_numbers, field_key_number, call_key_number, field_place, call_place, IsMemberTable};
 ghost use Rattle.name_tables.specs.Numbers.{chain_numbers, nearest_number, place_in, field_at, method_at, field_number, method_number, declarations, class_number};
 ghost use Rattle.name_tables.specs.Sameness.{same_field, same_called, called_of};
 
 use crate::built_in::BuiltInClass;
 use crate::inherited::Inherited;
 use crate::keys::{CallKey, ClassKey, FieldKey, MethodKey};
-use crate::members::{all_calls, all_fields};
+use crate::members::{all_calls, all_fields, base_numbers};
 use crate::tables::ClassTables;
 use cil_model::instructions::{FieldReference, MethodReference};
 use cil_model::memory::NoMemory;
@@ -32,26 +33,16 @@ pub struct MemberNumber {
     pub place: usize,
 }
 
-/// The tables of a tree, with what each class inherits, and its chain.
+/// The tables of a tree, with the base of each class and what it inherits.
 #[derive(Drop)]
 pub struct NameTables<'a> {
     pub classes: ClassTables<'a>,
+    bases: Vec<Option<usize>>,
     fields: Inherited<FieldKey<'a>>,
     calls: Inherited<CallKey<'a>>,
-    chains: Vec<Vec<usize>>,
+    ghost bases_are: { bases.items ≡ base_numbers classes.tree.now },
     ghost fields_are: { IsMemberTable classes.tree.now fields.inheritance.forest (field_key_number fields.keys) (field_place classes.tree.now) },
     ghost calls_are: { IsMemberTable classes.tree.now calls.inheritance.forest (call_key_number calls.keys) (call_place classes.tree.now) },
-    ghost chains_are: { map (λ v. v.items) chains.items ≡ map (λ e. chain_numbers classes.tree.now e.0) (declarations classes.tree.now) },
-}
-
-fn chains(alloc: Global, classes: &ClassTables) -> Result<Vec<Vec<usize>>, NoMemory>
-    ensures { IfOk result (λ v. map (λ c. c.items) v.items ≡ map (λ e. chain_numbers classes.now.tree.now e.0) (declarations classes.now.tree.now)) }
-{
-    let mut chains = Vec::new(alloc);
-    for name in classes.names() {
-        chains.push(classes.chain(alloc, *name)?)?;
-    }
-    Ok(chains)
 }
 
 /// A declaration as a member.
@@ -74,56 +65,80 @@ impl<'a> NameTables<'a> {
         ensures { IfOk result (λ t. t.classes.tree.now ≡ tree.now) }
     {
         let classes = ClassTables::new(alloc, tree, table)?;
+        let bases = base_numbers(alloc, &classes)?;
         let fields = all_fields(alloc, &classes)?;
         let calls = all_calls(alloc, &classes)?;
-        let chains = chains(alloc, &classes)?;
         Ok(NameTables {
             classes,
+            bases,
             fields,
             calls,
-            chains,
         })
     }
 
-    /// The numbers of a declared class's chain; none where the name stands for nothing.
-    pub fn chain(&self, name: ClassKey) -> &[usize]
-        ensures { result.now ≡ chain_numbers self.now.classes.tree.now (class_of_key name.entry) }
+    /// The number of the base of the class of a number.
+    fn base(&self, class: usize) -> Option<usize>
+        ensures { result ≡ base_in (base_numbers self.now.classes.tree.now) class }
     {
-        let Some(number) = self.classes.number(name) else {
-            return &[];
-        };
-        match self.chains.get(number) {
-            None => &[],
-            Some(chain) => chain.as_slice(),
+        match self.bases.get(class) {
+            None => None,
+            Some(base) => *base,
         }
     }
 
-    /// The nearest class of a chain with this field.
-    fn field_along(&self, chain: &[usize], key: FieldKey) -> Option<MemberNumber>
-        ensures { option_map (λ m. (m.class, m.place)) result ≡ nearest_number (place_in (λ d. d.fields) (same_field (field_of_key key.entry)) self.now.classes.tree.now) chain.now }
+    /// The numbers of a class's chain, the class itself first; none where the name stands for nothing. Fails for want of memory
+    /// alone.
+    pub fn chain(&self, alloc: Global, name: ClassKey) -> Result<Vec<usize>, NoMemory>
+        ensures { IfOk result (λ v. v.items ≡ chain_numbers self.now.classes.tree.now (class_of_key name.entry)) }
     {
-        for class in chain {
-            if let Some(place) = self.classes.field(*class, key) {
-                return Some(MemberNumber {
-                    class: *class,
-                    place,
-                });
+        let mut numbers = Vec::new(alloc);
+        let mut next = self.classes.number(name);
+        let mut left = self.classes.longest_chain();
+        while left > 0 {
+            let Some(class) = next else {
+                return Ok(numbers);
+            };
+            numbers.push(class)?;
+            next = self.base(class);
+            left -= 1;
+        }
+        Ok(numbers)
+    }
+
+    /// The nearest class of a chain with this field, looked for in one class after another.
+    fn field_along(&self, name: ClassKey, key: FieldKey) -> Option<MemberNumber>
+        ensures { option_map (λ m. (m.class, m.place)) result ≡ nearest_number (field_place self.now.classes.tree.now key.entry) (chain_numbers self.now.classes.tree.now (class_of_key name.entry)) }
+    {
+        let mut next = self.classes.number(name);
+        let mut left = self.classes.longest_chain();
+        while left > 0 {
+            let Some(class) = next else {
+                return None;
+            };
+            if let Some(place) = self.classes.field(class, key) {
+                return Some(MemberNumber { class, place });
             }
+            next = self.base(class);
+            left -= 1;
         }
         None
     }
 
-    /// The nearest class of a chain with this method.
-    fn call_along(&self, chain: &[usize], key: CallKey) -> Option<MemberNumber>
-        ensures { option_map (λ m. (m.class, m.place)) result ≡ nearest_number (place_in (λ d. d.methods) (λ m. same_called (called_of_key key.entry) (called_of m)) self.now.classes.tree.now) chain.now }
+    /// The nearest class of a chain with this method, looked for in one class after another.
+    fn call_along(&self, name: ClassKey, key: CallKey) -> Option<MemberNumber>
+        ensures { option_map (λ m. (m.class, m.place)) result ≡ nearest_number (call_place self.now.classes.tree.now key.entry) (chain_numbers self.now.classes.tree.now (class_of_key name.entry)) }
     {
-        for class in chain {
-            if let Some(place) = self.classes.call(*class, key) {
-                return Some(MemberNumber {
-                    class: *class,
-                    place,
-                });
+        let mut next = self.classes.number(name);
+        let mut left = self.classes.longest_chain();
+        while left > 0 {
+            let Some(class) = next else {
+                return None;
+            };
+            if let Some(place) = self.classes.call(class, key) {
+                return Some(MemberNumber { class, place });
             }
+            next = self.base(class);
+            left -= 1;
         }
         None
     }
@@ -137,7 +152,7 @@ impl<'a> NameTables<'a> {
         };
         match self.fields.nearest(class, key) {
             Ok(found) => member_number(found),
-            Err(Endless) => self.field_along(self.chain(owner), key),
+            Err(Endless) => self.field_along(owner, key),
         }
     }
 
@@ -150,7 +165,7 @@ impl<'a> NameTables<'a> {
         };
         match self.calls.nearest(class, key) {
             Ok(found) => member_number(found),
-            Err(Endless) => self.call_along(self.chain(owner), key),
+            Err(Endless) => self.call_along(owner, key),
         }
     }
 

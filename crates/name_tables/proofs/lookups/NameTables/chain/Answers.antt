@@ -1,31 +1,23 @@
-use Rattle.std.proofs.Common.{◌≡◌, Some, None, option_map, refl, sym, ap, ◌∙◌, slice_get, length}
-use Rattle.std.proofs.lemmas.Option.{slice_get-map, slice_get_read, slice_get_past}
-use Rattle.cil_model.specs.Chains.{longest_chain}
+use Rattle.std.proofs.Common.{◌≡◌, ◌-◌, ◌++◌, ◌∷◌, [], sym, ap, ◌∙◌, Some, None, arith, append_assoc}
+use Rattle.std.proofs.lemmas.List.{append-nil}
+use Rattle.inheritance.specs.Lines.{line_within}
 use Rattle.name_tables.specs.Keys.{class_of_key}
-use Rattle.name_tables.specs.Numbers.{chain_numbers}
-use Rattle.name_tables.proofs.NumberLaws.{none_is_some, numbers_of_unknown, chain_at_number}
+use Rattle.name_tables.specs.Members.{base_numbers}
+use Rattle.name_tables.proofs.MemberLaws.{line_of_none, line_of_some, whole_line}
 use Rattle.name_tables.proofs.lookups.NameTables.chain.Goals as goal
 
+pub loop-left-init : goal.loop-left-init
+loop-left-init c = whole_line c.args.self.now.classes.tree.now (class_of_key c.args.name) _ _ c.number-next.ensures c.longest_chain-left.ensures
+
 pub returns-in_default : goal.returns-in_default
-returns-in_default c = let t = c.args.self.now.classes.tree.now in
-    sym (numbers_of_unknown t (longest_chain t) (class_of_key c.args.name) (sym c.number.ensures ∙ c.in_default.is))
-
-pub returns-in-None : goal.returns-in-None
-returns-in-None c =
+returns-in_default c =
     let t = c.args.self.now.classes.tree.now in
-    let past : slice_get c.deref.result.now c.in-Some.number ≡ None = slice_get_past c.deref.result.now c.in-Some.number c.in-None.ensures.lookup.3 in
-    let none : slice_get c.args.self.now.chains.items c.in-Some.number ≡ None = ap (λ xs. slice_get xs c.in-Some.number) (sym c.deref.ensures.value) ∙ past in
-    absurd (none_is_some (chain_numbers t (class_of_key c.args.name)) (
-    sym (ap (option_map (λ v. v.items)) none) ∙ sym (slice_get-map (λ v. v.items) c.args.self.now.chains.items c.in-Some.number) ∙ ap (λ xs. slice_get xs c.in-Some.number) c.args.self.now.chains_are ∙
-    chain_at_number t (class_of_key c.args.name) c.in-Some.number (sym c.number.ensures ∙ c.in-Some.is)))
+    sym (append-nil c.loop-left.numbers.items) ∙ ap (λ z. c.loop-left.numbers.items ++ z) (sym (ap (line_within (base_numbers t) c.loop-left.left) c.in_default.is ∙ line_of_none (base_numbers t) c.loop-left.left)) ∙ c.loop-left.invariant
 
-pub returns-in-Some-get : goal.returns-in-Some-get
-returns-in-Some-get c =
+pub loop-left-preserved : goal.loop-left-preserved
+loop-left-preserved c =
     let t = c.args.self.now.classes.tree.now in
-    let read : slice_get c.deref.result.now c.in-Some.number ≡ Some c.in-Some-get.chain.now = slice_get_read c.deref.result.now (length c.deref.result.now) c.in-Some.number c.in-Some-get.chain.now refl c.in-Some-get.ensures.lookup.3.0 c.in-Some-get.ensures.lookup.1 in
-    let some : slice_get c.args.self.now.chains.items c.in-Some.number ≡ Some c.in-Some-get.chain.now = ap (λ xs. slice_get xs c.in-Some.number) (sym c.deref.ensures.value) ∙ read in
-    let both : Some c.in-Some-get.chain.now.items ≡ Some (chain_numbers t (class_of_key c.args.name)) =
-    sym (ap (option_map (λ v. v.items)) some) ∙ sym (slice_get-map (λ v. v.items) c.args.self.now.chains.items c.in-Some.number) ∙ ap (λ xs. slice_get xs c.in-Some.number) c.args.self.now.chains_are ∙
-    chain_at_number t (class_of_key c.args.name) c.in-Some.number (sym c.number.ensures ∙ c.in-Some.is) in
-    let same : c.in-Some-get.chain.now.items ≡ chain_numbers t (class_of_key c.args.name) = cc both in
-    c.as_slice.ensures.value ∙ same
+    let further = line_within (base_numbers t) (c.loop-left.left - 1) in
+    ap (λ z. z ++ further c.base-next.result) c.in_ok-push.ensures.items ∙ append_assoc c.loop-left.numbers.items (c.in-Some.class ∷ []) (further c.base-next.result) ∙
+    ap (λ o. c.loop-left.numbers.items ++ c.in-Some.class ∷ further o) c.base-next.ensures ∙
+    ap (λ z. c.loop-left.numbers.items ++ z) (sym (ap (line_within (base_numbers t) c.loop-left.left) c.in-Some.is ∙ line_of_some (base_numbers t) c.loop-left.left c.in-Some.class (omega arith))) ∙ c.loop-left.invariant

@@ -1,10 +1,14 @@
-use Rattle.std.proofs.Common.{◌≡◌, drop}
-use Rattle.name_tables.specs.Keys.{field_of_key}
-use Rattle.name_tables.specs.Numbers.{nearest_number, place_in}
-use Rattle.name_tables.specs.Sameness.{same_field}
+use Rattle.std.proofs.Common.{◌≡◌}
+use Rattle.inheritance.specs.Lines.{line_within}
+use Rattle.name_tables.specs.Keys.{class_of_key}
+use Rattle.name_tables.specs.Members.{base_numbers, field_place}
+use Rattle.name_tables.specs.Numbers.{chain_numbers, nearest_number}
 use Rattle.name_tables.proofs.lookups.NameTables.field_along.Given as goal
 
-abbrev pub invariant-loop-class : goal.invariant-loop-class
-invariant-loop-class l =
-    nearest_number (place_in (λ d. d.fields) (same_field (field_of_key l.key)) l.self.classes.tree.now) (drop l.class-index l.chain) ≡
-    nearest_number (place_in (λ d. d.fields) (same_field (field_of_key l.key)) l.self.classes.tree.now) l.chain
+abbrev pub invariant-loop-left : goal.invariant-loop-left
+invariant-loop-left l =
+    nearest_number (field_place l.self.classes.tree.now l.key) (line_within (base_numbers l.self.classes.tree.now) l.left l.next) ≡
+    nearest_number (field_place l.self.classes.tree.now l.key) (chain_numbers l.self.classes.tree.now (class_of_key l.fn.name))
+
+abbrev pub decreases-loop-left : goal.decreases-loop-left
+decreases-loop-left l = l.left

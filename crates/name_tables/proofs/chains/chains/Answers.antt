@@ -6,7 +6,7 @@ use Rattle.name_tables.specs.declared.keys.ClassKey.{ClassKey}
 use Rattle.name_tables.specs.Keys.{class_of_key}
 use Rattle.name_tables.specs.Numbers.{chain_numbers, declarations}
 use Rattle.name_tables.proofs.Lists.{map_of_map}
-use Rattle.name_tables.proofs.lookups.chains.Goals as goal
+use Rattle.name_tables.proofs.chains.chains.Goals as goal
 
 pub returns : goal.returns
 returns c =
