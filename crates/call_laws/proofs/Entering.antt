@@ -34,7 +34,7 @@ use Rattle.machine_states.proofs.AgreeLaws.{agree_length, agree_take, agree_drop
 use Rattle.machine_states.proofs.Instructions.{IsSetting, GoesAlike, DoesAlike}
 use Rattle.machine_states.proofs.Going.{own_frame, place_is_small}
 use Rattle.call_laws.proofs.Numbering.{IsNumbered}
-use Rattle.call_laws.proofs.Zeros.{locals_stand, local_count}
+use Rattle.machine_states.proofs.Zeros.{locals_stand, local_count}
 
 -- ---- as many frames as there may be
 

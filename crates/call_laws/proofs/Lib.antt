@@ -1,4 +1,3 @@
-pub mod Zeros
 pub mod Numbering
 pub mod OneOperand
 pub mod Entering

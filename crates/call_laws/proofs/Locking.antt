@@ -36,7 +36,7 @@ use Rattle.machine_states.proofs.Statements.{CellsMayChange, LiteralsMayChange}
 use Rattle.machine_states.proofs.Instructions.{IsSetting, DoesAlike}
 use Rattle.machine_states.proofs.Going.{onward_alike, onward_is}
 use Rattle.call_laws.proofs.Monitors.{IsMonitorAt, IsChanged, monitor_there}
-use Rattle.call_laws.proofs.Printing.{named_not_null}
+use Rattle.machine_states.proofs.Memories.{named_is_not_null}
 
 -- so few entries can be counted
 few_entries : (count left budget : ℕ) → count + left ≤ budget → budget ≤ MOST_BUDGET → nat_lt count (2 ^ 32 - 1) ≡ true
@@ -131,7 +131,7 @@ module _ (cells_may_change : CellsMayChange) (literals_may_change : LiteralsMayC
       there = monitor_there cells_may_change literals_may_change here.tree name o statics printed here.limits s at.memory at.counted a n named
 
       not_null : (a.number == 0) ≡ false
-      not_null = named_not_null name a.number n at.memory.heap.null_unnamed named
+      not_null = named_is_not_null here.tree name o s at.memory.heap a.number n named
 
       enters_object : Alike (act_turn here.tree here.thread Enter m o printed) (act here s f below Enter (Reference n ∷ []) rest')
       enters_object =

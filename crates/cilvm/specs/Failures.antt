@@ -13,9 +13,6 @@ use Rattle.metadata.specs.declared.program.MetaError.TheVariants.{OutOfMemory as
 use Rattle.verifier.specs.Numbers.{typing_number_of}
 use Rattle.verifier.specs.declared.refusals.VerifyError.{VerifyError}
 use Rattle.verifier.specs.declared.refusals.VerifyError.TheVariants.{OutOfMemory as UnverifiedForMemory}
-use Rattle.first_path.specs.PathNumbers.{path_number_of}
-use Rattle.first_path.specs.declared.path.PathError.{PathError}
-use Rattle.first_path.specs.declared.path.PathError.TheVariants.{OutOfMemory as NotOnPathForMemory}
 use Rattle.interleaving_core.specs.Refusals.{number_of as making_number_of}
 use Rattle.interleaving_core.specs.declared.machine.Refused.{Refused as NotMade}
 use Rattle.interleaving_core.specs.declared.machine.Refused.TheVariants.{OutOfMemory as NotMadeForMemory}
@@ -38,11 +35,6 @@ failure_of_resolving error = Refused (legality_number_of error)
 abbrev pub failure_of_verifying : VerifyError → Failure
 failure_of_verifying UnverifiedForMemory = Memory
 failure_of_verifying error = Refused (typing_number_of error)
-
--- a program that does not run yet
-abbrev pub failure_of_path : PathError → Failure
-failure_of_path NotOnPathForMemory = Memory
-failure_of_path error = Refused (path_number_of error)
 
 -- limits belong to the command line
 abbrev pub failure_of_making : NotMade → Failure

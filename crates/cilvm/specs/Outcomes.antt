@@ -3,7 +3,7 @@ use Rattle.std.specs.Io.KnownBytes.{Appends}
 use Rattle.std.specs.Fmt.{decimal}
 use Rattle.std.specs.Prelude.{◌≡◌, ◌≢◌, ◌⊎◌, ◌*◌, ◌++◌, ◌∷◌, [], ℕ, true, false, List, Option, Some, None, Err, codes}
 use Rattle.std.specs.List.{zip}
-use Rattle.machine_content.specs.Budgets.{AreWithinBudget}
+use Rattle.machine_states.specs.Budgets.{AreWithinBudget}
 use Rattle.cil_model.specs.Ranges.{are_in_range}
 use Rattle.flip_trial.specs.Trial.{place_count}
 use Rattle.flip_trial.specs.declared.sizes.Sizes.{Sizes}
@@ -14,7 +14,7 @@ use Rattle.cil_model.specs.declared.trees.Tree.{Tree}
 use Rattle.ilasm_reader.specs.Answers.{IsReadAnswer}
 use Rattle.ilasm_reader.specs.declared.reading.ReadError.{ReadError}
 use Rattle.cil_model.specs.Legality.{IsLegal, least_broken}
-use Rattle.machine_content.specs.StandsFor.{IsRunOf, StandsAfter}
+use Rattle.machine_states.specs.Runs.{IsRunOf, StandsAfter}
 use Rattle.reference_machine.specs.States.{State}
 use Rattle.cil_model.specs.Typings.{IsAccepted}
 use Rattle.cil_model.specs.declared.reports.End.{End}
@@ -22,18 +22,15 @@ use Rattle.cil_model.specs.declared.reports.Report.{Report}
 use Rattle.metadata.specs.RuleNumbers.{number_of as legality_number_of}
 use Rattle.metadata.specs.declared.program.MetaError.{MetaError}
 use Rattle.metadata.specs.declared.program.MetaError.TheVariants.{OutOfMemory as NoMemoryForNames}
-use Rattle.first_path.specs.Typed.{first_beyond}
-use Rattle.first_path.specs.declared.path.PathError.{PathError}
-use Rattle.first_path.specs.declared.path.PathError.TheVariants.{NotYet}
 use Rattle.verifier.specs.Verdicts.{IsVerdict}
 use Rattle.verifier.specs.declared.refusals.VerifyError.{VerifyError}
-use Rattle.machine_content.specs.MachineContents.{Content}
+use Rattle.machine_states.specs.MachineContents.{Content}
 use Rattle.interleaving_core.specs.declared.machine.Refused.TheVariants.{Limits as BadLimits}
 use Rattle.schedule_text.specs.Items.{words}
 use Rattle.schedule_text.specs.Readings.{AreRead, IsFirstFault}
 use Rattle.schedule_text.specs.declared.errors.ScheduleError.{ScheduleError}
 use Rattle.cilvm.specs.Failures.{failure_of_making, failure_of_reading, failure_of_resolving}
-use Rattle.cilvm.specs.Failures.{failure_of_path, failure_of_schedule, failure_of_verifying, is_refusal, message_of}
+use Rattle.cilvm.specs.Failures.{failure_of_schedule, failure_of_verifying, is_refusal, message_of}
 use Rattle.cilvm.specs.Failures.{IsStatusOf, status_of_failure}
 use Rattle.cilvm.specs.Threads.{ends_of, lines_from, status_of}
 use Rattle.cilvm.specs.declared.drive.Failure.{Failure}
@@ -68,32 +65,23 @@ IsNotAccepted source failure =
 
 -- ---- the run
 
--- an accepted program does not run yet: this is its first method with an instruction that does not, but for want of memory
-abbrev pub IsBeyond : Tree → Failure → Type 0
-IsBeyond tree failure = (error : PathError) × ((method : ℕ) → error ≡ NotYet method → first_beyond tree ≡ Some method) × (failure ≡ failure_of_path error)
-
--- the bytes have a tree that is an accepted program, all of whose instructions run
-abbrev pub IsRunnable : List ℕ → Tree → Type 0
-IsRunnable source tree = IsAcceptedSource source tree × (first_beyond tree ≡ None)
-
 -- a machine has its limits in range, and stands after these events, of which it gave these reports
 abbrev pub IsRun : Tree → Limits → List Event → List Report → Content → Type 0
 IsRun tree limits events reports content = (are_in_range limits ≡ true) × StandsAfter tree limits events reports content
 
 -- a machine has run a list of events: the bytes have a tree that is an accepted program, and it stands after the events
 abbrev pub HasRunTo : List ℕ → Limits → List Event → List Report → Content → Type 0
-HasRunTo source limits events reports content = (tree : Tree) × IsRunnable source tree × IsRun tree limits events reports content
+HasRunTo source limits events reports content = (tree : Tree) × IsAcceptedSource source tree × IsRun tree limits events reports content
 
--- why a program that runs was not run: its limits come first, then memory
+-- why an accepted program was not run: its limits come first, then memory
 abbrev pub IsNotRunWithin : Limits → Failure → Type 0
 IsNotRunWithin limits failure =
     ((are_in_range limits ≡ false) × (failure ≡ failure_of_making BadLimits))
     ⊎ ((are_in_range limits ≡ true) × (failure ≡ Memory))
 
--- why no machine has run a list of events, whichever it is: the source, then what does not run yet, then the limits and memory
+-- why no machine has run a list of events, whichever it is: the source, then the limits and memory
 abbrev pub IsNotRun : List ℕ → Limits → Failure → Type 0
-IsNotRun source limits failure = IsNotAccepted source failure
-    ⊎ ((tree : Tree) × IsAcceptedSource source tree × (IsBeyond tree failure ⊎ ((first_beyond tree ≡ None) × IsNotRunWithin limits failure)))
+IsNotRun source limits failure = IsNotAccepted source failure ⊎ (IsLetIn source × IsNotRunWithin limits failure)
 
 -- a machine has run by a text: the text writes the events that it has run
 abbrev pub IsRunBy : List ℕ → Limits → List ℕ → List Report → Content → Type 0
@@ -106,7 +94,7 @@ IsBadSchedule text failure = (error : ScheduleError) × IsFirstFault (words text
 -- why no machine has run by a text: what lets no list of events run, then the text
 abbrev pub IsNotRunBy : List ℕ → Limits → List ℕ → Failure → Type 0
 IsNotRunBy source limits text failure = IsNotRun source limits failure
-    ⊎ ((tree : Tree) × IsRunnable source tree × (are_in_range limits ≡ true) × IsBadSchedule text failure)
+    ⊎ (IsLetIn source × (are_in_range limits ≡ true) × IsBadSchedule text failure)
 
 -- what is shown on the two outputs of bytes that were printed and of how the threads stand, and the status
 pub record IsShown (printed : List ℕ) (ends : List (Option End)) (out out' err err' : Option (List ℕ)) (status : ℕ) : Type 0 where

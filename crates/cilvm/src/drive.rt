@@ -19,7 +19,6 @@ use cil_model::limits::Limits;
 use cil_model::memory::NoMemory;
 use cil_model::reports::{End, Report};
 use class_layout::lay_out;
-use first_path::{FirstPath, PathError, first_path};
 use flip_trial::{Outcome, Sizes};
 use ilasm_reader::ReadError;
 use interleaving_core::{Machine, Refused};
@@ -100,17 +99,6 @@ impl From<VerifyError> for Failure {
     fn from(error: VerifyError) -> Failure {
         match error {
             VerifyError::OutOfMemory => Failure::Memory,
-            _ => Failure::Refused(error.number()),
-        }
-    }
-}
-
-impl From<PathError> for Failure {
-    ghost from_gives = { λ error failure. failure ≡ failure_of_path error };
-
-    fn from(error: PathError) -> Failure {
-        match error {
-            PathError::OutOfMemory => Failure::Memory,
             _ => Failure::Refused(error.number()),
         }
     }
@@ -287,7 +275,7 @@ fn show_run<W: Write, E: Write>(
 }
 
 /// A machine after the events of a run, and what it reported of them.
-#[derive(Debug, Drop)]
+#[derive(Drop)]
 pub struct MachineRun {
     /// The machine, which holds what the run printed and how each thread stands.
     pub machine: Machine,
@@ -297,7 +285,7 @@ pub struct MachineRun {
 
 /// Runs a source by the events that a schedule's text writes, as `run_events` runs a list of them.
 ///
-/// Faults are looked for in this order: the source, what does not run yet, the limits, the schedule, memory for what is printed.
+/// Faults are looked for in this order: the source, the limits, the schedule, memory for reports, threads and what is printed.
 pub fn run_source(
     alloc: Global,
     source: &[u8],
@@ -323,8 +311,8 @@ pub fn run_source(
 /// for the state that it comes to: the bytes printed are the same, and each thread stands alike. No thread makes more steps than its
 /// budget has. A step of a thread that isn't live is reported Absent; an event of a collector does nothing yet (this profile).
 ///
-/// Faults are looked for in this order: the source (`accept`), what does not run yet (`Refused(301)`), the limits (`OutOfRange(401)`),
-/// memory for reports and what is printed (`Memory`).
+/// Faults are looked for in this order: the source (`accept`), the limits (`OutOfRange(401)`), memory for reports, threads and what is
+/// printed (`Memory`).
 pub fn run_events(
     alloc: Global,
     source: &[u8],
@@ -335,8 +323,7 @@ pub fn run_events(
     ensures refused { IfErr result (IsNotRun source.now limits) }
 {
     let verified = accept(alloc, source)?;
-    let program = first_path(alloc, verified)?;
-    run(alloc, program, limits, events)
+    run(alloc, verified, limits, events)
 }
 
 /// The verified program of a source, whose tree is the one that the bytes have. It is legal, and each of its methods has a typing.
@@ -353,7 +340,7 @@ pub fn accept(alloc: Global, source: &[u8]) -> Result<Verified, Failure>
 /// The machine of a program after these events.
 fn run(
     alloc: Global,
-    program: FirstPath,
+    program: Verified,
     limits: Limits,
     events: &[Event],
 ) -> Result<MachineRun, Failure>
@@ -362,7 +349,7 @@ fn run(
 {
     let mut machine = Machine::new(alloc, program, limits)?;
     let mut reports = Vec::new(alloc);
-    machine.run(events, &mut reports)?;
+    machine.run(alloc, events, &mut reports)?;
     Ok(MachineRun { machine, reports })
 }
 
@@ -373,7 +360,7 @@ fn show<W: Write, E: Write>(
     out: &mut W,
     err: &mut E,
 ) -> Result<u8, Failure>
-    ensures shown { IfOk result (IsShown machine.now.printed (map (λ t. t.ended) machine.now.threads) (W.contents out.old) (W.contents out.new)
+    ensures shown { IfOk result (IsShown machine.now.printed (map end_of machine.now.threads) (W.contents out.old) (W.contents out.new)
         (E.contents err.old) (E.contents err.new)) }
     ensures failed { IfErr result IsOfWriting }
 {
@@ -385,7 +372,7 @@ fn show<W: Write, E: Write>(
 
 /// How each thread that was started has ended, in the order of their numbers.
 fn ends(alloc: Global, machine: &Machine) -> Result<Vec<Option<End>>, AllocError>
-    ensures { IfOk result (λ ends. ends.items ≡ map (λ t. t.ended) machine.now.threads) }
+    ensures { IfOk result (λ ends. ends.items ≡ map end_of machine.now.threads) }
 {
     let mut ends = Vec::new(alloc);
     for thread in 0..machine.started() {

@@ -31,11 +31,11 @@ use Rattle.machine_states.specs.Agreement.{Agree}
 use Rattle.machine_states.specs.StandsFor.{Names, IsValue, int32, int64, null_reference, reference}
 use Rattle.machine_states.proofs.AgreeLaws.{agree_set}
 use Rattle.machine_states.proofs.Instructions.{IsSetting, DoesAlike}
-use Rattle.machine_states.proofs.Going.{own_frame}
+use Rattle.machine_states.proofs.Going.{below_test, own_frame}
 use Rattle.machine_states.proofs.Operands.{fine, one_operand}
 use Rattle.frame_laws.proofs.Meeting.{IsResult, Same, Opposite, meets_opposite}
 use Rattle.frame_laws.proofs.ValueResults.{comparison_meets, branch_test_meets, is_set_meets, binary_meets, unary_meets, shift_meets, narrow_meets, wide_meets, one_or_zero_alike}
-use Rattle.frame_laws.proofs.Taking.{to_label_does, load_does, store_does, value_does, Alike, Typed, below_test, changed_does, onward_does, leaves_does, pushes_does, result_does, jump_does, branch_does, one_given, two_given}
+use Rattle.frame_laws.proofs.Taking.{to_label_does, load_does, store_does, value_does, Alike, Typed, changed_does, onward_does, leaves_does, pushes_does, result_does, jump_does, branch_does, one_given, two_given}
 
 module _ (here : Setting) (name : Names) (m : Frames) (o : Objects) (statics : List Value) (printed : List ℕ) (s : State) (f : StateFrame) (below : List StateFrame) where
   -- a machine at an instruction

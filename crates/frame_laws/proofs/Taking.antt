@@ -2,7 +2,6 @@
 use Rattle.std.proofs.Common.{◌≡◌, ◌≤◌, ◌<◌, ◌+◌, ℕ, ℤ, pos, negsuc, Bool, true, false, List, [], ◌∷◌, length, Option, Some, None, option_map, slice_get, slice_set, Result, Ok, Err, refl, sym, ap, subst, arith}
 use Rattle.std.specs.Prelude.{if◌then◌else◌, nat_lt}
 use Rattle.std.specs.Option.{option_map_or}
-use Rattle.std.proofs.lemmas.Bool.Decides.{nat_tests}
 use Rattle.std.proofs.lemmas.Option.{slice_get_within}
 use Rattle.cil_model.specs.declared.instructions.Instruction.{Instruction}
 use Rattle.cil_model.specs.declared.limits.TheConstants.{MOST_INSTRUCTIONS}
@@ -31,13 +30,9 @@ use Rattle.machine_states.specs.Agreement.{Agree}
 use Rattle.machine_states.specs.StandsFor.{Names, IsValue, IsFrame, AreFrames}
 use Rattle.machine_states.proofs.AgreeLaws.{agree_length}
 use Rattle.machine_states.proofs.Instructions.{IsSetting, DoesAlike}
-use Rattle.machine_states.proofs.Going.{own_frame, place_is_small, onward_is, leaves_is, moved_frames, next_alike, jump_alike}
+use Rattle.machine_states.proofs.Going.{below_test, own_frame, place_is_small, onward_is, leaves_is, moved_frames, next_alike, jump_alike}
 use Rattle.machine_states.proofs.Operands.{one_operand, two_operands}
 use Rattle.frame_laws.proofs.Meeting.{Meets, IsResult, meets_at}
-
--- a number below another passes the test
-pub below_test : (m n : ℕ) → m < n → nat_lt m n ≡ true
-below_test m n h = grind (arith, nat_tests)
 
 module _ (here : Setting) (name : Names) (m : Frames) (o : Objects) (statics : List Value) (printed : List ℕ) (s : State) (f : StateFrame) (below : List StateFrame) (i : Instruction) (operation : Operation)
     (at : IsSetting here name m o statics printed s f below i operation) where

@@ -1,5 +1,5 @@
 -- What operations on values answer, of both machines.
-use Rattle.std.proofs.Common.{◌≡◌, ◌==◌, ℕ, ℤ, pos, Bool, true, false, not, Some, Result, Ok, Err, refl, sym, ap, ◌∙◌, subst, true≢false, lit<}
+use Rattle.std.proofs.Common.{◌≡◌, ◌==◌, ℤ, pos, Bool, true, false, not, Some, Result, Ok, Err, refl, sym, ap, ◌∙◌, subst, true≢false, lit<}
 use Rattle.std.specs.Int.{w32, w64}
 use Rattle.std.proofs.lemmas.Bool.{eqb-true, eq-eqb}
 use Rattle.cil_model.specs.declared.instructions.BinaryOperation.{BinaryOperation}
@@ -11,7 +11,7 @@ use Rattle.cil_model.specs.declared.instructions.BranchComparison.{BranchCompari
 use Rattle.cil_model.specs.declared.instructions.BranchComparison.TheVariants.{Equal as BranchEqual, NotEqual}
 use Rattle.cil_model.specs.declared.reports.Fault.{Fault}
 use Rattle.cil_model.specs.declared.trees.Tree.{Tree}
-use Rattle.cil_model.proofs.BelowLaws.{none_is_some, same_some}
+use Rattle.cil_model.proofs.BelowLaws.{same_some}
 use Rattle.cil_model.proofs.SameLaws.{same_text_equal, same_text_itself}
 use Rattle.reference_machine.specs.Values.{ObjectName, Born, Literal, Value as StateValue, Int32 as Int32Value, Int64 as Int64Value, same_object}
 use Rattle.reference_machine.specs.Arithmetic.{binary, binary_value, unary_value, shift_value, compare_values, branch_values, is_set as is_set_value, convert_32, convert_64, one_or_zero as one_or_zero_value, result_as}
@@ -24,6 +24,7 @@ use Rattle.frame_instructions.specs.Frames.{held_as, binary_result, unary_result
 use Rattle.machine_states.specs.StandsFor.{Names, IsValue, int32, int64, native, null_reference, reference, IsHeap}
 use Rattle.frame_laws.proofs.Fitting.{FitsResult, binary_fits, unary_fits, shift_fits, cast_fits, widened_fits}
 use Rattle.frame_laws.proofs.Meeting.{Meets, IsResult, Same, meets_itself}
+use Rattle.machine_states.proofs.Memories.{named_is_not_null, null_is_not_named}
 
 -- ---- names of objects
 
@@ -52,23 +53,14 @@ module _ (tree : Tree) (name : Names) (o : Objects) (s : State) (heap : IsHeap t
       (λ h. let e : m ≡ n = same_some m n (sym is ∙ ap name (eqb-true a.number b.number h) ∙ is') in subst (λ k. same_object m k ≡ true) e (same_object_itself m))
       (λ h. eq-eqb a.number b.number (heap.apart a.number b.number n (is ∙ ap Some (same_object_equal m n h)) is'))
 
-  -- what has a name isn't null
-  named_is_not_null : (a : ℕ) (n : ObjectName) → name a ≡ Some n → (t : Bool) → (a == 0) ≡ t → t ≡ false
-  named_is_not_null a n is false h = refl
-  named_is_not_null a n is true h = none_is_some n (sym heap.null_unnamed ∙ ap name (sym (eqb-true a 0 h)) ∙ is)
-
-  null_is_not_named : (a : ℕ) (n : ObjectName) → name a ≡ Some n → (t : Bool) → (0 == a) ≡ t → t ≡ false
-  null_is_not_named a n is false h = refl
-  null_is_not_named a n is true h = none_is_some n (sym heap.null_unnamed ∙ ap name (eqb-true 0 a h) ∙ is)
-
   -- ---- tests
 
   pub comparison_meets : (op : Comparison) (v w : Value) (u x : StateValue) → IsValue name v u → IsValue name w x → Meets Same (comparison op v w) (compare_values op u x)
   comparison_meets Equal v w u x (int32 y fits) (int32 z fits') = refl
   comparison_meets Equal v w u x (int64 y fits) (int64 z fits') = refl
   comparison_meets Equal v w u x null_reference null_reference = refl
-  comparison_meets Equal v w u x null_reference (reference b n is) = null_is_not_named b.number n is _ refl
-  comparison_meets Equal v w u x (reference a m is) null_reference = named_is_not_null a.number m is _ refl
+  comparison_meets Equal v w u x null_reference (reference b n is) = null_is_not_named tree name o s heap b.number n is
+  comparison_meets Equal v w u x (reference a m is) null_reference = named_is_not_null tree name o s heap a.number m is
   comparison_meets Equal v w u x (reference a m is) (reference b n is') = same_reference_alike a b m n is is'
   comparison_meets Equal v w u x h k = tt
   comparison_meets Greater v w u x (int32 y fits) (int32 z fits') = refl
@@ -83,8 +75,8 @@ module _ (tree : Tree) (name : Names) (o : Objects) (s : State) (heap : IsHeap t
   branch_test_meets op v w u x (int64 y fits) (int64 z fits') = meets_itself (branch_values op (Int64Value y) (Int64Value z))
   branch_test_meets BranchEqual v w u x h k = comparison_meets Equal v w u x h k
   branch_test_meets NotEqual v w u x null_reference null_reference = refl
-  branch_test_meets NotEqual v w u x null_reference (reference b n is) = ap not (null_is_not_named b.number n is _ refl)
-  branch_test_meets NotEqual v w u x (reference a m is) null_reference = ap not (named_is_not_null a.number m is _ refl)
+  branch_test_meets NotEqual v w u x null_reference (reference b n is) = ap not (null_is_not_named tree name o s heap b.number n is)
+  branch_test_meets NotEqual v w u x (reference a m is) null_reference = ap not (named_is_not_null tree name o s heap a.number m is)
   branch_test_meets NotEqual v w u x (reference a m is) (reference b n is') = ap not (same_reference_alike a b m n is is')
   branch_test_meets op v w u x h k = tt
 
@@ -93,7 +85,7 @@ module _ (tree : Tree) (name : Names) (o : Objects) (s : State) (heap : IsHeap t
   is_set_meets v u (int64 z fits) = refl
   is_set_meets v u (native z fits) = tt
   is_set_meets v u null_reference = refl
-  is_set_meets v u (reference a n is) = ap not (named_is_not_null a.number n is _ refl)
+  is_set_meets v u (reference a n is) = ap not (named_is_not_null tree name o s heap a.number n is)
 
 module _ (name : Names) where
   -- ---- integers

@@ -53,37 +53,6 @@ used_stays f keeps at (c ∷ cs) a = by_place (a == at) (used_stays f keeps (at 
     by_place false later = omega (arith, sum_by-cons size c (change_from f (at + size c) cs a), sum_by-cons size c cs, later)
 
 module _ (tree : Tree) (name : Names) (o : Objects) (s : State) (h : IsHeap tree name o s) where
-  -- ---- what doesn't change
-
-  -- a heap is the same beside other threads, static fields and printed bytes
-  pub heap_beside : (s' : State) → s'.objects ≡ s.objects → s'.literal_monitors ≡ s.literal_monitors → IsHeap tree name o s'
-  heap_beside s' objects monitors = record {
-    start = h.start;
-    within = h.within;
-    words = h.words;
-    null_unnamed = h.null_unnamed;
-    small = h.small;
-    apart = h.apart;
-    born = λ a n is. born_beside a n (h.born a n is);
-    literals = λ a characters is. literal_beside a characters (h.literals a characters is);
-    each_literal = h.each_literal;
-  }
-    where
-      born_beside : (a n : ℕ) → IsBornAt tree name o s a n → IsBornAt tree name o s' a n
-      born_beside a n b = record { no_literal = b.no_literal; cell = b.cell; lies = b.lies; object = b.object; is = ap (λ l. slice_get l n) objects ∙ b.is; stands = b.stands }
-
-      literal_beside : (a : ℕ) (characters : List ℕ) → IsLiteralAt tree o s a characters → IsLiteralAt tree o s' a characters
-      literal_beside a characters l = record {
-        number = l.number;
-        numbered = l.numbered;
-        is = l.is;
-        monitor = l.monitor;
-        held = l.held;
-        state_monitor = l.state_monitor;
-        state_held = ap (entry_at same_text characters) monitors ∙ l.state_held;
-        stands = l.stands;
-      }
-
   -- ---- a cell
 
   module _ (a : Addr) (n : ℕ) (named : name a.number ≡ Some (Born n)) (change : Cell → Cell) (keeps : (c : Cell) → length (change c).slots ≡ length c.slots)

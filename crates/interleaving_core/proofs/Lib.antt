@@ -1,9 +1,12 @@
-mod Words
-mod Lists
-mod Moves
-mod Turning
-mod Openings
-mod Events
-mod Follows
-mod Readiness
-mod WholeRuns
+pub mod Declared
+pub mod OpeningLaws
+pub mod Finished
+pub mod Budgets
+pub mod LiveThreads
+pub mod Following
+pub mod Sound
+pub mod Refusing
+pub mod Asking
+pub mod Stepping
+pub mod Indexed
+pub mod Requests

@@ -1,5 +1,4 @@
-pub mod Contents
 pub mod Views
-pub mod Sound
+pub mod Finishing
 pub mod Refusals
-pub mod Threads
+pub mod Statics

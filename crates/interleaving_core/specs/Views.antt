@@ -1,61 +1,40 @@
--- What callers see of the one thread that runs today: its content.
-use Rattle.std.specs.Prelude.{ℕ, ◌+◌, ℤ, List, [], ◌∷◌, map, reverse, Option, Some, None, slice_get}
-use Rattle.std.specs.Option.{option_map_or}
-use Rattle.cil_model.specs.declared.types.ClassName.{ClassName}
-use Rattle.cil_model.specs.declared.limits.Limits.{Limits}
-use Rattle.cil_model.specs.declared.trees.Tree.{Tree}
-use Rattle.cil_model.specs.declared.trees.Code.{Code}
-use Rattle.cil_model.specs.declared.trees.Method.{Method}
+-- What callers see of a machine, and what it keeps true.
+use Rattle.std.specs.Prelude.{◌≡◌, ◌≤◌, ℕ, IsTrue, List, length, Option, Some, option_and_then, slice_get}
+use Rattle.cil_model.specs.declared.limits.TheConstants.{MOST_THREADS}
 use Rattle.cil_model.specs.declared.reports.End.{End}
-use Rattle.cil_model.specs.Bodies.{code_of, entry_points}
-use Rattle.machine_content.specs.MachineContents.{Word, Int32, Frame, Content, Thread as ThreadContent, zero_word}
+use Rattle.cil_model.specs.Ranges.{are_in_range}
+use Rattle.reference_machine.specs.States.{State}
+use Rattle.method_table.specs.Prepared.{IsMethodTable}
+use Rattle.threads_monitors.specs.Frames.{Frames}
+use Rattle.threads_monitors.specs.Threads.{end_of}
+use Rattle.threads_monitors.specs.declared.threads.Standing.TheVariants.{Live}
+use Rattle.threads_monitors.specs.declared.threads.Thread.{Thread}
+use Rattle.interpreter.specs.Instructions.{IsDone}
+use Rattle.machine_states.specs.MachineContents.{Content}
+use Rattle.machine_states.specs.StandsFor.{Represents}
+use Rattle.machine_states.specs.Turns.{Answer}
+use Rattle.step_laws.specs.Ready.{IsReady, IsAnswerable}
 use Rattle.interleaving_core.specs.declared.engine.Engine.{Engine}
-use Rattle.interleaving_core.specs.declared.thread.Thread.{Thread}
 
--- the words of a stack whose topmost number is the last
-abbrev pub words_of : List ℤ → List Word
-words_of items = map Int32 (reverse items)
-
--- a frame with the thread's place and stack
-abbrev pub shown : Frame → Thread → Frame
-shown f t = record f { place = t.place; stack = words_of t.stack.items }
-
--- the same at the next place, with this stack
-abbrev pub moved : Frame → Thread → List ℤ → Frame
-moved f t items = record f { place = t.place + 1; stack = words_of items }
-
--- the frame of a method that has just begun, without arguments
-abbrev pub first_frame : ClassName × Method → Frame
-first_frame found =
-    record {
-      owner = found.0;
-      method = found.1;
-      place = 0;
-      arguments = [];
-      locals = option_map_or (λ (code : Code). map zero_word code.locals) (code_of found.1.kind) [];
-      stack = [];
-      constructed = None;
-    }
-
--- the frames of the thread: the one of the entry point, until the thread has ended
-abbrev pub frames_of : Option (ClassName × Method) → Option End → Thread → List Frame
-frames_of None end t = []
-frames_of (Some entry) None t = shown (first_frame entry) t ∷ []
-frames_of (Some entry) (Some e) t = []
-
--- the thread that began at the entry point
-abbrev pub thread_of : Option (ClassName × Method) → Thread → ThreadContent
-thread_of entry t = record { frames = frames_of entry t.end t; steps_left = t.steps_left; ended = t.end }
-
--- the frame as the thread leaves it: none once the thread has ended
-abbrev pub left_by : Option End → Frame → Thread → List Frame
-left_by None f t = shown f t ∷ []
-left_by (Some e) f t = []
-
--- all that a caller sees: the program with its limits, the one thread, and what was printed
-abbrev pub content : Tree → Limits → Thread → List ℕ → Content
-content tree limits t printed = record { tree = tree; limits = limits; threads = thread_of (slice_get (entry_points tree) 0) t ∷ []; printed = printed }
-
--- the same, of an engine
+-- the content of an engine, without the tables that it runs by
 abbrev pub content_of : Engine → Content
-content_of e = content e.program e.limits e.thread e.console.items
+content_of e = record { tree = e.program; limits = e.limits; threads = e.threads.items; objects = e.heap; statics = e.statics.items; printed = e.console.items }
+
+-- each live thread is ready, and what its instruction asks of other threads can be answered
+pub record CanGoOn (e : Engine) : Type 0 where
+  pub table : IsMethodTable e.program e.table
+  pub limits : IsTrue (are_in_range e.limits)
+  pub ready : (t left : ℕ) (m : Frames) → slice_get e.threads.items t ≡ Some (record { standing = Live m; steps_left = left }) → IsReady (content_of e) t m
+  pub answerable : (t left : ℕ) (m : Frames) → slice_get e.threads.items t ≡ Some (record { standing = Live m; steps_left = left }) → (a : Answer) →
+      IsDone e.program t m e.heap e.statics.items e.console.items a → IsAnswerable (content_of e) t left a a.4
+
+-- how the thread of a number ended; none where it is live or was never started
+abbrev pub end_at : List Thread → ℕ → Option End
+end_at threads n = option_and_then end_of (slice_get threads n)
+
+-- The table of methods is the program's, there are no more threads than there may be, and the content represents a state of the reference machine
+pub record IsSound (e : Engine) : Type 0 where
+  pub table : IsMethodTable e.program e.table
+  pub state : State
+  pub represents : Represents (content_of e) state
+  pub few : length e.threads.items ≤ MOST_THREADS

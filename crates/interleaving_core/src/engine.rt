@@ -1,67 +1,193 @@
 //! What a machine does on each event.
 
-ghost use Rattle.std.specs.Prelude.{◌≡◌, IfOk, OnErr, Some, None};
-ghost use Rattle.machine_content.specs.MachineContents.{end_of, is_live};
-ghost use Rattle.cil_model.specs.declared.events.Event.TheVariants.{Step, Ack};
-ghost use Rattle.cil_model.specs.Examples.{write_line};
-ghost use Rattle.machine_content.specs.Turns.{turn};
-ghost use Rattle.interleaving_core.specs.Contents.{next_instruction};
-ghost use Rattle.interleaving_core.specs.Threads.{IsReady};
-ghost use Rattle.interleaving_core.specs.Views.{content_of};
+ghost use Rattle.std.specs.Prelude.{◌≡◌, ◌≢◌, ◌<◌, ℕ, IfOk, OnErr, IsSome, None, Some, length, slice_get, true};
+ghost use Rattle.std.specs.List.{count_by};
+ghost use Rattle.cil_model.specs.Ranges.{are_in_range};
+ghost use Rattle.object_memory.specs.Cells.{null, slots_at};
+ghost use Rattle.object_memory.specs.declared.addresses.Addr.{Addr as AnyAddr};
+ghost use Rattle.cil_model.specs.declared.limits.TheConstants.{MOST_INSTRUCTIONS};
+ghost use Rattle.cil_model.specs.declared.events.Event.TheVariants.{Step as StepOf, Ack as AckOf};
+ghost use Rattle.threads_monitors.specs.Frames.{Frames};
+ghost use Rattle.threads_monitors.specs.Threads.{is_live, is_live_at, start_fault};
+ghost use Rattle.interpreter.specs.declared.outcomes.Outcome.TheVariants.{Starts as StartsOn, Joins as JoinsOn};
+ghost use Rattle.method_table.specs.Prepared.{IsMethodTable};
+ghost use Rattle.interpreter.specs.Instructions.{Prints};
+ghost use Rattle.machine_states.specs.Turns.{IsTurn, PrintsOrStarts, counted, started, thread_for};
+ghost use Rattle.interleaving_core.specs.Views.{CanGoOn, content_of, end_at};
+ghost use Rattle.interleaving_core.specs.Finishing.{CanFinish, IsInstructed, answered, finish, live_thread};
 
-use crate::thread::Thread;
+use crate::beginnings::beginning_on;
+use crate::steps::{answer, instruct};
 use cil_model::events::Event;
 use cil_model::limits::Limits;
 use cil_model::memory::NoMemory;
 use cil_model::reports::{End, Report};
-use first_path::TypedBody;
+use interpreter::outcomes::Outcome;
+use method_table::MethodTable;
+use object_memory::{Addr, Heap, Value};
+use std::alloc::Global;
+use threads_monitors::{Effect, Thread, join, start, start_fault};
 use verifier::Verified;
 
-/// A program with the code that its one thread runs, and what it has printed.
-#[derive(Debug, Drop)]
+/// A program with its table of methods, and all that changes while it runs.
+#[derive(Drop)]
 pub struct Engine {
     pub program: Verified,
+    pub table: MethodTable,
     pub limits: Limits,
-    pub body: TypedBody,
-    pub thread: Thread,
+    pub threads: Vec<Thread>,
+    pub heap: Heap,
+    pub statics: Vec<Value>,
     pub console: Vec<u8>,
 }
 
 impl Engine {
-    /// What an event does. Want of memory, which a print alone can meet, changes nothing.
-    #[tactic(auto, using(crate::proofs::Events::absent_step, crate::proofs::Events::acknowledged, crate::proofs::Events::absent_acknowledgement))]
-    pub fn step(&mut self, event: Event) -> Result<Report, NoMemory>
-        requires ready { IsReady self.old }
-        ensures ready { IsReady self.new }
-        ensures turns { IfOk result (λ report. (content_of self.new, report) ≡ turn (content_of self.old) event) }
+    /// What an event does. Want of memory, which a print or a start alone can meet, changes nothing.
+    pub fn step(&mut self, alloc: Global, event: Event) -> Result<Report, NoMemory>
+        requires ready { CanGoOn self.old }
+        ensures turns { IfOk result (λ report. IsTurn (content_of self.old) event (content_of self.new, report)) }
+        ensures table { IsMethodTable self.new.program self.new.table }
+        ensures memory { OnErr result (PrintsOrStarts (content_of self.old) event) }
         ensures refused { OnErr result (content_of self.new ≡ content_of self.old) }
-        ensures prints { OnErr result (next_instruction (content_of self.old) 0 ≡ Some write_line) }
     {
         match event {
-            Event::Step(thread) if self.is_live(thread) => self.step_thread(),
+            Event::Step(thread) if self.is_live(thread) => self.step_thread(alloc, thread),
             Event::Step(_) => Ok(Report::Absent),
             Event::Ack(thread) => Ok(self.acknowledge(thread)),
             Event::Gc => Ok(Report::Waiting),
         }
     }
 
-    /// A step of the thread, which is live.
-    #[tactic(auto, using(crate::proofs::Turning::engine_turns))]
-    fn step_thread(&mut self) -> Result<Report, NoMemory>
-        requires ready { IsReady self.old }
-        requires live { self.old.thread.end ≡ None }
-        ensures ready { IsReady self.new }
-        ensures turns { IfOk result (λ report. (content_of self.new, report) ≡ turn (content_of self.old) (Step 0)) }
+    /// A step of a live thread.
+    fn step_thread(&mut self, alloc: Global, number: u8) -> Result<Report, NoMemory>
+        requires ready { CanGoOn self.old }
+        requires live { is_live_at self.old.threads.items number ≡ true }
+        ensures turns { IfOk result (λ report. IsTurn (content_of self.old) (StepOf number) (content_of self.new, report)) }
+        ensures table { IsMethodTable self.new.program self.new.table }
+        ensures memory { OnErr result (PrintsOrStarts (content_of self.old) (StepOf number)) }
         ensures refused { OnErr result (content_of self.new ≡ content_of self.old) }
-        ensures prints { OnErr result (next_instruction (content_of self.old) 0 ≡ Some write_line) }
     {
-        self.thread.execute(&self.body, &mut self.console)?;
-        Ok(self.thread.count_step())
+        let outcome = self.instruct(number)?;
+        self.finish(alloc, number, outcome)
+    }
+
+    /// The instruction at a live thread's place, whose step isn't counted yet.
+    fn instruct(&mut self, number: u8) -> Result<Outcome, NoMemory>
+        requires ready { CanGoOn self.old }
+        requires live { is_live_at self.old.threads.items number ≡ true }
+        ensures instructed { IfOk result (λ outcome. IsInstructed (content_of self.old) number outcome (content_of self.new)) }
+        ensures table { IsMethodTable self.new.program self.new.table }
+        ensures prints { OnErr result ((left : ℕ) (m : Frames) → slice_get self.old.threads.items number ≡ Some (live_thread left m) → Prints self.old.program number m self.old.heap self.old.statics.items self.old.console.items) }
+        ensures refused { OnErr result (content_of self.new ≡ content_of self.old) }
+    {
+        instruct(
+            &mut self.threads[usize::from(number)],
+            number,
+            self.program.program(),
+            self.program.layout(),
+            &self.table,
+            &mut self.heap,
+            &mut self.statics,
+            &mut self.console,
+        )
+    }
+
+    /// Counts the step of a live thread whose instruction came to this, and reports it. A start alone can be refused.
+    fn finish(&mut self, alloc: Global, number: u8, outcome: Outcome) -> Result<Report, NoMemory>
+        requires table { IsMethodTable self.old.program self.old.table }
+        requires limits { are_in_range self.old.limits ≡ true }
+        requires live { is_live_at self.old.threads.items number ≡ true }
+        requires can { (left : ℕ) (m : Frames) → slice_get self.old.threads.items number ≡ Some (live_thread left m) → CanFinish (content_of self.old) m outcome }
+        ensures finished { IfOk result (λ report. (left : ℕ) (m : Frames) → slice_get self.old.threads.items number ≡ Some (live_thread left m) → finish (content_of self.old) number left m outcome ≡ Some (content_of self.new, report)) }
+        ensures table { IsMethodTable self.new.program self.new.table }
+        ensures free { OnErr result ((object : AnyAddr) × (outcome ≡ StartsOn object) × (start_fault self.old.threads.items self.old.heap object ≡ None)) }
+        ensures refused { OnErr result ((object : AnyAddr) × (outcome ≡ StartsOn object) × (content_of self.new ≡ content_of self.old)) }
+    {
+        match outcome {
+            Outcome::Comes(effect) => Ok(self.settle(number, effect)),
+            Outcome::Starts(object) => self.finish_start(alloc, number, object),
+            Outcome::Joins(object) => Ok(self.finish_join(number, object)),
+        }
+    }
+
+    /// Counts the step of a live thread that asked for a thread to start on an object, and reports it.
+    fn finish_start(&mut self, alloc: Global, number: u8, object: Addr) -> Result<Report, NoMemory>
+        requires table { IsMethodTable self.old.program self.old.table }
+        requires limits { are_in_range self.old.limits ≡ true }
+        requires live { is_live_at self.old.threads.items number ≡ true }
+        requires can { (left : ℕ) (m : Frames) → slice_get self.old.threads.items number ≡ Some (live_thread left m) → CanFinish (content_of self.old) m (StartsOn object) }
+        ensures finished { IfOk result (λ report. (left : ℕ) (m : Frames) → slice_get self.old.threads.items number ≡ Some (live_thread left m) → finish (content_of self.old) number left m (StartsOn object) ≡ Some (content_of self.new, report)) }
+        ensures table { IsMethodTable self.new.program self.new.table }
+        ensures free { OnErr result (start_fault self.old.threads.items self.old.heap object ≡ None) }
+        ensures refused { OnErr result (content_of self.new ≡ content_of self.old) }
+    {
+        let effect = self.start(alloc, object)?;
+        Ok(self.answer(number, effect))
+    }
+
+    /// Counts the step of a live thread that asked for the end of another, and reports it.
+    fn finish_join(&mut self, number: u8, object: Addr) -> Report
+        requires table { IsMethodTable self.old.program self.old.table }
+        requires live { is_live_at self.old.threads.items number ≡ true }
+        requires can { (left : ℕ) (m : Frames) → slice_get self.old.threads.items number ≡ Some (live_thread left m) → CanFinish (content_of self.old) m (JoinsOn object) }
+        ensures finished { (left : ℕ) (m : Frames) → slice_get self.old.threads.items number ≡ Some (live_thread left m) → finish (content_of self.old) number left m (JoinsOn object) ≡ Some (content_of self.new, result) }
+        ensures table { IsMethodTable self.new.program self.new.table }
+    {
+        let effect = join(&self.threads, &self.heap, object);
+        self.answer(number, effect)
+    }
+
+    /// Counts a step of a live thread whose instruction came to this for the thread itself, and reports it.
+    fn settle(&mut self, number: u8, effect: Effect) -> Report
+        requires table { IsMethodTable self.old.program self.old.table }
+        requires live { is_live_at self.old.threads.items number ≡ true }
+        ensures counted { (left : ℕ) (m : Frames) → slice_get self.old.threads.items number ≡ Some (live_thread left m) → counted (content_of self.old) number left effect m ≡ (content_of self.new, result) }
+        ensures table { IsMethodTable self.new.program self.new.table }
+    {
+        self.threads[usize::from(number)].settle(effect)
+    }
+
+    /// Counts the step of a live thread that asked for something of another thread, and reports it.
+    fn answer(&mut self, number: u8, effect: Effect) -> Report
+        requires table { IsMethodTable self.old.program self.old.table }
+        requires live { is_live_at self.old.threads.items number ≡ true }
+        requires operand { (left : ℕ) (m : Frames) → slice_get self.old.threads.items number ≡ Some (live_thread left m) → 0 < length m.running.stack }
+        requires behind { (left : ℕ) (m : Frames) → slice_get self.old.threads.items number ≡ Some (live_thread left m) → m.running.place < MOST_INSTRUCTIONS }
+        ensures answered { (left : ℕ) (m : Frames) → slice_get self.old.threads.items number ≡ Some (live_thread left m) → answered (content_of self.old) number left m effect ≡ (content_of self.new, result) }
+        ensures table { IsMethodTable self.new.program self.new.table }
+    {
+        answer(&mut self.threads[usize::from(number)], effect)
+    }
+
+    /// Starts a thread on an object, or tells why there is none. `NoMemory` where there is none for its frames; nothing is changed then.
+    fn start(&mut self, alloc: Global, object: Addr) -> Result<Effect, NoMemory>
+        requires table { IsMethodTable self.old.program self.old.table }
+        requires limits { are_in_range self.old.limits ≡ true }
+        requires slot { object ≢ null → 0 < length (slots_at self.old.heap.block object) }
+        requires there { start_fault self.old.threads.items self.old.heap object ≡ None → IsSome (thread_for self.old.program self.old.limits self.old.heap object) }
+        ensures started { IfOk result (λ effect. Some (self.new.threads.items, self.new.heap, effect) ≡ started self.old.program self.old.limits self.old.threads.items self.old.heap object) }
+        ensures others { IfOk result (λ _. content_of self.new ≡ record (content_of self.old) { threads = self.new.threads.items; objects = self.new.heap }) }
+        ensures table { IsMethodTable self.new.program self.new.table }
+        ensures free { OnErr result (start_fault self.old.threads.items self.old.heap object ≡ None) }
+        ensures refused { OnErr result (content_of self.new ≡ content_of self.old) }
+    {
+        if let Some(fault) = start_fault(&self.threads, &self.heap, object) {
+            return Ok(Effect::Raises(fault));
+        }
+        let beginning = beginning_on(
+            self.program.program(),
+            self.program.layout(),
+            &self.table,
+            self.limits,
+            &self.heap,
+            object,
+        );
+        start(alloc, &mut self.threads, &mut self.heap, object, beginning)
     }
 
     /// What an acknowledgement reports: nothing is posted until there is a collector.
     fn acknowledge(&self, thread: u8) -> Report
-        ensures { (content_of self.now, result) ≡ turn (content_of self.now) (Ack thread) }
+        ensures { IsTurn (content_of self.now) (AckOf thread) (content_of self.now, result) }
     {
         if self.is_live(thread) {
             Report::NothingPosted
@@ -72,15 +198,27 @@ impl Engine {
 
     /// Whether the thread was started and hasn't ended.
     pub fn is_live(&self, thread: u8) -> bool
-        ensures { result ≡ is_live (content_of self.now) thread }
+        ensures { result ≡ is_live_at self.now.threads.items thread }
     {
-        thread == 0 && self.thread.end.is_none()
+        self.threads
+            .get(usize::from(thread))
+            .is_some_and(Thread::is_live)
     }
 
     /// How the thread ended. None where it is live or was never started.
     pub fn end_of(&self, thread: u8) -> Option<End>
-        ensures { result ≡ end_of (content_of self.now) thread }
+        ensures { result ≡ end_at self.now.threads.items thread }
     {
-        if thread == 0 { self.thread.end } else { None }
+        self.threads.get(usize::from(thread))?.end()
+    }
+
+    /// How many threads are live.
+    pub fn live(&self) -> usize
+        ensures { result ≡ count_by is_live self.now.threads.items }
+    {
+        self.threads
+            .iter()
+            .filter(|thread| thread.is_live())
+            .count()
     }
 }

@@ -1,29 +1,27 @@
 //! The machine and its events.
 
-ghost use Rattle.std.specs.Prelude.{◌≡◌, ◌↔◌, ◌∷◌, [], ◌++◌, ◌+◌, ◌<◌, ◌≤◌, Ok, Err, Some, None, IfOk, OnOk, OnErr, true, false, ℕ, length, take, drop, if◌then◌else◌};
-ghost use Rattle.std.specs.List.{zip};
-ghost use Rattle.machine_content.specs.MachineContents.{end_of, is_live};
+ghost use Rattle.std.specs.Prelude.{◌≡◌, ◌↔◌, ◌∷◌, [], ◌+◌, ◌<◌, ◌≤◌, Err, Some, IfOk, OnOk, OnErr, false, ℕ, length, take, drop};
+ghost use Rattle.std.specs.List.{count_by, zip};
 ghost use Rattle.cil_model.specs.Ranges.{are_in_range, is_between};
 ghost use Rattle.cil_model.specs.declared.limits.TheConstants.{MOST_THREADS};
 ghost use Rattle.reference_machine.specs.Runs.{opening};
-ghost use Rattle.machine_content.specs.Budgets.{KeepsBudgets};
-ghost use Rattle.machine_content.specs.StandsFor.{FollowsReference, StandsFor};
 ghost use Rattle.reference_machine.specs.States.{State};
-ghost use Rattle.machine_content.specs.Turns.{run_of, turn};
-ghost use Rattle.first_path.specs.Typed.{IsEntry};
-ghost use Rattle.cil_model.specs.Examples.{write_line};
-ghost use Rattle.interleaving_core.specs.Contents.{next_instruction};
+ghost use Rattle.object_memory.specs.Cells.{used_words};
+ghost use Rattle.threads_monitors.specs.Threads.{is_live, is_live_at};
+ghost use Rattle.interleaving_core.specs.Views.{end_at};
+ghost use Rattle.machine_states.specs.StandsFor.{Represents};
+ghost use Rattle.machine_states.specs.Turns.{IsTurn, PrintsOrStarts};
 ghost use Rattle.interleaving_core.specs.Refusals.{number_of};
+ghost use Rattle.machine_states.specs.Runs.{AreTurns, FollowsReference};
 ghost use Rattle.interleaving_core.specs.declared.machine.Refused.TheVariants.{Limits as BadLimits, OutOfMemory};
 
 use crate::engine::Engine;
-use crate::thread::Thread;
+use crate::openings::opened;
 use cil_model::events::Event;
 use cil_model::limits::{LEAST_WORDS, Limits, MOST_BUDGET, MOST_DEPTH, MOST_WORDS};
 use cil_model::memory::NoMemory;
 use cil_model::reports::{End, Report};
-use first_path::{FirstPath, TypedBody};
-use std::alloc::{AllocError, Global};
+use std::alloc::Global;
 use std::marker::Model;
 use thiserror::Error;
 use verifier::Verified;
@@ -50,106 +48,83 @@ impl Refused {
     }
 }
 
-impl From<AllocError> for Refused {
+impl From<NoMemory> for Refused {
     ghost from_gives = { λ _ refused. refused ≡ OutOfMemory };
 
-    fn from(_error: AllocError) -> Refused {
+    fn from(_error: NoMemory) -> Refused {
         Refused::OutOfMemory
     }
 }
 
 /// A machine that runs a verified program, one event at a time.
-#[derive(Debug, Drop)]
+#[derive(Drop)]
 pub struct Machine {
     engine: Engine,
 }
 
 impl Model for Machine {
-    ghost use Rattle.machine_content.specs.MachineContents.{Content};
-    ghost use Rattle.interleaving_core.specs.Threads.{IsReady};
-    ghost use Rattle.interleaving_core.specs.Views.{content_of};
+    ghost use Rattle.machine_states.specs.MachineContents.{Content};
+    ghost use Rattle.interleaving_core.specs.Views.{IsSound, content_of};
 
     ghost Value = { Content };
 
     ghost view = { λ m. content_of m.engine };
 
-    ghost invariant = { λ m. IsReady m.engine };
+    ghost invariant = { λ m. IsSound m.engine };
 }
 
 impl Machine {
-    /// A machine before its first event: thread 0 is at the entry point, and nothing was printed.
+    /// A machine before its first event: thread 0 is at the entry point, nothing was born or printed, and static fields hold 0 or null.
     ///
-    /// The memory of thread 0's frames is taken here. Limits beyond their ranges are refused before that;
-    /// the program is dropped where a machine is refused.
-    pub fn new(alloc: Global, program: FirstPath, limits: Limits) -> Result<Machine, Refused>
+    /// The whole block of its heap and all frames of thread 0 are taken here. Limits beyond their ranges are refused before that; the
+    /// program is dropped where a machine is refused.
+    pub fn new(alloc: Global, program: Verified, limits: Limits) -> Result<Machine, Refused>
         ensures limits { (result ≡ Err BadLimits) ↔ (are_in_range limits ≡ false) }
         ensures program { IfOk result (λ m. (m.tree ≡ program) × (m.limits ≡ limits)) }
-        ensures opening { IfOk result (λ m. (s : State) × (opening program limits ≡ Some s) × StandsFor m s) }
+        ensures opening { IfOk result (λ m. (s : State) × (opening program limits ≡ Some s) × Represents m s) }
     {
         if !are_in_range(limits) {
             return Err(Refused::Limits);
         }
-        let (program, body) = program.into_parts();
-        Ok(Machine::begin(alloc, program, body, limits)?)
-    }
-
-    /// A machine before its first event, within limits that are in range.
-    fn begin(
-        alloc: Global,
-        program: Verified,
-        body: TypedBody,
-        limits: Limits,
-    ) -> Result<Machine, AllocError>
-        requires entry { IsEntry program body }
-        requires budget { 0 < limits.budget }
-        ensures program { IfOk result (λ m. (m.tree ≡ program) × (m.limits ≡ limits)) }
-        ensures opening { IfOk result (λ m. (s : State) × (opening program limits ≡ Some s) × StandsFor m s) }
-    {
-        let stack = Vec::with_capacity(alloc, body.max_stack)?;
-        let thread = Thread {
-            place: 0,
-            stack,
-            steps_left: limits.budget,
-            end: None,
-        };
         Ok(Machine {
-            engine: Engine {
-                program,
-                limits,
-                body,
-                thread,
-                console: Vec::new(alloc),
-            },
+            engine: opened(alloc, program, limits)?,
         })
     }
 
     /// What the machine does on one event, and what it reports.
     ///
-    /// Want of memory, which a print alone can meet, changes nothing and isn't counted.
-    pub fn step(&mut self, event: Event) -> Result<Report, NoMemory>
-        ensures turns { IfOk result (λ report. (self.new, report) ≡ turn self.old event) }
-        ensures budgets { IfOk result (λ report. KeepsBudgets self.old self.new ((event, report) ∷ [])) }
+    /// Want of memory, which a print or a start alone can meet, changes nothing and isn't counted.
+    pub fn step(&mut self, alloc: Global, event: Event) -> Result<Report, NoMemory>
+        ensures turns { IfOk result (λ report. IsTurn self.old event (self.new, report)) }
+        ensures follows { IfOk result (λ report. FollowsReference self.old self.new ((event, report) ∷ [])) }
+        ensures same { (self.new.tree ≡ self.old.tree) × (self.new.limits ≡ self.old.limits) }
+        ensures memory { OnErr result (PrintsOrStarts self.old event) }
         ensures refused { OnErr result (self.new ≡ self.old) }
-        ensures prints { OnErr result (next_instruction self.old 0 ≡ Some write_line) }
     {
-        self.engine.step(event)
+        self.engine.step(alloc, event)
     }
 
     /// Does the events in order, and appends the report of each.
     ///
     /// It stops at the first want of memory, the growth of `reports` included, which comes before its event.
-    pub fn run(&mut self, events: &[Event], reports: &mut Vec<Report>) -> Result<(), NoMemory>
-        ensures turns { OnOk result ((self.new ≡ (run_of self.old events.now).0) × (reports.new.items ≡ reports.old.items ++ (run_of self.old events.now).1)) }
+    pub fn run(
+        &mut self,
+        alloc: Global,
+        events: &[Event],
+        reports: &mut Vec<Report>,
+    ) -> Result<(), NoMemory>
+        ensures turns { OnOk result (AreTurns self.old events.now self.new (drop (length reports.old.items) reports.new.items)) }
+        ensures appended { take (length reports.old.items) reports.new.items ≡ reports.old.items }
         ensures each { OnOk result (length reports.new.items ≡ length reports.old.items + length events.now) }
         ensures follows { OnOk result (FollowsReference self.old self.new (zip events.now (drop (length reports.old.items) reports.new.items))) }
-        ensures budgets { OnOk result (KeepsBudgets self.old self.new (zip events.now (drop (length reports.old.items) reports.new.items))) }
-        ensures stopped { OnErr result ((count : ℕ) × (count < length events.now) × (self.new ≡ (run_of self.old (take count events.now)).0)
-            × (reports.new.items ≡ reports.old.items ++ (run_of self.old (take count events.now)).1)) }
+        ensures same { (self.new.tree ≡ self.old.tree) × (self.new.limits ≡ self.old.limits) }
+        ensures stopped { OnErr result ((count : ℕ) × (count < length events.now)
+            × AreTurns self.old (take count events.now) self.new (drop (length reports.old.items) reports.new.items)) }
     {
         let _engine = &self.engine;
         for event in events {
             reports.reserve(1)?;
-            reports.push_reserved(self.step(*event)?);
+            reports.push_reserved(self.step(alloc, *event)?);
         }
         Ok(())
     }
@@ -161,25 +136,25 @@ impl Machine {
         self.engine.console.as_slice()
     }
 
-    /// How the thread ended. None where it is live or was never started.
+    /// How a thread ended. None where it is live or was never started.
     pub fn end_of(&self, thread: u8) -> Option<End>
-        ensures { result ≡ end_of self.now thread }
+        ensures { result ≡ end_at self.now.threads thread }
     {
         self.engine.end_of(thread)
     }
 
-    /// Whether the thread was started and hasn't ended.
+    /// Whether a thread was started and hasn't ended.
     pub fn is_live(&self, thread: u8) -> bool
-        ensures { result ≡ is_live self.now thread }
+        ensures { result ≡ is_live_at self.now.threads thread }
     {
         self.engine.is_live(thread)
     }
 
     /// How many threads are live.
     pub fn live(&self) -> usize
-        ensures { result ≡ (if is_live self.now 0 then 1 else 0) }
+        ensures { result ≡ count_by is_live self.now.threads }
     {
-        usize::from(self.is_live(0))
+        self.engine.live()
     }
 
     /// How many threads were started, the first one counted. Their numbers are those below.
@@ -187,8 +162,14 @@ impl Machine {
         ensures all { result ≡ length self.now.threads }
         ensures few { result ≤ MOST_THREADS }
     {
-        let _engine = &self.engine;
-        1
+        self.engine.threads.len()
+    }
+
+    /// The words that objects take, in the one space, and in the space of copies, which there is none of without a collector.
+    pub fn used(&self) -> (u32, u32)
+        ensures { result ≡ (used_words self.now.objects.block.cells, 0) }
+    {
+        (self.engine.heap.used_words() as u32, 0)
     }
 }
 

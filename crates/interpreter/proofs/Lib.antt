@@ -3,3 +3,4 @@ pub mod Choosing
 pub mod Receiving
 pub mod Making
 pub mod Placing
+pub mod Printing

@@ -1,6 +1,6 @@
 -- What runs for calls, newobj and ret, and for the built-in members (III.3.19, III.4.2, III.4.21, III.3.57, Partition IV). A rule has no
 -- answer where it is not that rule's instruction, or where an operand is missing or of another kind.
-use Rattle.std.specs.Prelude.{ℕ, zero, suc, ◌==◌, ◌^◌, if◌then◌else◌, nat_lt, is_some, List, ◌∷◌, length, Option, Some, None, option_map, option_and_then, slice_get}
+use Rattle.std.specs.Prelude.{ℕ, zero, suc, ◌==◌, ◌^◌, Bool, false, if◌then◌else◌, nat_lt, is_some, List, ◌∷◌, length, Option, Some, None, option_map, option_and_then, slice_get}
 use Rattle.std.specs.Option.{option_map_or}
 use Rattle.cil_model.specs.declared.types.ClassName.{ClassName}
 use Rattle.cil_model.specs.declared.trees.Tree.{Tree}
@@ -45,6 +45,10 @@ CallTurn = Option (Frames × Objects × List ℕ × Outcome)
 -- a turn of frames and objects beside the printed bytes
 abbrev pub beside_console : List ℕ → ObjectTurn → CallTurn
 beside_console console turn = option_map (λ (t : Frames × Objects × Effect). (t.0, t.1, console, Comes t.2)) turn
+
+-- whether a rule has an answer that prints: there are more bytes than there were
+abbrev pub prints : List ℕ → CallTurn → Bool
+prints console turn = option_map_or (λ (t : Frames × Objects × List ℕ × Outcome). nat_lt (length console) (length t.2)) turn false
 
 -- ---- built-in members
 

@@ -1,5 +1,6 @@
 -- What one instruction of a thread does to all that it may change.
-use Rattle.std.specs.Prelude.{◌≡◌, ℕ, List, Option, Some, option_map, option_and_then, slice_get, FitsSigned}
+use Rattle.std.specs.Prelude.{◌≡◌, ◌<◌, ℕ, nat_lt, Bool, false, List, length, Option, Some, option_map, option_and_then, slice_get, FitsSigned}
+use Rattle.std.specs.Option.{option_map_or}
 use Rattle.std.specs.Int.{w32, w64}
 use Rattle.cil_model.specs.declared.types.ClassName.{ClassName}
 use Rattle.cil_model.specs.declared.trees.Line.{Line}
@@ -85,6 +86,10 @@ operation_turn tree thread (CallVirtual owner method) m o ss c = of_calls o ss c
 operation_turn tree thread (NewObject method) m o ss c = of_calls o ss c (call_rule tree thread (NewObject method) m o c)
 operation_turn tree thread Return m o ss c = of_calls o ss c (call_rule tree thread Return m o c)
 
+-- whether an instruction has an answer that prints
+abbrev pub is_printing : List ℕ → MachineTurn → Bool
+is_printing c turn = option_map_or (λ (t : Frames × Objects × List Value × List ℕ × Outcome). nat_lt (length c) (length t.3)) turn false
+
 -- ---- the instruction at a frame's place
 
 -- the method of the frame
@@ -115,3 +120,7 @@ pub record IsDone (tree : Tree) (thread : ℕ) (m : Frames) (o : Objects) (ss : 
   pub at : IsAt tree m operation
   pub constant : HasSmallConstant operation
   pub is : Some answer ≡ operation_turn tree thread operation m o ss c
+
+-- what a thread's next instruction would have done prints
+abbrev pub Prints : Tree → ℕ → Frames → Objects → List Value → List ℕ → Type 0
+Prints tree thread m o ss c = (answer : Frames × Objects × List Value × List ℕ × Outcome) × IsDone tree thread m o ss c answer × (length c < length answer.3)

@@ -1,12 +1,12 @@
 // Calls, `newobj` and `ret`.
 
-ghost use Rattle.std.specs.Prelude.{◌≡◌, IsSome, Some, IfOk, OnErr};
+ghost use Rattle.std.specs.Prelude.{◌≡◌, IsSome, Some, IfOk, OnErr, true};
 ghost use Rattle.class_layout.specs.Laid.{IsLayout};
 ghost use Rattle.method_table.specs.Prepared.{action_named, IsMethodTable, IsTableMethod};
 ghost use Rattle.cil_model.specs.declared.types.ClassName.{ClassName};
 ghost use Rattle.cil_model.specs.declared.trees.Method.{Method};
 ghost use Rattle.name_tables.specs.Numbers.{method_at};
-ghost use Rattle.interpreter.specs.Calls.{act_turn, call_rule, receiver, return_rule, run_at, run_chosen, top_reference, virtual_at};
+ghost use Rattle.interpreter.specs.Calls.{act_turn, call_rule, prints, receiver, return_rule, run_at, run_chosen, top_reference, virtual_at};
 
 use crate::births::new_operation;
 use crate::outcomes::Outcome;
@@ -49,6 +49,7 @@ fn act(
     requires { IsSome (act_turn program.now thread (action_named action) frames.old heap.old console.old.items) }
     ensures done { IfOk result (λ outcome. Some (frames.new, heap.new, console.new.items, outcome) ≡ act_turn program.now thread (action_named action) frames.old heap.old console.old.items) }
     ensures refused { OnErr result ((frames.new ≡ frames.old) × (heap.new ≡ heap.old) × (console.new.items ≡ console.old.items)) }
+    ensures prints { OnErr result (prints console.old.items (act_turn program.now thread (action_named action) frames.old heap.old console.old.items) ≡ true) }
 {
     match action {
         Action::Construct => Ok(Outcome::Comes(stack::pop(frames))),
@@ -107,6 +108,7 @@ fn run(
     requires there { IsSome (run_at program.now thread method frames.old heap.old console.old.items) }
     ensures done { IfOk result (λ outcome. Some (frames.new, heap.new, console.new.items, outcome) ≡ run_at program.now thread method frames.old heap.old console.old.items) }
     ensures refused { OnErr result ((frames.new ≡ frames.old) × (heap.new ≡ heap.old) × (console.new.items ≡ console.old.items)) }
+    ensures prints { OnErr result (prints console.old.items (run_at program.now thread method frames.old heap.old console.old.items) ≡ true) }
 {
     let _layout = layout;
     let entry = entry(program, table, method);
@@ -140,6 +142,7 @@ fn run_chosen(
     requires there { IsSome (run_chosen program.now thread object method frames.old heap.old console.old.items) }
     ensures done { IfOk result (λ outcome. Some (frames.new, heap.new, console.new.items, outcome) ≡ run_chosen program.now thread object method frames.old heap.old console.old.items) }
     ensures refused { OnErr result ((frames.new ≡ frames.old) × (heap.new ≡ heap.old) × (console.new.items ≡ console.old.items)) }
+    ensures prints { OnErr result (prints console.old.items (run_chosen program.now thread object method frames.old heap.old console.old.items) ≡ true) }
 {
     let target = chosen(program, layout, heap, object, method);
     run(
@@ -163,6 +166,7 @@ fn call_virtual(
     requires there { IsSome (virtual_at program.now thread method frames.old heap.old console.old.items) }
     ensures done { IfOk result (λ outcome. Some (frames.new, heap.new, console.new.items, outcome) ≡ virtual_at program.now thread method frames.old heap.old console.old.items) }
     ensures refused { OnErr result ((frames.new ≡ frames.old) × (heap.new ≡ heap.old) × (console.new.items ≡ console.old.items)) }
+    ensures prints { OnErr result (prints console.old.items (virtual_at program.now thread method frames.old heap.old console.old.items) ≡ true) }
 {
     let object = receiver(frames, entry(program, table, method).arguments);
     if object.is_null() {
@@ -201,6 +205,7 @@ pub fn call_operation(
     requires there { IsSome (call_rule program.now thread operation.now frames.old heap.old console.old.items) }
     ensures done { IfOk result (λ outcome. Some (frames.new, heap.new, console.new.items, outcome) ≡ call_rule program.now thread operation.now frames.old heap.old console.old.items) }
     ensures refused { OnErr result ((frames.new ≡ frames.old) × (heap.new ≡ heap.old) × (console.new.items ≡ console.old.items)) }
+    ensures prints { OnErr result (prints console.old.items (call_rule program.now thread operation.now frames.old heap.old console.old.items) ≡ true) }
 {
     match operation {
         Operation::Call { method, .. } => {

@@ -1,9 +1,9 @@
 // One instruction, by the group that it belongs to.
 
-ghost use Rattle.std.specs.Prelude.{◌≡◌, IsSome, Some, IfOk, OnErr};
+ghost use Rattle.std.specs.Prelude.{◌≡◌, IsSome, Some, IfOk, OnErr, true};
 ghost use Rattle.class_layout.specs.Laid.{IsLayout};
 ghost use Rattle.method_table.specs.Prepared.{IsMethodTable};
-ghost use Rattle.interpreter.specs.Instructions.{operation_turn};
+ghost use Rattle.interpreter.specs.Instructions.{is_printing, operation_turn};
 
 use crate::calls::call_operation;
 use crate::frame_operations::{arithmetic_operation, branch, constant, stack_operation};
@@ -37,6 +37,7 @@ pub fn operation_done(
     requires there { IsSome (operation_turn program.now thread operation.now frames.old heap.old statics.old console.old.items) }
     ensures done { IfOk result (λ outcome. Some (frames.new, heap.new, statics.new, console.new.items, outcome) ≡ operation_turn program.now thread operation.now frames.old heap.old statics.old console.old.items) }
     ensures refused { OnErr result ((frames.new ≡ frames.old) × (heap.new ≡ heap.old) × (statics.new ≡ statics.old) × (console.new.items ≡ console.old.items)) }
+    ensures prints { OnErr result (is_printing console.old.items (operation_turn program.now thread operation.now frames.old heap.old statics.old console.old.items) ≡ true) }
 {
     match operation {
         Operation::NoOperation

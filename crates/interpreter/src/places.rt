@@ -10,7 +10,7 @@ ghost use Rattle.metadata.specs.Contents.{BothAlike};
 ghost use Rattle.resolved_code.specs.Resolved.{IsBody, IsResolvedKind};
 ghost use Rattle.class_layout.specs.Laid.{IsLayout};
 ghost use Rattle.method_table.specs.Prepared.{IsMethodTable};
-ghost use Rattle.interpreter.specs.Instructions.{HasSmallConstant, IsAt, IsDone, line_at, operation_turn};
+ghost use Rattle.interpreter.specs.Instructions.{HasSmallConstant, IsAt, IsDone, Prints, line_at, operation_turn};
 
 use crate::instructions::operation_done;
 use crate::outcomes::Outcome;
@@ -96,6 +96,7 @@ pub fn instruction(
     requires there { (op : Operation) → IsAt program.now frames.old op → HasSmallConstant op → IsSome (operation_turn program.now thread op frames.old heap.old statics.old console.old.items) }
     ensures done { IfOk result (λ outcome. IsDone program.now thread frames.old heap.old statics.old console.old.items (frames.new, heap.new, statics.new, console.new.items, outcome)) }
     ensures refused { OnErr result ((frames.new ≡ frames.old) × (heap.new ≡ heap.old) × (statics.new ≡ statics.old) × (console.new.items ≡ console.old.items)) }
+    ensures prints { OnErr result (Prints program.now thread frames.old heap.old statics.old console.old.items) }
 {
     let operation = operation_at(program, table, frames);
     constants_are_small(operation);

@@ -84,7 +84,8 @@ module _ (tree : Tree) (legal : IsLegal tree) (s : State) (given : Option Declar
       let three : length m.stack ≡ length f.stack = agree_length (IsValue name) m.stack f.stack h.stack in
       omega (arith, one, two, three, arguments_are_few, locals_are_few, stack_is_low)
 
-below_test : (m n : ℕ) → m < n → nat_lt m n ≡ true
+-- a number that is below passes the test
+pub below_test : (m n : ℕ) → m < n → nat_lt m n ≡ true
 below_test m n h = grind (arith, nat_tests)
 
 module _ (here : Setting) (name : Names) (m : Frames) (o : Objects) (statics : List Value) (printed : List ℕ) (s : State) (f : StateFrame) (below : List StateFrame) (i : Instruction) (operation : Operation)

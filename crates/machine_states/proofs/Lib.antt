@@ -4,3 +4,6 @@ pub mod Instructions
 pub mod Going
 pub mod Operands
 pub mod Statements
+pub mod Zeros
+pub mod Memories
+pub mod StandsLaws

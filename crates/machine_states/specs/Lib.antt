@@ -2,3 +2,5 @@ pub mod Agreement
 pub mod MachineContents
 pub mod StandsFor
 pub mod Turns
+pub mod Budgets
+pub mod Runs

@@ -1,5 +1,5 @@
 -- What a machine does on each event (this profile). Each machine without a collector is proved to do exactly this.
-use Rattle.std.specs.Prelude.{◌≡◌, ℕ, ◌+◌, if◌then◌else◌, List, [], ◌∷◌, map, length, drop, Option, Some, None, option_map, option_and_then, slice_get, slice_set}
+use Rattle.std.specs.Prelude.{◌≡◌, ◌⊎◌, ◌<◌, ℕ, ◌+◌, if◌then◌else◌, List, [], ◌∷◌, map, length, drop, Option, Some, None, option_map, option_and_then, slice_get, slice_set}
 use Rattle.std.specs.Option.{option_map_or}
 use Rattle.cil_model.specs.declared.types.ClassName.{ClassName}
 use Rattle.cil_model.specs.declared.types.DeclaredType.{DeclaredType}
@@ -116,3 +116,7 @@ abbrev pub IsTurn : Content → Event → Content × Report → Type 0
 IsTurn c (Step t) after = IsThreadTurn c t (slice_get c.threads t) after
 IsTurn c (Ack t) after = after ≡ (c, if is_live_at c.threads t then NothingPosted else Absent)
 IsTurn c Gc after = after ≡ (c, Waiting)
+
+-- the event prints or starts a thread: what was printed, or the threads, are more after its turn
+abbrev pub PrintsOrStarts : Content → Event → Type 0
+PrintsOrStarts c e = (after : Content × Report) × IsTurn c e after × ((length c.printed < length after.0.printed) ⊎ (length c.threads < length after.0.threads))

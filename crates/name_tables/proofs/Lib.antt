@@ -1,3 +1,5 @@
+mod MemberLaws
+mod KeyNumbers
 pub mod FirstPlaces
 pub mod Lists
 pub mod NumberLaws

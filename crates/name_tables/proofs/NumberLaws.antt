@@ -79,7 +79,7 @@ position_from-map f test i [] = refl
 position_from-map f test i (x ∷ xs) = ap (λ o. cond (test (f x)) (Some i) o) (position_from-map f test (i + 1) xs)
 
 -- what passes is found to pass
-found_passes : {X : Type 0} (test : X → Bool) (xs : List X) (x : X) → find test xs ≡ Some x → IsTrue (test x)
+pub found_passes : {X : Type 0} (test : X → Bool) (xs : List X) (x : X) → find test xs ≡ Some x → IsTrue (test x)
 found_passes test [] x e = absurd (lost e)
   where
     lost : None ≡ Some x → ⊥

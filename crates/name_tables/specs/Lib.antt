@@ -4,3 +4,5 @@ pub mod Keys
 pub mod BuiltInTable
 pub mod Entries
 pub mod Numbers
+pub mod Inherited
+pub mod Members

@@ -80,6 +80,20 @@ impl<'a> ClassTable<'a> {
         })
     }
 
+    /// What the fields are found by, by their places.
+    pub(crate) fn field_keys(&self) -> &[FieldKey<'a>]
+        ensures { map field_of_key result.now ≡ (declaration_in self.now.class).fields }
+    {
+        self.fields.keys()
+    }
+
+    /// What the methods are found by, by their places.
+    pub(crate) fn call_keys(&self) -> &[CallKey<'a>]
+        ensures { map called_of_key result.now ≡ map called_of (declaration_in self.now.class).methods }
+    {
+        self.calls.keys()
+    }
+
     /// The place of the first field of this name, type and staticness.
     pub fn field(&self, key: FieldKey) -> Option<usize>
         ensures { result ≡ position_from (same_field (field_of_key key.entry)) 0 (declaration_in self.now.class).fields }

@@ -4,20 +4,25 @@ ghost use Rattle.std.specs.Prelude.{◌≡◌, [], IfOk, map, option_map, Some, 
 ghost use Rattle.std.specs.List.{cons_option};
 ghost use Rattle.cil_model.specs.Bodies.{virtual_reference, constructor_reference};
 ghost use Rattle.cil_model.specs.Chains.{find_field, find_method};
+ghost use Rattle.inheritance.specs.Ledgers.{pair_of};
 ghost use Rattle.name_tables.specs.BuiltInTable.{built_in_entry};
 ghost use Rattle.cil_model.specs.Declarations.{built_ins};
 ghost use Rattle.name_tables.specs.Keys.{class_of_key, field_of_key, called_of_key, reference_of_keys};
+ghost use Rattle.name_tables.specs.Members.{field_key_number, call_key_number, field_place, call_place, IsMemberTable};
 ghost use Rattle.name_tables.specs.Numbers.{chain_numbers, nearest_number, place_in, field_at, method_at, field_number, method_number, declarations, class_number};
 ghost use Rattle.name_tables.specs.Sameness.{same_field, same_called, called_of};
 
 use crate::built_in::BuiltInClass;
+use crate::inherited::Inherited;
 use crate::keys::{CallKey, ClassKey, FieldKey, MethodKey};
+use crate::members::{all_calls, all_fields};
 use crate::tables::ClassTables;
 use cil_model::instructions::{FieldReference, MethodReference};
 use cil_model::memory::NoMemory;
 use cil_model::texts::Text;
 use cil_model::trees::Tree;
 use cil_model::types::{ClassName, DeclaredType, Signature};
+use inheritance::{Declared, Endless};
 use std::alloc::Global;
 
 /// Where a member stands: the number of its class, and its place among the fields or the methods of that class.
@@ -27,11 +32,15 @@ pub struct MemberNumber {
     pub place: usize,
 }
 
-/// The tables of a tree, with the chain of each class.
+/// The tables of a tree, with what each class inherits, and its chain.
 #[derive(Drop)]
 pub struct NameTables<'a> {
     pub classes: ClassTables<'a>,
+    fields: Inherited<FieldKey<'a>>,
+    calls: Inherited<CallKey<'a>>,
     chains: Vec<Vec<usize>>,
+    ghost fields_are: { IsMemberTable classes.tree.now fields.inheritance.forest (field_key_number fields.keys) (field_place classes.tree.now) },
+    ghost calls_are: { IsMemberTable classes.tree.now calls.inheritance.forest (call_key_number calls.keys) (call_place classes.tree.now) },
     ghost chains_are: { map (λ v. v.items) chains.items ≡ map (λ e. chain_numbers classes.tree.now e.0) (declarations classes.tree.now) },
 }
 
@@ -45,6 +54,19 @@ fn chains(alloc: Global, classes: &ClassTables) -> Result<Vec<Vec<usize>>, NoMem
     Ok(chains)
 }
 
+/// A declaration as a member.
+fn member_number(found: Option<Declared>) -> Option<MemberNumber>
+    ensures { option_map (λ m. (m.class, m.place)) result ≡ pair_of found }
+{
+    match found {
+        None => None,
+        Some(declared) => Some(MemberNumber {
+            class: declared.class,
+            place: declared.place,
+        }),
+    }
+}
+
 impl<'a> NameTables<'a> {
     /// Makes the tables of a tree from it and the built-in classes. Fails for want of memory alone.
     pub fn new(alloc: Global, tree: &'a Tree, table: &'a [BuiltInClass]) -> Result<Self, NoMemory>
@@ -52,8 +74,15 @@ impl<'a> NameTables<'a> {
         ensures { IfOk result (λ t. t.classes.tree.now ≡ tree.now) }
     {
         let classes = ClassTables::new(alloc, tree, table)?;
+        let fields = all_fields(alloc, &classes)?;
+        let calls = all_calls(alloc, &classes)?;
         let chains = chains(alloc, &classes)?;
-        Ok(NameTables { classes, chains })
+        Ok(NameTables {
+            classes,
+            fields,
+            calls,
+            chains,
+        })
     }
 
     /// The numbers of a declared class's chain; none where the name stands for nothing.
@@ -70,7 +99,7 @@ impl<'a> NameTables<'a> {
     }
 
     /// The nearest class of a chain with this field.
-    fn nearest_field(&self, chain: &[usize], key: FieldKey) -> Option<MemberNumber>
+    fn field_along(&self, chain: &[usize], key: FieldKey) -> Option<MemberNumber>
         ensures { option_map (λ m. (m.class, m.place)) result ≡ nearest_number (place_in (λ d. d.fields) (same_field (field_of_key key.entry)) self.now.classes.tree.now) chain.now }
     {
         for class in chain {
@@ -85,7 +114,7 @@ impl<'a> NameTables<'a> {
     }
 
     /// The nearest class of a chain with this method.
-    fn nearest_call(&self, chain: &[usize], key: CallKey) -> Option<MemberNumber>
+    fn call_along(&self, chain: &[usize], key: CallKey) -> Option<MemberNumber>
         ensures { option_map (λ m. (m.class, m.place)) result ≡ nearest_number (place_in (λ d. d.methods) (λ m. same_called (called_of_key key.entry) (called_of m)) self.now.classes.tree.now) chain.now }
     {
         for class in chain {
@@ -97,6 +126,32 @@ impl<'a> NameTables<'a> {
             }
         }
         None
+    }
+
+    /// The nearest field of a class's chain. Only where its bases do not end is the chain gone along.
+    fn nearest_field(&self, owner: ClassKey, key: FieldKey) -> Option<MemberNumber>
+        ensures { option_map (λ m. (m.class, m.place)) result ≡ nearest_number (field_place self.now.classes.tree.now key.entry) (chain_numbers self.now.classes.tree.now (class_of_key owner.entry)) }
+    {
+        let Some(class) = self.classes.number(owner) else {
+            return None;
+        };
+        match self.fields.nearest(class, key) {
+            Ok(found) => member_number(found),
+            Err(Endless) => self.field_along(self.chain(owner), key),
+        }
+    }
+
+    /// The nearest method of a class's chain. Only where its bases do not end is the chain gone along.
+    fn nearest_call(&self, owner: ClassKey, key: CallKey) -> Option<MemberNumber>
+        ensures { option_map (λ m. (m.class, m.place)) result ≡ nearest_number (call_place self.now.classes.tree.now key.entry) (chain_numbers self.now.classes.tree.now (class_of_key owner.entry)) }
+    {
+        let Some(class) = self.classes.number(owner) else {
+            return None;
+        };
+        match self.calls.nearest(class, key) {
+            Ok(found) => member_number(found),
+            Err(Endless) => self.call_along(self.chain(owner), key),
+        }
     }
 
     /// The method that a class itself declares.
@@ -122,7 +177,7 @@ impl<'a> NameTables<'a> {
             field_type: &reference.field_type,
             name: &reference.name,
         };
-        self.nearest_field(self.chain(ClassKey::of(&reference.owner)), key)
+        self.nearest_field(ClassKey::of(&reference.owner), key)
     }
 
     /// The method of this name, signature and staticness in the nearest class of the owner's chain, a constructor in the owner
@@ -142,7 +197,7 @@ impl<'a> NameTables<'a> {
         };
         match method.name {
             None => self.own_call(owner, key),
-            Some(_) => self.nearest_call(self.chain(owner), key),
+            Some(_) => self.nearest_call(owner, key),
         }
     }
 

@@ -114,6 +114,16 @@ impl<'a> ClassTables<'a> {
         }
     }
 
+    /// The number of the base of the class of a number.
+    pub(crate) fn base_number(&self, number: usize) -> Option<usize>
+        ensures { result ≡ option_and_then (class_number self.now.tree.now) (option_and_then (λ e. e.1.base) (slice_get (declarations self.now.tree.now) number)) }
+    {
+        match self.base(number) {
+            None => None,
+            Some(base) => self.number(base),
+        }
+    }
+
     /// The first field of a class with this name, type and staticness.
     pub fn field(&self, number: usize, key: FieldKey) -> Option<usize>
         ensures { result ≡ place_in (λ d. d.fields) (same_field (field_of_key key.entry)) self.now.tree.now number }
@@ -176,7 +186,8 @@ impl<'a> ClassTables<'a> {
         Ok(numbers)
     }
 
-    fn longest_chain(&self) -> usize
+    /// No chain without a cycle has more classes: those of the source, and three built-in ones.
+    pub(crate) fn longest_chain(&self) -> usize
         ensures { result ≡ longest_chain self.now.tree.now }
     {
         self.tree.classes.as_slice().len() + 3

@@ -1,8 +1,7 @@
 -- What a constructor is that newobj finds: a method of the class itself, with an argument for the object and one for each parameter.
-use Rattle.std.proofs.Common.{◌≡◌, ◌≤◌, ◌<◌, ◌^◌, ℕ, suc, true, if◌then◌else◌, List, ◌∷◌, length, find, Option, Some, None, option_map, option_and_then, slice_get, sym, ap, ◌∙◌, arith}
+use Rattle.std.proofs.Common.{◌≡◌, ◌≤◌, ◌^◌, ℕ, suc, true, if◌then◌else◌, List, ◌∷◌, length, find, Option, Some, None, option_map, option_and_then, slice_get, sym, ap, ◌∙◌, arith}
 use Rattle.std.specs.Prelude.{not, ◌&&◌, nat_lt}
 use Rattle.std.specs.Option.{option_map_or}
-use Rattle.std.proofs.lemmas.Bool.Decides.{nat_tests}
 use Rattle.cil_model.specs.declared.types.ClassName.{ClassName}
 use Rattle.cil_model.specs.declared.types.DeclaredType.{DeclaredType}
 use Rattle.cil_model.specs.declared.types.Signature.{Signature}
@@ -33,6 +32,7 @@ use Rattle.method_table.specs.Prepared.{local_kinds}
 use Rattle.method_table.proofs.NumberLaws.{declared_is_numbered}
 use Rattle.interpreter.specs.Calls.{class_in, slots_at}
 use Rattle.new_object_laws.proofs.Zeros.{locals_low}
+use Rattle.machine_states.proofs.Going.{below_test}
 
 -- a method with its class
 abbrev Owned : Type 0
@@ -58,10 +58,6 @@ own_class tree c k parameters m h = by_found (find (λ (y : Method). same_method
     by_found None e = none_is_some (k, m) e
     by_found (Some x) e = ap (λ (p : ClassName × Method). p.0) (same_some (c, x) (k, m) e)
 
--- a number that is below passes the test
-pub small_test : (n most : ℕ) → n < most → nat_lt n most ≡ true
-small_test n most h = grind (arith, nat_tests)
-
 module _ (tree : Tree) (legal : IsLegal tree) (c : ClassName) (parameters : List DeclaredType) (number : MemberNumber) (is : IsMethod tree true (constructor_reference c parameters) number) where
   abbrev pub constructor : Method
   constructor = is.found
@@ -84,12 +80,12 @@ module _ (tree : Tree) (legal : IsLegal tree) (c : ClassName) (parameters : List
   class_named = class_of_number tree number.class number.place c constructor numbered_own
 
   pub class_is_in : class_in number ≡ Some number.class
-  class_is_in = ap (λ b. if b then Some number.class else None) (small_test number.class (2 ^ 16) (class_number_small tree legal number.class c class_named))
+  class_is_in = ap (λ b. if b then Some number.class else None) (below_test number.class (2 ^ 16) (class_number_small tree legal number.class c class_named))
 
   pub slots_are_at : slots_at tree number ≡ Some (length (slot_types tree c))
   slots_are_at =
       ap (λ o. option_and_then (λ (k : ClassName). if nat_lt (length (slot_types tree k)) (2 ^ 32) then Some (length (slot_types tree k)) else None) o) class_named ∙
-      ap (λ b. if b then Some (length (slot_types tree c)) else None) (small_test (length (slot_types tree c)) (2 ^ 32) (slots_few tree legal number.class c class_named))
+      ap (λ b. if b then Some (length (slot_types tree c)) else None) (below_test (length (slot_types tree c)) (2 ^ 32) (slots_few tree legal number.class c class_named))
 
   -- ---- arguments
 

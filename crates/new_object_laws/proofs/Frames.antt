@@ -35,8 +35,9 @@ use Rattle.machine_states.proofs.Instructions.{IsSetting}
 use Rattle.machine_states.proofs.Going.{own_frame, place_is_small, room_left}
 use Rattle.machine_states.proofs.Statements.{IsBirth}
 use Rattle.new_object_laws.proofs.Lists.{drop_inserted, reverse_inserted, length_inserted}
-use Rattle.new_object_laws.proofs.Zeros.{locals_stand}
-use Rattle.new_object_laws.proofs.Constructors.{constructor, arguments_count, few_arguments, few_locals, is_numbered, small_test}
+use Rattle.machine_states.proofs.Zeros.{locals_stand}
+use Rattle.machine_states.proofs.Going.{below_test}
+use Rattle.new_object_laws.proofs.Constructors.{constructor, arguments_count, few_arguments, few_locals, is_numbered}
 
 -- ---- tests on numbers
 
@@ -109,13 +110,13 @@ module _ (here : Setting) (name : Names) (m : Frames) (o : Objects) (statics : L
     object_fits : nat_lt 0 count && (nat_lt (size m.running) m.room && nat_le (length parameters) (length m.running.stack)) ≡ true
     object_fits =
         let left : size m.running < frame_room = room_left here.tree legal s None f at.running.frame name m.running own in
-        let room : nat_lt (size m.running) m.room ≡ true = small_test (size m.running) m.room (subst (λ r. size m.running < r) (sym at.frames.room) left) in
+        let room : nat_lt (size m.running) m.room ≡ true = below_test (size m.running) m.room (subst (λ r. size m.running < r) (sym at.frames.room) left) in
         and_from _ _ (above_none count (length parameters) counted) (and_from _ _ room (within_test (length parameters) (length m.running.stack) operands_there))
 
     frame_fits : nat_lt (length m.below + 1) m.depth && nat_le count (length inserted) && nat_le (count + length (local_kinds built)) m.room ≡ true
     frame_fits =
         let longer : length inserted ≡ suc (length m.running.stack) = length_inserted (length parameters) (Ref a) m.running.stack operands_there in
-        let shallow : nat_lt (length m.below + 1) m.depth ≡ true = small_test (length m.below + 1) m.depth (not_full (length m.below) m.depth few_below deep) in
+        let shallow : nat_lt (length m.below + 1) m.depth ≡ true = below_test (length m.below + 1) m.depth (not_full (length m.below) m.depth few_below deep) in
         let there : nat_le count (length inserted) ≡ true = within_test count (length inserted) (omega (arith, counted, longer, operands_there)) in
         let low : count + length (local_kinds built) ≤ m.room =
         subst (λ r. count + length (local_kinds built) ≤ r) (sym at.frames.room) (omega (arith, few_arguments here.tree legal c parameters number is, few_locals here.tree legal c parameters number is)) in

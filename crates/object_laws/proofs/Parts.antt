@@ -35,7 +35,8 @@ use Rattle.machine_states.proofs.AgreeLaws.{agree_length}
 use Rattle.machine_states.proofs.Instructions.{IsSetting, DoesAlike}
 use Rattle.machine_states.proofs.Going.{leaves_is, onward_is, next_alike, onward_alike}
 use Rattle.heap_laws.proofs.Changes.{cells_may_change}
-use Rattle.object_laws.proofs.Things.{not_null_address, IsArrayThere, array_there}
+use Rattle.machine_states.proofs.Memories.{named_is_not_null}
+use Rattle.object_laws.proofs.Things.{IsArrayThere, array_there}
 
 module _ (here : Setting) (name : Names) (m : Frames) (o : Objects) (statics : List Value) (printed : List ℕ) (s : State) (f : StateFrame) (below : List StateFrame) (i : Instruction) (operation : Operation)
     (at : IsSetting here name m o statics printed s f below i operation) where
@@ -133,7 +134,7 @@ module _ (here : Setting) (name : Names) (m : Frames) (o : Objects) (statics : L
   object_alike v u null_reference k go go' t each = raised_alike k NullReference
   object_alike v u (reference a n is) k go go' t each =
       alike_turn (objects_turn (if a.number == 0 then Some (k, o, Raises NullReference) else go a)) (objects_turn (go a)) (go' n)
-      (ap (λ b. objects_turn (if b then Some (k, o, Raises NullReference) else go a)) (not_null_address here.tree name o s at.memory.heap a n is)) (each a n is t)
+      (ap (λ b. objects_turn (if b then Some (k, o, Raises NullReference) else go a)) (named_is_not_null here.tree name o s at.memory.heap a.number n is)) (each a n is t)
 
   -- an index or a length
   pub same_index : (v : Value) (u : StateValue) → IsValue name v u → index_in v ≡ as_index u

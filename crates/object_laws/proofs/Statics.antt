@@ -44,7 +44,7 @@ use Rattle.machine_states.proofs.AgreeLaws.{agree_get, agree_set}
 use Rattle.machine_states.proofs.Going.{own_frame, leaves_is, onward_is, next_alike, onward_alike}
 use Rattle.machine_states.proofs.Instructions.{IsSetting, DoesAlike}
 use Rattle.machine_states.proofs.Operands.{fine, one_operand}
-use Rattle.heap_laws.proofs.Changes.{heap_beside}
+use Rattle.machine_states.proofs.Memories.{heap_beside}
 use Rattle.object_laws.proofs.Parts.{alike_turn, given_alike, known_alike}
 use Rattle.object_laws.proofs.Placed.{IsPlaced, placed, key_there, replaced_is}
 
@@ -144,7 +144,7 @@ module _ (here : Setting) (name : Names) (m : Frames) (o : Objects) (statics : L
     }
       where
         memory : IsMemory here.tree name o (slice_set statics n v) printed (record s { statics = entries })
-        memory = record { heap = heap_beside here.tree name o s at.memory.heap (record s { statics = entries }) refl refl; static_values = agree; printed_is = at.memory.printed_is }
+        memory = record { heap = heap_beside here.tree name o s (record s { statics = entries }) refl refl at.memory.heap; static_values = agree; printed_is = at.memory.printed_is }
 
     -- the whole instruction
     pub store_static_field_alike : DoesAlike here name m o statics printed s f below (operation_turn here.tree here.thread (Resolved.StoreStaticField field) m o statics printed) (execute here s f below (Named.StoreStaticField r))

@@ -1,6 +1,5 @@
 -- The object or the array at a named address, and the cell that lies there.
-use Rattle.std.proofs.Common.{◌≡◌, ◌==◌, ℕ, Bool, true, false, List, Option, Some, None, option_and_then, slice_get, refl, sym, ap, ◌∙◌, subst, arith}
-use Rattle.std.proofs.lemmas.Bool.Decides.{nat_tests}
+use Rattle.std.proofs.Common.{◌≡◌, ℕ, List, Option, Some, None, option_and_then, slice_get, refl, sym, ap, ◌∙◌, subst}
 use Rattle.cil_model.specs.declared.types.ClassName.{ClassName}
 use Rattle.cil_model.specs.declared.types.DeclaredType.{DeclaredType}
 use Rattle.cil_model.specs.declared.trees.Tree.{Tree}
@@ -20,16 +19,6 @@ use Rattle.machine_states.specs.Agreement.{Agree}
 use Rattle.machine_states.specs.StandsFor.{Names, IsWord, IsInstanceCell, IsOfContents, IsCell, IsBornAt, IsHeap}
 
 module _ (tree : Tree) (name : Names) (o : Objects) (s : State) (h : IsHeap tree name o s) where
-  -- a named address isn't null's
-  pub not_null_address : (a : Addr) (n : ObjectName) → name a.number ≡ Some n → (a.number == 0) ≡ false
-  not_null_address a n named = by_test (a.number == 0) refl
-    where
-      by_test : (t : Bool) → (a.number == 0) ≡ t → t ≡ false
-      by_test false test = refl
-      by_test true test =
-          let null : a.number ≡ 0 = grind (arith, nat_tests) in
-          none_is_some n (sym h.null_unnamed ∙ ap name (sym null) ∙ named)
-
   -- ---- the object of a name
 
   -- an object that is there has a cell

@@ -47,7 +47,7 @@ impl Model for Heap {
 
 impl Heap {
     ghost use Rattle.object_memory.specs.declared.addresses.Addr.{Addr};
-    ghost use Rattle.object_memory.specs.Cells.{null, free_words, literal_number, addresses, cell_at, slots_at, store_monitor};
+    ghost use Rattle.object_memory.specs.Cells.{null, free_words, used_words, literal_number, addresses, cell_at, slots_at, store_monitor};
     ghost use Rattle.object_memory.specs.Objects.{no_objects, with_birth, with_cell, with_slot, with_copies, monitor_at, with_monitor};
 
     /// A heap without objects, in a block that holds zeros alone, beside so many literals, which nobody has entered.
@@ -73,6 +73,14 @@ impl Heap {
         ensures few { result ≤ MOST_WORDS }
     {
         self.block.len() - self.used
+    }
+
+    /// The words that objects take, their headers counted.
+    pub fn used_words(&self) -> usize
+        ensures used { result ≡ used_words self.now.block.cells }
+        ensures few { result ≤ MOST_WORDS }
+    {
+        self.used
     }
 
     /// No object has the address of null or of a literal. It does nothing: its contract is the law.

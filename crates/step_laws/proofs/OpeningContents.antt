@@ -27,7 +27,8 @@ use Rattle.machine_states.specs.MachineContents.{Content}
 use Rattle.machine_states.specs.StandsFor.{IsHeap, StandsBy, Represents}
 use Rattle.machine_states.specs.Turns.{content_at, opening_content}
 use Rattle.step_laws.proofs.Settings.{budget_is_some, depth_is_some, words_are_few}
-use Rattle.step_laws.proofs.Beginnings.{fields_stand, beginning_stands}
+use Rattle.machine_states.proofs.Zeros.{fields_stand}
+use Rattle.step_laws.proofs.Beginnings.{beginning_stands}
 use Rattle.step_laws.proofs.LiteralNames.{same_for_each, free_first, literal_names, IsNamedLiteral, named_literal, literal_named, literals_small, literals_apart}
 
 module _ (tree : Tree) (limits : Limits) (accepted : IsAccepted tree) (in_range : IsTrue (are_in_range limits)) where

@@ -29,7 +29,8 @@ use Rattle.machine_states.proofs.Instructions.{IsSetting, AsksFor}
 use Rattle.step_laws.specs.Ready.{HasThreadOperand}
 use Rattle.step_laws.proofs.Settings.{setting_of, is_alive, is_running, in_setting}
 use Rattle.step_laws.proofs.Settling.{done}
-use Rattle.step_laws.proofs.ThreadObjects.{reference_is, IsThreadObject, named_is_not_null, thread_object_is}
+use Rattle.step_laws.proofs.ThreadObjects.{reference_is, IsThreadObject, thread_object_is}
+use Rattle.machine_states.proofs.Memories.{named_is_not_null}
 
 module _ (c : Content) (s : State) (r : Represents c s) (t left : ℕ) (m : Frames) (there : slice_get c.threads t ≡ Some (record { standing = Live m; steps_left = left })) where
   abbrev pub here : Setting
@@ -81,7 +82,7 @@ module _ (c : Content) (s : State) (r : Represents c s) (t left : ℕ) (m : Fram
             x.0,
             x.2,
             comes ∙ x.3 ∙ ap (λ k. go asks.rest k x.2.object) x.1,
-            named_is_not_null c.tree r.stands.name c.objects s r.stands.by.memory.heap object n named,
+            named_is_not_null c.tree r.stands.name c.objects s r.stands.by.memory.heap object.number n named,
             named ∙ ap Some x.1,
           )
 

@@ -8,11 +8,7 @@ use Rattle.cil_model.specs.declared.reports.Fault.{Fault}
 use Rattle.cil_model.specs.declared.reports.Fault.TheVariants as Faults
 use Rattle.cil_model.specs.declared.reports.Report.{Report}
 use Rattle.cil_model.specs.declared.reports.Report.TheVariants.{Blocked, Ended as HasEnded, Absent}
-use Rattle.cil_model.specs.declared.trees.Tree.{Tree}
-use Rattle.cil_model.specs.Fields.{FieldKey}
-use Rattle.cil_model.specs.Same.{same_text}
-use Rattle.reference_machine.specs.Values.{Value as StateValue}
-use Rattle.reference_machine.specs.States.{entry_at, Frame as StateFrame, Thread as StateThread, State}
+use Rattle.reference_machine.specs.States.{Frame as StateFrame, Thread as StateThread, State}
 use Rattle.reference_machine.specs.Effects.{Effect as StateEffect, Goes, Blocks as StateBlocks, Raises as StateRaises, given}
 use Rattle.reference_machine.specs.Steps.{Outcome, Answers, execute, effect_of, with_thread_at, ended_as, goes_on, settled as state_settled, step_of, step}
 use Rattle.reference_machine.specs.Runs.{is_refusal}
@@ -30,45 +26,14 @@ use Rattle.threads_monitors.specs.declared.threads.Standing.TheVariants.{Live, E
 use Rattle.threads_monitors.specs.declared.threads.Thread.{Thread}
 use Rattle.machine_states.specs.Agreement.{Agree}
 use Rattle.machine_states.specs.MachineContents.{Content}
-use Rattle.machine_states.specs.StandsFor.{Names, IsValue, IsHeap, AreFrames, IsThread, IsMemory, StandsBy, StandsFor, Represents}
+use Rattle.machine_states.specs.StandsFor.{Names, AreFrames, IsThread, IsMemory, StandsBy, StandsFor, Represents}
 use Rattle.machine_states.specs.Turns.{Answer, counted}
 use Rattle.machine_states.proofs.AgreeLaws.{agree_set, agree_weaken}
 use Rattle.machine_states.proofs.Extending.{thread_extends}
+use Rattle.machine_states.proofs.Memories.{memory_beside}
 use Rattle.interpreter.specs.declared.outcomes.Outcome.TheVariants.{Comes}
 use Rattle.machine_states.proofs.Instructions.{LeavesMemory, ComesAlike, is_refused_fault, is_refused_effect}
 use Rattle.step_laws.proofs.Settings.{setting_of, budget_is_some, is_alive, is_running}
-
--- ---- states that differ in their threads alone
-
-module _ (tree : Tree) (name : Names) (o : Objects) (s s' : State) (objects : s.objects ≡ s'.objects) (monitors : s.literal_monitors ≡ s'.literal_monitors) where
-  pub heap_beside : IsHeap tree name o s → IsHeap tree name o s'
-  heap_beside h = record {
-    start = h.start;
-    within = h.within;
-    words = h.words;
-    null_unnamed = h.null_unnamed;
-    small = h.small;
-    apart = h.apart;
-    born = λ a n named. let b = h.born a n named in record { no_literal = b.no_literal; cell = b.cell; lies = b.lies; object = b.object; is = subst (λ os. slice_get os n ≡ Some b.object) objects b.is; stands = b.stands };
-    literals = λ a characters named. let l = h.literals a characters named in record {
-      number = l.number;
-      numbered = l.numbered;
-      is = l.is;
-      monitor = l.monitor;
-      held = l.held;
-      state_monitor = l.state_monitor;
-      state_held = subst (λ es. entry_at same_text characters es ≡ Some l.state_monitor) monitors l.state_held;
-      stands = l.stands;
-    };
-    each_literal = h.each_literal;
-  }
-
-  pub memory_beside : s.statics ≡ s'.statics → s.printed ≡ s'.printed → (statics : List Value) (printed : List ℕ) → IsMemory tree name o statics printed s → IsMemory tree name o statics printed s'
-  memory_beside same same' statics printed h = record {
-    heap = heap_beside h.heap;
-    static_values = subst (Agree (λ v (f : FieldKey × StateValue). IsValue name v f.1) statics) same h.static_values;
-    printed_is = h.printed_is ∙ same';
-  }
 
 -- a thread with a step left isn't spent
 some_left : (n : ℕ) → (suc n == 0) ≡ false

@@ -33,7 +33,8 @@ use Rattle.machine_states.proofs.AgreeLaws.{agree_append, agree_length}
 use Rattle.machine_states.proofs.Instructions.{is_refused_fault}
 use Rattle.machine_states.proofs.Statements.{CellsMayChange}
 use Rattle.step_laws.proofs.Settings.{depth_is_some}
-use Rattle.step_laws.proofs.Settling.{heap_beside, Follows, done, finish, comes}
+use Rattle.machine_states.proofs.Memories.{heap_beside}
+use Rattle.step_laws.proofs.Settling.{Follows, done, finish, comes}
 use Rattle.step_laws.proofs.Beginnings.{beginning_stands}
 use Rattle.step_laws.proofs.ThreadObjects.{IsThreadObject}
 use Rattle.step_laws.proofs.Requests.{here, running, below, Asks, IsAskedOf, asked_of, popped_frames}

@@ -1,14 +1,12 @@
 -- What lies at the address of an object that may have a thread of its own.
-use Rattle.std.proofs.Common.{◌≡◌, ◌⊎◌, ◌==◌, ℕ, Bool, true, false, if◌then◌else◌, List, [], ◌∷◌, ◌++◌, Option, Some, None, option_map, option_and_then, unwrap_or, slice_get, refl, inl, inr, sym, ap, ◌∙◌, subst}
+use Rattle.std.proofs.Common.{◌≡◌, ◌⊎◌, ℕ, Bool, true, false, if◌then◌else◌, List, [], ◌∷◌, ◌++◌, Option, Some, None, option_map, option_and_then, unwrap_or, slice_get, refl, inl, inr, ap, ◌∙◌, subst}
 use Rattle.std.specs.Prelude.{slice_index}
 use Rattle.std.specs.Option.{option_map_or}
-use Rattle.std.proofs.lemmas.Bool.{eqb-true}
 use Rattle.cil_model.specs.declared.trees.Tree.{Tree}
 use Rattle.cil_model.specs.declared.types.ClassName.{ClassName}
 use Rattle.cil_model.specs.Chains.{is_thread_class}
 use Rattle.cil_model.specs.Declarations.{string_name}
 use Rattle.cil_model.specs.Fields.{FieldKey}
-use Rattle.cil_model.proofs.BelowLaws.{none_is_some}
 use Rattle.reference_machine.specs.Values.{ObjectName, Born, Literal, Value as StateValue, Null, Reference}
 use Rattle.reference_machine.specs.States.{Contents, Instance as IsInstance, Array as IsArray, HeapObject, Frame as StateFrame, State, object_at, class_of, class_of_contents}
 use Rattle.reference_machine.specs.Effects.{Setting, Effect as StateEffect, Sticks, given}
@@ -71,14 +69,6 @@ module _ (tree : Tree) (name : Names) (o : Objects) (s : State) (a : Addr) (numb
 
   pub own_class_is : class_of s (Born number) ≡ Some x.own
   own_class_is = ap (option_and_then (λ (y : HeapObject). class_of_contents y.contents)) x.is ∙ ap class_of_contents x.contents
-
--- no name is null's
-pub named_is_not_null : (tree : Tree) (name : Names) (o : Objects) (s : State) → IsHeap tree name o s → (a : Addr) (n : ObjectName) → name a.number ≡ Some n → (a.number == 0) ≡ false
-named_is_not_null tree name o s heap a n named = by_test (a.number == 0) refl
-  where
-    by_test : (b : Bool) → (a.number == 0) ≡ b → b ≡ false
-    by_test false is = refl
-    by_test true is = none_is_some n (sym heap.null_unnamed ∙ ap name (sym (eqb-true a.number 0 is)) ∙ named)
 
 -- what is asked of a thread's object, where it isn't stuck, is asked of an object of a class of threads
 module _ (here : Setting) (s : State) (f : StateFrame) (below : List StateFrame) (name : Names) (o : Objects) (heap : IsHeap here.tree name o s) (a : Addr) (go : HeapObject → StateEffect) where

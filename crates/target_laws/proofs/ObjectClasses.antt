@@ -1,14 +1,12 @@
 -- What lies at an address is of the class of the object that has that address, so the same method is chosen for it.
-use Rattle.std.proofs.Common.{◌≡◌, ℕ, zero, suc, ◌==◌, Bool, true, false, if◌then◌else◌, List, Option, Some, None, option_map, option_and_then, refl, sym, ap, ◌∙◌, subst, arith}
+use Rattle.std.proofs.Common.{◌≡◌, ℕ, Bool, true, false, if◌then◌else◌, List, Option, Some, None, option_map, option_and_then, refl, sym, ap, ◌∙◌, subst}
 use Rattle.std.specs.Option.{option_map_or}
-use Rattle.std.proofs.lemmas.Bool.Decides.{nat_tests}
 use Rattle.cil_model.specs.declared.trees.Tree.{Tree}
 use Rattle.cil_model.specs.declared.trees.Method.{Method}
 use Rattle.cil_model.specs.declared.types.ClassName.{ClassName}
 use Rattle.cil_model.specs.Chains.{is_virtual}
 use Rattle.cil_model.specs.Slots.{target}
 use Rattle.cil_model.proofs.SameLaws.{if_false}
-use Rattle.cil_model.proofs.BelowLaws.{none_is_some}
 use Rattle.reference_machine.specs.Values.{ObjectName, Born, Literal}
 use Rattle.reference_machine.specs.States.{Contents, Instance as IsInstance, Array as IsArray, HeapObject, State, class_of, class_of_contents}
 use Rattle.resolved_code.specs.Numbered.{class_name}
@@ -52,11 +50,6 @@ chosen_by_is tree found None (Some d) h = elim h [ ]
 chosen_by_is tree found (Some n) None h = elim h [ ]
 
 module _ (tree : Tree) (name : Names) (o : Objects) (s : State) (heap : IsHeap tree name o s) where
-  -- an object's address isn't null
-  pub named_is_not_null : (a : ℕ) (n : ObjectName) → name a ≡ Some n → (a == 0) ≡ false
-  named_is_not_null zero n is = none_is_some n (sym heap.null_unnamed ∙ is)
-  named_is_not_null (suc a) n is = grind (arith, nat_tests)
-
   -- what lies at an object's address is of its class
   pub class_at_named : (a : Addr) (n : ObjectName) → name a.number ≡ Some n → (class : Option ℕ) × (class_at o a ≡ Some class) × IsClass tree class (class_of s n)
   class_at_named a (Born n) is =

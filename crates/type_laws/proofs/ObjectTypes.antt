@@ -1,7 +1,6 @@
 -- What lies at an address is of the type of the object that has that address.
-use Rattle.std.proofs.Common.{◌≡◌, ℕ, zero, suc, ◌==◌, true, false, if◌then◌else◌, List, Option, Some, option_map, option_and_then, slice_get, refl, sym, ap, ◌∙◌, subst, arith}
+use Rattle.std.proofs.Common.{◌≡◌, ℕ, true, if◌then◌else◌, List, Option, Some, option_map, option_and_then, slice_get, refl, sym, ap, ◌∙◌, subst}
 use Rattle.std.specs.Option.{option_map_or}
-use Rattle.std.proofs.lemmas.Bool.Decides.{nat_tests}
 use Rattle.cil_model.specs.declared.trees.Tree.{Tree}
 use Rattle.cil_model.specs.declared.types.DeclaredType.{DeclaredType}
 use Rattle.cil_model.specs.declared.types.Element.TheVariants.{String}
@@ -24,6 +23,7 @@ use Rattle.object_memory.specs.Objects.{Objects}
 use Rattle.type_instructions.specs.TypeTurns.{held_type, type_of_kind, type_of_address, may_stand, may_stand_as}
 use Rattle.machine_states.specs.Agreement.{Agree}
 use Rattle.machine_states.specs.StandsFor.{Names, IsValue, int32, int64, native, null_reference, reference, IsWord, IsOfContents, IsMonitor, IsBornAt, IsLiteralAt, IsHeap}
+use Rattle.machine_states.proofs.Memories.{named_is_not_null}
 
 -- ---- the type of an object
 
@@ -46,11 +46,6 @@ module _ (tree : Tree) (name : Names) (o : Objects) (s : State) (heap : IsHeap t
   type_of_named a (Literal characters) is =
       let at : IsLiteralAt tree o s a.number characters = heap.literals a.number characters is in
       ap (λ l. option_map_or (λ k. Some (plain String)) l (option_and_then (λ (c : Cell). type_of_kind tree c.kind) (cell_at o.block a))) at.numbered
-
-  -- an object's address isn't null
-  pub named_is_not_null : (a : ℕ) (n : ObjectName) → name a ≡ Some n → (a == 0) ≡ false
-  named_is_not_null zero n is = none_is_some n (sym heap.null_unnamed ∙ is)
-  named_is_not_null (suc a) n is = grind (arith, nat_tests)
 
 -- ---- what may stand where a type is wanted
 

@@ -9,10 +9,13 @@ use std::test::Fail;
 fn births_go_to_the_front_until_the_room_is_used(rt: HostRuntime) -> Result<(), Fail> {
     let mut heap = Heap::new(rt.alloc(), Block::new(rt.alloc(), 9)?, 0)?;
     assert_eq!(rt; heap.free_words(), 9);
+    assert_eq!(rt; heap.used_words(), 0);
     let first = heap.birth(Kind::Instance(0), 2).expect(&rt, "room");
     assert_eq!(rt; heap.free_words(), 4);
+    assert_eq!(rt; heap.used_words(), 5);
     assert!(rt; heap.birth(Kind::Instance(1), 2).is_none());
     assert_eq!(rt; heap.free_words(), 4);
+    assert_eq!(rt; heap.used_words(), 5);
     let second = heap.birth(Kind::Instance(1), 1).expect(&rt, "room");
     assert_eq!(rt; heap.free_words(), 0);
     assert!(rt; first != second);

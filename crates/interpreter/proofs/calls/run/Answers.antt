@@ -1,5 +1,5 @@
-use Rattle.std.proofs.Common.{◌≡◌, ap, sym, subst, ◌∙◌, option_map, Some, None}
-use Rattle.std.specs.Prelude.{IsSome, IfOk}
+use Rattle.std.proofs.Common.{◌≡◌, ap, sym, subst, ◌∙◌, true, option_map, Some, None}
+use Rattle.std.specs.Prelude.{IsSome, IfOk, OnErr}
 use Rattle.name_tables.specs.Numbers.{method_at}
 use Rattle.reference_machine.specs.BuiltIn.{action_of}
 use Rattle.method_table.specs.MethodNumbers.{number_of}
@@ -7,7 +7,7 @@ use Rattle.method_table.specs.Prepared.{action_named, IsTableMethod}
 use Rattle.method_table.proofs.NumberLaws.{number_of_place}
 use Rattle.call_instructions.specs.Calls.{call_turn}
 use Rattle.object_instructions.specs.ObjectTurns.{beside}
-use Rattle.interpreter.specs.Calls.{beside_console, called_as}
+use Rattle.interpreter.specs.Calls.{beside_console, called_as, prints}
 use Rattle.interpreter.proofs.Running.{there_is, given_there, called_alike, run_acts, run_calls, call_there}
 use Rattle.interpreter.proofs.calls.run.Goals as goal
 
@@ -49,3 +49,11 @@ returns-in-None-clause-done c =
     let runs = run_calls c.args.program.now c.args.thread c.args.method found.0 found.1 c.args.frames.now c.args.heap.now c.args.console.now.items c.number.result acts numbered in
     let callee = called_alike c.args.program.now found.0 c.entry-entry.result.now c.number.result c.as_slice.result.now known c.as_slice.ensures.value in
     ap (λ t. beside_console c.args.console.now.items (beside c.args.heap.now t)) (c.call.ensures ∙ ap (λ x. call_turn x c.args.frames.now) callee) ∙ sym runs
+
+pub returns-in-Some-clause-prints : goal.returns-in-Some-clause-prints
+returns-in-Some-clause-prints c =
+    let found = there_is (method_at c.args.program.now (c.args.method.class, c.args.method.place)) (given_there (method_at c.args.program.now (c.args.method.class, c.args.method.place)) _ c.requires.there) in
+    let known : IsTableMethod c.args.program.now found.0 c.entry-entry.result.now = c.entry-entry.ensures found.0 found.1 in
+    let acts : action_of found.0.0 found.0.1 ≡ Some (action_named c.in-Some.action) = sym known.action ∙ ap (option_map action_named) c.in-Some.is in
+    let runs = run_acts c.args.program.now c.args.thread c.args.method found.0 found.1 c.args.frames.now c.args.heap.now c.args.console.now.items (action_named c.in-Some.action) acts in
+    subst (λ t. OnErr c.act.result (prints c.args.console.now.items t ≡ true)) (sym runs) c.act.ensures.prints

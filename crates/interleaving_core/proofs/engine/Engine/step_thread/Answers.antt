@@ -1,13 +1,21 @@
-use Rattle.first_path.specs.declared.operations.Operation.TheVariants.{WriteInt32}
-use Rattle.interleaving_core.proofs.Turning.{engine_turns, next_is}
-use Rattle.interleaving_core.proofs.WholeRuns.{on_err}
+use Rattle.std.proofs.Common.{◌∙◌}
+use Rattle.std.proofs.lemmas.Result.{IfOk-weaker, on_err_weaker}
+use Rattle.interleaving_core.specs.Views.{content_of}
+use Rattle.interleaving_core.proofs.Stepping.{can_finish, refused_back, turn_of_halves}
 use Rattle.interleaving_core.proofs.engine.Engine.step_thread.Goals as goal
+
+pub finish-requires-clause-can : goal.finish-requires-clause-can
+finish-requires-clause-can c =
+    let half = c.in_ok-outcome.ensures.instructed in
+    can_finish (content_of c.args.self.now) c.args.number c.in_ok-outcome.outcome (content_of c.instruct.new.self) half
+    (c.requires.ready.answerable c.args.number half.left half.frames half.there half.answer half.done)
 
 pub returns-clause-turns : goal.returns-clause-turns
 returns-clause-turns c =
-    engine_turns c.args.self.now.program c.args.self.now.limits c.args.self.now.body c.requires.ready.0 c.args.self.now.thread c.execute.new.self c.count_step.new.self c.args.self.now.console.items c.execute.new.console.items c.count_step.result
-    _ (c.requires.ready.1 c.requires.live).0.0 c.requires.live c.in_ok-execute.ensures.moves c.in_ok-execute.ensures.end c.execute.ensures.budget c.count_step.ensures.counted c.count_step.ensures.spent c.count_step.ensures.report c.count_step.ensures.others
+    IfOk-weaker c.finish.result _ _
+    (λ report counts. turn_of_halves (content_of c.args.self.now) c.args.number c.in_ok-outcome.outcome (content_of c.instruct.new.self) c.in_ok-outcome.ensures.instructed (content_of c.finish.new.self) report counts) c.finish.ensures.finished
 
-pub returns-in_err-execute-clause-prints : goal.returns-in_err-execute-clause-prints
-returns-in_err-execute-clause-prints c =
-    on_err c.from_residual.result _ (next_is c.args.self.now.program c.args.self.now.limits c.args.self.now.body c.requires.ready.0 c.args.self.now.thread c.args.self.now.console.items WriteInt32 c.in_err-execute.ensures.prints c.requires.live)
+pub returns-clause-refused : goal.returns-clause-refused
+returns-clause-refused c =
+    on_err_weaker c.finish.result
+    (λ h. h.2 ∙ refused_back (content_of c.args.self.now) c.args.number c.in_ok-outcome.outcome (content_of c.instruct.new.self) c.in_ok-outcome.ensures.instructed h.0 h.1) c.finish.ensures.refused

@@ -27,7 +27,7 @@ returns-in-Some c =
     let o = class_of_key c.args.owner in
     let search_in : List ℕ → Option (ℕ × ℕ) = λ ns. nearest_number (place_in (λ d. d.methods) (λ m. same_called (method_of_key c.args.method, not c.args.is_instance) (called_of m)) t) ns in
     let e : option_map (λ (m : MemberNumber). (m.class, m.place)) c.nearest_call.result ≡ method_number t c.args.is_instance (reference_of_keys c.args.owner c.args.method) =
-    c.nearest_call.ensures ∙ ap search_in c.chain.ensures ∙ sym (ap (λ n. search_in (filter_map (class_number t) (classes_searched t (method_name_of (option_map (λ x. x.now) n)) o))) c.in-Some.is) in
+    c.nearest_call.ensures ∙ sym (ap (λ n. search_in (filter_map (class_number t) (classes_searched t (method_name_of (option_map (λ x. x.now) n)) o))) c.in-Some.is) in
     record {
       number = e;
       member = sym (option_map_of_map (λ (m : MemberNumber). (m.class, m.place)) (method_at t) c.nearest_call.result) ∙ ap (option_map (method_at t)) e ∙ method_is_numbered t c.args.is_instance (reference_of_keys c.args.owner c.args.method);

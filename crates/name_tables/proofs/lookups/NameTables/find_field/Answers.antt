@@ -12,7 +12,7 @@ returns c =
     let t = c.args.self.now.classes.tree.now in
     let f : Field = record { is_static = c.args.is_static; field_type = c.args.reference.now.field_type; name = c.args.reference.now.name } in
     let e : option_map (λ (m : MemberNumber). (m.class, m.place)) c.nearest_field.result ≡ field_number t c.args.is_static c.args.reference.now =
-    c.nearest_field.ensures ∙ ap (nearest_number (place_in (λ d. d.fields) (same_field f) t)) (c.chain.ensures ∙ ap (chain_numbers t) c.of.ensures) in
+    c.nearest_field.ensures ∙ ap (nearest_number (place_in (λ d. d.fields) (same_field f) t)) (ap (chain_numbers t) c.of.ensures) in
     record {
       number = e;
       member = sym (option_map_of_map (λ (m : MemberNumber). (m.class, m.place)) (field_at t) c.nearest_field.result) ∙ ap (option_map (field_at t)) e ∙ field_is_numbered t c.args.is_static c.args.reference.now;

@@ -1,4 +1,4 @@
-use Rattle.std.proofs.Common.{◌≡◌, ◌-◌, ◌≤◌, arith}
+use Rattle.std.proofs.Common.{arith}
 use Rattle.object_memory.proofs.Heaps.{free_is}
 use Rattle.object_memory.proofs.heap.Heap.free_words.Goals as goal
 

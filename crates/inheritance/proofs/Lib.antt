@@ -1,0 +1,2 @@
+mod ChangeLaws
+mod LedgerLaws

@@ -1,0 +1,23 @@
+-- Classes by numbers: the base of each, the keys that each declares, and the nearest class with a key.
+use Rattle.std.specs.Prelude.{ℕ, zero, suc, ◌==◌, List, [], ◌∷◌, Option, Some, None, slice_index_or}
+use Rattle.std.specs.Option.{option_map_or}
+use Rattle.std.specs.List.{position_from}
+
+-- the base of a class
+abbrev pub base_in : List (Option ℕ) → ℕ → Option ℕ
+base_in bases class = slice_index_or bases class None
+
+-- the class, its base, and so on, up to a number of classes
+abbrev pub line_within : List (Option ℕ) → ℕ → Option ℕ → List ℕ
+line_within bases zero class = []
+line_within bases (suc n) None = []
+line_within bases (suc n) (Some class) = class ∷ line_within bases n (base_in bases class)
+
+-- the first place at which a class declares a key
+abbrev pub place_in : List (List ℕ) → ℕ → ℕ → Option ℕ
+place_in declared key class = position_from (λ k. key == k) 0 (slice_index_or declared class [])
+
+-- the first class at which a place is found, with that place
+abbrev pub nearest : (ℕ → Option ℕ) → List ℕ → Option (ℕ × ℕ)
+nearest at [] = None
+nearest at (class ∷ classes) = option_map_or (λ place. Some (class, place)) (at class) (nearest at classes)

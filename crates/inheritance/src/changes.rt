@@ -1,0 +1,103 @@
+// What keys find, as it changes while the classes are gone through.
+
+ghost use Rattle.std.specs.Prelude.{◌≡◌, ◌<◌, true, None, OnOk, length, map};
+ghost use Rattle.inheritance.specs.Changes.{is_ordered, known, known_of, found_from, is_earlier, AreOrdered, AreUpTo, AddsChange, AddsChanges};
+
+use cil_model::memory::NoMemory;
+
+/// Where a key is declared: the number of the class, and the place among the keys that it declares.
+#[derive(Clone, Copy, Debug, PartialEq, Eq)]
+pub struct Declared {
+    pub class: usize,
+    pub place: usize,
+}
+
+/// What a key finds from a time on.
+#[derive(Clone, Copy, Debug)]
+pub(crate) struct Change {
+    pub time: usize,
+    pub found: Option<Declared>,
+}
+
+/// What the keys that a class declares find from a time on: nothing, the class itself, or what they found at an earlier time.
+#[derive(Clone, Copy, Debug)]
+pub(crate) enum Source {
+    Nothing,
+    Class(usize),
+    Time(usize),
+}
+
+/// What is found at a time, by halving.
+fn latest(changes: &[Change], time: usize) -> Option<Declared>
+    requires { is_ordered changes.now ≡ true }
+    ensures { result ≡ known None time changes.now }
+{
+    let mut found = None;
+    let mut rest = changes;
+    loop {
+        let (earlier, later) = rest.split_at(rest.len() / 2);
+        match later {
+            [] => return found,
+            [change, later @ ..] => {
+                if change.time <= time {
+                    found = change.found;
+                    rest = later;
+                } else {
+                    rest = earlier;
+                }
+            }
+        }
+    }
+}
+
+/// What a key finds at a time.
+pub(crate) fn found_at(changes: &[Vec<Change>], key: usize, time: usize) -> Option<Declared>
+    requires { AreOrdered (map (λ v. v.items) changes.now) }
+    ensures { result ≡ known_of (map (λ v. v.items) changes.now) key time }
+{
+    match changes.get(key) {
+        None => None,
+        Some(row) => latest(row.as_slice(), time),
+    }
+}
+
+/// Notes what a key finds from a time on, where there is such a key. Fails for want of memory alone.
+fn record(changes: &mut Vec<Vec<Change>>, key: usize, change: Change) -> Result<(), NoMemory>
+    ensures { OnOk result (AddsChange (map (λ v. v.items) changes.old.items) (map (λ v. v.items) changes.new.items) key change) }
+{
+    if key < changes.len() {
+        changes[key].push(change)?;
+    }
+    Ok(())
+}
+
+fn found_from(changes: &[Vec<Change>], source: Source, key: usize, place: usize) -> Option<Declared>
+    requires { AreOrdered (map (λ v. v.items) changes.now) }
+    ensures { result ≡ found_from (map (λ v. v.items) changes.now) source key place }
+{
+    match source {
+        Source::Nothing => None,
+        Source::Class(class) => Some(Declared { class, place }),
+        Source::Time(time) => found_at(changes, key, time),
+    }
+}
+
+/// Notes what the keys that a class declares find from a time on. A key that it declares twice is found at the first place.
+/// Fails for want of memory alone.
+pub(crate) fn record_all(
+    changes: &mut Vec<Vec<Change>>,
+    keys: &[usize],
+    source: Source,
+    time: usize,
+) -> Result<(), NoMemory>
+    requires earlier { is_earlier time source ≡ true }
+    requires up_to { AreUpTo time (map (λ v. v.items) changes.old.items) }
+    ensures { OnOk result (AddsChanges (map (λ v. v.items) changes.old.items) (map (λ v. v.items) changes.new.items) keys.now 0 source time) }
+{
+    for place in (0..keys.len()).rev() {
+        let key = keys[place];
+        let found = found_from(changes.as_slice(), source, key, place);
+        record(changes, key, Change { time, found })?;
+    }
+    Ok(())
+}

@@ -1,0 +1,37 @@
+// What is given: classes by numbers.
+
+ghost use Rattle.std.specs.Prelude.{◌≡◌, slice_index_or, map, [], None};
+ghost use Rattle.inheritance.specs.Lines.{base_in};
+
+/// Classes by numbers. Where there is no class of a number, it has no base and declares nothing.
+#[derive(Drop)]
+pub struct Forest {
+    /// The base of each class.
+    pub bases: Vec<Option<usize>>,
+    /// The keys that each class declares, by their places.
+    pub declared: Vec<Vec<usize>>,
+    /// How many keys there are. They are the numbers below.
+    pub keys: usize,
+    /// With how many classes at most, from one on through its bases, a class is looked at.
+    pub most: usize,
+}
+
+impl Forest {
+    pub(crate) fn base(&self, class: usize) -> Option<usize>
+        ensures { result ≡ base_in self.now.bases.items class }
+    {
+        match self.bases.get(class) {
+            None => None,
+            Some(base) => *base,
+        }
+    }
+
+    pub(crate) fn keys_of(&self, class: usize) -> &[usize]
+        ensures { result.now ≡ slice_index_or (map (λ v. v.items) self.now.declared.items) class [] }
+    {
+        match self.declared.get(class) {
+            None => &[],
+            Some(keys) => keys.as_slice(),
+        }
+    }
+}

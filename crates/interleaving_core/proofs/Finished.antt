@@ -1,0 +1,160 @@
+-- What a step leaves, by what its instruction comes to.
+use Rattle.std.proofs.Common.{◌≡◌, ◌⊎◌, ◌<◌, ◌≤◌, ◌+◌, ◌==◌, ℕ, zero, suc, Bool, true, false, nat_le, if◌then◌else◌, is_some, List, [], ◌∷◌, ◌++◌, length, Option, Some, None, option_map, option_and_then, slice_get, slice_set, refl, inl, inr, sym, ap, ◌∙◌, subst, arith}
+use Rattle.std.proofs.lemmas.Bool.Decides.{nat_tests}
+use Rattle.std.proofs.lemmas.List.{length-append}
+use Rattle.std.specs.Option.{option_map_or}
+use Rattle.cil_model.specs.declared.events.Event.{Event}
+use Rattle.cil_model.specs.declared.events.Event.TheVariants.{Step, Ack, Gc}
+use Rattle.cil_model.specs.declared.limits.TheConstants.{MOST_THREADS}
+use Rattle.cil_model.specs.declared.reports.Fault.{Fault}
+use Rattle.cil_model.specs.declared.reports.Fault.TheVariants.{NullReference, ThreadState, TooManyThreads}
+use Rattle.cil_model.specs.declared.reports.Report.{Report}
+use Rattle.cil_model.specs.declared.trees.Method.{Method}
+use Rattle.cil_model.specs.declared.types.ClassName.{ClassName}
+use Rattle.cil_model.proofs.BelowLaws.{none_is_some, same_some}
+use Rattle.object_memory.specs.declared.addresses.Addr.{Addr}
+use Rattle.object_memory.specs.declared.values.Value.TheVariants.{Ref}
+use Rattle.object_memory.specs.Objects.{Objects, with_slot}
+use Rattle.method_table.specs.MethodNumbers.{number_of}
+use Rattle.threads_monitors.specs.Frames.{Frames}
+use Rattle.threads_monitors.specs.Threads.{join_effect, start_fault, thread_on, with_start}
+use Rattle.threads_monitors.specs.declared.effects.Effect.{Effect}
+use Rattle.threads_monitors.specs.declared.effects.Effect.TheVariants.{GoesOn, Raises}
+use Rattle.threads_monitors.specs.declared.threads.Standing.{Standing}
+use Rattle.threads_monitors.specs.declared.threads.Standing.TheVariants.{Live, Ended}
+use Rattle.threads_monitors.specs.declared.threads.Thread.{Thread}
+use Rattle.interpreter.specs.Calls.{chosen_at}
+use Rattle.interpreter.specs.declared.outcomes.Outcome.{Outcome}
+use Rattle.interpreter.specs.declared.outcomes.Outcome.TheVariants.{Comes, Starts, Joins}
+use Rattle.machine_states.specs.MachineContents.{Content}
+use Rattle.machine_states.specs.Turns.{Answer, IsStandingTurn, IsThreadTurn, IsTurn, after_request, counted, finished, left_by, run_member, started, thread_at, thread_for}
+
+pub set_length : {X : Type 0} (xs : List X) (n : ℕ) (x : X) → length (slice_set xs n x) ≡ length xs
+set_length [] n x = refl
+set_length (y ∷ ys) zero x = refl
+set_length (y ∷ ys) (suc n) x = ap suc (set_length ys n x)
+
+-- a thread that has begun beside these has its whole budget, and there was room for its number
+pub record HasBegun (budget : ℕ) (before threads : List Thread) : Type 0 where
+  pub new : Thread
+  pub are : threads ≡ before ++ new ∷ []
+  pub whole : new.steps_left ≡ budget
+  pub room : length before < MOST_THREADS
+
+-- a step was counted beside these threads and objects, with one thread more or none
+pub record IsFinished (c : Content) (t left : ℕ) (a : Answer) (after : Content × Report) : Type 0 where
+  pub threads : List Thread
+  pub objects : Objects
+  pub effect : Effect
+  pub frames : Frames
+  pub is : counted (record (left_by c t left a) { threads = threads; objects = objects }) t left effect frames ≡ after
+  pub are : (threads ≡ (left_by c t left a).threads) ⊎ HasBegun c.limits.budget (left_by c t left a).threads threads
+
+module _ (c : Content) (t left : ℕ) (a : Answer) (after : Content × Report) where
+  threads : List Thread
+  threads = (left_by c t left a).threads
+
+  -- no other thread begins
+  alone : (e : Effect) (m : Frames) → counted (left_by c t left a) t left e m ≡ after → IsFinished c t left a after
+  alone e m is = record { threads = threads; objects = a.1; effect = e; frames = m; is = is; are = inl refl }
+
+  module _ (object : Addr) where
+    begins_whole : (new : Thread) → thread_for c.tree c.limits a.1 object ≡ Some new → new.steps_left ≡ c.limits.budget
+    begins_whole new is = by_found (chosen_at c.tree a.1 object run_member) is
+      where
+        by_number : (found : ClassName × Method) (k : Option ℕ) → option_map (thread_at c.limits found (Ref object ∷ [])) k ≡ Some new → new.steps_left ≡ c.limits.budget
+        by_number found None e = none_is_some new e
+        by_number found (Some k) e = sym (ap (λ (x : Thread). x.steps_left) (same_some (thread_at c.limits found (Ref object ∷ []) k) new e))
+
+        by_found : (o : Option (ClassName × Method)) → option_and_then (λ (found : ClassName × Method). option_map (thread_at c.limits found (Ref object ∷ [])) (number_of c.tree found)) o ≡ Some new → new.steps_left ≡ c.limits.budget
+        by_found None e = none_is_some new e
+        by_found (Some found) e = by_number found (number_of c.tree found) e
+
+    -- without a fault there was room
+    room_left : start_fault threads a.1 object ≡ None → length threads < MOST_THREADS
+    room_left free = by_tests (object.number == 0) (is_some (thread_on a.1 object)) (nat_le MOST_THREADS (length threads)) refl free
+      where
+        by_tests : (null told full : Bool) → nat_le MOST_THREADS (length threads) ≡ full →
+            ◌≡◌ {A = Option Fault} (if null then Some NullReference else if told then Some ThreadState else if full then Some TooManyThreads else None) None → length threads < MOST_THREADS
+        by_tests true told full is e = none_is_some NullReference (sym e)
+        by_tests false true full is e = none_is_some ThreadState (sym e)
+        by_tests false false true is e = none_is_some TooManyThreads (sym e)
+        by_tests false false false is e = grind (arith, nat_tests)
+
+    started_in : List Thread × Objects × Effect → Content × Report
+    started_in x = counted (record (left_by c t left a) { threads = x.0; objects = x.1 }) t left x.2 (after_request x.2 a.0)
+
+    begins : option_map started_in (started c.tree c.limits threads a.1 object) ≡ Some after → IsFinished c t left a after
+    begins is = by_fault (start_fault threads a.1 object) refl (thread_for c.tree c.limits a.1 object) refl is
+      where
+        by_fault : (f : Option Fault) → start_fault threads a.1 object ≡ f → (new : Option Thread) → thread_for c.tree c.limits a.1 object ≡ new →
+            option_map started_in (option_map_or {U = Option (List Thread × Objects × Effect)} (λ x. Some (threads, a.1, Raises x)) f (option_map (with_start threads a.1 object) new)) ≡ Some after → IsFinished c t left a after
+        by_fault (Some x) fault new told e = alone (Raises x) a.0 (same_some (started_in (threads, a.1, Raises x)) after e)
+        by_fault None fault None told e = none_is_some after e
+        by_fault None fault (Some new) told e =
+            let plain : with_start threads a.1 object new ≡ (threads ++ new ∷ [], with_slot a.1 object 0 (length threads + 1), GoesOn) =
+            ap (λ (f : Option Fault). option_map_or {U = List Thread × Objects × Effect} (λ x. (threads, a.1, Raises x)) f (threads ++ new ∷ [], with_slot a.1 object 0 (length threads + 1), GoesOn)) fault in
+            record {
+              threads = threads ++ new ∷ [];
+              objects = with_slot a.1 object 0 (length threads + 1);
+              effect = GoesOn;
+              frames = after_request GoesOn a.0;
+              is = ap started_in (sym plain) ∙ same_some (started_in (with_start threads a.1 object new)) after e;
+              are = inr (record { new = new; are = refl; whole = begins_whole new told; room = room_left fault });
+            }
+
+  pub finished_by : (o : Outcome) → finished c t left a o ≡ Some after → IsFinished c t left a after
+  finished_by (Comes e) is = alone e a.0 (same_some (counted (left_by c t left a) t left e a.0) after is)
+  finished_by (Joins object) is =
+      let effect = join_effect threads a.1 object in alone effect (after_request effect a.0) (same_some (counted (left_by c t left a) t left effect (after_request effect a.0)) after is)
+  finished_by (Starts object) is = begins object is
+
+  module _ (o : Outcome) (done : finished c t left a o ≡ Some after) where
+    way : IsFinished c t left a after
+    way = finished_by o done
+
+    -- what the instruction printed is there
+    pub finished_printed : after.0.printed ≡ a.3
+    finished_printed = sym (ap (λ (x : Content × Report). x.0.printed) way.is)
+
+    -- the program and its limits stay
+    pub finished_program : (after.0.tree ≡ c.tree) × (after.0.limits ≡ c.limits)
+    finished_program = (sym (ap (λ (x : Content × Report). x.0.tree) way.is), sym (ap (λ (x : Content × Report). x.0.limits) way.is))
+
+    -- there are no more threads than there may be
+    pub finished_few : length c.threads ≤ MOST_THREADS → length after.0.threads ≤ MOST_THREADS
+    finished_few few =
+        let counted_length : length after.0.threads ≡ length way.threads = ap (λ (x : Content × Report). length x.0.threads) (sym way.is) ∙ set_length way.threads t _ in
+        let same : length threads ≡ length c.threads = set_length c.threads t _ in
+        by_way counted_length same way.are
+      where
+        by_way : length after.0.threads ≡ length way.threads → length threads ≡ length c.threads → (way.threads ≡ threads) ⊎ HasBegun c.limits.budget threads way.threads → length after.0.threads ≤ MOST_THREADS
+        by_way e same (inl is) = let as_before : length way.threads ≡ length threads = ap length is in omega (arith, e, same, as_before, few)
+        by_way e same (inr more) =
+            let one : length way.threads ≡ length threads + 1 = ap length more.are ∙ length-append threads (more.new ∷ []) in
+            omega (arith, e, one, more.room)
+
+-- ---- any event
+
+module _ (c : Content) (after : Content × Report) where
+  -- what holds where nothing changes, and after each step of a live thread
+  module _ (P : Content × Report → Type 0) (unchanged : (r : Report) → P (c, r)) (stepped : (t left : ℕ) (m : Frames) (a : Answer) (o : Outcome) → finished c t left a o ≡ Some after → P after) where
+    turn_by : (e : Event) → IsTurn c e after → P after
+    turn_by (Ack t) h = subst P (sym h) (unchanged _)
+    turn_by Gc h = subst P (sym h) (unchanged _)
+    turn_by (Step t) h = by_thread (slice_get c.threads t) h
+      where
+        by_standing : (left : ℕ) (standing : Standing) → IsStandingTurn c t left standing after → P after
+        by_standing left (Live m) k = stepped t left m k.0 k.0.4 k.2
+        by_standing left (Ended x) k = subst P (sym k) (unchanged _)
+
+        by_thread : (o : Option Thread) → IsThreadTurn c t o after → P after
+        by_thread None k = subst P (sym k) (unchanged _)
+        by_thread (Some thread) k = by_standing thread.steps_left thread.standing k
+
+  -- the program and its limits stay
+  pub same_program : (e : Event) → IsTurn c e after → (after.0.tree ≡ c.tree) × (after.0.limits ≡ c.limits)
+  same_program e = turn_by (λ x. (x.0.tree ≡ c.tree) × (x.0.limits ≡ c.limits)) (λ r. (refl, refl)) (λ t left m a o done. finished_program c t left a after o done) e
+
+  pub turn_few : (e : Event) → IsTurn c e after → length c.threads ≤ MOST_THREADS → length after.0.threads ≤ MOST_THREADS
+  turn_few e h few = turn_by (λ x. length x.0.threads ≤ MOST_THREADS) (λ r. few) (λ t left m a o done. finished_few c t left a after o done few) e h

@@ -1,0 +1,121 @@
+-- What a machine does on events, the reference machine does on their steps.
+use Rattle.std.proofs.Common.{◌≡◌, ◌+◌, ◌<◌, ℕ, zero, suc, List, [], ◌∷◌, ◌++◌, length, take, drop, get_or, Option, Some, None, option_map, slice_get, refl, sym, ap, ◌∙◌, subst, arith}
+use Rattle.std.proofs.lemmas.List.{append_assoc, length-append, take_more}
+use Rattle.std.proofs.lemmas.List.Elements.{filter_map-append}
+use Rattle.std.proofs.Math.Seq.{drop-append_seam}
+use Rattle.std.specs.List.{zip}
+use Rattle.cil_model.specs.declared.events.Event.{Event}
+use Rattle.cil_model.specs.declared.events.Event.TheVariants.{Step, Ack, Gc}
+use Rattle.cil_model.specs.declared.limits.Limits.{Limits}
+use Rattle.cil_model.specs.declared.reports.Report.{Report}
+use Rattle.cil_model.specs.declared.trees.Tree.{Tree}
+use Rattle.cil_model.proofs.BelowLaws.{none_is_some, same_some}
+use Rattle.reference_machine.specs.States.{State}
+use Rattle.reference_machine.specs.Runs.{RunsTo, run, request_of, report_of_step, followed_by, preceded_by, thread_part, step_reports}
+use Rattle.reference_machine.proofs.RunLaws.{runs_on}
+use Rattle.object_memory.specs.Objects.{Objects}
+use Rattle.threads_monitors.specs.declared.effects.Effect.{Effect}
+use Rattle.threads_monitors.specs.declared.threads.Standing.{Standing}
+use Rattle.threads_monitors.specs.declared.threads.Standing.TheVariants.{Live, Ended}
+use Rattle.threads_monitors.specs.declared.threads.Thread.{Thread}
+use Rattle.interpreter.specs.declared.outcomes.Outcome.{Outcome}
+use Rattle.interpreter.specs.declared.outcomes.Outcome.TheVariants.{Comes, Starts, Joins}
+use Rattle.machine_states.specs.MachineContents.{Content}
+use Rattle.machine_states.specs.Budgets.{KeepsBudgets}
+use Rattle.machine_states.specs.StandsFor.{Represents}
+use Rattle.machine_states.specs.Turns.{Answer, left_by, counted, after_request, started, finished, IsStandingTurn, IsThreadTurn, IsTurn}
+use Rattle.machine_laws.proofs.Whole.{step_is_followed}
+use Rattle.machine_states.specs.Runs.{AreTurns, RunsAlike, FollowsReference}
+use Rattle.interleaving_core.proofs.Finished.{same_program}
+use Rattle.interleaving_core.proofs.Budgets.{keeps_behind, turn_keeps}
+use Rattle.interleaving_core.proofs.LiveThreads.{some_budget, live_have_steps}
+
+-- ---- one event
+
+-- the program and its limits stay
+abbrev pub SameProgram : Content → Content → Type 0
+SameProgram c d = (d.tree ≡ c.tree) × (d.limits ≡ c.limits)
+
+module _ (c : Content) (after : Content × Report) where
+  pub turn_follows : (e : Event) → IsTurn c e after → FollowsReference c after.0 ((e, after.1) ∷ [])
+  turn_follows e h s r = by_event e h
+    where
+      kept : (e : Event) → IsTurn c e after → KeepsBudgets c after.0 ((e, after.1) ∷ [])
+      kept = λ e h. turn_keeps c (live_have_steps c s r) (some_budget c s r) e after h
+
+      itself : (e : Event) (h : IsTurn c e after) → (report : Report) → after ≡ (c, report) → run c.tree c.limits s (thread_part ((e, after.1) ∷ [])) ≡ RunsTo (step_reports ((e, after.1) ∷ [])) s → RunsAlike c after.0 ((e, after.1) ∷ []) s
+      itself e h report is comes = record { state = s; comes = comes; represents = subst (λ (x : Content × Report). Represents x.0 s) (sym is) r; budgets = kept e h }
+
+      by_event : (e : Event) → IsTurn c e after → RunsAlike c after.0 ((e, after.1) ∷ []) s
+      by_event (Ack t) h = itself (Ack t) h _ h refl
+      by_event Gc h = itself Gc h _ h refl
+      by_event (Step t) h =
+          let one = step_is_followed c s r t after h in
+          record { state = one.0; comes = ap (λ o. followed_by o (λ u. run c.tree c.limits u [])) one.1; represents = one.2; budgets = kept (Step t) h }
+
+-- ---- one list behind another
+
+pub joined : (c d n : Content) (es fs : List (Event × Report)) → SameProgram c d → FollowsReference c d es → FollowsReference d n fs → FollowsReference c n (es ++ fs)
+joined c d n es fs same first more s r =
+    let one = first s r in
+    let two = more one.state one.represents in
+    let later : run c.tree c.limits one.state (thread_part fs) ≡ RunsTo (step_reports fs) two.state =
+    ap (λ x. run x c.limits one.state (thread_part fs)) (sym same.0) ∙ (ap (λ x. run d.tree x one.state (thread_part fs)) (sym same.1) ∙ two.comes) in
+    record {
+      state = two.state;
+      comes = ap (run c.tree c.limits s) (filter_map-append (λ (e : Event × Report). request_of e.0 e.1) es fs)
+          ∙ (runs_on c.tree c.limits (thread_part es) (thread_part fs) s one.state two.state (step_reports es) (step_reports fs) one.comes later
+          ∙ ap (λ rs. RunsTo rs two.state) (sym (filter_map-append (λ (e : Event × Report). report_of_step e.0 e.1) es fs)));
+      represents = two.represents;
+      budgets = keeps_behind c d n es fs one.budgets two.budgets;
+    }
+
+-- ---- a list of events
+
+pub turns_more : (c d n : Content) (es : List Event) (rs : List Report) (e : Event) (r : Report) → AreTurns c es d rs → IsTurn d e (n, r) → AreTurns c (es ++ e ∷ []) n (rs ++ r ∷ [])
+turns_more c d n [] rs e r h k =
+    subst (λ x. AreTurns c (e ∷ []) n (x ++ r ∷ [])) (sym h.1) (n, subst (λ x. IsTurn x e (n, r)) h.0 k, (refl, refl))
+turns_more c d n (x ∷ es) (y ∷ ys) e r h k = (h.0, h.1, turns_more h.0 d n es ys e r h.2 k)
+turns_more c d n (x ∷ es) [] e r h k = elim h [ ]
+
+pub turns_length : (c d : Content) (es : List Event) (rs : List Report) → AreTurns c es d rs → length rs ≡ length es
+turns_length c d [] rs h = ap length h.1
+turns_length c d (e ∷ es) (r ∷ rs) h = ap suc (turns_length h.0 d es rs h.2)
+turns_length c d (e ∷ es) [] h = elim h [ ]
+
+-- each list of events is followed
+pub turns_follow : (c d : Content) (es : List Event) (rs : List Report) → AreTurns c es d rs → FollowsReference c d (zip es rs)
+turns_follow c d [] rs h s r = subst (λ x. RunsAlike c x [] s) (sym h.0) (record { state = s; comes = refl; represents = r; budgets = record { counted = λ t. refl; live = live_have_steps c s r } })
+turns_follow c d (e ∷ es) (r ∷ rs) h =
+    joined c h.0 d ((e, r) ∷ []) (zip es rs) (same_program c (h.0, r) e h.1) (turn_follows c (h.0, r) e h.1) (turns_follow h.0 d es rs h.2)
+turns_follow c d (e ∷ es) [] h = elim h [ ]
+
+-- the reports before a run, and those of the run so far
+pub record RunSoFar (c : Content) (before : List Report) (es : List Event) (d : Content) (reports : List Report) : Type 0 where
+  pub own : List Report
+  pub are : reports ≡ before ++ own
+  pub turns : AreTurns c es d own
+
+pub run_begun : (c : Content) (before : List Report) → before ≡ before ++ [] → RunSoFar c before [] c before
+run_begun c before is = record { own = []; are = is; turns = (refl, refl) }
+
+pub run_step : (c d n : Content) (before reports : List Report) (es : List Event) (i : ℕ) (x : Event) (r : Report) → i < length es → RunSoFar c before (take i es) d reports → IsTurn d (get_or es i x) (n, r) →
+    RunSoFar c before (take (i + 1) es) n (reports ++ r ∷ [])
+run_step c d n before reports es i x r below h k = record {
+  own = h.own ++ r ∷ [];
+  are = ap (λ rs. rs ++ r ∷ []) h.are ∙ append_assoc before h.own (r ∷ []);
+  turns = subst (λ l. AreTurns c l n (h.own ++ r ∷ [])) (sym (take_more es i x below)) (turns_more c d n (take i es) h.own (get_or es i x) r h.turns k);
+}
+
+module _ (c d : Content) (before reports : List Report) (es : List Event) (h : RunSoFar c before es d reports) where
+  pub own_reports : drop (length before) reports ≡ h.own
+  own_reports = ap (drop (length before)) h.are ∙ drop-append_seam before h.own
+
+  pub run_turns : AreTurns c es d (drop (length before) reports)
+  run_turns = subst (λ rs. AreTurns c es d rs) (sym own_reports) h.turns
+
+  pub run_follows : FollowsReference c d (zip es (drop (length before) reports))
+  run_follows = turns_follow c d es (drop (length before) reports) run_turns
+
+  pub all_reported : length reports ≡ length before + length es
+  all_reported = ap length h.are ∙ (length-append before h.own ∙ ap (λ n. length before + n) (turns_length c d es h.own h.turns))

@@ -1,0 +1,100 @@
+-- A thread that was reached by its number, and its machine once it has changed.
+use Rattle.std.proofs.Common.{◌≡◌, ℕ, true, false, List, ◌++◌, length, take, drop, Option, Some, None, option_map, slice_get, slice_set, refl, sym, ap, ◌∙◌, subst}
+use Rattle.std.specs.Prelude.{slice_index_or}
+use Rattle.std.specs.Option.{option_map_or}
+use Rattle.std.proofs.Math.Seq.{take-append_seam}
+use Rattle.std.proofs.lemmas.Option.{get_or_from_slice_get}
+use Rattle.cil_model.specs.declared.limits.Limits.{Limits}
+use Rattle.cil_model.specs.declared.reports.Fault.{Fault}
+use Rattle.cil_model.specs.declared.reports.Report.{Report}
+use Rattle.cil_model.specs.declared.trees.Tree.{Tree}
+use Rattle.object_memory.specs.declared.addresses.Addr.{Addr}
+use Rattle.object_memory.specs.declared.values.Value.{Value}
+use Rattle.object_memory.specs.Objects.{Objects}
+use Rattle.threads_monitors.specs.Frames.{Frames}
+use Rattle.threads_monitors.specs.Threads.{is_live, is_live_at, settled, start_fault, with_start}
+use Rattle.threads_monitors.specs.declared.effects.Effect.{Effect}
+use Rattle.threads_monitors.specs.declared.effects.Effect.TheVariants.{Raises}
+use Rattle.threads_monitors.specs.declared.threads.Standing.TheVariants.{Live}
+use Rattle.threads_monitors.specs.declared.threads.Thread.{Thread}
+use Rattle.interpreter.specs.Instructions.{IsDone}
+use Rattle.interpreter.specs.declared.outcomes.Outcome.{Outcome}
+use Rattle.machine_states.specs.MachineContents.{Content}
+use Rattle.machine_states.specs.Turns.{after_request, counted, started, thread_for}
+use Rattle.interleaving_core.specs.Finishing.{IsInstructed, answered, live_thread}
+use Rattle.interleaving_core.proofs.Stepping.{live_there, thread_is}
+
+-- the elements of a vector that was changed as a slice
+pub refilled : (xs ws : List Value) (n : ℕ) → length ws ≡ n → take n (ws ++ drop (length ws) xs) ≡ ws
+refilled xs ws n e = subst (λ k. take k (ws ++ drop (length ws) xs) ≡ ws) e (take-append_seam ws (drop (length ws) xs))
+
+-- ---- what was reached
+
+module _ (threads : List Thread) (t i : ℕ) (same : i ≡ t) (thread : Thread) (reads : thread ≡ slice_index_or threads i thread) where
+  pub reached : (x : Thread) → slice_get threads t ≡ Some x → thread ≡ x
+  reached x is = reads ∙ get_or_from_slice_get threads i x thread (ap (slice_get threads) same ∙ is)
+
+  module _ (live : is_live_at threads t ≡ true) where
+    -- it is the live one of that number
+    pub reached_there : slice_get threads t ≡ Some thread
+    reached_there = let there = live_there threads t live in there.2 ∙ ap Some (sym (reached (live_thread there.0 there.1) there.2))
+
+    pub reached_live : is_live thread ≡ true
+    reached_live = ap (λ o. option_map_or is_live o false) (sym reached_there) ∙ live
+
+    pub reached_with : (m : Frames) → thread.standing ≡ Live m → slice_get threads t ≡ Some (live_thread thread.steps_left m)
+    reached_with m e = reached_there ∙ ap Some (thread_is thread m e)
+
+-- ---- the content afterwards
+
+module _ (c : Content) (t i : ℕ) (same : i ≡ t) (thread : Thread) (reads : thread ≡ slice_index_or c.threads i thread) where
+  module _ (left : ℕ) (m : Frames) (there : slice_get c.threads t ≡ Some (live_thread left m)) (new : Thread) (report : Report) where
+    is_thread : thread ≡ live_thread left m
+    is_thread = reached c.threads t i same thread reads (live_thread left m) there
+
+    placed : (x : Thread × Report) → ◌≡◌ {A = Thread × Report} (new, report) x → ◌≡◌ {A = Content × Report} (record c { threads = slice_set c.threads t x.0 }, x.1) (record c { threads = slice_set c.threads i new }, report)
+    placed x h =
+        let by_place : ℕ → Content × Report = λ k. (record c { threads = slice_set c.threads k new }, report) in
+        let by_thread : Thread × Report → Content × Report = λ y. (record c { threads = slice_set c.threads t y.0 }, y.1) in
+        sym (ap by_place same ∙ ap by_thread h)
+
+    -- once its step is counted
+    pub counted_is : (effect : Effect) → ◌≡◌ {A = Thread × Report} (new, report) (settled effect thread) → counted c t left effect m ≡ (record c { threads = slice_set c.threads i new }, report)
+    counted_is effect h = placed (settled effect (live_thread left m)) (h ∙ ap (settled effect) is_thread)
+
+    -- and once what it asked for was answered
+    pub answered_is : (effect : Effect) → ((n : Frames) → thread.standing ≡ Live n → ◌≡◌ {A = Thread × Report} (new, report) (settled effect (record thread { standing = Live (after_request effect n) })))
+        → answered c t left m effect ≡ (record c { threads = slice_set c.threads i new }, report)
+    answered_is effect h =
+        placed (settled effect (live_thread left (after_request effect m)))
+        (h m (ap (λ (x : Thread). x.standing) is_thread) ∙ ap (λ (x : Thread). settled effect (record x { standing = Live (after_request effect m) })) is_thread)
+
+  -- once its instruction is done
+  pub instructed : is_live_at c.threads t ≡ true → (new : Thread) (tree : Tree) (o : Objects) (before statics held : List Value) (printed : List ℕ) (outcome : Outcome) → tree ≡ c.tree → before ≡ c.statics → held ≡ statics
+      → ((m : Frames) → thread.standing ≡ Live m → (n : Frames) × (new ≡ record thread { standing = Live n }) × IsDone tree t m c.objects before c.printed (n, o, statics, printed, outcome))
+      → IsInstructed c t outcome (record c { threads = slice_set c.threads i new; objects = o; statics = held; printed = printed })
+  instructed live new tree o before statics held printed outcome same_tree same_statics kept does =
+      let there = live_there c.threads t live in
+      let is_thread : thread ≡ live_thread there.0 there.1 = reached c.threads t i same thread reads (live_thread there.0 there.1) there.2 in
+      let done = does there.1 (ap (λ (x : Thread). x.standing) is_thread) in
+      let new_is : new ≡ live_thread there.0 done.0 = done.1 ∙ ap (λ (x : Thread). live_thread x.steps_left done.0) is_thread in
+      record {
+        left = there.0;
+        frames = there.1;
+        answer = (done.0, o, statics, printed, outcome);
+        there = there.2;
+        done = subst (λ (x : Tree). IsDone x t there.1 c.objects c.statics c.printed (done.0, o, statics, printed, outcome)) same_tree
+            (subst (λ (x : List Value). IsDone tree t there.1 c.objects x c.printed (done.0, o, statics, printed, outcome)) same_statics done.2);
+        comes = refl;
+        is = ap (λ (k : ℕ). record c { threads = slice_set c.threads k new; objects = o; statics = held; printed = printed }) same
+            ∙ ap (λ (x : Thread). record c { threads = slice_set c.threads t x; objects = o; statics = held; printed = printed }) new_is
+            ∙ ap (λ (x : List Value). record c { threads = slice_set c.threads t (live_thread there.0 done.0); objects = o; statics = x; printed = printed }) kept;
+      }
+
+-- ---- a start that nothing hinders
+
+pub started_is : (tree : Tree) (limits : Limits) (threads : List Thread) (o : Objects) (a : Addr) (new : Thread) (after : List Thread × Objects × Effect) → start_fault threads o a ≡ None → thread_for tree limits o a ≡ Some new
+    → after ≡ with_start threads o a new → Some after ≡ started tree limits threads o a
+started_is tree limits threads o a new after free is e =
+    let refuse : Fault → Option (List Thread × Objects × Effect) = λ x. Some (threads, o, Raises x) in
+    ap Some e ∙ sym (ap (λ (f : Option Fault). option_map_or refuse f (option_map (with_start threads o a) (thread_for tree limits o a))) free ∙ ap (option_map (with_start threads o a)) is)

@@ -1,0 +1,65 @@
+-- A machine that represents a state goes on to one that does.
+use Rattle.std.proofs.Common.{◌≡◌, ◌≤◌, [], ◌∷◌, length, Result, Ok, Err, Some, refl, sym, ap, ◌∙◌, subst, arith}
+use Rattle.std.specs.Prelude.{IfOk, IsTrue, OnErr}
+use Rattle.cil_model.specs.declared.events.Event.{Event}
+use Rattle.cil_model.specs.declared.limits.Limits.{Limits}
+use Rattle.cil_model.specs.declared.limits.TheConstants.{MOST_THREADS}
+use Rattle.cil_model.specs.declared.memory.NoMemory.{NoMemory}
+use Rattle.cil_model.specs.declared.reports.Report.{Report}
+use Rattle.cil_model.specs.declared.trees.Tree.{Tree}
+use Rattle.cil_model.specs.Ranges.{are_in_range}
+use Rattle.cil_model.specs.Typings.{IsAccepted}
+use Rattle.cil_model.proofs.BelowLaws.{same_some}
+use Rattle.reference_machine.specs.Runs.{opening}
+use Rattle.reference_machine.specs.States.{State}
+use Rattle.method_table.specs.Prepared.{IsMethodTable}
+use Rattle.machine_states.specs.MachineContents.{Content}
+use Rattle.machine_states.specs.StandsFor.{Represents}
+use Rattle.machine_states.specs.Turns.{IsTurn, opening_content}
+use Rattle.machine_laws.proofs.Whole.{asked_is_answerable, thread_is_ready}
+use Rattle.step_laws.proofs.OpeningContents.{opening_represents}
+use Rattle.interleaving_core.specs.Views.{CanGoOn, IsSound, content_of}
+use Rattle.interleaving_core.specs.declared.engine.Engine.{Engine}
+use Rattle.interleaving_core.proofs.Finished.{same_program, turn_few}
+use Rattle.interleaving_core.proofs.Following.{SameProgram, turn_follows}
+
+-- what it does next has an answer
+pub can_go_on : (e : Engine) → IsSound e → CanGoOn e
+can_go_on e sound = record {
+  table = sound.table;
+  limits = sound.represents.limits;
+  ready = λ t left m there. thread_is_ready (content_of e) sound.state sound.represents t left m there;
+  answerable = λ t left m there a done. asked_is_answerable (content_of e) sound.state sound.represents t left m there a done;
+}
+
+module _ (e e' : Engine) (sound : IsSound e) (event : Event) (table : IsMethodTable e'.program e'.table) where
+  -- after an event
+  turned : (r : Report) → IsTurn (content_of e) event (content_of e', r) → IsSound e'
+  turned r turn =
+      let alike = turn_follows (content_of e) (content_of e', r) event turn sound.state sound.represents in
+      record { table = table; state = alike.state; represents = alike.represents; few = turn_few (content_of e) (content_of e', r) event turn sound.few }
+
+  -- and after one that changed nothing
+  unchanged : content_of e' ≡ content_of e → IsSound e'
+  unchanged same = record {
+    table = table;
+    state = sound.state;
+    represents = subst (λ c. Represents c sound.state) (sym same) sound.represents;
+    few = subst (λ (c : Content). length c.threads ≤ MOST_THREADS) (sym same) sound.few;
+  }
+
+  pub sound_after : (r : Result Report NoMemory) → IfOk r (λ report. IsTurn (content_of e) event (content_of e', report)) → OnErr r (content_of e' ≡ content_of e) → IsSound e'
+  sound_after (Ok r) turns refused = turned r turns
+  sound_after (Err x) turns refused = unchanged refused
+
+-- the program and its limits stay
+pub same_after : (c d : Content) (event : Event) (r : Result Report NoMemory) → IfOk r (λ report. IsTurn c event (d, report)) → OnErr r (d ≡ c) → SameProgram c d
+same_after c d event (Ok r) turns refused = same_program c (d, r) event turns
+same_after c d event (Err x) turns refused = (ap (λ (y : Content). y.tree) refused, ap (λ (y : Content). y.limits) refused)
+
+-- a machine that was opened
+module _ (tree : Tree) (limits : Limits) (accepted : IsAccepted tree) (in_range : IsTrue (are_in_range limits)) (c : Content) (is : opening_content tree limits ≡ Some c) where
+  pub opened_represents : (s : State) × (opening tree limits ≡ Some s) × Represents c s
+  opened_represents =
+      let first = opening_represents tree limits accepted in_range in
+      (first.1, first.3, subst (λ x. Represents x first.1) (same_some first.0 c (sym first.2 ∙ is)) first.4)

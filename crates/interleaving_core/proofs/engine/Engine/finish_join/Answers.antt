@@ -1,0 +1,18 @@
+use Rattle.interleaving_core.specs.Views.{content_of}
+use Rattle.interpreter.specs.declared.outcomes.Outcome.TheVariants.{Joins}
+use Rattle.interleaving_core.proofs.Requests.{join_finished, of_live}
+use Rattle.interleaving_core.proofs.engine.Engine.finish_join.Goals as goal
+
+pub join-effect-requires : goal.join-effect-requires
+join-effect-requires c = record { there = (of_live (content_of c.args.self.now) c.args.number (Joins c.args.object) c.requires.live c.requires.can).1.slot }
+
+pub answer-requires-clause-operand : goal.answer-requires-clause-operand
+answer-requires-clause-operand c left m is = (c.requires.can left m is).operand
+
+pub answer-requires-clause-behind : goal.answer-requires-clause-behind
+answer-requires-clause-behind c left m is = (c.requires.can left m is).behind
+
+pub returns-clause-finished : goal.returns-clause-finished
+returns-clause-finished c left m there =
+    join_finished (content_of c.args.self.now) c.args.number left m c.args.object (content_of c.answer.new.self, c.answer.result) c.join-effect.result c.deref.result.now c.join-effect.ensures c.deref.ensures.value
+    (c.answer.ensures.answered left m there)

@@ -1,0 +1,37 @@
+use Rattle.interleaving_core.specs.Views.{content_of}
+use Rattle.interpreter.specs.declared.outcomes.Outcome.TheVariants.{Starts}
+use Rattle.interleaving_core.specs.Finishing.{live_thread}
+use Rattle.interleaving_core.proofs.Stepping.{started_keeps}
+use Rattle.interleaving_core.proofs.Requests.{live_after, of_live, start_finished, started_back}
+use Rattle.interleaving_core.proofs.engine.Engine.finish_start.Goals as goal
+
+pub start-requires-clause-slot : goal.start-requires-clause-slot
+start-requires-clause-slot c = (of_live (content_of c.args.self.now) c.args.number (Starts c.args.object) c.requires.live c.requires.can).1.0.slot
+
+pub start-requires-clause-there : goal.start-requires-clause-there
+start-requires-clause-there c = (of_live (content_of c.args.self.now) c.args.number (Starts c.args.object) c.requires.live c.requires.can).1.1
+
+pub answer-requires-clause-live : goal.answer-requires-clause-live
+answer-requires-clause-live c =
+    live_after c.args.self.now.program c.args.self.now.limits c.args.self.now.threads.items c.args.self.now.heap c.args.object c.args.number c.requires.live
+    (c.start.new.self.threads.items, c.start.new.self.heap, c.in_ok-effect.effect) c.in_ok-effect.ensures.started
+
+pub answer-requires-clause-operand : goal.answer-requires-clause-operand
+answer-requires-clause-operand c left m is =
+    (c.requires.can left m
+    (started_back c.args.self.now.program c.args.self.now.limits c.args.self.now.threads.items c.args.self.now.heap c.args.object c.args.number c.requires.live
+    (c.start.new.self.threads.items, c.start.new.self.heap, c.in_ok-effect.effect) c.in_ok-effect.ensures.started (live_thread left m) is)).0.operand
+
+pub answer-requires-clause-behind : goal.answer-requires-clause-behind
+answer-requires-clause-behind c left m is =
+    (c.requires.can left m
+    (started_back c.args.self.now.program c.args.self.now.limits c.args.self.now.threads.items c.args.self.now.heap c.args.object c.args.number c.requires.live
+    (c.start.new.self.threads.items, c.start.new.self.heap, c.in_ok-effect.effect) c.in_ok-effect.ensures.started (live_thread left m) is)).0.behind
+
+pub returns-clause-finished : goal.returns-clause-finished
+returns-clause-finished c left m there =
+    start_finished (content_of c.args.self.now) c.args.number left m c.args.object (content_of c.answer.new.self, c.answer.result) (c.start.new.self.threads.items, c.start.new.self.heap, c.in_ok-effect.effect)
+    (content_of c.start.new.self) c.in_ok-effect.ensures.started c.in_ok-effect.ensures.others
+    (c.answer.ensures.answered left m
+    (started_keeps c.args.self.now.program c.args.self.now.limits c.args.self.now.threads.items c.args.self.now.heap c.args.object c.args.number (live_thread left m)
+    (c.start.new.self.threads.items, c.start.new.self.heap, c.in_ok-effect.effect) there c.in_ok-effect.ensures.started))

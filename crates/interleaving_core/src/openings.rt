@@ -1,0 +1,103 @@
+//! What a machine holds before its first event.
+
+ghost use Rattle.std.specs.Prelude.{◌≡◌, ◌++◌, Some, IfOk, OnOk, true, length, map, filter, replicate};
+ghost use Rattle.std.specs.List.{flat_map};
+ghost use Rattle.cil_model.specs.Ranges.{are_in_range};
+ghost use Rattle.cil_model.specs.Typings.{IsAccepted};
+ghost use Rattle.cil_model.specs.Fields.{static_fields};
+ghost use Rattle.method_table.specs.Prepared.{IsMethodTable, kind_of_type};
+ghost use Rattle.object_memory.specs.Objects.{no_objects};
+ghost use Rattle.machine_states.specs.Turns.{opening_content};
+ghost use Rattle.interleaving_core.specs.Views.{content_of};
+ghost use Rattle.interleaving_core.specs.Statics.{declared_fields, zeros_of};
+
+use crate::beginnings::beginning;
+use crate::engine::Engine;
+use cil_model::limits::{Limits, MOST_WORDS};
+use cil_model::memory::NoMemory;
+use cil_model::trees::{Class, ClassKind, Field};
+use method_table::{MethodTable, value_kind};
+use name_tables::classes::fields_of;
+use object_memory::{Heap, Value};
+use space_block::Block;
+use std::alloc::Global;
+use threads_monitors::{Thread, zero_value};
+use verifier::Verified;
+
+/// Appends what the static fields among these hold at first.
+fn push_zeros(statics: &mut Vec<Value>, fields: &[&Field]) -> Result<(), NoMemory>
+    ensures { OnOk result (statics.new.items ≡ statics.old.items ++ zeros_of (map (λ f. f.now) fields.now)) }
+{
+    for field in fields {
+        if field.is_static {
+            statics.push(zero_value(value_kind(&field.field_type)))?;
+        }
+    }
+    Ok(())
+}
+
+/// Appends what the static fields of a class hold at first. An interface has none, whatever its text lists.
+fn push_statics(alloc: Global, statics: &mut Vec<Value>, class: &Class) -> Result<(), NoMemory>
+    ensures { OnOk result (statics.new.items ≡ statics.old.items ++ zeros_of (declared_fields class.now)) }
+{
+    match &class.kind {
+        ClassKind::Interface => Ok(()),
+        ClassKind::Class { .. } => push_zeros(statics, fields_of(alloc, class)?.as_slice()),
+    }
+}
+
+/// What all static fields hold at first, class by class, in source order.
+fn opening_statics(alloc: Global, classes: &[Class]) -> Result<Vec<Value>, NoMemory>
+    ensures { IfOk result (λ v. v.items ≡ flat_map (λ class. zeros_of (declared_fields class)) classes.now) }
+{
+    let mut statics = Vec::new(alloc);
+    for class in classes {
+        push_statics(alloc, &mut statics, class)?;
+    }
+    Ok(statics)
+}
+
+/// A heap without objects, beside so many literals.
+fn opening_heap(alloc: Global, words: u32, literals: usize) -> Result<Heap, NoMemory>
+    ensures { IfOk result (λ h. h ≡ no_objects words literals) }
+{
+    let Ok(literals) = u32::try_from(literals) else {
+        return Err(NoMemory);
+    };
+    if words > MOST_WORDS {
+        return Err(NoMemory);
+    }
+    let block = Block::new(alloc, words as usize)?;
+    Heap::new(alloc, block, literals)
+}
+
+/// A machine before its first event, within limits that are in range. Its thread is at the entry point.
+pub(crate) fn opened(alloc: Global, program: Verified, limits: Limits) -> Result<Engine, NoMemory>
+    requires limits { are_in_range limits ≡ true }
+    ensures program { IfOk result (λ e. (e.program ≡ program) × (e.limits ≡ limits)) }
+    ensures accepted { IfOk result (λ _. IsAccepted program) }
+    ensures table { IfOk result (λ e. IsMethodTable program e.table) }
+    ensures alone { IfOk result (λ e. length e.threads.items ≡ 1) }
+    ensures opening { IfOk result (λ e. opening_content program limits ≡ Some (content_of e)) }
+{
+    let table = MethodTable::new(alloc, program.program())?;
+    let statics = opening_statics(alloc, program.program().tree().classes.as_slice())?;
+    let heap = opening_heap(alloc, limits.words, program.program().literals().len())?;
+    let entry = program.program().entry_point();
+    let first = Thread::new(
+        alloc,
+        beginning(program.program(), &table, limits, entry),
+        &[],
+    )?;
+    let mut threads = Vec::new(alloc);
+    threads.push(first)?;
+    Ok(Engine {
+        program,
+        table,
+        limits,
+        threads,
+        heap,
+        statics,
+        console: Vec::new(alloc),
+    })
+}

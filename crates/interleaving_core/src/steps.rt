@@ -1,0 +1,76 @@
+//! The parts of a step of one thread.
+
+ghost use Rattle.std.specs.Prelude.{◌≡◌, ◌<◌, IsSome, IfOk, OnErr, length, true};
+ghost use Rattle.cil_model.specs.declared.limits.TheConstants.{MOST_INSTRUCTIONS};
+ghost use Rattle.resolved_code.specs.declared.operations.Operation.{Operation as AnyOperation};
+ghost use Rattle.class_layout.specs.Laid.{IsLayout};
+ghost use Rattle.method_table.specs.Prepared.{IsMethodTable};
+ghost use Rattle.threads_monitors.specs.Frames.{Frames};
+ghost use Rattle.threads_monitors.specs.Threads.{is_live, settled};
+ghost use Rattle.threads_monitors.specs.declared.threads.Standing.TheVariants.{Live};
+ghost use Rattle.interpreter.specs.Instructions.{HasSmallConstant, IsAt, IsDone, Prints, line_at, operation_turn};
+ghost use Rattle.machine_states.specs.Turns.{after_request};
+
+use cil_model::memory::NoMemory;
+use cil_model::reports::Report;
+use class_layout::Layout;
+use interpreter::outcomes::Outcome;
+use interpreter::places::instruction;
+use metadata::Program;
+use method_table::MethodTable;
+use object_memory::{Heap, Value};
+use threads_monitors::{Effect, FrameMemory, Standing, Thread};
+
+/// The instruction at a live thread's place. `NoMemory` of a print alone, where nothing is changed.
+pub(crate) fn instruct(
+    thread: &mut Thread,
+    number: u8,
+    program: &Program,
+    layout: &Layout,
+    table: &MethodTable,
+    heap: &mut Heap,
+    statics: &mut [Value],
+    console: &mut Vec<u8>,
+) -> Result<Outcome, NoMemory>
+    requires layout { IsLayout program.now layout.now }
+    requires table { IsMethodTable program.now table.now }
+    requires live { is_live thread.old ≡ true }
+    requires place { (m : Frames) → thread.old.standing ≡ Live m → IsSome (line_at program.now m) }
+    requires there { (m : Frames) → thread.old.standing ≡ Live m → (op : AnyOperation) → IsAt program.now m op → HasSmallConstant op → IsSome (operation_turn program.now number op m heap.old statics.old console.old.items) }
+    ensures done { IfOk result (λ outcome. (m : Frames) → thread.old.standing ≡ Live m → (n : Frames) × (thread.new ≡ record thread.old { standing = Live n }) × IsDone program.now number m heap.old statics.old console.old.items (n, heap.new, statics.new, console.new.items, outcome)) }
+    ensures prints { OnErr result ((m : Frames) → thread.old.standing ≡ Live m → Prints program.now number m heap.old statics.old console.old.items) }
+    ensures refused { OnErr result ((thread.new ≡ thread.old) × (heap.new ≡ heap.old) × (statics.new ≡ statics.old) × (console.new.items ≡ console.old.items)) }
+{
+    let Standing::Live(frames) = &mut thread.standing else {
+        unreachable!()
+    };
+    instruction(
+        program, layout, table, number, frames, heap, statics, console,
+    )
+}
+
+/// Takes the operand of what was asked for, once that is done, and goes on to the instruction behind. Otherwise all stays.
+fn take_operand(frames: &mut FrameMemory, effect: Effect)
+    requires operand { 0 < length frames.old.running.stack }
+    requires behind { frames.old.running.place < MOST_INSTRUCTIONS }
+    ensures { frames.new ≡ after_request effect frames.old }
+{
+    if effect == Effect::GoesOn {
+        frames.pop();
+        frames.set_place(frames.place() + 1);
+    }
+}
+
+/// Counts the step of a live thread that asked for something of another thread, and reports it.
+pub(crate) fn answer(thread: &mut Thread, effect: Effect) -> Report
+    requires live { is_live thread.old ≡ true }
+    requires operand { (m : Frames) → thread.old.standing ≡ Live m → 0 < length m.running.stack }
+    requires behind { (m : Frames) → thread.old.standing ≡ Live m → m.running.place < MOST_INSTRUCTIONS }
+    ensures { (m : Frames) → thread.old.standing ≡ Live m → (thread.new, result) ≡ settled effect (record thread.old { standing = Live (after_request effect m) }) }
+{
+    let Standing::Live(frames) = &mut thread.standing else {
+        unreachable!()
+    };
+    take_operand(frames, effect);
+    thread.settle(effect)
+}

@@ -1,2 +1,0 @@
-pub mod BudgetLaws
-pub mod StandsLaws

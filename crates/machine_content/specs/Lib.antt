@@ -1,4 +1,0 @@
-pub mod MachineContents
-pub mod Turns
-pub mod Budgets
-pub mod StandsFor

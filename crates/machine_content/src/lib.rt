@@ -1,5 +1,0 @@
-//! What a machine holds, what it does on each event, and when it stands for a state of the reference machine. It has no
-//! code; its rules are in specs/.
-#![tactic(auto)]
-
-pub mod laws;

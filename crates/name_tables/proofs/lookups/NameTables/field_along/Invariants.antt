@@ -1,0 +1,10 @@
+use Rattle.std.proofs.Common.{◌≡◌, drop}
+use Rattle.name_tables.specs.Keys.{field_of_key}
+use Rattle.name_tables.specs.Numbers.{nearest_number, place_in}
+use Rattle.name_tables.specs.Sameness.{same_field}
+use Rattle.name_tables.proofs.lookups.NameTables.field_along.Given as goal
+
+abbrev pub invariant-loop-class : goal.invariant-loop-class
+invariant-loop-class l =
+    nearest_number (place_in (λ d. d.fields) (same_field (field_of_key l.key)) l.self.classes.tree.now) (drop l.class-index l.chain) ≡
+    nearest_number (place_in (λ d. d.fields) (same_field (field_of_key l.key)) l.self.classes.tree.now) l.chain

@@ -1,0 +1,38 @@
+-- What the tables of members stand for.
+use Rattle.std.specs.Prelude.{◌≡◌, ℕ, List, map, Option, option_and_then}
+use Rattle.cil_model.specs.declared.types.ClassName.{ClassName}
+use Rattle.cil_model.specs.declared.trees.Tree.{Tree}
+use Rattle.cil_model.specs.Declarations.{Declaration}
+use Rattle.cil_model.specs.Chains.{longest_chain}
+use Rattle.inheritance.specs.declared.forests.Forest.{Forest}
+use Rattle.inheritance.specs.Lines as lines
+use Rattle.name_tables.specs.declared.keys.FieldKey.{FieldKey}
+use Rattle.name_tables.specs.declared.keys.CallKey.{CallKey}
+use Rattle.name_tables.specs.Inherited.{number_in}
+use Rattle.name_tables.specs.Keys.{field_of_key, called_of_key}
+use Rattle.name_tables.specs.Numbers.{declarations, class_number, place_in}
+use Rattle.name_tables.specs.Sameness.{same_field, same_called, called_of}
+
+-- the number of the base of each class
+abbrev pub base_numbers : Tree → List (Option ℕ)
+base_numbers tree = map (λ (e : ClassName × Declaration). option_and_then (class_number tree) e.1.base) (declarations tree)
+
+-- the classes of a tree with their bases, and the place of each key that they declare
+pub record IsMemberTable {K : Type 0} (tree : Tree) (forest : Forest) (number : K → ℕ) (place : K → ℕ → Option ℕ) : Type 0 where
+  pub bases : forest.bases.items ≡ base_numbers tree
+  pub most : forest.most ≡ longest_chain tree
+  pub places : (key : K) (class : ℕ) → lines.place_in (map (λ r. r.items) forest.declared.items) (number key) class ≡ place key class
+
+abbrev pub field_key_number : List FieldKey → FieldKey → ℕ
+field_key_number keys key = number_in (λ (a b : FieldKey). same_field (field_of_key a) (field_of_key b)) keys key
+
+abbrev pub call_key_number : List CallKey → CallKey → ℕ
+call_key_number keys key = number_in (λ (a b : CallKey). same_called (called_of_key a) (called_of_key b)) keys key
+
+-- the place of a field in a class
+abbrev pub field_place : Tree → FieldKey → ℕ → Option ℕ
+field_place tree key class = place_in (λ d. d.fields) (same_field (field_of_key key)) tree class
+
+-- the place of a method in a class
+abbrev pub call_place : Tree → CallKey → ℕ → Option ℕ
+call_place tree key class = place_in (λ d. d.methods) (λ m. same_called (called_of_key key) (called_of m)) tree class

@@ -1,0 +1,106 @@
+// The members that classes have and inherit, each found by its key.
+
+ghost use Rattle.std.specs.Prelude.{◌≡◌, ◌+◌, ℕ, Some, IfOk, length, map, flat_map, option_map, slice_index_or, []};
+ghost use Rattle.std.specs.List.{position_from};
+ghost use Rattle.inheritance.specs.Lines.{place_in};
+ghost use Rattle.inheritance.specs.Ledgers.{nearest_from};
+ghost use Rattle.name_tables.specs.Inherited.{number_in};
+
+use crate::places::Places;
+use cil_model::memory::NoMemory;
+use inheritance::{Declared, Endless, Forest, Inheritance};
+use std::alloc::Global;
+use std::cmp::Eq;
+use std::hash::Hash;
+
+/// The nearest declaration of each key along the bases of each class. A key's number is the place of the first equal one among all
+/// that are declared; another key's number is that behind them.
+#[derive(Drop)]
+pub(crate) struct Inherited<K: Eq + Hash + Copy + Drop> {
+    pub keys: Places<K>,
+    pub inheritance: Inheritance,
+    ghost within: { inheritance.forest.keys ≡ length keys + 1 },
+}
+
+fn all_keys<K: Copy + Drop>(alloc: Global, rows: &[&[K]]) -> Result<Vec<K>, NoMemory>
+    ensures { IfOk result (λ v. v.items ≡ flat_map (λ row. row.now) rows.now) }
+{
+    let mut keys = Vec::new(alloc);
+    for row in rows {
+        keys.extend_from_slice(row)?;
+    }
+    Ok(keys)
+}
+
+fn number_of<K: Eq + Hash + Copy + Drop>(keys: &Places<K>, key: K) -> usize
+    ensures { result ≡ number_in K.eq keys.now key }
+{
+    match keys.first(key) {
+        None => keys.keys().len(),
+        Some(place) => place,
+    }
+}
+
+fn row_numbers<K: Eq + Hash + Copy + Drop>(
+    alloc: Global,
+    keys: &Places<K>,
+    row: &[K],
+) -> Result<Vec<usize>, NoMemory>
+    ensures { IfOk result (λ v. v.items ≡ map (number_in K.eq keys.now) row.now) }
+{
+    let mut numbers = Vec::new(alloc);
+    for place in 0..row.len() {
+        numbers.push(number_of(keys, row[place]))?;
+    }
+    Ok(numbers)
+}
+
+fn numbers<K: Eq + Hash + Copy + Drop>(
+    alloc: Global,
+    keys: &Places<K>,
+    rows: &[&[K]],
+) -> Result<Vec<Vec<usize>>, NoMemory>
+    ensures { IfOk result (λ v. map (λ r. r.items) v.items ≡ map (λ row. map (number_in K.eq keys.now) row.now) rows.now) }
+{
+    let mut numbers = Vec::new(alloc);
+    for place in 0..rows.len() {
+        numbers.push(row_numbers(alloc, keys, rows[place])?)?;
+    }
+    Ok(numbers)
+}
+
+impl<K: Eq + Hash + Copy + Drop> Inherited<K> {
+    /// From the base of each class and the keys that it declares. No chain has more classes than the most. Fails for want of memory
+    /// alone.
+    pub fn new(
+        alloc: Global,
+        bases: Vec<Option<usize>>,
+        rows: &[&[K]],
+        most: usize,
+    ) -> Result<Self, NoMemory>
+        ensures bases { IfOk result (λ t. t.inheritance.forest.bases.items ≡ bases.items) }
+        ensures most { IfOk result (λ t. t.inheritance.forest.most ≡ most) }
+        ensures places { IfOk result (λ t. (key : K) (class : ℕ) → place_in (map (λ r. r.items) t.inheritance.forest.declared.items) (number_in K.eq t.keys key) class ≡ position_from (K.eq key) 0 (slice_index_or (map (λ row. row.now) rows.now) class [])) }
+    {
+        let keys = Places::new(alloc, all_keys(alloc, rows)?)?;
+        let declared = numbers(alloc, &keys, rows)?;
+        let Some(count) = keys.keys().len().checked_add(1) else {
+            return Err(NoMemory);
+        };
+        let forest = Forest {
+            bases,
+            declared,
+            keys: count,
+            most,
+        };
+        let inheritance = Inheritance::new(alloc, forest)?;
+        Ok(Inherited { keys, inheritance })
+    }
+
+    /// The nearest declaration of a key, from a class on. An error where the class's bases do not end.
+    pub fn nearest(&self, class: usize, key: K) -> Result<Option<Declared>, Endless>
+        ensures { IfOk result (λ found. option_map (λ d. (d.class, d.place)) found ≡ nearest_from self.now.inheritance.forest (number_in K.eq self.now.keys key) self.now.inheritance.forest.most (Some class)) }
+    {
+        self.inheritance.nearest(class, number_of(&self.keys, key))
+    }
+}

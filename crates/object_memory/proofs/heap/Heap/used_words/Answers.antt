@@ -1,0 +1,11 @@
+use Rattle.std.proofs.Common.{sym, ap, ◌∙◌, arith}
+use Rattle.object_memory.specs.Cells.{used_words}
+use Rattle.object_memory.specs.Objects.{Objects}
+use Rattle.object_memory.proofs.Tiles.{used_words_held}
+use Rattle.object_memory.proofs.heap.Heap.used_words.Goals as goal
+
+pub returns-clause-used : goal.returns-clause-used
+returns-clause-used c = sym (used_words_held c.self.inside.block c.self.inside.used c.self.invariant.1) ∙ ap (λ (o : Objects). used_words o.block.cells) c.self.view_is
+
+pub returns-clause-few : goal.returns-clause-few
+returns-clause-few c = omega (arith, c.self.invariant.0, c.self.invariant.1.inside)
