@@ -4,13 +4,14 @@ use Rattle.std.proofs.lemmas.Bool.{and_parts}
 use Rattle.std.proofs.lemmas.Bool.Decides.{nat_tests}
 use Rattle.std.specs.List.{zip}
 use Rattle.std.specs.Prelude.{IfErr, IfOk, IsErrAnd}
-use Rattle.machine_content.proofs.StandsLaws.{ends_stand, printed_stands, stands_after}
+use Rattle.machine_states.proofs.StandsLaws.{ends_stand, printed_stands, stands_after}
 use Rattle.cil_model.specs.Legality.{IsLegal}
-use Rattle.machine_content.specs.MachineContents.{Content, Thread}
-use Rattle.machine_content.specs.Budgets.{KeepsBudgets}
+use Rattle.machine_states.specs.MachineContents.{Content}
+use Rattle.machine_states.specs.Runs.{FollowsReference, StandsAfter}
+use Rattle.machine_states.specs.StandsFor.{Represents}
+use Rattle.threads_monitors.specs.Threads.{end_of}
 use Rattle.cil_model.specs.Ranges.{are_in_range}
 use Rattle.reference_machine.specs.Runs.{opening}
-use Rattle.machine_content.specs.StandsFor.{FollowsReference, StandsAfter, StandsFor}
 use Rattle.cil_model.specs.Sources.{HasTree, IsAnswer}
 use Rattle.reference_machine.specs.States.{State}
 use Rattle.cil_model.specs.declared.events.Event.{Event}
@@ -19,14 +20,11 @@ use Rattle.cil_model.specs.declared.reports.Report.{Report}
 use Rattle.cil_model.specs.declared.trees.Tree.{Tree}
 use Rattle.interleaving_core.specs.declared.machine.Refused.TheVariants.{Limits as BadLimits}
 use Rattle.cil_model.specs.Typings.{IsAccepted}
-use Rattle.first_path.specs.Typed.{first_beyond}
-use Rattle.first_path.specs.declared.path.PathError.{PathError}
-use Rattle.first_path.specs.declared.path.PathError.TheVariants.{NotYet}
 use Rattle.verifier.specs.Verdicts.{IsVerdict}
 use Rattle.verifier.specs.declared.refusals.VerifyError.{VerifyError}
-use Rattle.cilvm.specs.Failures.{failure_of_path, failure_of_verifying}
+use Rattle.cilvm.specs.Failures.{failure_of_verifying}
 use Rattle.cilvm.specs.declared.drive.Failure.{Failure}
-use Rattle.cilvm.specs.Outcomes.{HasRun, IsAcceptedSource, IsNotAccepted, IsNotRun, IsRun, IsRunBy, IsShown}
+use Rattle.cilvm.specs.Outcomes.{HasRun, IsAcceptedSource, IsNotAccepted, IsRun, IsRunBy, IsShown}
 use Rattle.cilvm.specs.Threads.{ends_of}
 
 pub handed_on : {T E : Type 0} {P gives : E → Type 0} (r : Result T E) → IsErrAnd r gives → ((e : E) → gives e → P e) → IfErr r P
@@ -63,22 +61,21 @@ nothing_more n = omega arith
 
 -- a machine that was run from its beginning
 pub ran : (tree : Tree) (limits : Limits) (m d : Content) (events : List Event) (before reports : List Report) → are_in_range limits ≡ true → before ≡ []
-    → (s : State) × (opening tree limits ≡ Some s) × StandsFor m s → m.tree ≡ tree → m.limits ≡ limits → length reports ≡ length before + length events → FollowsReference m d (zip events (drop (length before) reports))
-    → KeepsBudgets m d (zip events (drop (length before) reports)) → IsRun tree limits events reports d
-ran tree limits m d events before reports in_range none first same_tree same_limits each follows kept =
+    → (s : State) × (opening tree limits ≡ Some s) × Represents m s → m.tree ≡ tree → m.limits ≡ limits → d.limits ≡ m.limits → length reports ≡ length before + length events
+    → FollowsReference m d (zip events (drop (length before) reports)) → IsRun tree limits events reports d
+ran tree limits m d events before reports in_range none first same_tree same_limits kept_limits each follows =
     let each' : length reports ≡ length events = each ∙ ap (λ xs. length xs + length events) none ∙ nothing_more (length events) in
     let follows' : FollowsReference m d (zip events reports) = subst (λ xs. FollowsReference m d (zip events (drop (length xs) reports))) none follows in
-    let kept' : KeepsBudgets m d (zip events reports) = subst (λ xs. KeepsBudgets m d (zip events (drop (length xs) reports))) none kept in
-    (in_range, stands_after tree limits m d events reports first.0 first.1 first.2 same_tree same_limits (some_budget limits in_range) each' follows' kept')
+    (in_range, stands_after tree limits m d events reports first.0 first.1 first.2 same_tree same_limits kept_limits (some_budget limits in_range) each' follows')
 
 -- what the machine that was run shows
 pub has_run : (source : List ℕ) (limits : Limits) (text : List ℕ) (reports : List Report) (c : Content) (out out' err err' : Option (List ℕ)) (status : ℕ) → IsRunBy source limits text reports c
-    → IsShown c.printed (map (λ (t : Thread). t.ended) c.threads) out out' err err' status → HasRun source limits text out out' err err' status
+    → IsShown c.printed (map end_of c.threads) out out' err err' status → HasRun source limits text out out' err err' status
 has_run source limits text reports c out out' err err' status by shown =
     let after : StandsAfter by.2.0 limits by.0 reports c = by.2.2.1 in
     record {
       tree = by.2.0;
-      is_accepted = by.2.1.0;
+      is_accepted = by.2.1;
       in_range = by.2.2.0;
       events = by.0;
       are_read = by.1;
@@ -86,8 +83,8 @@ has_run source limits text reports c out out' err err' status by shown =
       state = after.state;
       is_run = after.is_run;
       budgets = after.budgets;
-      shown = subst (λ p. IsShown p (ends_of after.state) out out' err err' status) (printed_stands c after.state after.stands)
-          (subst (λ es. IsShown c.printed es out out' err err' status) (ends_stand c after.state after.stands) shown);
+      shown = subst (λ p. IsShown p (ends_of after.state) out out' err err' status) (printed_stands c after.state after.represents)
+          (subst (λ es. IsShown c.printed es out out' err err' status) (ends_stand c after.state after.represents) shown);
     }
 
 -- a program that was verified
@@ -100,8 +97,3 @@ pub untyped_source : (source : List ℕ) (tree program : Tree) (error : VerifyEr
     → IsVerdict program (Err error) → failure ≡ failure_of_verifying error → IsNotAccepted source failure
 untyped_source source tree program error failure read same legal verdict told =
     inr (tree, read, inr (inl (legal, (error, subst (λ (t : Tree). IsVerdict t (Err error)) same verdict, told))))
-
--- an accepted program that does not run yet
-pub beyond : {T : Type 0} (source : List ℕ) (limits : Limits) (tree : Tree) (error : PathError) (failure : Failure) → IsAcceptedSource source tree
-    → ((method : ℕ) → ◌≡◌ {A = Result T PathError} (Err error) (Err (NotYet method)) → first_beyond tree ≡ Some method) → failure ≡ failure_of_path error → IsNotRun source limits failure
-beyond source limits tree error failure accepted refused told = inr (tree, accepted, inl (error, (λ method e. refused method (ap Err e)), told))

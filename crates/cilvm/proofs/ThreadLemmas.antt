@@ -1,8 +1,10 @@
 -- The lines of threads, one after another.
-use Rattle.std.proofs.Common.{◌≡◌, ◌+◌, ◌<◌, ℕ, List, ◌∷◌, [], ◌++◌, length, take, get_or, Option, None, Some, arith, sym, ◌∙◌, ap, zero, suc, append_assoc, map, option_map, unwrap_or, slice_get, refl}
+use Rattle.std.proofs.Common.{◌≡◌, ◌+◌, ◌<◌, ℕ, List, ◌∷◌, [], ◌++◌, length, take, get_or, Option, None, Some, arith, sym, ◌∙◌, ap, zero, suc, append_assoc, map, refl}
 use Rattle.std.proofs.lemmas.List.{append-nil}
 use Rattle.std.specs.Io.KnownBytes.{Appends}
-use Rattle.machine_content.specs.MachineContents.{Thread}
+use Rattle.threads_monitors.specs.Threads.{end_of}
+use Rattle.threads_monitors.specs.declared.threads.Thread.{Thread}
+use Rattle.interleaving_core.specs.Views.{end_at}
 use Rattle.cil_model.specs.declared.reports.End.{End}
 use Rattle.cilvm.specs.Threads.{line_of, lines_from}
 
@@ -25,8 +27,7 @@ appends_more (Some x) (Some y) None bs cs p q = absurd q
 appends_more (Some x) (Some y) (Some z) bs cs p q = q ∙ ap (λ l. l ++ cs) p ∙ append_assoc x bs cs
 
 -- an end more
-pub ends_more : (threads : List Thread) (t : ℕ) → t < length threads
-    → take t (map (λ (x : Thread). x.ended) threads) ++ unwrap_or (option_map (λ (x : Thread). x.ended) (slice_get threads t)) None ∷ [] ≡ take (suc t) (map (λ (x : Thread). x.ended) threads)
+pub ends_more : (threads : List Thread) (t : ℕ) → t < length threads → take t (map end_of threads) ++ end_at threads t ∷ [] ≡ take (suc t) (map end_of threads)
 ends_more [] t below = absurd (omega (arith, below))
 ends_more (x ∷ xs) zero below = refl
-ends_more (x ∷ xs) (suc t) below = ap (λ es. x.ended ∷ es) (ends_more xs t (omega (arith, below)))
+ends_more (x ∷ xs) (suc t) below = ap (λ es. end_of x ∷ es) (ends_more xs t (omega (arith, below)))

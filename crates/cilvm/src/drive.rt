@@ -2,9 +2,10 @@
 ghost use Rattle.std.specs.Prelude.{◌≡◌, ◌≢◌, ◌++◌, ◌∷◌, [], codes, map, IfErr, IfOk, OnOk, true, ◌+◌, ◌⊎◌};
 ghost use Rattle.std.specs.List.{list_all, list_any};
 ghost use Rattle.std.specs.Io.KnownBytes.{Appends};
+ghost use Rattle.threads_monitors.specs.Threads.{end_of};
 ghost use Rattle.cilvm.specs.Failures.{IsFailureOfDevice, IsStatusOf, failure_of_making};
 ghost use Rattle.cilvm.specs.Failures.{failure_of_reading, failure_of_resolving};
-ghost use Rattle.cilvm.specs.Failures.{failure_of_path, failure_of_schedule, failure_of_verifying};
+ghost use Rattle.cilvm.specs.Failures.{failure_of_schedule, failure_of_verifying};
 ghost use Rattle.cilvm.specs.Failures.{is_refusal, message_of, status_of_failure};
 ghost use Rattle.cilvm.specs.Outcomes.{HasNotRun, HasRun, HasRunTo, IsAcceptedSource, IsChecked, IsDone, IsNotAccepted};
 ghost use Rattle.cilvm.specs.Outcomes.{IsNotChecked, IsNotDone, IsNotRun, IsNotRunBy, IsNotRunWithin, IsOfWriting};

@@ -4,7 +4,6 @@ use crate::orders::Order;
 use cil_model::events::Event;
 use cil_model::limits::Limits;
 use cil_model::reports::{End, Report};
-use first_path::first_path;
 use interleaving_core::{Machine, Refused};
 use std::alloc::Global;
 use std::io;
@@ -292,18 +291,13 @@ fn accepts_a_sum(rt: HostRuntime) {
 }
 
 #[test]
-fn accepts_what_does_not_run_yet(rt: HostRuntime) {
+fn runs_other_arithmetic(rt: HostRuntime) {
     let source = SUM
         .replace(rt.alloc(), " add", " sub")
         .expect(&rt, "memory");
-    let words = ["cilvm", "check", "add.il"];
-    assert_driven(
-        &rt,
-        words.as_slice(),
-        source.as_bytes(),
-        (0, "accepted\n", ""),
-    );
-    assert_run(&rt, source.as_bytes(), "x", (1, "", "error 301\n"));
+    let wanted = (0, "-1\n", "thread 0: done\n");
+    assert_run(&rt, source.as_bytes(), "s0*5", wanted);
+    assert_run(&rt, source.as_bytes(), "x", (1, "", "error 501\n"));
 }
 
 #[test]
@@ -339,10 +333,7 @@ fn machine(
         depth: 64,
     };
     match accept(alloc, SUM.as_bytes()) {
-        Ok(verified) => match first_path(alloc, verified) {
-            Ok(program) => Machine::new(alloc, program, limits),
-            Err(_) => panic!(rt; "the sum does not run"),
-        },
+        Ok(verified) => Machine::new(alloc, verified, limits),
         Err(_) => panic!(rt; "the sum is refused"),
     }
 }
@@ -352,7 +343,7 @@ fn reports_each_event(rt: HostRuntime) {
     let mut machine = machine(&rt, 65536, 3).expect(&rt, "a machine");
     let mut reports = Vec::new(rt.alloc());
     let steps = [Event::Step(0); 9];
-    machine.run(&steps, &mut reports).expect(&rt, "memory");
+    machine.run(rt.alloc(), &steps, &mut reports).expect(&rt, "memory");
     let ended = Report::Ended(End::Budget);
     let (ran, absent) = (Report::Ran, Report::Absent);
     let wanted = [
@@ -410,7 +401,7 @@ fn passes_over_events_without_a_collector(rt: HostRuntime) {
         (Event::Step(7), Report::Absent),
         (Event::Step(0), Report::Ran),
     ] {
-        assert!(rt; machine.step(event) == Ok(wanted), "{wanted:?}");
+        assert!(rt; machine.step(rt.alloc(), event) == Ok(wanted), "{wanted:?}");
     }
     assert!(rt; machine.is_live(0) && machine.live() == 1);
     assert!(rt; machine.end_of(0).is_none());

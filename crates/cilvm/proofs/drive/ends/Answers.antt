@@ -1,4 +1,5 @@
 use Rattle.std.proofs.Common.{[], ap, map, sym, take, ◌++◌, ◌<◌, ◌∙◌, ◌∷◌, add-one, length, subst}
+use Rattle.threads_monitors.specs.Threads.{end_of}
 use Rattle.cilvm.proofs.ThreadLemmas.{ends_more}
 use Rattle.cilvm.proofs.drive.ends.Goals as goal
 
@@ -7,5 +8,5 @@ loop-thread-preserved c =
     let threads = c.args.machine.now.threads in
     let thread = c.loop-thread.thread in
     let below : thread < length threads = subst (λ n. thread < n) c.started-thread-end.ensures.all c.loop-thread-test.true in
-    c.in_ok-push.ensures.items ∙ ap (λ es. es ++ c.end_of.result ∷ []) c.loop-thread.invariant ∙ ap (λ e. take thread (map (λ t. t.ended) threads) ++ e ∷ []) c.end_of.ensures ∙ ends_more threads thread below
-    ∙ ap (λ n. take n (map (λ t. t.ended) threads)) (sym (add-one thread))
+    c.in_ok-push.ensures.items ∙ ap (λ es. es ++ c.end_of.result ∷ []) c.loop-thread.invariant ∙ ap (λ e. take thread (map end_of threads) ++ e ∷ []) c.end_of.ensures ∙ ends_more threads thread below
+    ∙ ap (λ n. take n (map end_of threads)) (sym (add-one thread))

@@ -11,4 +11,4 @@ pub returns-clause-ran : goal.returns-clause-ran
 returns-clause-ran c =
     ran c.args.program c.args.limits c.in_ok-machine.machine c.run.new.self c.args.events.now c.new-reports.result.items c.run.new.reports.items
     (made_in_range c.args.limits c.in_ok-machine.machine c.in_ok-machine.ensures.limits) c.new-reports.ensures.items
-    c.in_ok-machine.ensures.opening c.in_ok-machine.ensures.program.0 c.in_ok-machine.ensures.program.1 c.in_ok-run.ensures.each c.in_ok-run.ensures.follows c.in_ok-run.ensures.budgets
+    c.in_ok-machine.ensures.opening c.in_ok-machine.ensures.program.0 c.in_ok-machine.ensures.program.1 c.run.ensures.same.1 c.in_ok-run.ensures.each c.in_ok-run.ensures.follows

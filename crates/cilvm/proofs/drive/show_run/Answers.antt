@@ -18,4 +18,4 @@ returns-clause-done g c =
 pub returns-clause-failed : goal.returns-clause-failed
 returns-clause-failed g c =
     let ran = c.in_ok-run.ensures.ran.2 in
-    if_err c.show.result c.show.ensures.failed (λ failure writing. inr ((ran.0, ran.1.0), writing))
+    if_err c.show.result c.show.ensures.failed (λ failure writing. inr ((ran.0, ran.1), writing))
