@@ -18,6 +18,4 @@ mod sources;
 #[cfg(test)]
 mod stacks;
 #[cfg(test)]
-mod sums;
-#[cfg(test)]
 mod verdicts;
