@@ -1,5 +1,5 @@
 -- Threads keep their budgets.
-use Rattle.std.proofs.Common.{◌≡◌, ◌⊎◌, ◌<◌, ◌+◌, ◌-◌, ◌==◌, ℕ, zero, suc, Bool, true, false, cond, if◌then◌else◌, List, [], ◌∷◌, ◌++◌, Option, Some, None, slice_get, slice_set, refl, inl, inr, sym, ap, ◌∙◌, subst, arith}
+use Rattle.std.proofs.Common.{◌≡◌, ◌⊎◌, ◌<◌, ◌+◌, ◌-◌, ◌==◌, ℕ, zero, suc, true, false, cond, if◌then◌else◌, List, [], ◌∷◌, ◌++◌, Option, Some, None, slice_get, slice_set, refl, inl, inr, sym, ap, ◌∙◌, subst, arith}
 use Rattle.std.proofs.lemmas.Bool.Decides.{nat_tests}
 use Rattle.std.proofs.lemmas.List.Sums.{sum_by-cons}
 use Rattle.std.specs.Option.{option_map_or}
@@ -8,7 +8,7 @@ use Rattle.cil_model.specs.declared.events.Event.TheVariants.{Step, Ack, Gc}
 use Rattle.cil_model.specs.declared.reports.End.{End}
 use Rattle.cil_model.specs.declared.reports.Report.{Report}
 use Rattle.cil_model.specs.declared.reports.Report.TheVariants.{Absent, NothingPosted, Waiting}
-use Rattle.cil_model.proofs.BelowLaws.{none_is_some, same_some}
+use Rattle.cil_model.proofs.BelowLaws.{none_is_some}
 use Rattle.monitor_counts.proofs.ChangedEntries.{set_is_there}
 use Rattle.reference_machine.proofs.RunLaws.{get_before}
 use Rattle.threads_monitors.specs.Frames.{Frames}
@@ -108,10 +108,10 @@ module _ (c : Content) (live : LiveHaveSteps c.limits.budget c.threads) (some : 
     -- the threads beside which a step is counted: as many steps are left to each, and the thread of the step is there
     record AreAsBefore (threads : List Thread) : Type 0 where
       pub own : Thread
-      pub there : slice_get threads n ≡ Some own
+      pub own_there : slice_get threads n ≡ Some own
       pub own_left : own.steps_left ≡ left
       pub same : (t : ℕ) → left_in c.limits.budget threads t ≡ left_in c.limits.budget c.threads t
-      pub live : LiveHaveSteps c.limits.budget threads
+      pub have_steps : LiveHaveSteps c.limits.budget threads
 
     module _ (d : Content) (as_before : AreAsBefore d.threads) (limits : d.limits ≡ c.limits) where
       -- the thread stands so after the step
@@ -119,8 +119,8 @@ module _ (c : Content) (live : LiveHaveSteps c.limits.budget c.threads) (some : 
       stepped x r made less goes = record {
         counted = λ t. one_made t n r (left_in d.limits.budget (slice_set d.threads n x) t) (made t)
             ∙ (ap (λ l. cond (n == t) 1 0 + left_in l.budget (slice_set d.threads n x) t) limits
-            ∙ (left_set c.limits.budget d.threads n t x as_before.own as_before.there (less ∙ sym as_before.own_left) ∙ as_before.same t));
-        live = λ t. subst (λ l. is_live_at (slice_set d.threads n x) t ≡ true → 0 < left_in l.budget (slice_set d.threads n x) t) (sym limits) (live_set c.limits.budget d.threads n x goes as_before.live t);
+            ∙ (left_set c.limits.budget d.threads n t x as_before.own as_before.own_there (less ∙ sym as_before.own_left) ∙ as_before.same t));
+        live = λ t. subst (λ l. is_live_at (slice_set d.threads n x) t ≡ true → 0 < left_in l.budget (slice_set d.threads n x) t) (sym limits) (live_set c.limits.budget d.threads n x goes as_before.have_steps t);
       }
 
       -- a live thread after its step has steps left
@@ -162,20 +162,20 @@ module _ (c : Content) (live : LiveHaveSteps c.limits.budget c.threads) (some : 
       replaced : AreAsBefore (left_by c n left a).threads
       replaced = record {
         own = live_thread left a.0;
-        there = own_is;
+        own_there = own_is;
         own_left = refl;
         same = λ t. left_kept c.limits.budget c.threads n t (live_thread left a.0) (live_thread left before) there refl;
-        live = live_set c.limits.budget c.threads n (live_thread left a.0) (λ h. some_left) live;
+        have_steps = live_set c.limits.budget c.threads n (live_thread left a.0) (λ h. some_left) live;
       }
 
       -- and a thread has begun beside it
       joined_by : (threads : List Thread) → HasBegun c.limits.budget (left_by c n left a).threads threads → AreAsBefore threads
       joined_by threads more = subst AreAsBefore (sym more.are) (record {
         own = live_thread left a.0;
-        there = get_before (left_by c n left a).threads (more.new ∷ []) n (live_thread left a.0) own_is;
+        own_there = get_before (left_by c n left a).threads (more.new ∷ []) n (live_thread left a.0) own_is;
         own_left = refl;
         same = λ t. left_behind c.limits.budget (left_by c n left a).threads t more.new more.whole ∙ replaced.same t;
-        live = live_behind c.limits.budget (left_by c n left a).threads more.new (subst (λ k. 0 < k) (sym more.whole) some) replaced.live;
+        have_steps = live_behind c.limits.budget (left_by c n left a).threads more.new (subst (λ k. 0 < k) (sym more.whole) some) replaced.have_steps;
       })
 
       outcome_keeps : (o : Outcome) (after : Content × Report) → finished c n left a o ≡ Some after → KeepsBudgets c after.0 ((Step n, after.1) ∷ [])
@@ -206,7 +206,7 @@ module _ (c : Content) (live : LiveHaveSteps c.limits.budget c.threads) (some : 
 
 -- the steps of both lists
 made_by_both : (t : ℕ) (es fs : List (Event × Report)) → steps_made t (es ++ fs) ≡ steps_made t es + steps_made t fs
-made_by_both t [] fs = refl
+made_by_both t [] fs = let none : steps_made t [] ≡ 0 = refl in omega (arith, none)
 made_by_both t (e ∷ es) fs =
     let whole : steps_made t (e ∷ es ++ fs) ≡ cond (made_step t e.0 e.1) 1 0 + steps_made t (es ++ fs) = sum_by-cons (λ (x : Event × Report). cond (made_step t x.0 x.1) 1 0) e (es ++ fs) in
     let first : steps_made t (e ∷ es) ≡ cond (made_step t e.0 e.1) 1 0 + steps_made t es = sum_by-cons (λ (x : Event × Report). cond (made_step t x.0 x.1) 1 0) e es in

@@ -1,12 +1,10 @@
 -- A method of a number is declared by its class, and has few locals.
-use Rattle.std.proofs.Common.{◌≡◌, ◌≤◌, ◌+◌, ℕ, List, [], ◌∷◌, map, length, Option, Some, None, option_map, option_and_then, slice_get, refl, sym, ap, ◌∙◌, subst, arith}
+use Rattle.std.proofs.Common.{◌≡◌, ◌≤◌, ℕ, [], length, Option, Some, None, option_map, option_and_then, slice_get, refl, sym, ap, ◌∙◌, subst}
 use Rattle.std.specs.Option.{option_map_or}
 use Rattle.cil_model.specs.declared.limits.TheConstants.{MOST_LOCALS}
 use Rattle.cil_model.specs.declared.types.ClassName.{ClassName}
-use Rattle.cil_model.specs.declared.trees.Code.{Code}
 use Rattle.cil_model.specs.declared.trees.Method.{Method}
 use Rattle.cil_model.specs.declared.trees.Tree.{Tree}
-use Rattle.cil_model.specs.Bodies.{code_of}
 use Rattle.cil_model.specs.Chains.{methods_in}
 use Rattle.cil_model.specs.Declarations.{Declaration, declaration_of}
 use Rattle.cil_model.specs.Legality.{IsLegal}

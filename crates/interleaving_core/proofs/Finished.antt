@@ -51,7 +51,7 @@ pub record IsFinished (c : Content) (t left : ℕ) (a : Answer) (after : Content
   pub are : (threads ≡ (left_by c t left a).threads) ⊎ HasBegun c.limits.budget (left_by c t left a).threads threads
 
 module _ (c : Content) (t left : ℕ) (a : Answer) (after : Content × Report) where
-  threads : List Thread
+  abbrev threads : List Thread
   threads = (left_by c t left a).threads
 
   -- no other thread begins
@@ -81,7 +81,7 @@ module _ (c : Content) (t left : ℕ) (a : Answer) (after : Content × Report) w
         by_tests false false true is e = none_is_some TooManyThreads (sym e)
         by_tests false false false is e = grind (arith, nat_tests)
 
-    started_in : List Thread × Objects × Effect → Content × Report
+    abbrev started_in : List Thread × Objects × Effect → Content × Report
     started_in x = counted (record (left_by c t left a) { threads = x.0; objects = x.1 }) t left x.2 (after_request x.2 a.0)
 
     begins : option_map started_in (started c.tree c.limits threads a.1 object) ≡ Some after → IsFinished c t left a after

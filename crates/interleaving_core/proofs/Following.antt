@@ -1,29 +1,18 @@
 -- What a machine does on events, the reference machine does on their steps.
-use Rattle.std.proofs.Common.{◌≡◌, ◌+◌, ◌<◌, ℕ, zero, suc, List, [], ◌∷◌, ◌++◌, length, take, drop, get_or, Option, Some, None, option_map, slice_get, refl, sym, ap, ◌∙◌, subst, arith}
+use Rattle.std.proofs.Common.{◌≡◌, ◌+◌, ◌<◌, ℕ, suc, List, [], ◌∷◌, ◌++◌, length, take, drop, get_or, refl, sym, ap, ◌∙◌, subst, arith}
 use Rattle.std.proofs.lemmas.List.{append_assoc, length-append, take_more}
 use Rattle.std.proofs.lemmas.List.Elements.{filter_map-append}
-use Rattle.std.proofs.Math.Seq.{drop-append_seam}
+use Rattle.std.proofs.Math.Seq.{drop-append_seam, take-append_seam}
 use Rattle.std.specs.List.{zip}
 use Rattle.cil_model.specs.declared.events.Event.{Event}
 use Rattle.cil_model.specs.declared.events.Event.TheVariants.{Step, Ack, Gc}
-use Rattle.cil_model.specs.declared.limits.Limits.{Limits}
 use Rattle.cil_model.specs.declared.reports.Report.{Report}
-use Rattle.cil_model.specs.declared.trees.Tree.{Tree}
-use Rattle.cil_model.proofs.BelowLaws.{none_is_some, same_some}
-use Rattle.reference_machine.specs.States.{State}
-use Rattle.reference_machine.specs.Runs.{RunsTo, run, request_of, report_of_step, followed_by, preceded_by, thread_part, step_reports}
+use Rattle.reference_machine.specs.Runs.{RunsTo, run, request_of, report_of_step, followed_by, thread_part, step_reports}
 use Rattle.reference_machine.proofs.RunLaws.{runs_on}
-use Rattle.object_memory.specs.Objects.{Objects}
-use Rattle.threads_monitors.specs.declared.effects.Effect.{Effect}
-use Rattle.threads_monitors.specs.declared.threads.Standing.{Standing}
-use Rattle.threads_monitors.specs.declared.threads.Standing.TheVariants.{Live, Ended}
-use Rattle.threads_monitors.specs.declared.threads.Thread.{Thread}
-use Rattle.interpreter.specs.declared.outcomes.Outcome.{Outcome}
-use Rattle.interpreter.specs.declared.outcomes.Outcome.TheVariants.{Comes, Starts, Joins}
 use Rattle.machine_states.specs.MachineContents.{Content}
-use Rattle.machine_states.specs.Budgets.{KeepsBudgets}
+use Rattle.machine_states.specs.Budgets.{KeepsBudgets, steps_left_of}
 use Rattle.machine_states.specs.StandsFor.{Represents}
-use Rattle.machine_states.specs.Turns.{Answer, left_by, counted, after_request, started, finished, IsStandingTurn, IsThreadTurn, IsTurn}
+use Rattle.machine_states.specs.Turns.{IsTurn}
 use Rattle.machine_laws.proofs.Whole.{step_is_followed}
 use Rattle.machine_states.specs.Runs.{AreTurns, RunsAlike, FollowsReference}
 use Rattle.interleaving_core.proofs.Finished.{same_program}
@@ -83,9 +72,22 @@ turns_length c d [] rs h = ap length h.1
 turns_length c d (e ∷ es) (r ∷ rs) h = ap suc (turns_length h.0 d es rs h.2)
 turns_length c d (e ∷ es) [] h = elim h [ ]
 
+-- nothing is added
+none_made : (n : ℕ) → 0 + n ≡ n
+none_made n = omega arith
+
+-- the program and its limits stay
+pub turns_program : (c d : Content) (es : List Event) (rs : List Report) → AreTurns c es d rs → SameProgram c d
+turns_program c d [] rs h = (ap (λ (x : Content). x.tree) h.0, ap (λ (x : Content). x.limits) h.0)
+turns_program c d (e ∷ es) (r ∷ rs) h =
+    let one = same_program c (h.0, r) e h.1 in
+    let more = turns_program h.0 d es rs h.2 in
+    (more.0 ∙ one.0, more.1 ∙ one.1)
+turns_program c d (e ∷ es) [] h = elim h [ ]
+
 -- each list of events is followed
 pub turns_follow : (c d : Content) (es : List Event) (rs : List Report) → AreTurns c es d rs → FollowsReference c d (zip es rs)
-turns_follow c d [] rs h s r = subst (λ x. RunsAlike c x [] s) (sym h.0) (record { state = s; comes = refl; represents = r; budgets = record { counted = λ t. refl; live = live_have_steps c s r } })
+turns_follow c d [] rs h = λ s r. subst (λ x. RunsAlike c x [] s) (sym h.0) (record { state = s; comes = refl; represents = r; budgets = record { counted = λ t. none_made (steps_left_of c t); live = live_have_steps c s r } })
 turns_follow c d (e ∷ es) (r ∷ rs) h =
     joined c h.0 d ((e, r) ∷ []) (zip es rs) (same_program c (h.0, r) e h.1) (turn_follows c (h.0, r) e h.1) (turns_follow h.0 d es rs h.2)
 turns_follow c d (e ∷ es) [] h = elim h [ ]
@@ -119,3 +121,9 @@ module _ (c d : Content) (before reports : List Report) (es : List Event) (h : R
 
   pub all_reported : length reports ≡ length before + length es
   all_reported = ap length h.are ∙ (length-append before h.own ∙ ap (λ n. length before + n) (turns_length c d es h.own h.turns))
+
+  pub run_kept : take (length before) reports ≡ before
+  run_kept = ap (take (length before)) h.are ∙ take-append_seam before h.own
+
+  pub run_program : SameProgram c d
+  run_program = turns_program c d es h.own h.turns

@@ -1,14 +1,14 @@
 -- Where a machine represents a state, each live thread has steps left.
-use Rattle.std.proofs.Common.{◌≡◌, ◌<◌, ◌≤◌, ℕ, true, false, List, Option, Some, None, slice_get, refl, sym, ap, ◌∙◌, subst}
+use Rattle.std.proofs.Common.{◌≡◌, ◌<◌, ◌≤◌, true, false, Option, Some, None, slice_get, refl, sym, subst}
 use Rattle.std.specs.Option.{option_map_or}
 use Rattle.cil_model.specs.declared.reports.End.{End}
 use Rattle.reference_machine.specs.States.{State, Thread as StateThread}
-use Rattle.threads_monitors.specs.Threads.{is_live, is_live_at}
+use Rattle.threads_monitors.specs.Threads.{is_live}
 use Rattle.threads_monitors.specs.declared.threads.Thread.{Thread}
 use Rattle.threads_monitors.specs.declared.threads.Standing.{Standing}
 use Rattle.threads_monitors.specs.declared.threads.Standing.TheVariants.{Live, Ended}
 use Rattle.machine_states.specs.MachineContents.{Content}
-use Rattle.machine_states.specs.StandsFor.{IsThread, Represents, StandsAlike}
+use Rattle.machine_states.specs.StandsFor.{IsThread, Names, Represents, StandsAlike}
 use Rattle.machine_states.proofs.AgreeLaws.{agree_at}
 use Rattle.interleaving_core.proofs.Budgets.{LiveHaveSteps}
 use Rattle.step_laws.proofs.Settings.{budget_is_some as budget_of}
@@ -20,6 +20,7 @@ module _ (c : Content) (s : State) (r : Represents c s) where
   pub live_have_steps : LiveHaveSteps c.limits.budget c.threads
   live_have_steps t = by_thread (slice_get c.threads t) refl
     where
+      name : Names
       name = r.stands.name
 
       -- the state's thread of that number is live too

@@ -1,5 +1,5 @@
 -- What a machine that is opened holds is what the definition says.
-use Rattle.std.proofs.Common.{◌≡◌, ℕ, zero, suc, Bool, true, false, cond, List, [], ◌∷◌, ◌++◌, map, filter, length, Option, Some, None, option_map, option_and_then, slice_get, refl, sym, ap, ◌∙◌, subst}
+use Rattle.std.proofs.Common.{◌≡◌, ℕ, suc, Bool, true, false, cond, List, [], ◌∷◌, ◌++◌, map, filter, length, Option, Some, None, option_map, option_and_then, slice_get, refl, sym, ap, ◌∙◌}
 use Rattle.std.specs.Prelude.{IsSome, option_to_list}
 use Rattle.std.specs.List.{flat_map}
 use Rattle.std.specs.Option.{option_map_or}
@@ -34,10 +34,8 @@ use Rattle.method_table.specs.MethodNumbers.{number_of}
 use Rattle.method_table.specs.Prepared.{kind_of_type}
 use Rattle.method_table.proofs.NumberLaws.{number_of_place}
 use Rattle.threads_monitors.specs.Frames.{zero_value}
-use Rattle.threads_monitors.specs.Threads.{new_thread}
 use Rattle.threads_monitors.specs.declared.threads.Thread.{Thread}
 use Rattle.interpreter.specs.Calls.{chosen_at}
-use Rattle.machine_states.specs.MachineContents.{Content}
 use Rattle.machine_states.specs.Turns.{content_at, opening_content, run_member, thread_at, thread_for}
 use Rattle.interleaving_core.specs.Statics.{declared_fields, zeros_of}
 

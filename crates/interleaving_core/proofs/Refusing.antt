@@ -1,8 +1,8 @@
 -- Memory is wanted for a print or a start alone.
-use Rattle.std.proofs.Common.{◌≡◌, ◌⊎◌, ◌<◌, ◌+◌, ℕ, List, [], ◌∷◌, ◌++◌, length, Option, Some, None, option_map, slice_get, refl, inl, inr, sym, ap, ◌∙◌, subst, arith}
+use Rattle.std.proofs.Common.{◌≡◌, ◌<◌, ◌+◌, ℕ, List, [], ◌∷◌, ◌++◌, length, Option, Some, None, option_map, slice_get, Result, Ok, Err, refl, inl, inr, sym, ap, ◌∙◌, subst, arith}
 use Rattle.std.proofs.lemmas.List.{length-append}
 use Rattle.std.specs.Option.{option_map_or}
-use Rattle.std.specs.Prelude.{IsSome}
+use Rattle.std.specs.Prelude.{IsSome, OnErr}
 use Rattle.cil_model.specs.declared.events.Event.TheVariants.{Step}
 use Rattle.cil_model.specs.declared.reports.Fault.{Fault}
 use Rattle.cil_model.specs.declared.reports.Report.{Report}
@@ -21,6 +21,11 @@ use Rattle.machine_states.specs.Turns.{Answer, IsThreadTurn, IsTurn, PrintsOrSta
 use Rattle.step_laws.specs.Ready.{IsAnswerable}
 use Rattle.interleaving_core.specs.Finishing.{IsInstructed, live_thread}
 use Rattle.interleaving_core.proofs.Finished.{finished_printed, set_length}
+
+-- what holds anyway holds of an error
+pub on_err : {T E P : Type 0} (r : Result T E) → P → OnErr r P
+on_err (Ok x) h = tt
+on_err (Err e) h = h
 
 there_mapped : {X Y : Type 0} (f : X → Y) (o : Option X) → IsSome o → (x : X) × (o ≡ Some x) × (option_map f o ≡ Some (f x))
 there_mapped f (Some x) h = (x, refl, refl)

@@ -21,7 +21,7 @@ module _ (name : Names) where
       IsThread tree limits name (thread_at limits found arguments n) (record { frames = new_frame found.0 found.1 code arguments' None ∷ []; steps_left = limits.budget; ended = None })
   beginning_stands tree limits deep found code has_code n stands arguments arguments' h = record {
     standing = record {
-      frames = (record { method = stands; place = refl; arguments = h; locals = locals_stand found.1 code has_code; stack = tt; constructed = tt }, tt);
+      frames = (record { method = stands; place = refl; arguments = h; locals = locals_stand name found.1 code has_code; stack = tt; constructed = tt }, tt);
       depth = refl;
       few = deep;
       room = refl;

@@ -343,7 +343,9 @@ fn reports_each_event(rt: HostRuntime) {
     let mut machine = machine(&rt, 65536, 3).expect(&rt, "a machine");
     let mut reports = Vec::new(rt.alloc());
     let steps = [Event::Step(0); 9];
-    machine.run(rt.alloc(), &steps, &mut reports).expect(&rt, "memory");
+    machine
+        .run(rt.alloc(), &steps, &mut reports)
+        .expect(&rt, "memory");
     let ended = Report::Ended(End::Budget);
     let (ran, absent) = (Report::Ran, Report::Absent);
     let wanted = [

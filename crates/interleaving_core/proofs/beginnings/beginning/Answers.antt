@@ -1,4 +1,4 @@
-use Rattle.std.proofs.Common.{◌≡◌, ◌+◌, ◌≤◌, ℕ, List, [], None, ap, sym, subst, ◌∙◌, option_map, length, arith}
+use Rattle.std.proofs.Common.{◌≡◌, ◌≤◌, List, [], None, ap, ◌∙◌, option_map, length, arith}
 use Rattle.std.specs.Prelude.{slice_get}
 use Rattle.cil_model.specs.declared.limits.TheConstants.{MOST_LOCALS}
 use Rattle.name_tables.specs.Numbers.{method_at}

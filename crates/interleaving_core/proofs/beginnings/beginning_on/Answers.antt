@@ -1,4 +1,4 @@
-use Rattle.std.proofs.Common.{Some, List, [], ◌∷◌, ap, sym, ◌∙◌}
+use Rattle.std.proofs.Common.{Some, [], ◌∷◌, ap, sym, ◌∙◌}
 use Rattle.object_memory.specs.declared.values.Value.TheVariants.{Ref}
 use Rattle.interpreter.specs.Calls.{chosen_at}
 use Rattle.interpreter.proofs.Running.{there_is}

@@ -1,0 +1,24 @@
+use Rattle.std.proofs.Common.{[], ◌∷◌, subst}
+use Rattle.std.specs.Prelude.{IfOk}
+use Rattle.std.proofs.lemmas.Result.{IfOk-weaker}
+use Rattle.machine_states.specs.Runs.{FollowsReference}
+use Rattle.interleaving_core.specs.Views.{content_of}
+use Rattle.interleaving_core.proofs.Following.{SameProgram, turn_follows}
+use Rattle.interleaving_core.proofs.Sound.{can_go_on, same_after, sound_after}
+use Rattle.interleaving_core.proofs.machine.Machine.step.Goals as goal
+
+pub step-requires : goal.step-requires
+step-requires c = record { ready = can_go_on c.self.inside.engine c.self.invariant }
+
+pub invariant_of-self : goal.invariant_of-self
+invariant_of-self c = sound_after c.self.inside.engine c.step.new.self c.self.invariant c.args.event c.step.ensures.table c.step.result c.step.ensures.turns c.step.ensures.refused
+
+pub returns-clause-follows : goal.returns-clause-follows
+returns-clause-follows c =
+    subst (λ x. IfOk c.step.result (λ report. FollowsReference x (content_of c.step.new.self) ((c.args.event, report) ∷ []))) c.self.view_is
+    (IfOk-weaker c.step.result _ _ (λ report turn. turn_follows (content_of c.self.inside.engine) (content_of c.step.new.self, report) c.args.event turn) c.step.ensures.turns)
+
+pub returns-clause-same : goal.returns-clause-same
+returns-clause-same c =
+    subst (λ x. SameProgram x (content_of c.step.new.self)) c.self.view_is
+    (same_after (content_of c.self.inside.engine) (content_of c.step.new.self) c.args.event c.step.result c.step.ensures.turns c.step.ensures.refused)
