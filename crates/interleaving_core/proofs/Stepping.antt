@@ -7,6 +7,7 @@ use Rattle.cil_model.specs.declared.reports.Fault.{Fault}
 use Rattle.cil_model.specs.declared.reports.Report.{Report}
 use Rattle.cil_model.specs.declared.trees.Tree.{Tree}
 use Rattle.cil_model.proofs.BelowLaws.{none_is_some, same_some}
+use Rattle.monitor_counts.proofs.ChangedEntries.{set_is_there}
 use Rattle.reference_machine.proofs.RunLaws.{get_before}
 use Rattle.object_memory.specs.declared.addresses.Addr.{Addr}
 use Rattle.object_memory.specs.Objects.{Objects, with_slot}
@@ -26,11 +27,6 @@ use Rattle.interleaving_core.specs.Finishing.{CanFinish, IsInstructed, finish, l
 use Rattle.interleaving_core.proofs.Asking.{start_changes_nothing}
 
 -- ---- lists of threads
-
-pub set_own : {X : Type 0} (xs : List X) (n : ℕ) (x y : X) → slice_get xs n ≡ Some y → slice_get (slice_set xs n x) n ≡ Some x
-set_own [] n x y e = none_is_some y e
-set_own (z ∷ zs) zero x y e = refl
-set_own (z ∷ zs) (suc n) x y e = set_own zs n x y e
 
 set_again : {X : Type 0} (xs : List X) (n : ℕ) (x : X) → slice_get xs n ≡ Some x → slice_set xs n x ≡ xs
 set_again [] n x e = none_is_some x e
@@ -85,7 +81,7 @@ finish_finishes c t left a (Joins object) = refl
 
 module _ (c : Content) (t : ℕ) (outcome : Outcome) (after : Content) (half : IsInstructed c t outcome after) where
   pub thread_left : slice_get after.threads t ≡ Some (live_thread half.left half.answer.0)
-  thread_left = ap (λ (x : Content). slice_get x.threads t) half.is ∙ set_own c.threads t (live_thread half.left half.answer.0) (live_thread half.left half.frames) half.there
+  thread_left = ap (λ (x : Content). slice_get x.threads t) half.is ∙ set_is_there c.threads t (live_thread half.left half.answer.0) (live_thread half.left half.frames) half.there
 
   pub live_left : is_live_at after.threads t ≡ true
   live_left = live_by after.threads t half.left half.answer.0 thread_left
