@@ -1,0 +1,110 @@
+-- One entry more.
+use Rattle.std.proofs.Common.{◌≡◌, ◌≢◌, ℕ, zero, suc, ◌+◌, List, [], ◌∷◌, ◌++◌, length, set, Some, refl, sym, ap, ◌∙◌, subst, arith, eq-eqb, ne_eqb, append_assoc, append-nil, add-one, get_or, ◌-◌, nat_eq}
+use Rattle.std.specs.Prelude.{slice_get, replicate}
+use native.Mathlib.Decide.{ℕ_discrete}
+use mathlib.Core.Logic.{dite}
+use Rattle.worker_counts.proofs.Moves.{get_same, get_other}
+use Rattle.worker_counts.specs.Counts.{Count}
+use Rattle.cil_model.specs.declared.events.Event.{Event}
+use Rattle.cil_model.specs.declared.reports.Report.{Report}
+use Rattle.machine_states.specs.MachineContents.{Content}
+use Rattle.machine_states.specs.Runs.{AreTurns}
+use Rattle.machine_states.specs.Turns.{IsTurn}
+use Rattle.interleaving_core.proofs.Following.{turns_more}
+use Rattle.shared_machine.specs.Codes.{add}
+use Rattle.shared_machine.specs.Histories.{plain, entry, events_of, reports_of, add_if, counted, count_of}
+use Rattle.shared_machine.specs.Worlds.{IsSound, fresh}
+use Rattle.shared_machine.specs.declared.history.Entry.{Entry}
+use Rattle.shared_machine.specs.declared.history.Run.{Run}
+
+-- the count of a history with one entry more
+counted-more : (w c : ℕ) (h : List Entry) (e : Entry) → counted w c (h ++ e ∷ []) ≡ add_if (nat_eq e.worker w) e (counted w c h)
+counted-more w c [] e = refl
+counted-more w c (x ∷ h) e = counted-more w (add_if (nat_eq x.worker w) x c) h e
+
+count_mine : (w : ℕ) (h : List Entry) (e : Event) (r : Report) → count_of w (h ++ entry w e r ∷ []) ≡ add (count_of w h) e r
+count_mine w h e r = counted-more w 0 h (entry w e r) ∙ ap (λ b. add_if b (entry w e r) (count_of w h)) (eq-eqb w w refl)
+
+count_other : (w v : ℕ) (h : List Entry) (e : Event) (r : Report) → v ≢ w → count_of w (h ++ entry v e r ∷ []) ≡ count_of w h
+count_other w v h e r apart = counted-more w 0 h (entry v e r) ∙ ap (λ b. add_if b (entry v e r) (count_of w h)) (ne_eqb v w apart)
+
+-- the turns of a history with one entry more
+events-more : (h : List Entry) (e : Entry) → events_of (h ++ e ∷ []) ≡ events_of h ++ e.event ∷ []
+events-more [] e = refl
+events-more (x ∷ h) e = ap (λ (l : List Event). x.event ∷ l) (events-more h e)
+
+reports-more : (h : List Entry) (e : Entry) → reports_of (h ++ e ∷ []) ≡ reports_of h ++ e.report ∷ []
+reports-more [] e = refl
+reports-more (x ∷ h) e = ap (λ (l : List Report). x.report ∷ l) (reports-more h e)
+
+turns_after : (o core next : Content) (h : List Entry) (e : Entry) → AreTurns o (events_of h) core (reports_of h) → IsTurn core e.event (next, e.report) → AreTurns o (events_of (h ++ e ∷ [])) next (reports_of (h ++ e ∷ []))
+turns_after o core next h e turns turn =
+    subst (λ (x : List Event × List Report). AreTurns o x.0 next x.1)
+    (λ i. (sym (events-more h e) i, sym (reports-more h e) i))
+    (turns_more o core next (events_of h) (reports_of h) e.event e.report turns turn)
+
+pub sound_more : (o core next : Content) (h : List Entry) (book : List ℕ) (w n : ℕ) (e : Event) (r : Report)
+    → IsSound o core h book → IsTurn core e (next, r) → slice_get book w ≡ Some n → IsSound o next (h ++ entry w e r ∷ []) (set book w (add n e r))
+sound_more o core next h book w n e r s turn there =
+    record { turns = turns_after o core next h (entry w e r) s.turns turn; counts = counts }
+  where
+    counts : (v m : ℕ) → slice_get (set book w (add n e r)) v ≡ Some m → m ≡ count_of v (h ++ entry w e r ∷ [])
+    counts v m got =
+        dite (ℕ_discrete v w)
+        (λ same.
+        let here : slice_get (set book w (add n e r)) v ≡ Some (add n e r) = subst (λ k. slice_get (set book w (add n e r)) k ≡ Some (add n e r)) (sym same) (get_same book w n (add n e r) there) in
+        let m_is : m ≡ add n e r = cc in
+        let n_is : n ≡ count_of w h = s.counts w n there in
+        m_is ∙ ap (λ k. add k e r) n_is ∙ sym (count_mine w h e r) ∙ ap (λ k. count_of k (h ++ entry w e r ∷ [])) (sym same))
+        (λ apart.
+        let there' : slice_get book v ≡ Some m = sym (get_other book w v (add n e r) apart) ∙ got in
+        s.counts v m there' ∙ sym (count_other v w h e r (λ x. apart (sym x))))
+
+-- runs
+replicate-more : (n : ℕ) (e : Entry) → replicate (suc n) e ≡ replicate n e ++ e ∷ []
+replicate-more zero e = refl
+replicate-more (suc n) e = ap (λ (l : List Entry). e ∷ l) (replicate-more n e)
+
+pub plain-push : (xs : List Run) (e : Entry) → plain (xs ++ record { entry = e; times = 1 } ∷ []) ≡ plain xs ++ e ∷ []
+plain-push [] e = refl
+plain-push (x ∷ xs) e = ap (λ (l : List Entry). replicate x.times x.entry ++ l) (plain-push xs e) ∙ sym (append_assoc (replicate x.times x.entry) (plain xs) (e ∷ []))
+
+last_longer : (xs : List Run) (k : ℕ) (old : Run) (e : Entry) → length xs ≡ suc k → get_or xs k old ≡ old → old.entry ≡ e → plain (set xs k (record { entry = e; times = suc old.times })) ≡ plain xs ++ e ∷ []
+last_longer [] k old e len is same = absurd (omega arith)
+last_longer (x ∷ []) zero old e len is same =
+    let t : x.times ≡ old.times = ap (λ (r : Run). r.times) is in
+    let f : x.entry ≡ e = ap (λ (r : Run). r.entry) is ∙ same in
+    append-nil _ ∙ replicate-more old.times e ∙ sym (ap (λ (l : List Entry). l ++ e ∷ []) (append-nil _ ∙ ap (λ (n : ℕ). replicate n x.entry) t ∙ ap (λ (y : Entry). replicate old.times y) f))
+last_longer (x ∷ y ∷ ys) zero old e len is same = absurd (omega arith)
+last_longer (x ∷ []) (suc k) old e len is same = absurd (omega arith)
+last_longer (x ∷ y ∷ ys) (suc k) old e len is same =
+    ap (λ (l : List Entry). replicate x.times x.entry ++ l) (last_longer (y ∷ ys) k old e (omega arith) is same) ∙ sym (append_assoc (replicate x.times x.entry) (plain (y ∷ ys)) (e ∷ []))
+
+pub plain-longer : (xs : List Run) (n : ℕ) (old new : Run) (e : Entry) → n ≡ length xs → n ≢ 0 → old ≡ get_or xs (n - 1) old → old.entry ≡ e → new ≡ record { entry = e; times = old.times + 1 } → plain (set xs (n - 1) new) ≡ plain xs ++ e ∷ []
+plain-longer xs n old new e len some is same new_is =
+    let more : new ≡ record { entry = e; times = suc old.times } = new_is ∙ ap (λ (t : ℕ). record { entry = e; times = t }) (add-one old.times) in
+    ap (λ (r : Run). plain (set xs (n - 1) r)) more ∙ last_longer xs (n - 1) old e (omega arith) (sym is) same
+
+-- the same under equations
+pub sound_at : (o core core' : Content) (h h' : List Entry) (book book' : List ℕ) → IsSound o core h book → core' ≡ core → h' ≡ h → book' ≡ book → IsSound o core' h' book'
+sound_at o core core' h h' book book' s a b c = subst (λ (x : Content × (List Entry × List ℕ)). IsSound o x.0 x.1.0 x.1.1) (λ i. (sym a i, (sym b i, sym c i))) s
+
+pub history_is : (all kept old : List Entry) (v w : ℕ) (e : Event) (r : Report) → all ≡ kept ++ entry v e r ∷ [] → kept ≡ old → v ≡ w → all ≡ old ++ entry w e r ∷ []
+history_is all kept old v w e r a b c = a ∙ ap (λ (x : List Entry × ℕ). x.0 ++ entry x.1 e r ∷ []) (λ i. (b i, c i))
+
+-- tickets
+pub zeros-more : (xs : List ℕ) → ((w n : ℕ) → slice_get xs w ≡ Some n → n ≡ 0) → (w n : ℕ) → slice_get (xs ++ 0 ∷ []) w ≡ Some n → n ≡ 0
+zeros-more [] h zero n e = cc
+zeros-more [] h (suc w) n e = absurd (cc)
+zeros-more (x ∷ xs) h zero n e = h zero n e
+zeros-more (x ∷ xs) h (suc w) n e = zeros-more xs (λ v m f. h (suc v) m f) w n e
+
+pub zeros-after : (xs ys : List ℕ) → ys ≡ xs ++ 0 ∷ [] → ((w n : ℕ) → slice_get xs w ≡ Some n → n ≡ 0) → (w n : ℕ) → slice_get ys w ≡ Some n → n ≡ 0
+zeros-after xs ys e h w n got = zeros-more xs h w n (ap (λ (l : List ℕ). slice_get l w) (sym e) ∙ got)
+
+pub fresh-more : (n : ℕ) (all rest : List Count) (t : Count) → all ≡ rest ++ t ∷ [] → rest ≡ fresh n → t ≡ record { worker = n; count = 0 } → all ≡ fresh (n + 1)
+fresh-more n all rest t a b c = a ∙ ap (λ (x : List Count × Count). x.0 ++ x.1 ∷ []) (λ i. (b i, c i)) ∙ sym (ap fresh (add-one n))
+
+-- before the first entry
+pub sound_first : (o core : Content) (h : List Entry) (book : List ℕ) → core ≡ o → h ≡ [] → ((w n : ℕ) → slice_get book w ≡ Some n → n ≡ 0) → IsSound o core h book
+sound_first o core h book is none zeros = subst (λ (x : List Entry). IsSound o core x book) (sym none) (record { turns = (is, refl); counts = zeros })

@@ -1,0 +1,11 @@
+use Rattle.std.proofs.Common.{◌∷◌, ◌++◌, [], refl, ap, ◌∙◌}
+use Rattle.shared_machine.specs.Histories.{Log, plain}
+use Rattle.shared_machine.proofs.Histories.{plain-push}
+use Rattle.shared_machine.proofs.history.History.add.Goals as goal
+
+pub returns-in-Ok : goal.returns-in-Ok
+returns-in-Ok c =
+    ap plain c.in-Ok.ensures.items
+    ∙ plain-push c.lengthen.new.runs.items c.args.entry
+    ∙ ap (λ v. plain v.items ++ c.args.entry ∷ []) (c.if-not-lengthen.ensures.same refl)
+    ∙ ap (λ (l : Log). l.entries ++ c.args.entry ∷ []) c.self.view_is

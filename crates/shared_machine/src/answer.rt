@@ -1,0 +1,12 @@
+//! What an event under the lock is answered.
+
+use cil_model::reports::Report;
+
+/// The answer to one event of a worker.
+#[derive(Clone, Copy, PartialEq, Eq, Debug)]
+pub enum Answer {
+    /// The machine did the event, and reported this.
+    Did(Report),
+    /// No memory was left for the event or for its entry, and nothing changed.
+    NoMemory,
+}

@@ -1,0 +1,147 @@
+//! The history of a shared machine, as runs of equal entries.
+
+ghost use Rattle.std.specs.Prelude.{◌≡◌, ℕ, List, ◌+◌, ◌∷◌, ◌++◌, [], true, false, OnOk, IfSome};
+ghost use Rattle.shared_machine.specs.Histories.{Fixes, plain};
+ghost use Rattle.shared_machine.specs.declared.history.Entry.{Entry};
+
+use cil_model::events::Event;
+use cil_model::reports::Report;
+use std::alloc::{AllocError, Global};
+use std::marker::Model;
+
+/// One event of a worker, with what the machine reported of it.
+#[derive(Clone, Copy, PartialEq, Eq, Debug)]
+pub struct Entry {
+    /// The worker's number.
+    pub worker: u8,
+    /// What the worker asked for.
+    pub event: Event,
+    /// What the machine reported.
+    pub report: Report,
+}
+
+/// An entry, so many times in a row.
+#[derive(Clone, Copy, Debug)]
+pub struct Run {
+    /// The entry.
+    pub entry: Entry,
+    /// How often it is there.
+    pub times: u64,
+}
+
+/// All entries, the oldest first. To contracts it is the plain list of them, and whether there is room for one more.
+///
+/// Equal entries in a row take the place of one.
+#[derive(Drop)]
+pub struct History {
+    runs: Vec<Run>,
+}
+
+impl Model for History {
+    ghost use Rattle.std.specs.Prelude.{nat_lt, vec_len, vec_capacity};
+    ghost use Rattle.shared_machine.specs.Histories.{Log, plain};
+
+    ghost Value = { Log };
+
+    ghost view = { λ h. record { entries = plain h.runs.items; ready = nat_lt (vec_len h.runs) (vec_capacity h.runs) } };
+}
+
+impl History {
+    /// A history without entries. It takes no memory.
+    pub fn new(alloc: Global) -> History
+        ensures { result.entries ≡ [] }
+    {
+        History {
+            runs: Vec::new(alloc),
+        }
+    }
+
+    /// Takes the memory that one entry more may need. Only want of memory is an error. The entries stay as they were in any case.
+    pub fn make_room(&mut self) -> Result<(), AllocError>
+        ensures entries { self.new.entries ≡ self.old.entries }
+        ensures ready { OnOk result (self.new.ready ≡ true) }
+    {
+        self.runs.reserve(1)
+    }
+
+    /// Adds an entry at the end, for which there has to be room. The entries before it stay.
+    pub fn add(&mut self, entry: Entry)
+        requires { self.old.ready ≡ true }
+        ensures { self.new.entries ≡ self.old.entries ++ entry ∷ [] }
+    {
+        if !lengthen(&mut self.runs, entry) {
+            match self.runs.push(Run { entry, times: 1 }) {
+                Ok(()) => {}
+                Err(_) => unreachable!(),
+            }
+        }
+    }
+
+    /// The runs, the oldest first. One after another, each as often as it says, they are the entries.
+    pub fn runs(&self) -> &[Run]
+        ensures { plain result.now ≡ self.now.entries }
+    {
+        self.runs.as_slice()
+    }
+}
+
+/// Equal counts fix a worker's events, their reports and their order: two histories in which a worker has the same count have the same
+/// entries of this worker. It does nothing; its contract says so.
+pub fn counts_fix_events()
+    ensures { (worker : ℕ) (one other : List Entry) → Fixes worker one other }
+{}
+
+/// Whether the entries are one. Where it is true, contracts can put one in the other's place.
+fn is_same(one: &Entry, other: &Entry) -> bool
+    ensures { result ≡ true → one.now ≡ other.now }
+{
+    one.worker == other.worker
+        && is_same_event(one.event, other.event)
+        && is_same_report(one.report, other.report)
+}
+
+fn is_same_event(one: Event, other: Event) -> bool
+    ensures { result ≡ true → one ≡ other }
+{
+    one == other
+}
+
+fn is_same_report(one: Report, other: Report) -> bool
+    ensures { result ≡ true → one ≡ other }
+{
+    one == other
+}
+
+/// The run with one entry more, if it is a run of this entry and can be longer.
+fn longer(run: &Run, entry: &Entry) -> Option<Run>
+    ensures { IfSome result (λ more. (run.now.entry ≡ entry.now) × (more ≡ record { entry = entry.now; times = run.now.times + 1 })) }
+{
+    let times = run.times.checked_add(1)?;
+    if is_same(&run.entry, entry) {
+        Some(Run {
+            entry: *entry,
+            times,
+        })
+    } else {
+        None
+    }
+}
+
+/// Makes the last run longer by one, where it is one of this entry. Else it answers false, and the runs stay.
+fn lengthen(runs: &mut Vec<Run>, entry: Entry) -> bool
+    ensures longer { result ≡ true → plain runs.new.items ≡ plain runs.old.items ++ entry ∷ [] }
+    ensures same { result ≡ false → runs.new ≡ runs.old }
+{
+    let all = runs.as_slice();
+    let count = all.len();
+    if count == 0 {
+        return false;
+    }
+    match longer(&runs[count - 1], &entry) {
+        Some(run) => {
+            runs[count - 1] = run;
+            true
+        }
+        None => false,
+    }
+}

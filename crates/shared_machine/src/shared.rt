@@ -1,0 +1,144 @@
+//! The lock, and the tickets of the workers.
+
+ghost use Rattle.std.specs.Prelude.{◌≡◌, ℕ, ◌≤◌, ◌↔◌, [], Some, slice_get, IfErr, IfOk, IsTrue, MatchResult, All};
+ghost use Rattle.machine_states.specs.Runs.{AreTurns};
+ghost use Rattle.shared_machine.specs.Histories.{events_of, reports_of};
+ghost use Rattle.shared_machine.specs.Worlds.{AgreesWith, HasTicket, IfDid, IfNoMemory, IsComplete, IsMissing, added, fresh};
+ghost use Rattle.shared_machine.specs.declared.shared.TheConstants.{MOST_WORKERS};
+
+use crate::answer::Answer;
+use crate::outcome::Outcome;
+use crate::world::{Opening, World, perform};
+use cil_model::events::Event;
+use interleaving_core::Machine;
+use std::alloc::{AllocError, Global};
+use std::marker::Model;
+use std::sync::{Mutex, MutexGuard, Wait};
+use worker_counts::{Blank, Book, Ticket};
+
+/// Workers of a shared machine.
+pub const MOST_WORKERS: u8 = 16;
+
+/// A machine that workers share. To contracts it is the number of its workers.
+#[derive(Drop)]
+pub struct Shared<M: Opening> {
+    world: Mutex<World<M>>,
+    workers: u8,
+}
+
+impl<M: Opening> Model for Shared<M> {
+    ghost use Rattle.std.specs.Prelude.{ℕ};
+
+    ghost Value = { ℕ };
+
+    ghost view = { λ s. s.workers };
+}
+
+/// A run that did not end, since a worker's ticket is missing: all that `finish` took, as it was.
+#[derive(Drop)]
+pub struct Unfinished<M: Opening> {
+    /// The shared machine.
+    pub shared: Shared<M>,
+    /// The tickets that were given.
+    pub tickets: Vec<Ticket<M>>,
+}
+
+impl<M: Opening> Unfinished<M> {
+    /// The number that the program prints: 601.
+    pub fn number(&self) -> u16
+        ensures { result ≡ 601 }
+    {
+        601
+    }
+}
+
+impl<M: Opening> Shared<M> {
+    /// Puts a machine under a lock, for so many workers, from 1 to 16, and gives a ticket for each, in order, with count 0.
+    ///
+    /// `blank` is the book of counts that `M` names, and the machine holds what `M` names. Only want of memory is an error; the
+    /// machine is dropped then.
+    pub fn new(
+        alloc: Global,
+        blank: Blank,
+        core: Machine,
+        workers: u8,
+    ) -> Result<(Shared<M>, Vec<Ticket<M>>), AllocError>
+        requires book { blank.table.shared.table_id ≡ M.table }
+        requires core { core ≡ M.opening }
+        requires workers { (1 ≤ workers) × (workers ≤ MOST_WORKERS) }
+        ensures { IfOk result (λ made. (made.0 ≡ workers) × (made.1.items ≡ fresh workers)) }
+    {
+        let mut book = blank.open::<M>();
+        let tickets = deal_all(alloc, &mut book, workers)?;
+        let world = Mutex::new(World::new(alloc, core, book));
+        Ok((Shared { world, workers }, tickets))
+    }
+
+    /// Takes the lock, and waits while another thread has it. The guard gives it back when it is dropped.
+    pub fn lock<R: Wait>(&self, rt: &R) -> MutexGuard<'_, World<M>> {
+        self.world.lock(rt)
+    }
+
+    /// Takes the lock, does an event for the ticket's worker as `perform` does it, and gives the lock and the ticket back.
+    ///
+    /// The ticket counts the event with the report that is answered. At want of memory it is as it was, and so is the machine.
+    pub fn act<R: Wait>(
+        &self,
+        rt: &R,
+        alloc: Global,
+        mut ticket: Ticket<M>,
+        event: Event,
+    ) -> (Answer, Ticket<M>)
+        ensures counted { IfDid result.0 (λ report. result.1 ≡ added ticket event report) }
+        ensures same { IfNoMemory result.0 (result.1 ≡ ticket) }
+    {
+        let mut world = self.world.lock(rt);
+        let answer = perform(&mut *world, alloc, &mut ticket, event);
+        (answer, ticket)
+    }
+
+    /// Ends the run, and answers what is left of it. It refuses exactly where a worker's ticket is missing; all comes back then as it was.
+    ///
+    /// The machine is at what its turns over the history's events make of the opening content, with the history's reports. So its console
+    /// and the ends of its threads are those of such turns. Each ticket's count is that of its worker's entries in the history.
+    pub fn finish(self, tickets: Vec<Ticket<M>>) -> Result<Outcome, Unfinished<M>>
+        ensures exact { MatchResult result (λ _. IsComplete self tickets.items) (λ _. IsMissing self tickets.items) }
+        ensures back { IfErr result (λ unfinished. (unfinished.shared ≡ self) × (unfinished.tickets ≡ tickets)) }
+        ensures turns { IfOk result (λ outcome. AreTurns M.opening (events_of outcome.history.entries) outcome.machine (reports_of outcome.history.entries)) }
+        ensures counts { IfOk result (λ outcome. All (AgreesWith outcome.history.entries) tickets.items) }
+    {
+        for worker in 0..self.workers {
+            if !has_ticket(&tickets, worker) {
+                return Err(Unfinished {
+                    shared: self,
+                    tickets,
+                });
+            }
+        }
+        let Shared { world, workers: _ } = self;
+        Ok(world.into_inner().end(tickets))
+    }
+}
+
+/// A ticket for each worker, in order. Each count is 0.
+fn deal_all<M: Opening>(
+    alloc: Global,
+    book: &mut Book<M>,
+    workers: u8,
+) -> Result<Vec<Ticket<M>>, AllocError>
+    requires { book.old ≡ [] }
+    ensures tickets { IfOk result (λ tickets. tickets.items ≡ fresh workers) }
+    ensures book { (worker count : ℕ) → slice_get book.new worker ≡ Some count → count ≡ 0 }
+{
+    let mut tickets = Vec::new(alloc);
+    for worker in 0..workers {
+        tickets.push(book.deal(worker))?;
+    }
+    Ok(tickets)
+}
+
+fn has_ticket<M: Opening>(tickets: &Vec<Ticket<M>>, worker: u8) -> bool
+    ensures { IsTrue result ↔ HasTicket tickets.now.items worker }
+{
+    tickets.iter().any(|ticket| ticket.worker() == worker)
+}
