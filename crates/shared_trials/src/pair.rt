@@ -1,0 +1,153 @@
+//! Two workers.
+
+ghost use Rattle.std.specs.Prelude.{◌≡◌, IfOk, IfSome};
+ghost use Rattle.machine_states.specs.Runs.{AreTurns};
+ghost use Rattle.shared_machine.specs.Codes.{add};
+ghost use Rattle.shared_machine.specs.Histories.{count_of, events_of, reports_of};
+ghost use Rattle.shared_machine.specs.Worlds.{IfDid, added, fresh};
+
+use crate::single::act_often;
+use cil_model::events::Event;
+use interleaving_core::Machine;
+use shared_machine::{Answer, Opening, Outcome, Shared, perform};
+use std::alloc::{AllocError, Global};
+use std::sync::Wait;
+use std::thread::{Threads, join};
+use worker_counts::{Blank, Ticket};
+
+/// Two threads act once each, and the run ends. Whatever the schedule, each worker's entries in the history are those that its ticket had
+/// and the event that it asked for, with the report that it was answered.
+///
+/// Only want of memory is an error. None where a worker's ticket is missing.
+pub fn act_both<M: Opening + Send + Sync, R: Threads + Wait + Sync>(
+    rt: &R,
+    alloc: Global,
+    shared: Shared<M>,
+    one: Ticket<M>,
+    other: Ticket<M>,
+    first: Event,
+    second: Event,
+) -> Result<Option<(Answer, Answer, Outcome)>, AllocError>
+    ensures turns { IfOk result (λ end. IfSome end (λ x. AreTurns M.opening (events_of x.2.history.entries) x.2.machine (reports_of x.2.history.entries))) }
+    ensures one { IfOk result (λ end. IfSome end (λ x. IfDid x.0 (λ report. count_of one.worker x.2.history.entries ≡ add one.count first report))) }
+    ensures other { IfOk result (λ end. IfSome end (λ x. IfDid x.1 (λ report. count_of other.worker x.2.history.entries ≡ add other.count second report))) }
+{
+    let lock = &shared;
+    let ((answer, one), (other_answer, other)) = join(
+        rt,
+        move || -> (Answer, Ticket<M>)
+            ensures did { IfDid result.0 (λ report. result.1 ≡ added one first report) }
+        { lock.act(rt, alloc, one, first) },
+        move || -> (Answer, Ticket<M>)
+            ensures did { IfDid result.0 (λ report. result.1 ≡ added other second report) }
+        { lock.act(rt, alloc, other, second) },
+    );
+    let mut tickets = Vec::new(alloc);
+    tickets.push(one)?;
+    tickets.push(other)?;
+    match shared.finish(tickets) {
+        Ok(outcome) => Ok(Some((answer, other_answer, outcome))),
+        Err(_) => Ok(None),
+    }
+}
+
+/// The same from the opening on: each worker has done one event.
+pub fn run_both<M: Opening + Send + Sync, R: Threads + Wait + Sync>(
+    rt: &R,
+    alloc: Global,
+    blank: Blank,
+    core: Machine,
+    first: Event,
+    second: Event,
+) -> Result<Option<(Answer, Answer, Outcome)>, AllocError>
+    requires book { blank.table.shared.table_id ≡ M.table }
+    requires core { core ≡ M.opening }
+    ensures turns { IfOk result (λ end. IfSome end (λ x. AreTurns M.opening (events_of x.2.history.entries) x.2.machine (reports_of x.2.history.entries))) }
+    ensures one { IfOk result (λ end. IfSome end (λ x. IfDid x.0 (λ report. count_of 0 x.2.history.entries ≡ add 0 first report))) }
+    ensures other { IfOk result (λ end. IfSome end (λ x. IfDid x.1 (λ report. count_of 1 x.2.history.entries ≡ add 0 second report))) }
+{
+    let (shared, tickets) = Shared::<M>::new(alloc, blank, core, 2)?;
+    let Some((one, other)) = two(tickets) else {
+        return Ok(None);
+    };
+    act_both(rt, alloc, shared, one, other, first, second)
+}
+
+/// The first two tickets.
+fn two<M: Opening>(mut tickets: Vec<Ticket<M>>) -> Option<(Ticket<M>, Ticket<M>)>
+    requires { tickets.items ≡ fresh 2 }
+    ensures { IfSome result (λ t. (t.0 ≡ record { worker = 0; count = 0 }) × (t.1 ≡ record { worker = 1; count = 0 })) }
+{
+    let other = tickets.pop()?;
+    let one = tickets.pop()?;
+    Some((one, other))
+}
+
+/// Two threads act often, each with its own event, and the run ends.
+pub fn act_many<M: Opening + Send + Sync, R: Threads + Wait + Sync>(
+    rt: &R,
+    alloc: Global,
+    blank: Blank,
+    core: Machine,
+    events: (Event, Event),
+    times: u32,
+) -> Result<Option<Outcome>, AllocError>
+    requires book { blank.table.shared.table_id ≡ M.table }
+    requires core { core ≡ M.opening }
+{
+    let (shared, tickets) = Shared::<M>::new(alloc, blank, core, 2)?;
+    let Some((one, other)) = two(tickets) else {
+        return Ok(None);
+    };
+    let lock = &shared;
+    let (one, other) = join(
+        rt,
+        move || act_often(rt, alloc, lock, one, events.0, times),
+        move || act_often(rt, alloc, lock, other, events.1, times),
+    );
+    let mut tickets = Vec::new(alloc);
+    tickets.push(one)?;
+    tickets.push(other)?;
+    Ok(shared.finish(tickets).ok())
+}
+
+/// Two workers do so many events each in turns, under one lock, and the run ends.
+pub fn act_in_turns<M: Opening, R: Wait>(
+    rt: &R,
+    alloc: Global,
+    blank: Blank,
+    core: Machine,
+    events: (Event, Event),
+    times: u32,
+) -> Result<Option<Outcome>, AllocError>
+    requires book { blank.table.shared.table_id ≡ M.table }
+    requires core { core ≡ M.opening }
+{
+    let (shared, tickets) = Shared::<M>::new(alloc, blank, core, 2)?;
+    let Some((one, other)) = two(tickets) else {
+        return Ok(None);
+    };
+    let (one, other) = alternate(rt, alloc, &shared, one, other, events, times);
+    let mut tickets = Vec::new(alloc);
+    tickets.push(one)?;
+    tickets.push(other)?;
+    Ok(shared.finish(tickets).ok())
+}
+
+/// Two workers in turns, under one lock.
+fn alternate<M: Opening, R: Wait>(
+    rt: &R,
+    alloc: Global,
+    shared: &Shared<M>,
+    mut one: Ticket<M>,
+    mut other: Ticket<M>,
+    events: (Event, Event),
+    times: u32,
+) -> (Ticket<M>, Ticket<M>) {
+    let mut world = shared.lock(rt);
+    for _time in 0..times {
+        let _first = perform(&mut *world, alloc, &mut one, events.0);
+        let _second = perform(&mut *world, alloc, &mut other, events.1);
+    }
+    (one, other)
+}

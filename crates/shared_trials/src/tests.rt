@@ -1,0 +1,133 @@
+use crate::{act_alone, act_in_turns, act_many, end_without_ticket, run_both};
+use cil_model::events::Event;
+use cil_model::limits::Limits;
+use cil_model::reports::{End, Report};
+use class_layout::lay_out;
+use ilasm_reader::read;
+use interleaving_core::Machine;
+use metadata::resolve;
+use shared_machine::Outcome;
+use std::alloc::AllocGlobal;
+use std::marker::Brand;
+use std::process::Abort;
+use std::test::Fail;
+use verifier::verify;
+use worker_counts::Blank;
+
+/// Adds 2 and 3, and prints the sum.
+static SUM: &str =
+    ".assembly extern mscorlib {} .class public auto ansi P extends [mscorlib]System.Object {
+    .method public static void Main() cil managed { .entrypoint .maxstack 2
+    ldc.i4 2 ldc.i4.3 add call void [mscorlib]System.Console::WriteLine(int32) ret } }";
+
+/// The machine of the sum.
+fn machine(rt: &(impl Abort + AllocGlobal)) -> Machine {
+    let alloc = rt.alloc();
+    let tree = read(alloc, SUM.as_bytes()).expect(rt, "a tree");
+    let program = resolve(alloc, tree).expect(rt, "a legal program");
+    let layout = lay_out(alloc, &program).expect(rt, "memory");
+    let verified = verify(alloc, program, layout).expect(rt, "a typing");
+    let limits = Limits {
+        words: 64,
+        budget: 10,
+        depth: 1,
+    };
+    Machine::new(alloc, verified, limits).expect(rt, "limits in range")
+}
+
+/// How many entries the history has.
+fn entries(outcome: &Outcome) -> u64 {
+    let mut entries = 0u64;
+    for run in outcome.history.runs() {
+        entries = entries.saturating_add(run.times);
+    }
+    entries
+}
+
+#[test]
+fn one_worker_prints_the_sum(rt: HostRuntime) -> Result<(), Fail> {
+    let alloc = rt.alloc();
+    let end = act_alone::<Brand, _>(
+        &rt,
+        alloc,
+        Blank::new(alloc)?,
+        machine(&rt),
+        Event::Step(0),
+        5,
+    )?;
+    let outcome = end.ok_or("the ticket came back")?;
+    assert!(rt; outcome.console() == b"5\n".as_slice() && outcome.stopped);
+    let ends = outcome.ends(alloc)?;
+    assert!(rt; ends.as_slice() == [Some(End::Done)].as_slice());
+    let runs = outcome.history.runs();
+    assert!(rt; runs.len() == 2 && runs[0].times == 4 && runs[0].entry.report == Report::Ran);
+    assert!(rt; runs[1].entry.report == Report::Ended(End::Done));
+    Ok(())
+}
+
+#[test]
+fn a_million_equal_steps_are_one_run(rt: HostRuntime) -> Result<(), Fail> {
+    let alloc = rt.alloc();
+    let end = act_alone::<Brand, _>(
+        &rt,
+        alloc,
+        Blank::new(alloc)?,
+        machine(&rt),
+        Event::Step(1),
+        1_000_000,
+    )?;
+    let outcome = end.ok_or("the ticket came back")?;
+    let runs = outcome.history.runs();
+    assert!(rt; runs.len() == 1 && runs[0].times == 1_000_000);
+    assert!(rt; runs[0].entry.report == Report::Absent && outcome.console().is_empty());
+    Ok(())
+}
+
+#[test]
+fn two_threads_act_once_each(rt: HostRuntime) -> Result<(), Fail> {
+    let alloc = rt.alloc();
+    let end = run_both::<Brand, _>(
+        &rt,
+        alloc,
+        Blank::new(alloc)?,
+        machine(&rt),
+        Event::Step(0),
+        Event::Gc,
+    )?;
+    let (_, _, outcome) = end.ok_or("both tickets came back")?;
+    assert!(rt; outcome.history.runs().len() == 2 && !outcome.stopped);
+    Ok(())
+}
+
+#[test]
+fn two_threads_act_often(rt: HostRuntime) -> Result<(), Fail> {
+    let alloc = rt.alloc();
+    let events = (Event::Step(0), Event::Ack(0));
+    let end = act_many::<Brand, _>(&rt, alloc, Blank::new(alloc)?, machine(&rt), events, 20_000)?;
+    let outcome = end.ok_or("both tickets came back")?;
+    assert_eq!(rt; entries(&outcome), 40_000);
+    assert!(rt; outcome.console() == b"5\n".as_slice());
+    Ok(())
+}
+
+#[test]
+fn two_workers_act_in_turns(rt: HostRuntime) -> Result<(), Fail> {
+    let alloc = rt.alloc();
+    let events = (Event::Step(0), Event::Gc);
+    let end = act_in_turns::<Brand, _>(&rt, alloc, Blank::new(alloc)?, machine(&rt), events, 5)?;
+    let outcome = end.ok_or("both tickets came back")?;
+    let runs = outcome.history.runs();
+    assert!(rt; runs.len() == 10 && runs[0].entry.worker == 0 && runs[9].entry.worker == 1);
+    assert!(rt; runs[9].entry.report == Report::Waiting && outcome.console() == b"5\n".as_slice());
+    Ok(())
+}
+
+#[test]
+fn a_missing_ticket_is_refused_and_all_comes_back(rt: HostRuntime) -> Result<(), Fail> {
+    let alloc = rt.alloc();
+    let end = end_without_ticket::<Brand>(alloc, Blank::new(alloc)?, machine(&rt))?;
+    let (number, left, outcome) = end.ok_or("both tickets came back")?;
+    assert!(rt; number == 601 && left == 1);
+    assert!(rt; outcome.history.runs().is_empty() && outcome.console().is_empty());
+    Ok(())
+}
