@@ -24,10 +24,12 @@ use Rattle.threads_monitors.specs.declared.threads.Standing.{Standing}
 use Rattle.threads_monitors.specs.declared.threads.Standing.TheVariants.{Live, Ended}
 use Rattle.threads_monitors.specs.declared.threads.Thread.{Thread}
 use Rattle.interpreter.specs.Calls.{chosen_at}
+use Rattle.interpreter.specs.Instructions.{IsDone}
 use Rattle.interpreter.specs.declared.outcomes.Outcome.{Outcome}
 use Rattle.interpreter.specs.declared.outcomes.Outcome.TheVariants.{Comes, Starts, Joins}
 use Rattle.machine_states.specs.MachineContents.{Content}
 use Rattle.machine_states.specs.Turns.{Answer, IsStandingTurn, IsThreadTurn, IsTurn, after_request, counted, finished, left_by, run_member, started, thread_at, thread_for}
+use Rattle.interleaving_core.proofs.Words.{instruction_keeps_words}
 
 pub set_length : {X : Type 0} (xs : List X) (n : ℕ) (x : X) → length (slice_set xs n x) ≡ length xs
 set_length [] n x = refl
@@ -48,6 +50,7 @@ pub record IsFinished (c : Content) (t left : ℕ) (a : Answer) (after : Content
   pub effect : Effect
   pub frames : Frames
   pub is : counted (record (left_by c t left a) { threads = threads; objects = objects }) t left effect frames ≡ after
+  pub words : objects.block.words ≡ a.1.block.words
   pub are : (threads ≡ (left_by c t left a).threads) ⊎ HasBegun c.limits.budget (left_by c t left a).threads threads
 
 module _ (c : Content) (t left : ℕ) (a : Answer) (after : Content × Report) where
@@ -56,7 +59,7 @@ module _ (c : Content) (t left : ℕ) (a : Answer) (after : Content × Report) w
 
   -- no other thread begins
   alone : (e : Effect) (m : Frames) → counted (left_by c t left a) t left e m ≡ after → IsFinished c t left a after
-  alone e m is = record { threads = threads; objects = a.1; effect = e; frames = m; is = is; are = inl refl }
+  alone e m is = record { threads = threads; objects = a.1; effect = e; frames = m; is = is; words = refl; are = inl refl }
 
   module _ (object : Addr) where
     begins_whole : (new : Thread) → thread_for c.tree c.limits a.1 object ≡ Some new → new.steps_left ≡ c.limits.budget
@@ -100,6 +103,7 @@ module _ (c : Content) (t left : ℕ) (a : Answer) (after : Content × Report) w
               effect = GoesOn;
               frames = after_request GoesOn a.0;
               is = ap started_in (sym plain) ∙ same_some (started_in (with_start threads a.1 object new)) after e;
+              words = refl;
               are = inr (record { new = new; are = refl; whole = begins_whole new told; room = room_left fault });
             }
 
@@ -121,6 +125,10 @@ module _ (c : Content) (t left : ℕ) (a : Answer) (after : Content × Report) w
     pub finished_program : (after.0.tree ≡ c.tree) × (after.0.limits ≡ c.limits)
     finished_program = (sym (ap (λ (x : Content × Report). x.0.tree) way.is), sym (ap (λ (x : Content × Report). x.0.limits) way.is))
 
+    -- the heap has as many words as the instruction left
+    pub finished_words : after.0.objects.block.words ≡ a.1.block.words
+    finished_words = ap (λ (x : Content × Report). x.0.objects.block.words) (sym way.is) ∙ way.words
+
     -- there are no more threads than there may be
     pub finished_few : length c.threads ≤ MOST_THREADS → length after.0.threads ≤ MOST_THREADS
     finished_few few =
@@ -138,14 +146,14 @@ module _ (c : Content) (t left : ℕ) (a : Answer) (after : Content × Report) w
 
 module _ (c : Content) (after : Content × Report) where
   -- what holds where nothing changes, and after each step of a live thread
-  module _ (P : Content × Report → Type 0) (unchanged : (r : Report) → P (c, r)) (stepped : (t left : ℕ) (m : Frames) (a : Answer) (o : Outcome) → finished c t left a o ≡ Some after → P after) where
+  module _ (P : Content × Report → Type 0) (unchanged : (r : Report) → P (c, r)) (stepped : (t left : ℕ) (m : Frames) (a : Answer) → IsDone c.tree t m c.objects c.statics c.printed a → finished c t left a a.4 ≡ Some after → P after) where
     turn_by : (e : Event) → IsTurn c e after → P after
     turn_by (Ack t) h = subst P (sym h) (unchanged _)
     turn_by Gc h = subst P (sym h) (unchanged _)
     turn_by (Step t) h = by_thread (slice_get c.threads t) h
       where
         by_standing : (left : ℕ) (standing : Standing) → IsStandingTurn c t left standing after → P after
-        by_standing left (Live m) k = stepped t left m k.0 k.0.4 k.2
+        by_standing left (Live m) k = stepped t left m k.0 k.1 k.2
         by_standing left (Ended x) k = subst P (sym k) (unchanged _)
 
         by_thread : (o : Option Thread) → IsThreadTurn c t o after → P after
@@ -154,7 +162,12 @@ module _ (c : Content) (after : Content × Report) where
 
   -- the program and its limits stay
   pub same_program : (e : Event) → IsTurn c e after → (after.0.tree ≡ c.tree) × (after.0.limits ≡ c.limits)
-  same_program e = turn_by (λ x. (x.0.tree ≡ c.tree) × (x.0.limits ≡ c.limits)) (λ r. (refl, refl)) (λ t left m a o done. finished_program c t left a after o done) e
+  same_program e = turn_by (λ x. (x.0.tree ≡ c.tree) × (x.0.limits ≡ c.limits)) (λ r. (refl, refl)) (λ t left m a done is. finished_program c t left a after a.4 is) e
 
   pub turn_few : (e : Event) → IsTurn c e after → length c.threads ≤ MOST_THREADS → length after.0.threads ≤ MOST_THREADS
-  turn_few e h few = turn_by (λ x. length x.0.threads ≤ MOST_THREADS) (λ r. few) (λ t left m a o done. finished_few c t left a after o done few) e h
+  turn_few e h few = turn_by (λ x. length x.0.threads ≤ MOST_THREADS) (λ r. few) (λ t left m a done is. finished_few c t left a after a.4 is few) e h
+
+  -- the heap keeps its size
+  pub turn_keeps_words : (e : Event) → IsTurn c e after → after.0.objects.block.words ≡ c.objects.block.words
+  turn_keeps_words e = turn_by (λ x. x.0.objects.block.words ≡ c.objects.block.words) (λ r. refl)
+      (λ t left m a done is. finished_words c t left a after a.4 is ∙ instruction_keeps_words c.tree t m c.objects c.statics c.printed a done) e

@@ -3,6 +3,7 @@ pub mod OpeningLaws
 pub mod Finished
 pub mod Budgets
 pub mod LiveThreads
+pub mod Words
 pub mod Following
 pub mod Sound
 pub mod Refusing

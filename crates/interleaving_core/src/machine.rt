@@ -166,8 +166,12 @@ impl Machine {
     }
 
     /// The words that objects take, in the one space, and in the space of copies, which there is none of without a collector.
+    ///
+    /// The space keeps its size, which is the limit of words: so a birth is refused exactly where its cell has more words than the limit
+    /// less those of all births so far.
     pub fn used(&self) -> (u32, u32)
-        ensures { result ≡ (used_words self.now.objects.block.cells, 0) }
+        ensures used { result ≡ (used_words self.now.objects.block.cells, 0) }
+        ensures space { self.now.objects.block.words ≡ self.now.limits.words }
     {
         (self.engine.heap.used_words() as u32, 0)
     }
