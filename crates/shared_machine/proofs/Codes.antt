@@ -1,15 +1,14 @@
 -- A count fixes a worker's events, their reports and their order.
-use Rattle.std.proofs.Common.{◌≡◌, ℕ, ◌+◌, ◌*◌, ◌≤◌, List, [], ◌∷◌, Option, Some, refl, sym, ap, ◌∙◌, arith, Bool, true, false, nat_eq}
+use Rattle.std.proofs.Common.{◌≡◌, ℕ, ◌+◌, ◌*◌, ◌≤◌, List, [], ◌∷◌, Some, refl, sym, ap, ◌∙◌, arith, Bool, true, false, nat_eq}
 use Rattle.std.specs.Prelude.{slice_get}
 use Rattle.cil_model.specs.declared.events.Event.{Event}
 use Rattle.cil_model.specs.declared.events.Event.TheVariants.{Step, Ack, Gc}
-use Rattle.cil_model.specs.declared.reports.End.{End}
 use Rattle.cil_model.specs.declared.reports.End.TheVariants.{Done, Budget, Fault as ByFault}
 use Rattle.cil_model.specs.declared.reports.Fault.{Fault}
 use Rattle.cil_model.specs.declared.reports.Fault.TheVariants.{NullReference, IndexOutOfRange, ArrayTypeMismatch, InvalidCast, DivideByZero, Arithmetic, Overflow, OutOfMemory, TooManyThreads, StackOverflow, ArgumentNull, SynchronizationLock, ThreadState}
 use Rattle.cil_model.specs.declared.reports.Report.{Report}
 use Rattle.cil_model.specs.declared.reports.Report.TheVariants.{Ran, Blocked, Ended, Absent, Acked, NothingPosted, Worked, Waiting, CycleDone}
-use Rattle.shared_machine.specs.Codes.{event_number, fault_number, end_number, report_number, code}
+use Rattle.shared_machine.specs.Codes.{event_number, fault_number, report_number, code}
 use Rattle.shared_machine.specs.Histories.{add_if, counted, IsSmall, AreSmall, count_of_pairs, pairs_if, pairs_of, Fixes}
 use Rattle.shared_machine.specs.declared.history.Entry.{Entry}
 
