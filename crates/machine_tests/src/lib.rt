@@ -1,5 +1,0 @@
-//! The machine beside the reference machine.
-#![tactic(auto)]
-
-#[cfg(test)]
-mod schedules;

@@ -1,0 +1,59 @@
+.assembly extern mscorlib {}
+.class public auto ansi P extends [mscorlib]System.Object {
+ .method public static void Main() cil managed {
+  .entrypoint
+  .maxstack 2
+  ldc.i4.1
+  newarr int32
+  pop
+  ldc.i4.1
+  newarr int32
+  pop
+  ldc.i4.1
+  newarr int32
+  pop
+  ldc.i4.1
+  newarr int32
+  pop
+  ldc.i4.1
+  newarr int32
+  pop
+  ldc.i4.1
+  newarr int32
+  pop
+  ldc.i4.1
+  newarr int32
+  pop
+  ldc.i4.1
+  newarr int32
+  pop
+  ldc.i4.1
+  newarr int32
+  pop
+  ldc.i4.1
+  newarr int32
+  pop
+  ldc.i4.1
+  newarr int32
+  pop
+  ldc.i4.1
+  newarr int32
+  pop
+  ldc.i4.1
+  newarr int32
+  pop
+  ldc.i4.1
+  newarr int32
+  pop
+  ldc.i4.1
+  newarr int32
+  pop
+  ldc.i4.1
+  newarr int32
+  pop
+  ldc.i4.1
+  newarr int32
+  pop
+  ret
+ }
+}

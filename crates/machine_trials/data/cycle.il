@@ -1,0 +1,3 @@
+.assembly extern mscorlib {}
+.class public auto ansi A extends B {}
+.class public auto ansi B extends A {}

@@ -1,0 +1,18 @@
+.assembly extern mscorlib {}
+.class public auto ansi P extends [mscorlib]System.Object {
+ .method public static void Main() cil managed {
+  .entrypoint
+  .maxstack 1
+  ldstr "a"
+  call void [mscorlib]System.Threading.Monitor::Enter(object)
+  ldstr "a"
+  call void [mscorlib]System.Threading.Monitor::Enter(object)
+  ldstr "a"
+  call void [mscorlib]System.Threading.Monitor::Exit(object)
+  ldstr "a"
+  call void [mscorlib]System.Threading.Monitor::Exit(object)
+  ldstr "a"
+  call void [mscorlib]System.Threading.Monitor::Exit(object)
+  ret
+ }
+}

@@ -1,0 +1,54 @@
+.assembly extern mscorlib {}
+.class public auto ansi A extends [mscorlib]System.Object {
+ .method public specialname rtspecialname instance void .ctor() cil managed {
+  .maxstack 1
+  ldarg.0
+  call instance void [mscorlib]System.Object::.ctor()
+  ret
+ }
+ .method public newslot virtual instance void f() cil managed {
+  .maxstack 1
+  ldc.i4.1
+  call void [mscorlib]System.Console::WriteLine(int32)
+  ret
+ }
+}
+.class public auto ansi B extends A {
+ .method public specialname rtspecialname instance void .ctor() cil managed {
+  .maxstack 1
+  ldarg.0
+  call instance void A::.ctor()
+  ret
+ }
+ .method public newslot virtual instance void f() cil managed {
+  .maxstack 1
+  ldc.i4.2
+  call void [mscorlib]System.Console::WriteLine(int32)
+  ret
+ }
+}
+.class public auto ansi C extends B {
+ .method public specialname rtspecialname instance void .ctor() cil managed {
+  .maxstack 1
+  ldarg.0
+  call instance void B::.ctor()
+  ret
+ }
+ .method public virtual instance void f() cil managed {
+  .maxstack 1
+  ldc.i4.3
+  call void [mscorlib]System.Console::WriteLine(int32)
+  ret
+ }
+}
+.class public auto ansi P extends [mscorlib]System.Object {
+ .method public static void Main() cil managed {
+  .entrypoint
+  .maxstack 2
+  newobj instance void C::.ctor()
+  dup
+  callvirt instance void A::f()
+  callvirt instance void B::f()
+  ret
+ }
+}

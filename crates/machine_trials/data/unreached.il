@@ -1,0 +1,9 @@
+.assembly extern mscorlib {}
+.class public auto ansi P extends [mscorlib]System.Object {
+ .method public static void Main() cil managed {
+  .entrypoint
+  .maxstack 0
+  ret
+  add
+ }
+}

@@ -1,0 +1,10 @@
+.assembly extern mscorlib {}
+.class public auto ansi P extends [mscorlib]System.Object {
+ .method public static void Main() cil managed {
+  .entrypoint
+  .maxstack 2
+  ldc.i4 2147483648
+  pop
+  ret
+ }
+}
