@@ -1,65 +1,110 @@
 #!/bin/sh
-# Measures: `bench/measure.sh NAME` builds the program in bench/programs/NAME and runs it; its first lines say what it prints.
+# Measures: `bench/measure.sh NAME..` builds each of these programs of bench/programs, runs it, and prints a table of what it tells.
+# bench/README.md says what they measure.
 #
-# The program is made in a temporary folder, on this repository's own crates, which it names in its file `uses`. `rt run` proves
-# it and builds it by LLVM, as it builds any program of the repository. So the figures are of what is shipped, and no crate of the
+# A program is made in a temporary folder, on this repository's own crates, which it names in its file `uses`. `rt run` proves it
+# and builds it by LLVM, as it builds any program of the repository. So the figures are of what is shipped, and no crate of the
 # repository is there for them alone. Its files end in `.txt` here, since the gate asks that every source belongs to a crate.
 #
-# Beside some programs stands a `baseline.rs`, a plain program in Rust that does the same and prints the same lines, `NAME: SPEED
-# million events a second (WHAT WAS DONE)`. It is built by `rustc -O`, and both run in turns, five times each, so that other work on
-# the machine slows both alike. A table then has the best speed of each by each line's name, and ours divided by the baseline's.
-# What was done has to be the same in all lines of a name.
+# What a program prints is lines `NAME: FIGURE UNIT (WHAT WAS DONE)`, the last part where there is something to tell.
+#
+# Beside some programs stands a `baseline.rs`, a plain program in Rust that does the same and prints the same lines. It is built by
+# `rustc -O`, and both run in turns, five times each, so that other work on the machine slows both alike. The table has the best
+# figure of each line's name, and the ratio of the speeds, ours by the baseline's. What was done has to be the same in all lines of
+# a name. A program without a baseline runs once.
 set -eu
+: "${1:?usage: bench/measure.sh NAME.., folders of bench/programs}"
 top=$(cd "$(dirname "$0")/.." && pwd)
-program=$top/bench/programs/${1:?usage: bench/measure.sh NAME, a folder of bench/programs}
 work=$(mktemp -d)
 trap 'rm -rf "$work"' EXIT
+mkdir "$work/crates"
+cp "$top/HANDLES" "$work"
 
 # Copies these crates and all that they stand on, those of the kit apart, with their lines of crates.txt.
 copy() {
     for crate in "$@"; do
         if [ -d "$top/crates/$crate" ] && [ ! -d "$work/crates/$crate" ]; then
-            cp -r "$top/crates/$crate" "$work/crates"
+            mkdir -p "$work/crates/$crate/out"
+            for part in src specs proofs out/rlib; do
+                if [ -d "$top/crates/$crate/$part" ]; then
+                    cp -r "$top/crates/$crate/$part" "$work/crates/$crate/$part"
+                fi
+            done
             line=$(grep "^$crate[ :]" "$top/crates.txt")
-            echo "$line" >> "$work/crates.txt"
+            echo "$line" >> "$work/libraries.txt"
             copy ${line#*:}
         fi
     done
 }
 
-mkdir "$work/crates"
-uses=$(cat "$program/uses")
-copy $uses
-echo "measured: $uses" >> "$work/crates.txt"
-cp "$top/HANDLES" "$work"
-cp -r "$program" "$work/crates/measured"
-cd "$work/crates/measured"
-find . -name '*.txt' | while read -r file; do mv "$file" "${file%.txt}"; done
-: > stdin
-if [ -f baseline.rs ]; then
-    mv baseline.rs "$work"
-fi
-rt run 2> log.txt || { cat log.txt; exit 1; }
-if [ ! -f "$work/baseline.rs" ]; then
-    exit 0
-fi
+# Builds the program of a folder and runs it, with its baseline where it has one: their lines are in `ours` and `theirs`.
+run() {
+    uses=$(cat "$1/uses")
+    copy $uses
+    { cat "$work/libraries.txt"; echo "measured: $uses"; } > "$work/crates.txt"
+    rm -rf "$work/crates/measured"
+    cp -r "$1" "$work/crates/measured"
+    cd "$work/crates/measured"
+    find . -name '*.txt' | while read -r file; do mv "$file" "${file%.txt}"; done
+    rm -f baseline.rs
+    : > stdin
+    rt run > "$work/ours" 2> log.txt || { cat log.txt >&2; exit 1; }
+    : > "$work/theirs"
+    if [ -f "$1/baseline.rs" ]; then
+        rustc -O --edition 2024 -o "$work/baseline" "$1/baseline.rs"
+        : > "$work/ours"
+        for turn in 1 2 3 4 5; do
+            out/measured >> "$work/ours" < stdin
+            "$work/baseline" >> "$work/theirs"
+        done
+    fi
+}
 
-rustc -O --edition 2024 -o "$work/baseline" "$work/baseline.rs"
-for turn in 1 2 3 4 5; do
-    out/measured >> "$work/ours" < stdin
-    "$work/baseline" >> "$work/theirs"
-done
-awk -F ': | million events a second ' '
-    !($1 in done) { names[++count] = $1; done[$1] = $3 }
-    done[$1] != $3 { print $1 ": " done[$1] " and " $3; is_different = 1 }
-    NR == FNR { if ($2 + 0 > ours[$1]) ours[$1] = $2 + 0; next }
-    $2 + 0 > theirs[$1] { theirs[$1] = $2 + 0 }
-    END {
-        if (is_different) exit 1
-        printf "%-10s %8s %9s %6s\n", "", "ours", "baseline", "ratio"
-        for (i = 1; i <= count; i++) {
-            name = names[i]
-            printf "%-10s %8.2f %9.2f %6.2f\n", name, ours[name], theirs[name], ours[name] / theirs[name]
+# Prints the rows of a program by the lines in `ours` and `theirs`.
+tell() {
+    awk '
+        # The better of two figures, the first of which may be missing.
+        function better(one, other, is_time) {
+            if (one == "") return other
+            return (is_time ? other + 0 < one + 0 : other + 0 > one + 0) ? other : one
         }
-    }
-' "$work/ours" "$work/theirs"
+        {
+            place = index($0, ": ")
+            name = substr($0, 1, place - 1)
+            rest = substr($0, place + 2)
+            space = index(rest, " ")
+            figure = substr(rest, 1, space - 1)
+            told = substr(rest, space + 1)
+            if (!place || figure !~ /^[0-9]+(\.[0-9]+)?$/) {
+                print "  " $0
+                is_bad = 1
+                next
+            }
+            if (!(name in done)) { names[++count] = name; done[name] = told }
+            if (done[name] != told) { print "  " name ": " done[name] ", and " told; is_bad = 1 }
+            is_time[name] = told ~ /^(micro|milli)seconds/
+            if (FILENAME ~ /ours$/) ours[name] = better(ours[name], figure, is_time[name])
+            else theirs[name] = better(theirs[name], figure, is_time[name])
+        }
+        END {
+            for (i = 1; i <= count; i++) {
+                name = names[i]
+                ratio = "-"
+                if (name in ours && name in theirs) {
+                    quotient = is_time[name] ? theirs[name] / ours[name] : ours[name] / theirs[name]
+                    ratio = sprintf("%.2f", quotient)
+                }
+                baseline = name in theirs ? theirs[name] : "-"
+                printf "  %-38s %9s %9s %6s  %s\n", name, ours[name], baseline, ratio, done[name]
+            }
+            exit is_bad
+        }
+    ' "$work/ours" "$work/theirs"
+}
+
+printf "%-40s %9s %9s %6s\n" "" ours baseline ratio
+for name in "$@"; do
+    run "$top/bench/programs/$name"
+    echo "$name"
+    tell
+done

@@ -1,6 +1,6 @@
 -- The command line of `cilvm`: the arguments that clap is given, and the order that its matches
 -- hold (this profile).
-use Rattle.std.specs.Prelude.{◌≡◌, ◌≢◌, ◌⊎◌, ℕ, pos, true, List, [], ◌∷◌, codes}
+use Rattle.std.specs.Prelude.{◌≡◌, ◌≢◌, ◌⊎◌, ℕ, Bool, pos, true, false, List, [], ◌∷◌, codes}
 use Rattle.std.specs.Prelude.{Option, Some, None, Result, Ok, Err, option_map, option_and_then}
 use Rattle.std.specs.Prelude.{if◌then◌else◌, ⊤}
 use Rattle.std.specs.Str.{bytes_eq}
@@ -8,6 +8,7 @@ use Rattle.std.specs.Str.Parse.{digits_value, without_leading_plus}
 use Rattle.clap.specs.ValueTests.{is_unsigned_in}
 use Rattle.clap.specs.Words.{App, IsAmong, Kinds, Row, Rule, Text, fault_of, first_of, new_app}
 use Rattle.clap.specs.Words.{new_rule, subcommand_of, with_rule, with_subcommand}
+use Rattle.clap.specs.declared.builder.action.ArgAction.TheVariants.{SetTrue}
 use Rattle.clap.specs.declared.builder.value_parser.ValueParser.TheVariants as vp
 use Rattle.clap.specs.declared.error.kind.ErrorKind.{ErrorKind}
 use Rattle.clap.specs.declared.error.kind.ErrorKind.TheVariants.{DisplayHelp, OutOfMemory}
@@ -15,8 +16,8 @@ use Rattle.cil_model.specs.Ranges.{are_in_range}
 use Rattle.cil_model.specs.declared.limits.Limits.{Limits}
 use Rattle.cil_model.specs.declared.limits.TheConstants.{LEAST_WORDS, MOST_WORDS}
 use Rattle.cil_model.specs.declared.limits.TheConstants.{MOST_BUDGET, MOST_DEPTH}
-use Rattle.cilvm.specs.declared.orders.Order.{Order}
-use Rattle.cilvm.specs.declared.orders.Order.TheVariants.{Check, Run, Replay, Flip}
+use Rattle.driver.specs.declared.orders.Order.{Order}
+use Rattle.driver.specs.declared.orders.Order.TheVariants.{Check, Run, Replay, Trace, Flip}
 use Rattle.cilvm.specs.declared.line.LineFault.{LineFault}
 use Rattle.cilvm.specs.declared.line.LineFault.TheVariants.{Help, Bad, Memory}
 
@@ -35,6 +36,10 @@ abbrev pub number_rule : Text → ℕ → ℕ → Rule
 number_rule id least most =
     record (text_rule id) { parser = Some (vp.Signed (pos least) (pos most)) }
 
+-- `--id`
+abbrev pub flag_rule : Text → Rule
+flag_rule id = record (new_rule id) { long = Some id; action = Some SetTrue }
+
 abbrev pub with_default : Text → Rule → Rule
 with_default text rule = record rule { defaults = text ∷ [] }
 
@@ -47,16 +52,25 @@ with_limits a = with_rule (with_rule (with_rule a
     (with_default (codes "100000") (number_rule (codes "budget") 1 MOST_BUDGET)))
     (with_default (codes "64") (number_rule (codes "depth") 1 MOST_DEPTH))
 
+abbrev pub with_explain : App → App
+with_explain a = with_rule a (flag_rule (codes "explain"))
+
 abbrev pub check_app : App
-check_app = with_rule (new_app (codes "check")) (file_rule (codes "file"))
+check_app = with_explain (with_rule (new_app (codes "check")) (file_rule (codes "file")))
 
 abbrev pub run_app : App
-run_app = with_limits (with_rule (with_rule (new_app (codes "run")) (file_rule (codes "file")))
-    (needed (text_rule (codes "schedule"))))
+run_app = with_limits (with_explain (with_rule (with_rule (new_app (codes "run")) (file_rule (codes "file")))
+    (needed (text_rule (codes "schedule")))))
+
+-- a command that takes its schedule from a file
+abbrev pub with_files : Text → App
+with_files name = with_rule (with_rule (new_app name) (file_rule (codes "file"))) (file_rule (codes "schedule"))
 
 abbrev pub replay_app : App
-replay_app = with_limits (with_rule (with_rule (new_app (codes "replay"))
-    (file_rule (codes "file"))) (file_rule (codes "schedule")))
+replay_app = with_limits (with_explain (with_files (codes "replay")))
+
+abbrev pub trace_app : App
+trace_app = with_limits (with_files (codes "trace"))
 
 -- all four numbers have to be given
 abbrev pub flip_app : App
@@ -69,23 +83,25 @@ with_required_subcommand a =
     record a { top = record a.top { subcommand_required = true; arg_required_else_help = true } }
 
 abbrev pub cilvm_app : App
-cilvm_app = with_subcommand (with_subcommand (with_subcommand (with_subcommand
+cilvm_app = with_subcommand (with_subcommand (with_subcommand (with_subcommand (with_subcommand
     (with_required_subcommand (new_app (codes "cilvm"))) check_app.top) run_app.top) replay_app.top)
-    flip_app.top
+    trace_app.top) flip_app.top
 
 -- ---- what the words ask for
 
 -- the command with its files and options
 pub data Wanted : Type 0 where
-  check : Text → Wanted
-  run : Text → Text → Limits → Wanted
-  replay : Text → Text → Limits → Wanted
+  check : Text → Bool → Wanted
+  run : Text → Text → Limits → Bool → Wanted
+  replay : Text → Text → Limits → Bool → Wanted
+  trace : Text → Text → Limits → Wanted
   flip : ℕ → ℕ → ℕ → ℕ → Wanted
 
 abbrev pub wanted_of : Order → Wanted
-wanted_of (Check file) = check file.now
-wanted_of (Run file schedule limits) = run file.now schedule.now limits
-wanted_of (Replay file schedule limits) = replay file.now schedule.now limits
+wanted_of (Check file explain) = check file.now explain
+wanted_of (Run file schedule limits explain) = run file.now schedule.now limits explain
+wanted_of (Replay file schedule limits explain) = replay file.now schedule.now limits explain
+wanted_of (Trace file schedule limits) = trace file.now schedule.now limits
 wanted_of (Flip sizes) = flip sizes.seats sizes.objects sizes.slots sizes.rounds
 
 -- the number that the text writes in decimal digits, where it lies in the range
@@ -105,17 +121,30 @@ limits_in rows = option_and_then (λ words. option_and_then (λ budget. option_m
 }) (number_at 1 MOST_DEPTH (codes "depth") rows)) (number_at 1 MOST_BUDGET (codes "budget") rows))
     (number_at LEAST_WORDS MOST_WORDS (codes "words") rows)
 
-abbrev pub check_in : List Row → Option Wanted
-check_in rows = option_map check (first_of (codes "file") rows)
+-- a flag that is given has the value `true`
+abbrev pub is_true : Option Text → Bool
+is_true None = false
+is_true (Some text) = bytes_eq text (codes "true")
 
-abbrev pub run_in : List Row → Option Wanted
-run_in rows = option_and_then (λ file. option_and_then (λ schedule. option_map (run file schedule)
+abbrev pub flag_at : Text → List Row → Bool
+flag_at id rows = is_true (first_of id rows)
+
+abbrev pub check_in : List Row → Option Wanted
+check_in rows = option_map (λ file. check file (flag_at (codes "explain") rows)) (first_of (codes "file") rows)
+
+-- a source's file, a schedule and the limits of a run
+abbrev pub scheduled_in : List Row → Option (Text × Text × Limits)
+scheduled_in rows = option_and_then (λ file. option_and_then (λ schedule. option_map (λ limits. (file, schedule, limits))
     (limits_in rows)) (first_of (codes "schedule") rows)) (first_of (codes "file") rows)
 
+abbrev pub run_in : List Row → Option Wanted
+run_in rows = option_map (λ (s : Text × Text × Limits). run s.0 s.1 s.2 (flag_at (codes "explain") rows)) (scheduled_in rows)
+
 abbrev pub replay_in : List Row → Option Wanted
-replay_in rows = option_and_then (λ file. option_and_then (λ schedule. option_map
-    (replay file schedule) (limits_in rows)) (first_of (codes "schedule") rows))
-    (first_of (codes "file") rows)
+replay_in rows = option_map (λ (s : Text × Text × Limits). replay s.0 s.1 s.2 (flag_at (codes "explain") rows)) (scheduled_in rows)
+
+abbrev pub trace_in : List Row → Option Wanted
+trace_in rows = option_map (λ (s : Text × Text × Limits). trace s.0 s.1 s.2) (scheduled_in rows)
 
 abbrev pub flip_in : List Row → Option Wanted
 flip_in rows = option_and_then (λ seats. option_and_then (λ objects. option_and_then (λ slots.
@@ -129,7 +158,8 @@ named_in name rows =
     if bytes_eq name (codes "check") then check_in rows
     else (if bytes_eq name (codes "run") then run_in rows
     else (if bytes_eq name (codes "replay") then replay_in rows
-    else (if bytes_eq name (codes "flip") then flip_in rows else None)))
+    else (if bytes_eq name (codes "trace") then trace_in rows
+    else (if bytes_eq name (codes "flip") then flip_in rows else None))))
 
 abbrev pub wanted_in : Option (Text × List Row) → Option Wanted
 wanted_in = option_and_then (λ p. named_in p.0 p.1)
@@ -166,7 +196,8 @@ Answers words (Err fault) = Refuses words fault
 
 -- each number of the order lies in its range
 abbrev pub IsInRange : Order → Type 0
-IsInRange (Check file) = ⊤
-IsInRange (Run file schedule limits) = are_in_range limits ≡ true
-IsInRange (Replay file schedule limits) = are_in_range limits ≡ true
+IsInRange (Check file explain) = ⊤
+IsInRange (Run file schedule limits explain) = are_in_range limits ≡ true
+IsInRange (Replay file schedule limits explain) = are_in_range limits ≡ true
+IsInRange (Trace file schedule limits) = are_in_range limits ≡ true
 IsInRange (Flip sizes) = ⊤

@@ -3,12 +3,12 @@ ghost use Rattle.std.specs.Prelude.{◌≡◌, IfOk, Some, pos, false};
 ghost use Rattle.std.specs.Prelude.{codes, ◌≤◌, ◌^◌, ◌<◌};
 ghost use Rattle.clap.specs.Words.{app_of, new_app, rule_of};
 ghost use Rattle.clap.specs.declared.builder.command.Command.TheViews.{out-Command};
-ghost use Rattle.cilvm.specs.CommandLine.{check_app, cilvm_app, file_rule, number_rule, run_app};
-ghost use Rattle.cilvm.specs.CommandLine.{flip_app, needed, replay_app, text_rule, with_limits};
-ghost use Rattle.cilvm.specs.CommandLine.{with_required_subcommand};
+ghost use Rattle.cilvm.specs.CommandLine.{check_app, cilvm_app, file_rule, flag_rule, number_rule};
+ghost use Rattle.cilvm.specs.CommandLine.{flip_app, needed, replay_app, run_app, text_rule, trace_app};
+ghost use Rattle.cilvm.specs.CommandLine.{with_explain, with_files, with_limits, with_required_subcommand};
 
 use cil_model::limits::{LEAST_WORDS, MOST_BUDGET, MOST_DEPTH, MOST_WORDS};
-use clap::{Arg, Command, value_parser};
+use clap::{Arg, ArgAction, Command, value_parser};
 use std::alloc::{AllocError, Global};
 
 fn file_argument<'a>(alloc: Global, id: &'a str, name: &'a str, help: &'a str) -> Arg<'a>
@@ -45,6 +45,29 @@ fn needed_number<'a>(alloc: Global, id: &'a str, least: u32, most: u32, help: &'
     ensures local { result.global ≡ false }
 {
     number_option(alloc, id, least, most, help).required(true)
+}
+
+/// The option that has a refusal explained.
+fn with_explain<'a>(alloc: Global, command: Command<'a>) -> Result<Command<'a>, AllocError>
+    requires { (out-Command command).has_globals ≡ false }
+    ensures app { IfOk result (λ c. app_of c ≡ with_explain (app_of command.entry)) }
+    ensures local { IfOk result (λ c. (out-Command c).has_globals ≡ false) }
+{
+    let explain = Arg::new(alloc, "explain")
+        .long("explain")
+        .action(ArgAction::SetTrue)
+        .help("After a refusal, shows its place and its rule");
+    command.arg(explain)
+}
+
+/// A command that takes a source and a schedule, each from a file.
+fn with_files<'a>(alloc: Global, name: &'a str) -> Result<Command<'a>, AllocError>
+    ensures app { IfOk result (λ c. app_of c ≡ with_files name.entry.now) }
+    ensures local { IfOk result (λ c. (out-Command c).has_globals ≡ false) }
+{
+    let file = file_argument(alloc, "file", "FILE", "The source, in ilasm text");
+    let schedule = file_argument(alloc, "schedule", "SCHEDULE", "The file with the events");
+    Command::new(alloc, name).arg(file)?.arg(schedule)
 }
 
 fn with_limits<'a>(alloc: Global, command: Command<'a>) -> Result<Command<'a>, AllocError>
@@ -84,10 +107,11 @@ fn check_command<'a>(alloc: Global) -> Result<Command<'a>, AllocError>
     ensures local { IfOk result (λ c. (out-Command c).has_globals ≡ false) }
 {
     let file = file_argument(alloc, "file", "FILE", "The source, in ilasm text");
-    Command::new(alloc, "check")
+    let command = Command::new(alloc, "check")
         .about("Says whether a source is accepted")
         .after_help("Example:\n  cilvm check examples/add.il")
-        .arg(file)
+        .arg(file)?;
+    with_explain(alloc, command)
 }
 
 fn run_command<'a>(alloc: Global) -> Result<Command<'a>, AllocError>
@@ -109,6 +133,7 @@ fn run_command<'a>(alloc: Global) -> Result<Command<'a>, AllocError>
         )
         .arg(file)?
         .arg(schedule)?;
+    let command = with_explain(alloc, command)?;
     with_limits(alloc, command)
 }
 
@@ -116,15 +141,24 @@ fn replay_command<'a>(alloc: Global) -> Result<Command<'a>, AllocError>
     ensures app { IfOk result (λ c. app_of c ≡ replay_app) }
     ensures local { IfOk result (λ c. (out-Command c).has_globals ≡ false) }
 {
-    let file = file_argument(alloc, "file", "FILE", "The source, in ilasm text");
-    let schedule = file_argument(alloc, "schedule", "SCHEDULE", "The file with the events");
-    let command = Command::new(alloc, "replay")
+    let command = with_files(alloc, "replay")?
         .about("Runs a source by a schedule that a file holds")
         .after_help(
             "The file has the events in the form that 'cilvm run --help' tells, on as many lines as you like.\n\nExample, which prints 5:\n  cilvm replay examples/add.il examples/add.schedule",
-        )
-        .arg(file)?
-        .arg(schedule)?;
+        );
+    let command = with_explain(alloc, command)?;
+    with_limits(alloc, command)
+}
+
+fn trace_command<'a>(alloc: Global) -> Result<Command<'a>, AllocError>
+    ensures app { IfOk result (λ c. app_of c ≡ trace_app) }
+    ensures local { IfOk result (λ c. (out-Command c).has_globals ≡ false) }
+{
+    let command = with_files(alloc, "trace")?
+        .about("Replays a schedule, and prints a line of each event")
+        .after_help(
+            "A line has these columns, with tabs between them: the event's number, the event, what was reported of it, the instruction that the thread was at, the thread's frames and the height of its stack after the event, and the words in use after it. What the program prints and how its threads stand follow as 'cilvm replay' prints them.\n\nExample:\n  cilvm trace examples/add.il examples/add.schedule",
+        );
     with_limits(alloc, command)
 }
 
@@ -178,10 +212,12 @@ pub fn cilvm_command<'a>(alloc: Global) -> Result<Command<'a>, AllocError>
     let check = check_command(alloc)?;
     let run = run_command(alloc)?;
     let replay = replay_command(alloc)?;
+    let trace = trace_command(alloc)?;
     let flip = flip_command(alloc)?;
     program(alloc)
         .subcommand(check)?
         .subcommand(run)?
         .subcommand(replay)?
+        .subcommand(trace)?
         .subcommand(flip)
 }

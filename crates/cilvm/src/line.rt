@@ -2,16 +2,16 @@
 ghost use Rattle.std.specs.Prelude.{◌≡◌, IfOk, IfSome, codes, map, option_map, IfErr, is_some, true, ◌≤◌};
 ghost use Rattle.clap.specs.Words.{found_of, first_of, kind_of, rows_of, subcommand_rows_of};
 ghost use Rattle.cilvm.specs.CommandLine.{Answers, FaultIs, IsInRange, check_in, limits_in};
-ghost use Rattle.cilvm.specs.CommandLine.{number_at, number_in, flip_in, replay_in, run_in, wanted_in};
+ghost use Rattle.cilvm.specs.CommandLine.{flag_at, number_at, number_in, flip_in, replay_in, run_in, scheduled_in, trace_in, wanted_in};
 ghost use Rattle.cilvm.specs.CommandLine.{wanted_of};
 ghost use Rattle.cil_model.specs.Ranges.{are_in_range};
 ghost use Rattle.cilvm.specs.declared.line.LineFault.TheVariants.{Memory};
 
 use crate::commands::cilvm_command;
-use crate::orders::Order;
 use cil_model::limits::{LEAST_WORDS, Limits, MOST_BUDGET, MOST_DEPTH, MOST_WORDS};
 use clap::error::ErrorKind;
 use clap::{ArgMatches, Error};
+use driver::Order;
 use flip_trial::Sizes;
 use std::alloc::{AllocError, Global};
 
@@ -75,6 +75,7 @@ fn wanted<'a>(matches: &ArgMatches<'a>) -> Option<Order<'a>>
         "check" => wanted_check(found),
         "run" => wanted_run(found),
         "replay" => wanted_replay(found),
+        "trace" => wanted_trace(found),
         "flip" => wanted_flip(found),
         _ => None,
     }
@@ -85,20 +86,21 @@ fn wanted_check<'a>(found: &ArgMatches<'a>) -> Option<Order<'a>>
     ensures range { IfSome result IsInRange }
 {
     let file = text(found, "file")?;
-    Some(Order::Check { file })
+    let explain = flag(found, "explain");
+    Some(Order::Check { file, explain })
 }
 
 fn wanted_run<'a>(found: &ArgMatches<'a>) -> Option<Order<'a>>
     ensures value { option_map wanted_of result ≡ run_in (rows_of (found_of found.now)) }
     ensures range { IfSome result IsInRange }
 {
-    let file = text(found, "file")?;
-    let schedule = text(found, "schedule")?;
-    let limits = limits(found)?;
+    let (file, schedule, limits) = scheduled(found)?;
+    let explain = flag(found, "explain");
     Some(Order::Run {
         file,
         schedule,
         limits,
+        explain,
     })
 }
 
@@ -106,10 +108,22 @@ fn wanted_replay<'a>(found: &ArgMatches<'a>) -> Option<Order<'a>>
     ensures value { option_map wanted_of result ≡ replay_in (rows_of (found_of found.now)) }
     ensures range { IfSome result IsInRange }
 {
-    let file = text(found, "file")?;
-    let schedule = text(found, "schedule")?;
-    let limits = limits(found)?;
+    let (file, schedule, limits) = scheduled(found)?;
+    let explain = flag(found, "explain");
     Some(Order::Replay {
+        file,
+        schedule,
+        limits,
+        explain,
+    })
+}
+
+fn wanted_trace<'a>(found: &ArgMatches<'a>) -> Option<Order<'a>>
+    ensures value { option_map wanted_of result ≡ trace_in (rows_of (found_of found.now)) }
+    ensures range { IfSome result IsInRange }
+{
+    let (file, schedule, limits) = scheduled(found)?;
+    Some(Order::Trace {
         file,
         schedule,
         limits,
@@ -125,6 +139,17 @@ fn wanted_flip<'a>(found: &ArgMatches<'a>) -> Option<Order<'a>>
     let slots = number(found, "slots", 1, 16)?;
     let rounds = number(found, "rounds", 0, 10_000)?;
     Some(Order::Flip(Sizes::new(seats as u8, objects as u16, slots as u8, rounds as u16)))
+}
+
+/// The source's file, the schedule and the limits of a run.
+fn scheduled<'a>(found: &ArgMatches<'a>) -> Option<(&'a str, &'a str, Limits)>
+    ensures value { option_map (λ s. (s.0.now, s.1.now, s.2)) result ≡ scheduled_in (rows_of (found_of found.now)) }
+    ensures range { IfSome result (λ s. are_in_range s.2 ≡ true) }
+{
+    let file = text(found, "file")?;
+    let schedule = text(found, "schedule")?;
+    let limits = limits(found)?;
+    Some((file, schedule, limits))
 }
 
 fn limits(found: &ArgMatches<'_>) -> Option<Limits>
@@ -146,6 +171,16 @@ fn text<'a>(found: &ArgMatches<'a>, id: &str) -> Option<&'a str>
     ensures { option_map (λ s. s.now) result ≡ first_of id.now (rows_of (found_of found.now)) }
 {
     found.get_str(id)
+}
+
+/// Whether the flag `id` was given.
+fn flag(found: &ArgMatches<'_>, id: &str) -> bool
+    ensures { result ≡ flag_at id.now (rows_of (found_of found.now)) }
+{
+    match text(found, id) {
+        Some("true") => true,
+        _ => false,
+    }
 }
 
 /// The number that was given for `id`, or its default, where it lies in the range.

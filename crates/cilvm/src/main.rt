@@ -2,16 +2,14 @@
 #![tactic(auto)]
 
 mod commands;
-mod drive;
 mod files;
 mod line;
-mod orders;
 
-use drive::Failure;
+use driver::{Failure, Order};
 use line::LineFault;
-use orders::Order;
 use std::fs::File;
 use std::process::ExitCode;
+use std::sync::Wait;
 use std::thread::Threads;
 use std::{env, io};
 
@@ -20,12 +18,12 @@ fn main(rt: HostRuntime) -> ExitCode {
     let mut err = io::writer(&errors);
     let status = match program(&rt, &rt) {
         Ok(status) => status,
-        Err(failure) => drive::report(failure, &mut err),
+        Err(failure) => driver::report(failure, &mut err),
     };
     ExitCode::from(status)
 }
 
-fn program(rt: &HostRuntime, threads: &impl Threads) -> Result<u8, Failure> {
+fn program(rt: &HostRuntime, threads: &(impl Threads + Wait)) -> Result<u8, Failure> {
     let alloc = rt.alloc();
     let given: Vec<String> = match env::args(rt) {
         Ok(args) => args.collect(alloc)?,
@@ -50,7 +48,11 @@ fn program(rt: &HostRuntime, threads: &impl Threads) -> Result<u8, Failure> {
     }
 }
 
-fn carry_out(rt: &HostRuntime, threads: &impl Threads, order: &Order<'_>) -> Result<u8, Failure> {
+fn carry_out(
+    rt: &HostRuntime,
+    threads: &(impl Threads + Wait),
+    order: &Order<'_>,
+) -> Result<u8, Failure> {
     let alloc = rt.alloc();
     let source = match order.file() {
         Some(file) => files::source(alloc, File::open(rt, file)?)?,
@@ -64,7 +66,7 @@ fn carry_out(rt: &HostRuntime, threads: &impl Threads, order: &Order<'_>) -> Res
     let mut out = io::writer(rt);
     let mut err = io::writer(&errors);
     let mut record = Vec::new(alloc);
-    let status = drive::drive(
+    let status = driver::drive(
         threads,
         alloc,
         order,
@@ -77,5 +79,7 @@ fn carry_out(rt: &HostRuntime, threads: &impl Threads, order: &Order<'_>) -> Res
     Ok(status)
 }
 
+#[cfg(test)]
+mod drive_tests;
 #[cfg(test)]
 mod tests;

@@ -1,7 +1,6 @@
 use crate::carry_out;
-use crate::drive::Failure;
-use crate::orders::Order;
 use cil_model::limits::Limits;
+use driver::{Failure, Order};
 
 static LIMITS: Limits = Limits {
     words: 64,
@@ -12,12 +11,16 @@ static LIMITS: Limits = Limits {
 #[test]
 fn tells_of_files_that_are_missing(rt: HostRuntime) {
     let missing = "no such folder/add.il";
-    let check = Order::Check { file: missing };
+    let check = Order::Check {
+        file: missing,
+        explain: false,
+    };
     assert!(rt; carry_out(&rt, &rt, &check) == Err(Failure::Device));
     let run = Order::Run {
         file: missing,
         schedule: "x",
         limits: LIMITS,
+        explain: false,
     };
     assert!(rt; carry_out(&rt, &rt, &run) == Err(Failure::Device));
 }
@@ -28,6 +31,7 @@ fn reads_the_schedule_before_the_source_is_looked_at(rt: HostRuntime) {
         file: "/dev/null",
         schedule: "no such folder/add.schedule",
         limits: LIMITS,
+        explain: false,
     };
     assert!(rt; carry_out(&rt, &rt, &replay) == Err(Failure::Device));
 }

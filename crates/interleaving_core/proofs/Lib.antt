@@ -11,3 +11,4 @@ pub mod Asking
 pub mod Stepping
 pub mod Indexed
 pub mod Requests
+pub mod Ends

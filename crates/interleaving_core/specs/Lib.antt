@@ -2,3 +2,4 @@ pub mod Views
 pub mod Finishing
 pub mod Refusals
 pub mod Statics
+pub mod Positions

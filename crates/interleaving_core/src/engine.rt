@@ -14,9 +14,11 @@ ghost use Rattle.method_table.specs.Prepared.{IsMethodTable};
 ghost use Rattle.interpreter.specs.Instructions.{Prints};
 ghost use Rattle.machine_states.specs.Turns.{IsTurn, PrintsOrStarts, counted, started, thread_for};
 ghost use Rattle.interleaving_core.specs.Views.{CanGoOn, content_of, end_at};
+ghost use Rattle.interleaving_core.specs.Positions.{position_at};
 ghost use Rattle.interleaving_core.specs.Finishing.{CanFinish, IsInstructed, answered, finish, live_thread};
 
 use crate::beginnings::beginning_on;
+use crate::positions::{Position, position_in};
 use crate::steps::{answer, instruct};
 use cil_model::events::Event;
 use cil_model::limits::Limits;
@@ -210,6 +212,13 @@ impl Engine {
         ensures { result ≡ end_at self.now.threads.items thread }
     {
         self.threads.get(usize::from(thread))?.end()
+    }
+
+    /// Where the thread is. None where it has ended or was never started.
+    pub fn position_of(&self, thread: u8) -> Option<Position>
+        ensures { result ≡ position_at self.now.threads.items thread }
+    {
+        position_in(&self.threads.get(usize::from(thread))?.standing)
     }
 
     /// How many threads are live.

@@ -5,6 +5,8 @@ mod beginnings;
 mod engine;
 mod machine;
 mod openings;
+mod positions;
 mod steps;
 
 pub use machine::{Machine, Refused};
+pub use positions::Position;

@@ -1,14 +1,15 @@
 //! The machine and its events.
 
-ghost use Rattle.std.specs.Prelude.{◌≡◌, ◌↔◌, ◌∷◌, [], ◌+◌, ◌<◌, ◌≤◌, Err, Some, IfOk, OnOk, OnErr, false, ℕ, length, take, drop};
+ghost use Rattle.std.specs.Prelude.{◌≡◌, ◌↔◌, ◌∷◌, [], ◌+◌, ◌<◌, ◌≤◌, Err, Some, IfOk, OnOk, OnErr, false, ℕ, length, map, take, drop};
 ghost use Rattle.std.specs.List.{count_by, zip};
 ghost use Rattle.cil_model.specs.Ranges.{are_in_range, is_between};
 ghost use Rattle.cil_model.specs.declared.limits.TheConstants.{MOST_THREADS};
 ghost use Rattle.reference_machine.specs.Runs.{opening};
 ghost use Rattle.reference_machine.specs.States.{State};
 ghost use Rattle.object_memory.specs.Cells.{used_words};
-ghost use Rattle.threads_monitors.specs.Threads.{is_live, is_live_at};
+ghost use Rattle.threads_monitors.specs.Threads.{end_of, is_live, is_live_at};
 ghost use Rattle.interleaving_core.specs.Views.{end_at};
+ghost use Rattle.interleaving_core.specs.Positions.{position_at};
 ghost use Rattle.machine_states.specs.StandsFor.{Represents};
 ghost use Rattle.machine_states.specs.Turns.{IsTurn, PrintsOrStarts};
 ghost use Rattle.interleaving_core.specs.Refusals.{number_of};
@@ -17,11 +18,13 @@ ghost use Rattle.interleaving_core.specs.declared.machine.Refused.TheVariants.{L
 
 use crate::engine::Engine;
 use crate::openings::opened;
+use crate::positions::Position;
 use cil_model::events::Event;
 use cil_model::limits::{LEAST_WORDS, Limits, MOST_BUDGET, MOST_DEPTH, MOST_WORDS};
 use cil_model::memory::NoMemory;
 use cil_model::reports::{End, Report};
-use std::alloc::Global;
+use cil_model::trees::Tree;
+use std::alloc::{AllocError, Global};
 use std::marker::Model;
 use thiserror::Error;
 use verifier::Verified;
@@ -143,11 +146,37 @@ impl Machine {
         self.engine.end_of(thread)
     }
 
+    /// How each thread that was started has ended, in the order of their numbers: none where it is live. Only want of memory is an error.
+    pub fn ends(&self, alloc: Global) -> Result<Vec<Option<End>>, AllocError>
+        ensures { IfOk result (λ ends. ends.items ≡ map end_of self.now.threads) }
+    {
+        let mut ends = Vec::new(alloc);
+        for thread in 0..self.started() {
+            ends.push(self.end_of(thread as u8))?;
+        }
+        Ok(ends)
+    }
+
     /// Whether a thread was started and hasn't ended.
     pub fn is_live(&self, thread: u8) -> bool
         ensures { result ≡ is_live_at self.now.threads thread }
     {
         self.engine.is_live(thread)
+    }
+
+    /// Where a thread is: the method that runs, the place of its next instruction, how many frames it has, and how many values are on the
+    /// stack of the running one. None where it has ended or was never started.
+    pub fn position_of(&self, thread: u8) -> Option<Position>
+        ensures { result ≡ position_at self.now.threads thread }
+    {
+        self.engine.position_of(thread)
+    }
+
+    /// The program that it runs, as a tree, which is the same for ever.
+    pub fn tree(&self) -> &Tree
+        ensures { result.now ≡ self.now.tree }
+    {
+        self.engine.program.program().tree()
     }
 
     /// How many threads are live.

@@ -1,5 +1,8 @@
 -- One entry more.
-use Rattle.std.proofs.Common.{◌≡◌, ◌≢◌, ℕ, zero, suc, ◌+◌, List, [], ◌∷◌, ◌++◌, length, set, Some, refl, sym, ap, ◌∙◌, subst, arith, eq-eqb, ne_eqb, append_assoc, append-nil, add-one, get_or, ◌-◌, nat_eq}
+use Rattle.std.proofs.Common.{◌≡◌, ◌≢◌, ℕ, zero, suc, ◌+◌, ◌<◌, List, [], ◌∷◌, ◌++◌, length, set, Some, refl, sym, ap, ◌∙◌, subst, arith, eq-eqb, ne_eqb, append_assoc, append-nil, add-one, get_or, ◌-◌, nat_eq}
+use Rattle.std.proofs.lemmas.List.{length-set}
+use Rattle.std.proofs.lemmas.List.Elements.{All-nil, All-push}
+use Rattle.std.proofs.lemmas.Option.{slice_get_within}
 use Rattle.std.specs.Prelude.{slice_get, replicate}
 use native.Mathlib.Decide.{ℕ_discrete}
 use mathlib.Core.Logic.{dite}
@@ -10,10 +13,10 @@ use Rattle.cil_model.specs.declared.reports.Report.{Report}
 use Rattle.machine_states.specs.MachineContents.{Content}
 use Rattle.machine_states.specs.Runs.{AreTurns}
 use Rattle.machine_states.specs.Turns.{IsTurn}
-use Rattle.interleaving_core.proofs.Following.{turns_more}
+use Rattle.interleaving_core.proofs.Following.{turns_follow, turns_length, turns_more, turns_program}
 use Rattle.shared_machine.specs.Codes.{add}
-use Rattle.shared_machine.specs.Histories.{plain, entry, events_of, reports_of, add_if, counted, count_of}
-use Rattle.shared_machine.specs.Worlds.{IsSound, fresh}
+use Rattle.shared_machine.specs.Histories.{IsSmall, plain, entry, events_of, reports_of, add_if, counted, count_of}
+use Rattle.shared_machine.specs.Worlds.{HasRun, IsSound, fresh}
 use Rattle.shared_machine.specs.declared.history.Entry.{Entry}
 use Rattle.shared_machine.specs.declared.history.Run.{Run}
 
@@ -22,14 +25,14 @@ counted-more : (w c : ℕ) (h : List Entry) (e : Entry) → counted w c (h ++ e 
 counted-more w c [] e = refl
 counted-more w c (x ∷ h) e = counted-more w (add_if (nat_eq x.worker w) x c) h e
 
-count_mine : (w : ℕ) (h : List Entry) (e : Event) (r : Report) → count_of w (h ++ entry w e r ∷ []) ≡ add (count_of w h) e r
+pub count_mine : (w : ℕ) (h : List Entry) (e : Event) (r : Report) → count_of w (h ++ entry w e r ∷ []) ≡ add (count_of w h) e r
 count_mine w h e r = counted-more w 0 h (entry w e r) ∙ ap (λ b. add_if b (entry w e r) (count_of w h)) (eq-eqb w w refl)
 
 count_other : (w v : ℕ) (h : List Entry) (e : Event) (r : Report) → v ≢ w → count_of w (h ++ entry v e r ∷ []) ≡ count_of w h
 count_other w v h e r apart = counted-more w 0 h (entry v e r) ∙ ap (λ b. add_if b (entry v e r) (count_of w h)) (ne_eqb v w apart)
 
 -- the turns of a history with one entry more
-events-more : (h : List Entry) (e : Entry) → events_of (h ++ e ∷ []) ≡ events_of h ++ e.event ∷ []
+pub events-more : (h : List Entry) (e : Entry) → events_of (h ++ e ∷ []) ≡ events_of h ++ e.event ∷ []
 events-more [] e = refl
 events-more (x ∷ h) e = ap (λ (l : List Event). x.event ∷ l) (events-more h e)
 
@@ -43,11 +46,31 @@ turns_after o core next h e turns turn =
     (λ i. (sym (events-more h e) i, sym (reports-more h e) i))
     (turns_more o core next (events_of h) (reports_of h) e.event e.report turns turn)
 
-pub sound_more : (o core next : Content) (h : List Entry) (book : List ℕ) (w n : ℕ) (e : Event) (r : Report)
-    → IsSound o core h book → IsTurn core e (next, r) → slice_get book w ≡ Some n → IsSound o next (h ++ entry w e r ∷ []) (set book w (add n e r))
-sound_more o core next h book w n e r s turn there =
-    record { turns = turns_after o core next h (entry w e r) s.turns turn; counts = counts }
+-- what the turns of a history come to
+pub has_run : (o core : Content) (h : List Entry) → AreTurns o (events_of h) core (reports_of h) → HasRun o (events_of h) (reports_of h) core
+has_run o core h turns =
+    let same = turns_program o core (events_of h) (reports_of h) turns in
+    record {
+      each = turns_length o core (events_of h) (reports_of h) turns;
+      turns = turns;
+      follows = turns_follow o core (events_of h) (reports_of h) turns;
+      program = same.0;
+      limits = same.1;
+    }
+
+pub sound_more : (o : Content) (workers : ℕ) (core next : Content) (h : List Entry) (book : List ℕ) (w n : ℕ) (e : Event) (r : Report)
+    → IsSound o workers core h book → IsTurn core e (next, r) → IsSmall e → slice_get book w ≡ Some n → IsSound o workers next (h ++ entry w e r ∷ []) (set book w (add n e r))
+sound_more o workers core next h book w n e r s turn small there =
+    record {
+      turns = turns_after o core next h (entry w e r) s.turns turn;
+      theirs = All-push (λ (x : Entry). (x.worker < workers) × IsSmall x.event) h (entry w e r) s.theirs (one_of, small);
+      each = length-set book w (add n e r) ∙ s.each;
+      counts = counts;
+    }
   where
+    one_of : w < workers
+    one_of = subst (λ k. w < k) s.each (slice_get_within book w n there)
+
     counts : (v m : ℕ) → slice_get (set book w (add n e r)) v ≡ Some m → m ≡ count_of v (h ++ entry w e r ∷ [])
     counts v m got =
         dite (ℕ_discrete v w)
@@ -86,8 +109,8 @@ plain-longer xs n old new e len some is same new_is =
     ap (λ (r : Run). plain (set xs (n - 1) r)) more ∙ last_longer xs (n - 1) old e (omega arith) (sym is) same
 
 -- the same under equations
-pub sound_at : (o core core' : Content) (h h' : List Entry) (book book' : List ℕ) → IsSound o core h book → core' ≡ core → h' ≡ h → book' ≡ book → IsSound o core' h' book'
-sound_at o core core' h h' book book' s a b c = subst (λ (x : Content × (List Entry × List ℕ)). IsSound o x.0 x.1.0 x.1.1) (λ i. (sym a i, (sym b i, sym c i))) s
+pub sound_at : (o : Content) (workers : ℕ) (core core' : Content) (h h' : List Entry) (book book' : List ℕ) → IsSound o workers core h book → core' ≡ core → h' ≡ h → book' ≡ book → IsSound o workers core' h' book'
+sound_at o workers core core' h h' book book' s a b c = subst (λ (x : Content × (List Entry × List ℕ)). IsSound o workers x.0 x.1.0 x.1.1) (λ i. (sym a i, (sym b i, sym c i))) s
 
 pub history_is : (all kept old : List Entry) (v w : ℕ) (e : Event) (r : Report) → all ≡ kept ++ entry v e r ∷ [] → kept ≡ old → v ≡ w → all ≡ old ++ entry w e r ∷ []
 history_is all kept old v w e r a b c = a ∙ ap (λ (x : List Entry × ℕ). x.0 ++ entry x.1 e r ∷ []) (λ i. (b i, c i))
@@ -106,5 +129,7 @@ pub fresh-more : (n : ℕ) (all rest : List Count) (t : Count) → all ≡ rest 
 fresh-more n all rest t a b c = a ∙ ap (λ (x : List Count × Count). x.0 ++ x.1 ∷ []) (λ i. (b i, c i)) ∙ sym (ap fresh (add-one n))
 
 -- before the first entry
-pub sound_first : (o core : Content) (h : List Entry) (book : List ℕ) → core ≡ o → h ≡ [] → ((w n : ℕ) → slice_get book w ≡ Some n → n ≡ 0) → IsSound o core h book
-sound_first o core h book is none zeros = subst (λ (x : List Entry). IsSound o core x book) (sym none) (record { turns = (is, refl); counts = zeros })
+pub sound_first : (o : Content) (workers : ℕ) (core : Content) (h : List Entry) (book : List ℕ) → core ≡ o → h ≡ [] → length book ≡ workers → ((w n : ℕ) → slice_get book w ≡ Some n → n ≡ 0) → IsSound o workers core h book
+sound_first o workers core h book is none each zeros =
+    subst (λ (x : List Entry). IsSound o workers core x book) (sym none)
+    (record { turns = (is, refl); theirs = All-nil (λ (x : Entry). (x.worker < workers) × IsSmall x.event); each = each; counts = zeros })

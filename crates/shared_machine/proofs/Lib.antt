@@ -1,3 +1,3 @@
 pub mod Histories
 pub mod Codes
-pub mod Ends
+pub mod OneWorker

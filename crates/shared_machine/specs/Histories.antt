@@ -1,5 +1,5 @@
 -- The history, its counts, and how it is kept.
-use Rattle.std.specs.Prelude.{◌≡◌, ℕ, Bool, true, false, nat_eq, List, [], ◌∷◌, ◌++◌, map, replicate, ◌≤◌}
+use Rattle.std.specs.Prelude.{◌≡◌, ℕ, Bool, true, false, nat_eq, List, [], ◌∷◌, ◌++◌, map, replicate, ◌≤◌, ◌<◌, All}
 use Rattle.cil_model.specs.declared.events.Event.{Event}
 use Rattle.cil_model.specs.declared.reports.Report.{Report}
 use Rattle.shared_machine.specs.Codes.{add, event_number}
@@ -45,6 +45,10 @@ count_of w h = counted w 0 h
 -- an event of a thread whose number is below 256, as each number of a program's event is
 abbrev pub IsSmall : Event → Type 0
 IsSmall e = event_number e ≤ 512
+
+-- each entry is of one of so many workers, and its event is such
+abbrev pub AreOf : ℕ → List Entry → Type 0
+AreOf workers h = All (λ (e : Entry). (e.worker < workers) × IsSmall e.event) h
 
 -- such are all of these
 abbrev pub AreSmall : List (Event × Report) → Type 0

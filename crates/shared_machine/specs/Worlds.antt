@@ -1,14 +1,15 @@
 -- What lies under the lock, and what an event does to it.
-use Rattle.std.specs.Prelude.{◌≡◌, ℕ, zero, suc, Bool, List, [], ◌∷◌, ◌++◌, None, Some, slice_get, slice_set, ◌<◌, Any}
+use Rattle.std.specs.Prelude.{◌≡◌, ℕ, zero, suc, Bool, List, [], ◌∷◌, ◌++◌, None, Some, length, slice_get, slice_set, ◌<◌, Any}
+use Rattle.std.specs.List.{zip}
 use Rattle.cil_model.specs.declared.events.Event.{Event}
 use Rattle.cil_model.specs.declared.reports.Report.{Report}
 use Rattle.object_memory.specs.Objects.{no_objects}
 use Rattle.machine_states.specs.MachineContents.{Content}
-use Rattle.machine_states.specs.Runs.{AreTurns}
+use Rattle.machine_states.specs.Runs.{AreTurns, FollowsReference}
 use Rattle.machine_states.specs.Turns.{IsTurn}
 use Rattle.worker_counts.specs.Counts.{Count}
 use Rattle.shared_machine.specs.Codes.{add}
-use Rattle.shared_machine.specs.Histories.{entry, events_of, reports_of, count_of}
+use Rattle.shared_machine.specs.Histories.{AreOf, entry, events_of, reports_of, count_of}
 use Rattle.shared_machine.specs.declared.answer.Answer.{Answer}
 use Rattle.shared_machine.specs.declared.answer.Answer.TheVariants.{Did, NoMemory}
 use Rattle.shared_machine.specs.declared.history.Entry.{Entry}
@@ -31,11 +32,21 @@ pub record Shown : Type 0 where
   pub book : List ℕ
   pub stopped : Bool
 
--- the turns over the history's events go from the opening content to the machine's with the history's reports, and the book has the
--- counts of each worker's entries
-pub record IsSound (opening core : Content) (history : List Entry) (book : List ℕ) : Type 0 where
+-- the turns over the history's events go from the opening content to the machine's with the history's reports, each entry is of one of
+-- the workers, and the book has the count of each worker's entries
+pub record IsSound (opening : Content) (workers : ℕ) (core : Content) (history : List Entry) (book : List ℕ) : Type 0 where
   pub turns : AreTurns opening (events_of history) core (reports_of history)
+  pub theirs : AreOf workers history
+  pub each : length book ≡ workers
   pub counts : (w n : ℕ) → slice_get book w ≡ Some n → n ≡ count_of w history
+
+-- a machine has made these turns, one report an event; the reference machine follows them; program and limits are the same
+pub record HasRun (opening : Content) (events : List Event) (reports : List Report) (after : Content) : Type 0 where
+  pub each : length reports ≡ length events
+  pub turns : AreTurns opening events after reports
+  pub follows : FollowsReference opening after (zip events reports)
+  pub program : after.tree ≡ opening.tree
+  pub limits : after.limits ≡ opening.limits
 
 -- what is true of the report that was answered
 abbrev pub IfDid : Answer → (Report → Type 0) → Type 0

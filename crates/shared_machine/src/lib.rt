@@ -2,12 +2,14 @@
 //! are those that its ticket counts.
 #![tactic(auto)]
 
+mod alone;
 mod answer;
 mod history;
 mod outcome;
 mod shared;
 mod world;
 
+pub use alone::run_alone;
 pub use answer::Answer;
 pub use history::{Entry, History, Run, counts_fix_events};
 pub use outcome::Outcome;

@@ -31,10 +31,6 @@ impl Outcome {
     pub fn ends(&self, alloc: Global) -> Result<Vec<Option<End>>, AllocError>
         ensures { IfOk result (λ ends. ends.items ≡ map end_of self.now.machine.threads) }
     {
-        let mut ends = Vec::new(alloc);
-        for thread in 0..self.machine.started() {
-            ends.push(self.machine.end_of(thread as u8))?;
-        }
-        Ok(ends)
+        self.machine.ends(alloc)
     }
 }

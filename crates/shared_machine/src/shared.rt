@@ -1,9 +1,8 @@
 //! The lock, and the tickets of the workers.
 
-ghost use Rattle.std.specs.Prelude.{◌≡◌, ℕ, ◌≤◌, ◌↔◌, [], Some, slice_get, IfErr, IfOk, IsTrue, MatchResult, All};
-ghost use Rattle.machine_states.specs.Runs.{AreTurns};
-ghost use Rattle.shared_machine.specs.Histories.{events_of, reports_of};
-ghost use Rattle.shared_machine.specs.Worlds.{AgreesWith, HasTicket, IfDid, IfNoMemory, IsComplete, IsMissing, added, fresh};
+ghost use Rattle.std.specs.Prelude.{◌≡◌, ℕ, ◌≤◌, ◌↔◌, [], Some, length, slice_get, IfErr, IfOk, IsTrue, MatchResult, All};
+ghost use Rattle.shared_machine.specs.Histories.{AreOf, IsSmall, events_of, reports_of};
+ghost use Rattle.shared_machine.specs.Worlds.{AgreesWith, HasRun, HasTicket, IfDid, IfNoMemory, IsComplete, IsMissing, added, fresh};
 ghost use Rattle.shared_machine.specs.declared.shared.TheConstants.{MOST_WORKERS};
 
 use crate::answer::Answer;
@@ -55,7 +54,7 @@ impl<M: Opening> Unfinished<M> {
 impl<M: Opening> Shared<M> {
     /// Puts a machine under a lock, for so many workers, from 1 to 16, and gives a ticket for each, in order, with count 0.
     ///
-    /// `blank` is the book of counts that `M` names, and the machine holds what `M` names. Only want of memory is an error; the
+    /// `blank` is the book of counts that `M` names, the machine holds what `M` names, and `M` names this number of workers. Only want of memory is an error; the
     /// machine is dropped then.
     pub fn new(
         alloc: Global,
@@ -65,7 +64,7 @@ impl<M: Opening> Shared<M> {
     ) -> Result<(Shared<M>, Vec<Ticket<M>>), AllocError>
         requires book { blank.table.shared.table_id ≡ M.table }
         requires core { core ≡ M.opening }
-        requires workers { (1 ≤ workers) × (workers ≤ MOST_WORKERS) }
+        requires workers { (1 ≤ workers) × (workers ≤ MOST_WORKERS) × (workers ≡ M.workers) }
         ensures { IfOk result (λ made. (made.0 ≡ workers) × (made.1.items ≡ fresh workers)) }
     {
         let mut book = blank.open::<M>();
@@ -91,6 +90,7 @@ impl<M: Opening> Shared<M> {
     ) -> (Answer, Ticket<M>)
         ensures counted { IfDid result.0 (λ report. result.1 ≡ added ticket event report) }
         ensures same { IfNoMemory result.0 (result.1 ≡ ticket) }
+        ensures small { IsSmall event }
     {
         let mut world = self.world.lock(rt);
         let answer = perform(&mut *world, alloc, &mut ticket, event);
@@ -99,12 +99,14 @@ impl<M: Opening> Shared<M> {
 
     /// Ends the run, and answers what is left of it. It refuses exactly where a worker's ticket is missing; all comes back then as it was.
     ///
-    /// The machine is at what its turns over the history's events make of the opening content, with the history's reports. So its console
-    /// and the ends of its threads are those of such turns. Each ticket's count is that of its worker's entries in the history.
+    /// The machine is at what its turns over the history's events make of the opening content, with the history's reports, and the
+    /// reference machine follows them. So its console and the ends of its threads are those of such turns. Each entry is of one of the
+    /// workers, and each ticket's count is that of its worker's entries in the history.
     pub fn finish(self, tickets: Vec<Ticket<M>>) -> Result<Outcome, Unfinished<M>>
         ensures exact { MatchResult result (λ _. IsComplete self tickets.items) (λ _. IsMissing self tickets.items) }
         ensures back { IfErr result (λ unfinished. (unfinished.shared ≡ self) × (unfinished.tickets ≡ tickets)) }
-        ensures turns { IfOk result (λ outcome. AreTurns M.opening (events_of outcome.history.entries) outcome.machine (reports_of outcome.history.entries)) }
+        ensures ran { IfOk result (λ outcome. HasRun M.opening (events_of outcome.history.entries) (reports_of outcome.history.entries) outcome.machine) }
+        ensures theirs { IfOk result (λ outcome. AreOf M.workers outcome.history.entries) }
         ensures counts { IfOk result (λ outcome. All (AgreesWith outcome.history.entries) tickets.items) }
     {
         for worker in 0..self.workers {
@@ -128,6 +130,7 @@ fn deal_all<M: Opening>(
 ) -> Result<Vec<Ticket<M>>, AllocError>
     requires { book.old ≡ [] }
     ensures tickets { IfOk result (λ tickets. tickets.items ≡ fresh workers) }
+    ensures each { IfOk result (λ _. length book.new ≡ workers) }
     ensures book { (worker count : ℕ) → slice_get book.new worker ≡ Some count → count ≡ 0 }
 {
     let mut tickets = Vec::new(alloc);

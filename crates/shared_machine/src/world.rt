@@ -1,10 +1,9 @@
 //! What lies under the lock, and one event on it.
 
-ghost use Rattle.std.specs.Prelude.{◌≡◌, ℕ, [], Some, slice_get, slice_set, true, false, All};
-ghost use Rattle.machine_states.specs.Runs.{AreTurns};
+ghost use Rattle.std.specs.Prelude.{◌≡◌, ℕ, [], Some, length, slice_get, slice_set, true, false, All};
 ghost use Rattle.shared_machine.specs.Codes.{add};
-ghost use Rattle.shared_machine.specs.Histories.{events_of, reports_of};
-ghost use Rattle.shared_machine.specs.Worlds.{AgreesWith, IfDid, IfNoMemory, IsDid, IsIn, IsSound, added};
+ghost use Rattle.shared_machine.specs.Histories.{AreOf, IsSmall, events_of, reports_of};
+ghost use Rattle.shared_machine.specs.Worlds.{AgreesWith, HasRun, IfDid, IfNoMemory, IsDid, IsIn, IsSound, added};
 
 use crate::answer::Answer;
 use crate::history::{Entry, History};
@@ -15,23 +14,30 @@ use std::alloc::Global;
 use std::marker::{Brand, Model};
 use worker_counts::{Book, Naming, Next, Ticket};
 
-/// Names a shared machine: what it held when it was opened, and its book of counts. Who opens it picks both, at `Brand`.
+/// Names a shared machine: what it held when it was opened, how many workers it has, and its book of counts. Who opens it picks all
+/// three, at `Brand`.
 pub trait Opening: Naming {
+    ghost use Rattle.std.specs.Prelude.{ℕ};
     ghost use Rattle.machine_states.specs.MachineContents.{Content};
 
     ghost opening: { Content };
+
+    ghost workers: { ℕ };
 }
 
 impl Opening for Brand {
     ghost use Rattle.shared_machine.specs.Worlds.{no_content};
 
     ghost opening = { no_content };
+
+    ghost workers = { 0 };
 }
 
 /// The machine, its history, the count of each worker, and a stop mark. To contracts it is these four.
 ///
 /// Whenever the lock is free, the machine is at what its turns over the history's events make of the opening content, with the history's
-/// reports, and each worker's count is that of its entries. Nothing outside this crate can change a part of it alone.
+/// reports, each entry is of one of the workers, and each worker's count is that of its entries. Nothing outside this crate can change a
+/// part of it alone.
 #[derive(Drop)]
 pub struct World<M: Opening> {
     core: Machine,
@@ -47,7 +53,7 @@ impl<M: Opening> Model for World<M> {
 
     ghost view = { λ w. record { core = w.core; history = w.history.entries; book = w.book; stopped = w.stopped } };
 
-    ghost invariant = { λ w. IsSound M.opening w.core w.history.entries w.book };
+    ghost invariant = { λ w. IsSound M.opening M.workers w.core w.history.entries w.book };
 }
 
 /// Gives the ticket and its worker's place in the book the count after this entry.
@@ -58,6 +64,16 @@ fn note<N: Next, M: Opening>(book: &mut Book<M>, ticket: &mut Ticket<M>, entry: 
     ensures ticket { ticket.new ≡ added ticket.old entry.event entry.report }
 {
     book.renew::<N>(ticket)
+}
+
+/// An event names a thread by a byte. It does nothing; its contract says so.
+fn thread_is_a_byte(event: Event)
+    ensures { IsSmall event }
+{
+    match event {
+        Event::Step(_thread) | Event::Ack(_thread) => {}
+        Event::Gc => {}
+    }
 }
 
 /// Does an event for the ticket's worker, and answers the machine's report. It waits for nobody.
@@ -73,7 +89,9 @@ pub fn perform<M: Opening>(
     ensures did { IfDid result (IsDid world.old ticket.old event world.new) }
     ensures counted { IfDid result (λ report. ticket.new ≡ added ticket.old event report) }
     ensures same { IfNoMemory result ((world.new ≡ world.old) × (ticket.new ≡ ticket.old)) }
+    ensures small { IsSmall event }
 {
+    thread_is_a_byte(event);
     let World {
         core,
         history,
@@ -109,6 +127,7 @@ impl<M: Opening> World<M> {
     /// A world before its first event: no entries, each count 0, and no stop mark. It takes no memory.
     pub(crate) fn new(alloc: Global, core: Machine, book: Book<M>) -> World<M>
         requires core { core ≡ M.opening }
+        requires each { length book ≡ M.workers }
         requires book { (worker count : ℕ) → slice_get book worker ≡ Some count → count ≡ 0 }
         ensures { result ≡ record { core = core; history = []; book = book; stopped = false } }
     {
@@ -122,7 +141,7 @@ impl<M: Opening> World<M> {
 
     /// What holds whenever the lock is free. It does nothing; its contract says so.
     pub fn laws(&self)
-        ensures { IsSound M.opening self.now.core self.now.history self.now.book }
+        ensures { IsSound M.opening M.workers self.now.core self.now.history self.now.book }
     {
         let _stopped = &self.stopped;
     }
@@ -137,7 +156,8 @@ impl<M: Opening> World<M> {
     /// Takes the world apart, with the tickets that came back, whose counts are those of their workers' entries.
     pub(crate) fn end(self, tickets: Vec<Ticket<M>>) -> Outcome
         ensures world { (result.history.entries ≡ self.history) × (result.machine ≡ self.core) × (result.stopped ≡ self.stopped) }
-        ensures turns { AreTurns M.opening (events_of result.history.entries) result.machine (reports_of result.history.entries) }
+        ensures ran { HasRun M.opening (events_of result.history.entries) (reports_of result.history.entries) result.machine }
+        ensures theirs { AreOf M.workers result.history.entries }
         ensures counts { All (AgreesWith result.history.entries) tickets.items }
     {
         let World {

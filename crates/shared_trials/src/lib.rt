@@ -7,4 +7,4 @@ mod single;
 mod tests;
 
 pub use pair::{act_both, act_in_turns, act_many, run_both};
-pub use single::{act_alone, act_often, end_without_ticket};
+pub use single::{act_again, act_alone, act_often, end_without_ticket};

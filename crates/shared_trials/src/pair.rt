@@ -1,10 +1,9 @@
 //! Two workers.
 
 ghost use Rattle.std.specs.Prelude.{◌≡◌, IfOk, IfSome};
-ghost use Rattle.machine_states.specs.Runs.{AreTurns};
 ghost use Rattle.shared_machine.specs.Codes.{add};
 ghost use Rattle.shared_machine.specs.Histories.{count_of, events_of, reports_of};
-ghost use Rattle.shared_machine.specs.Worlds.{IfDid, added, fresh};
+ghost use Rattle.shared_machine.specs.Worlds.{HasRun, IfDid, added, fresh};
 
 use crate::single::act_often;
 use cil_model::events::Event;
@@ -28,7 +27,7 @@ pub fn act_both<M: Opening + Send + Sync, R: Threads + Wait + Sync>(
     first: Event,
     second: Event,
 ) -> Result<Option<(Answer, Answer, Outcome)>, AllocError>
-    ensures turns { IfOk result (λ end. IfSome end (λ x. AreTurns M.opening (events_of x.2.history.entries) x.2.machine (reports_of x.2.history.entries))) }
+    ensures ran { IfOk result (λ end. IfSome end (λ x. HasRun M.opening (events_of x.2.history.entries) (reports_of x.2.history.entries) x.2.machine)) }
     ensures one { IfOk result (λ end. IfSome end (λ x. IfDid x.0 (λ report. count_of one.worker x.2.history.entries ≡ add one.count first report))) }
     ensures other { IfOk result (λ end. IfSome end (λ x. IfDid x.1 (λ report. count_of other.worker x.2.history.entries ≡ add other.count second report))) }
 {
@@ -62,7 +61,8 @@ pub fn run_both<M: Opening + Send + Sync, R: Threads + Wait + Sync>(
 ) -> Result<Option<(Answer, Answer, Outcome)>, AllocError>
     requires book { blank.table.shared.table_id ≡ M.table }
     requires core { core ≡ M.opening }
-    ensures turns { IfOk result (λ end. IfSome end (λ x. AreTurns M.opening (events_of x.2.history.entries) x.2.machine (reports_of x.2.history.entries))) }
+    requires workers { M.workers ≡ 2 }
+    ensures ran { IfOk result (λ end. IfSome end (λ x. HasRun M.opening (events_of x.2.history.entries) (reports_of x.2.history.entries) x.2.machine)) }
     ensures one { IfOk result (λ end. IfSome end (λ x. IfDid x.0 (λ report. count_of 0 x.2.history.entries ≡ add 0 first report))) }
     ensures other { IfOk result (λ end. IfSome end (λ x. IfDid x.1 (λ report. count_of 1 x.2.history.entries ≡ add 0 second report))) }
 {
@@ -94,6 +94,7 @@ pub fn act_many<M: Opening + Send + Sync, R: Threads + Wait + Sync>(
 ) -> Result<Option<Outcome>, AllocError>
     requires book { blank.table.shared.table_id ≡ M.table }
     requires core { core ≡ M.opening }
+    requires workers { M.workers ≡ 2 }
 {
     let (shared, tickets) = Shared::<M>::new(alloc, blank, core, 2)?;
     let Some((one, other)) = two(tickets) else {
@@ -122,6 +123,7 @@ pub fn act_in_turns<M: Opening, R: Wait>(
 ) -> Result<Option<Outcome>, AllocError>
     requires book { blank.table.shared.table_id ≡ M.table }
     requires core { core ≡ M.opening }
+    requires workers { M.workers ≡ 2 }
 {
     let (shared, tickets) = Shared::<M>::new(alloc, blank, core, 2)?;
     let Some((one, other)) = two(tickets) else {

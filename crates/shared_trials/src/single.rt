@@ -1,12 +1,13 @@
 //! One worker alone.
 
 ghost use Rattle.std.specs.Prelude.{◌≡◌, IfOk, IfSome};
-ghost use Rattle.machine_states.specs.Runs.{AreTurns};
 ghost use Rattle.shared_machine.specs.Histories.{events_of, reports_of};
+ghost use Rattle.shared_machine.specs.Worlds.{HasRun};
 
 use cil_model::events::Event;
+use cil_model::reports::Report;
 use interleaving_core::Machine;
-use shared_machine::{Opening, Outcome, Shared, stop};
+use shared_machine::{Answer, Opening, Outcome, Shared, stop};
 use std::alloc::{AllocError, Global};
 use std::sync::Wait;
 use worker_counts::{Blank, Ticket};
@@ -42,8 +43,9 @@ pub fn act_alone<M: Opening, R: Wait>(
 ) -> Result<Option<Outcome>, AllocError>
     requires book { blank.table.shared.table_id ≡ M.table }
     requires core { core ≡ M.opening }
+    requires workers { M.workers ≡ 1 }
     ensures { IfOk result (λ end. IfSome end (λ outcome.
-        AreTurns M.opening (events_of outcome.history.entries) outcome.machine (reports_of outcome.history.entries))) }
+        HasRun M.opening (events_of outcome.history.entries) (reports_of outcome.history.entries) outcome.machine)) }
 {
     let (shared, mut tickets) = Shared::<M>::new(alloc, blank, core, 1)?;
     let Some(ticket) = tickets.pop() else {
@@ -61,6 +63,58 @@ fn mark<M: Opening, R: Wait>(rt: &R, shared: &Shared<M>) {
     stop(&mut *world);
 }
 
+/// One worker does these events in order, each once more where memory was wanted, and the run ends. It answers the report of each, or none
+/// where memory was wanted twice.
+///
+/// Only want of memory for something else is an error. None where the ticket is missing, which it isn't.
+pub fn act_again<M: Opening, R: Wait>(
+    rt: &R,
+    alloc: Global,
+    blank: Blank,
+    core: Machine,
+    events: &[Event],
+) -> Result<Option<(Vec<Option<Report>>, Outcome)>, AllocError>
+    requires book { blank.table.shared.table_id ≡ M.table }
+    requires core { core ≡ M.opening }
+    requires workers { M.workers ≡ 1 }
+{
+    let (shared, mut tickets) = Shared::<M>::new(alloc, blank, core, 1)?;
+    let Some(mut ticket) = tickets.pop() else {
+        return Ok(None);
+    };
+    let mut reports = Vec::new(alloc);
+    for event in events {
+        let (report, next) = act_twice(rt, alloc, &shared, ticket, *event);
+        ticket = next;
+        reports.push(report)?;
+    }
+    tickets.push(ticket)?;
+    Ok(
+        shared
+            .finish(tickets)
+            .ok()
+            .map(|outcome| (reports, outcome)),
+    )
+}
+
+/// Does an event, once more where memory was wanted.
+fn act_twice<M: Opening, R: Wait>(
+    rt: &R,
+    alloc: Global,
+    shared: &Shared<M>,
+    ticket: Ticket<M>,
+    event: Event,
+) -> (Option<Report>, Ticket<M>) {
+    let (answer, ticket) = shared.act(rt, alloc, ticket, event);
+    if let Answer::Did(report) = answer {
+        return (Some(report), ticket);
+    }
+    match shared.act(rt, alloc, ticket, event) {
+        (Answer::Did(report), ticket) => (Some(report), ticket),
+        (Answer::NoMemory, ticket) => (None, ticket),
+    }
+}
+
 /// Asks for the end of a run of two workers with one ticket. It answers the number of the refusal and how many tickets came back, and
 /// then the outcome with both tickets.
 pub fn end_without_ticket<M: Opening>(
@@ -70,6 +124,7 @@ pub fn end_without_ticket<M: Opening>(
 ) -> Result<Option<(u16, usize, Outcome)>, AllocError>
     requires book { blank.table.shared.table_id ≡ M.table }
     requires core { core ≡ M.opening }
+    requires workers { M.workers ≡ 2 }
 {
     let (shared, mut tickets) = Shared::<M>::new(alloc, blank, core, 2)?;
     let Some(ticket) = tickets.pop() else {

@@ -1,4 +1,4 @@
-use crate::{act_alone, act_in_turns, act_many, end_without_ticket, run_both};
+use crate::{act_again, act_alone, act_in_turns, act_many, end_without_ticket, run_both};
 use cil_model::events::Event;
 use cil_model::limits::Limits;
 use cil_model::reports::{End, Report};
@@ -7,7 +7,7 @@ use ilasm_reader::read;
 use interleaving_core::Machine;
 use metadata::resolve;
 use shared_machine::Outcome;
-use std::alloc::AllocGlobal;
+use std::alloc::{AllocGlobal, Global};
 use std::marker::Brand;
 use std::process::Abort;
 use std::test::Fail;
@@ -20,19 +20,23 @@ static SUM: &str =
     .method public static void Main() cil managed { .entrypoint .maxstack 2
     ldc.i4 2 ldc.i4.3 add call void [mscorlib]System.Console::WriteLine(int32) ret } }";
 
-/// The machine of the sum.
-fn machine(rt: &(impl Abort + AllocGlobal)) -> Machine {
-    let alloc = rt.alloc();
-    let tree = read(alloc, SUM.as_bytes()).expect(rt, "a tree");
-    let program = resolve(alloc, tree).expect(rt, "a legal program");
-    let layout = lay_out(alloc, &program).expect(rt, "memory");
-    let verified = verify(alloc, program, layout).expect(rt, "a typing");
+/// The machine of the sum, where memory is there.
+fn machine_of_sum(alloc: Global) -> Option<Machine> {
+    let tree = read(alloc, SUM.as_bytes()).ok()?;
+    let program = resolve(alloc, tree).ok()?;
+    let layout = lay_out(alloc, &program).ok()?;
+    let verified = verify(alloc, program, layout).ok()?;
     let limits = Limits {
         words: 64,
         budget: 10,
         depth: 1,
     };
-    Machine::new(alloc, verified, limits).expect(rt, "limits in range")
+    Machine::new(alloc, verified, limits).ok()
+}
+
+/// The machine of the sum.
+fn machine(rt: &(impl Abort + AllocGlobal)) -> Machine {
+    machine_of_sum(rt.alloc()).expect(rt, "a machine")
 }
 
 /// How many entries the history has.
@@ -129,5 +133,25 @@ fn a_missing_ticket_is_refused_and_all_comes_back(rt: HostRuntime) -> Result<(),
     let (number, left, outcome) = end.ok_or("both tickets came back")?;
     assert!(rt; number == 601 && left == 1);
     assert!(rt; outcome.history.runs().is_empty() && outcome.console().is_empty());
+    Ok(())
+}
+
+/// With each allocation refused in turn (`rt try --test --fail-alloc N`) an event that wanted memory, for its entry or for what it prints,
+/// gives the next time the report that it gives else.
+#[test]
+fn an_event_that_wanted_memory_gives_its_report_the_next_time(rt: HostRuntime) -> Result<(), Fail> {
+    let alloc = rt.alloc();
+    let (Some(core), Ok(blank)) = (machine_of_sum(alloc), Blank::new(alloc)) else {
+        return Ok(());
+    };
+    let events = [Event::Step(0); 6];
+    let Ok(end) = act_again::<Brand, _>(&rt, alloc, blank, core, &events) else {
+        return Ok(());
+    };
+    let (reports, outcome) = end.ok_or("the ticket came back")?;
+    let (ran, done) = (Some(Report::Ran), Some(Report::Ended(End::Done)));
+    let wanted = [ran, ran, ran, ran, done, Some(Report::Absent)];
+    assert!(rt; reports.as_slice() == wanted.as_slice());
+    assert!(rt; entries(&outcome) == 6 && outcome.console() == b"5\n".as_slice());
     Ok(())
 }

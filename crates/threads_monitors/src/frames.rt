@@ -194,6 +194,20 @@ impl FrameMemory {
         self.below.is_empty()
     }
 
+    /// How many frames there are, the running one counted.
+    pub fn frame_count(&self) -> usize
+        ensures { result ≡ length self.now.below + 1 }
+    {
+        self.below.len() + 1
+    }
+
+    /// How many values the running frame's stack holds.
+    pub fn stack_height(&self) -> usize
+        ensures { result ≡ length self.now.running.stack }
+    {
+        self.values.len() - self.running.stack
+    }
+
     /// Calls a method (ECMA-335 III.3.19): the uppermost `arguments` values of the stack become the new frame's arguments,
     /// which had been pushed in their order, and its locals are zeros of these kinds. It takes no memory, and moves no argument.
     pub fn push_frame(

@@ -1,5 +1,5 @@
 use super::{source, text};
-use crate::drive::Failure;
+use driver::Failure;
 use std::io;
 use std::io::{ErrorKind, Read};
 use std::test::Fail;

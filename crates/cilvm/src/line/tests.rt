@@ -1,6 +1,6 @@
 use super::{LineFault, order};
-use crate::orders::Order;
 use cil_model::limits::Limits;
+use driver::Order;
 use flip_trial::Sizes;
 use std::process::Abort;
 use std::test::Fail;
@@ -16,7 +16,13 @@ fn reads_each_command(rt: HostRuntime) -> Result<(), Fail> {
     let alloc = rt.alloc();
     let words = ["cilvm", "check", "p.il"];
     let check = order(alloc, words.as_slice()).ok();
-    assert!(rt; check == Some(Order::Check { file: "p.il" }));
+    assert!(rt;
+        check
+            == Some(Order::Check {
+                file: "p.il",
+                explain: false
+            })
+    );
 
     let words = ["cilvm", "run", "p.il", "--schedule", "s0*5"];
     let run = order(alloc, words.as_slice()).ok();
@@ -24,7 +30,8 @@ fn reads_each_command(rt: HostRuntime) -> Result<(), Fail> {
         run == Some(Order::Run {
             file: "p.il",
             schedule: "s0*5",
-            limits: GOOD
+            limits: GOOD,
+            explain: false
         })
     );
 
@@ -38,6 +45,7 @@ fn reads_each_command(rt: HostRuntime) -> Result<(), Fail> {
         "1048576",
         "p.il",
         "--budget=3",
+        "--explain",
     ];
     let run = order(alloc, words.as_slice()).ok();
     let limits = Limits {
@@ -49,7 +57,8 @@ fn reads_each_command(rt: HostRuntime) -> Result<(), Fail> {
         run == Some(Order::Run {
             file: "p.il",
             schedule: "",
-            limits
+            limits,
+            explain: true
         })
     );
 
@@ -70,6 +79,19 @@ fn reads_each_command(rt: HostRuntime) -> Result<(), Fail> {
     assert!(rt;
         replay
             == Some(Order::Replay {
+                file: "p.il",
+                schedule: "p.schedule",
+                limits,
+                explain: false
+            })
+    );
+
+    let [program, _, file, words, schedule, budget] = words;
+    let words = [program, "trace", file, words, schedule, budget];
+    let trace = order(alloc, words.as_slice()).ok();
+    assert!(rt;
+        trace
+            == Some(Order::Trace {
                 file: "p.il",
                 schedule: "p.schedule",
                 limits

@@ -1,7 +1,7 @@
 use Rattle.std.proofs.Common.{◌≡◌, ◌∙◌, ap, ap₂, codes}
 use Rattle.std.proofs.lemmas.Result.{IfOk-weaker}
 use Rattle.clap.specs.Words.{App, app_of, new_app, with_subcommand}
-use Rattle.cilvm.specs.CommandLine.{check_app, replay_app, run_app, with_required_subcommand}
+use Rattle.cilvm.specs.CommandLine.{check_app, replay_app, run_app, trace_app, with_required_subcommand}
 use Rattle.cilvm.proofs.commands.cilvm_command.Goals as goal
 
 abbrev one : App
@@ -13,6 +13,9 @@ two = with_subcommand one run_app.top
 abbrev three : App
 three = with_subcommand two replay_app.top
 
+abbrev four : App
+four = with_subcommand three trace_app.top
+
 pub returns : goal.returns
 returns c =
     let first : app_of c.in_ok-subcommand.field-0 ≡ one = c.in_ok-subcommand.ensures.shape c.in_ok-check.ensures.local
@@ -21,5 +24,7 @@ returns c =
     ∙ ap₂ with_subcommand first (ap (λ (a : App). a.top) c.in_ok-run.ensures.app) in
     let third : app_of c.in_ok-subcommand-3.field-0 ≡ three = c.in_ok-subcommand-3.ensures.shape c.in_ok-replay.ensures.local
     ∙ ap₂ with_subcommand second (ap (λ (a : App). a.top) c.in_ok-replay.ensures.app) in
-    IfOk-weaker c.subcommand-4.result _ _ (λ r added. added.shape c.in_ok-flip.ensures.local
-    ∙ ap₂ with_subcommand third (ap (λ (a : App). a.top) c.in_ok-flip.ensures.app)) c.subcommand-4.ensures
+    let fourth : app_of c.in_ok-subcommand-4.field-0 ≡ four = c.in_ok-subcommand-4.ensures.shape c.in_ok-trace.ensures.local
+    ∙ ap₂ with_subcommand third (ap (λ (a : App). a.top) c.in_ok-trace.ensures.app) in
+    IfOk-weaker c.subcommand-5.result _ _ (λ r added. added.shape c.in_ok-flip.ensures.local
+    ∙ ap₂ with_subcommand fourth (ap (λ (a : App). a.top) c.in_ok-flip.ensures.app)) c.subcommand-5.ensures

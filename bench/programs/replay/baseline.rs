@@ -1,0 +1,163 @@
+//! The replay of the program beside it on a plain machine in Rust, `plain_machine.rs`, under a `Mutex` of Rust's library: an event takes
+//! the lock, does the step, adds an entry to the history, which is kept as runs of equal entries, and gives the lock back. It prints
+//! the same lines. Counts of the workers' events are left out, since those of the proved machine stand in its proofs alone.
+
+// The replay doesn't use each instruction.
+#![allow(dead_code)]
+
+use std::sync::Mutex;
+use std::time::{Duration, Instant};
+
+include!("../../plain_machine.rs");
+
+const LIMITS: Limits = Limits {
+    words: 65_536,
+    budget: 1_000_000,
+    depth: 64,
+};
+
+const EVENTS: usize = 1_000_000;
+
+const RUNS: usize = 20;
+
+// ---- a machine under a lock
+
+#[derive(Clone, Copy, Debug, PartialEq, Eq)]
+struct Entry {
+    worker: u8,
+    event: Event,
+    report: Report,
+}
+
+/// An entry, so many times in a row.
+struct Run {
+    entry: Entry,
+    times: u64,
+}
+
+#[derive(Default)]
+struct History {
+    runs: Vec<Run>,
+}
+
+impl History {
+    fn add(&mut self, entry: Entry) {
+        match self.runs.last_mut() {
+            Some(run) if run.entry == entry => run.times += 1,
+            _ => self.runs.push(Run { entry, times: 1 }),
+        }
+    }
+}
+
+/// A worker's right to act.
+struct Ticket {
+    worker: u8,
+}
+
+struct World {
+    machine: Machine,
+    history: History,
+}
+
+impl World {
+    fn perform(&mut self, ticket: &mut Ticket, event: Event) -> Report {
+        let report = self.machine.step(event);
+        self.history.add(Entry {
+            worker: ticket.worker,
+            event,
+            report,
+        });
+        report
+    }
+}
+
+struct Shared {
+    world: Mutex<World>,
+}
+
+impl Shared {
+    /// A machine under a lock, and the ticket of its one worker.
+    fn new(machine: Machine) -> (Shared, Ticket) {
+        let history = History::default();
+        let world = Mutex::new(World { machine, history });
+        (Shared { world }, Ticket { worker: 0 })
+    }
+
+    /// Takes the lock, does an event for the ticket's worker, and gives the lock and the ticket back.
+    fn act(&self, mut ticket: Ticket, event: Event) -> (Report, Ticket) {
+        let mut world = self.world.lock().unwrap();
+        let report = world.perform(&mut ticket, event);
+        (report, ticket)
+    }
+
+    fn finish(self, _ticket: Ticket) -> World {
+        self.world.into_inner().unwrap()
+    }
+}
+
+/// Does the events in order, each under a lock of its own, and answers what is left.
+#[inline(never)]
+fn run_alone(machine: Machine, events: &[Event]) -> World {
+    let (shared, mut ticket) = Shared::new(machine);
+    for event in events {
+        let (_report, next) = shared.act(ticket, *event);
+        ticket = next;
+    }
+    shared.finish(ticket)
+}
+
+// ---- the replay
+
+#[rustfmt::skip]
+fn endless() -> Vec<Method> {
+    let main = vec![
+        LoadLocal(1), LoadLocal(0), Binary(BinaryOperation::Add), StoreLocal(1),
+        LoadLocal(0), LoadInt32(1), Binary(BinaryOperation::Add), StoreLocal(0),
+        Branch(0),
+    ];
+    methods(vec![ValueKind::Int32; 2], main, Vec::new())
+}
+
+/// Does the events on a new machine, and answers how long they took, and what is left.
+fn do_events(events: &[Event]) -> (Duration, World) {
+    let machine = Machine::new(endless(), LIMITS);
+    let start = Instant::now();
+    let world = run_alone(machine, events);
+    (start.elapsed(), world)
+}
+
+/// Makes a machine and the events, does these, and answers how long that took, and what is left.
+fn do_whole() -> (Duration, World) {
+    let start = Instant::now();
+    let machine = Machine::new(endless(), LIMITS);
+    let events = vec![Event::Step(0); EVENTS];
+    let world = run_alone(machine, &events);
+    (start.elapsed(), world)
+}
+
+/// The least time of some runs, and what the last one left.
+fn best_of(run: impl Fn() -> (Duration, World)) -> (Duration, World) {
+    let (mut best, mut left) = run();
+    for _ in 1..RUNS {
+        let (time, world) = run();
+        best = best.min(time);
+        left = world;
+    }
+    (best, left)
+}
+
+fn tell(name: &str, figure: f64, unit: &str, world: &World) {
+    let runs = world.history.runs.len();
+    let end = world.machine.end_name();
+    println!("{name}: {figure:.2} {unit} ({EVENTS} events, {runs} runs in the history, {end})");
+}
+
+fn main() {
+    let events = vec![Event::Step(0); EVENTS];
+    let (time, world) = best_of(|| do_events(&events));
+    let speed = EVENTS as f64 / 1e6 / time.as_secs_f64();
+    tell("events", speed, "million events a second", &world);
+    let (time, world) = best_of(do_whole);
+    let milliseconds = time.as_secs_f64() * 1000.0;
+    tell("whole replay", milliseconds, "milliseconds", &world);
+}

@@ -1,0 +1,23 @@
+-- What is answered of a source: that it is accepted, or why it is not.
+use Rattle.std.specs.Prelude.{ℕ, Bool, true, false, List}
+use Rattle.cil_model.specs.Sources.{HasTree, IsAnswer}
+use Rattle.cil_model.specs.Typings.{IsAccepted}
+use Rattle.cil_model.specs.declared.trees.Tree.{Tree}
+use Rattle.diagnostics.specs.declared.verdicts.Verdict.{Verdict}
+use Rattle.diagnostics.specs.declared.verdicts.Verdict.TheVariants.{Accepted, Unread, Illegal, Untyped}
+
+-- the bytes have a tree that is an accepted program
+abbrev pub IsAcceptedSource : List ℕ → Type 0
+IsAcceptedSource source = (tree : Tree) × IsAnswer source (HasTree tree) × IsAccepted tree
+
+-- whether it says that all is well
+abbrev pub is_acceptance : Verdict → Bool
+is_acceptance Accepted = true
+is_acceptance _ = false
+
+-- the first where it says that all is well, and else not
+abbrev pub Tells : Verdict → Type 0 → Type 0
+Tells Accepted P = P
+Tells (Unread error) P = P → ⊥
+Tells (Illegal rule culprit) P = P → ⊥
+Tells (Untyped method place reason explanation) P = P → ⊥

@@ -1,0 +1,110 @@
+//! Why a source is not accepted.
+
+ghost use Rattle.std.specs.Prelude.{◌≡◌, None, IfOk, IsSome, is_none};
+ghost use Rattle.diagnostics.specs.Verdicts.{IsAcceptedSource, is_acceptance};
+
+use crate::messages::Named;
+use crate::readings::explain_reading;
+use crate::rules::explain_rule;
+use crate::verdicts::{Verdict, verdict_of};
+use cil_model::memory::NoMemory;
+use cil_model::trees::Tree;
+use ilasm_reader::{ReadError, read};
+use metadata::{MetaError, Program, Rule, resolve};
+use std::alloc::Global;
+use typing_refusals::{Untyped, told_typing};
+
+/// The tree of a source that was read before; None where it has none.
+fn tree_of(alloc: Global, source: &[u8]) -> Result<Option<Tree>, NoMemory> {
+    match read(alloc, source) {
+        Ok(tree) => Ok(Some(tree)),
+        Err(ReadError::OutOfMemory) => Err(NoMemory),
+        Err(_) => Ok(None),
+    }
+}
+
+/// The program of a source that was resolved before; None where it has none.
+fn program_of(alloc: Global, source: &[u8]) -> Result<Option<Program>, NoMemory> {
+    let Some(tree) = tree_of(alloc, source)? else {
+        return Ok(None);
+    };
+    match resolve(alloc, tree) {
+        Ok(program) => Ok(Some(program)),
+        Err(MetaError::OutOfMemory) => Err(NoMemory),
+        Err(_) => Ok(None),
+    }
+}
+
+/// Why a tree is no legal program. The tree is read once more, since a refusal drops it.
+fn illegal(alloc: Global, named: Named, rule: Rule, culprit: &str) -> Result<String, NoMemory> {
+    match tree_of(alloc, named.text)? {
+        Some(tree) => explain_rule(alloc, named, &tree, rule, culprit),
+        None => named.message(alloc, culprit),
+    }
+}
+
+/// Why a method has no typing. The program is made once more, since a refusal drops it.
+fn untyped(alloc: Global, named: Named, untyped: Untyped) -> Result<String, NoMemory> {
+    let Some(program) = program_of(alloc, named.text)? else {
+        return named.message(alloc, untyped.explanation);
+    };
+    let Some(told) = told_typing(alloc, named.text, &program, untyped)? else {
+        return named.message(alloc, untyped.explanation);
+    };
+    let mut message = named.message_where(alloc, told.offset, told.sentence.as_str())?;
+    message.push_str(told.stacks.as_str())?;
+    message.push('\n')?;
+    Ok(message)
+}
+
+/// The text of a refusal.
+fn refusal_text(alloc: Global, named: Named, verdict: &Verdict) -> Result<String, NoMemory> {
+    match verdict {
+        Verdict::Accepted => named.message(alloc, "accepted"),
+        Verdict::Unread(error) => explain_reading(alloc, named, *error),
+        Verdict::Illegal { rule, culprit } => illegal(alloc, named, *rule, culprit.as_str()),
+        Verdict::Untyped {
+            method,
+            place,
+            reason,
+            explanation,
+        } => untyped(
+            alloc,
+            named,
+            Untyped {
+                method: *method,
+                place: *place,
+                reason: *reason,
+                explanation: explanation.as_str(),
+            },
+        ),
+    }
+}
+
+/// The text of a verdict; None where the source is accepted.
+fn text_of(alloc: Global, named: Named, verdict: &Verdict) -> Result<Option<String>, NoMemory>
+    ensures { IfOk result (λ text. is_none text ≡ is_acceptance verdict.now) }
+{
+    match verdict {
+        Verdict::Accepted => Ok(None),
+        Verdict::Unread(_) | Verdict::Illegal { .. } | Verdict::Untyped { .. } => {
+            let text = refusal_text(alloc, named, verdict)?;
+            Ok(Some(text))
+        }
+    }
+}
+
+/// Why a source is refused: by the reader, by a rule on names and limits, or by the verifier. None exactly where it is accepted.
+///
+/// The text has the file's name, the line and the column (both from 1, and a tab is one column), a sentence that says which clause is
+/// broken and by what, and the line with carets below the token at fault. Where that does not agree with something else, as with the
+/// first of two names, a second such part shows it. Of a method without a typing, its name, the instruction's number from 0 and the stacks
+/// there follow, the deepest value first. Each line ends with a line feed. Fails for want of memory alone.
+pub fn explain(alloc: Global, file: &str, source: &[u8]) -> Result<Option<String>, NoMemory>
+    ensures accepted { IfOk result (λ text. text ≡ None → IsAcceptedSource source.now) }
+    ensures refused { IfOk result (λ text. IsSome text → IsAcceptedSource source.now → ⊥) }
+{
+    let verdict = verdict_of(alloc, source)?;
+    let named = Named { file, text: source };
+    text_of(alloc, named, &verdict)
+}

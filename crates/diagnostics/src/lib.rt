@@ -1,0 +1,18 @@
+//! What a person needs where a source, a schedule or limits are refused: the clause that is broken, in words, and where.
+#![tactic(auto)]
+
+mod explanations;
+mod hints;
+mod limits;
+mod messages;
+mod readings;
+mod rules;
+mod schedules;
+mod verdicts;
+
+pub use explanations::explain;
+pub use limits::explain_limits;
+pub use schedules::explain_schedule;
+
+#[cfg(test)]
+mod tests;

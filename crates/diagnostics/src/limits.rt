@@ -1,0 +1,58 @@
+//! Why limits are refused (number 401).
+
+ghost use Rattle.std.specs.Prelude.{◌≡◌, IfOk, is_none};
+ghost use Rattle.cil_model.specs.Ranges.{are_in_range};
+
+use cil_model::limits::{LEAST_WORDS, Limits, MOST_BUDGET, MOST_DEPTH, MOST_WORDS};
+use cil_model::memory::NoMemory;
+use std::alloc::Global;
+
+/// Whether all limits are in their ranges.
+fn are_in_range(limits: Limits) -> bool
+    ensures { result ≡ are_in_range limits }
+{
+    (LEAST_WORDS..=MOST_WORDS).contains(&limits.words)
+        && (1..=MOST_BUDGET).contains(&limits.budget)
+        && (1..=MOST_DEPTH).contains(&limits.depth)
+}
+
+/// Adds a line for a limit that is out of its range.
+fn add_limit(
+    text: &mut String,
+    name: &str,
+    value: u32,
+    least: u32,
+    most: u32,
+) -> Result<(), NoMemory> {
+    if (least..=most).contains(&value) {
+        return Ok(());
+    }
+    writeln!(text, "{name} are {value}, and not from {least} to {most}")?;
+    Ok(())
+}
+
+/// One line for each limit that is out of its range (number 401, this profile); None exactly where all are in range. Each line ends with
+/// a line feed. Fails for want of memory alone.
+pub fn explain_limits(alloc: Global, limits: Limits) -> Result<Option<String>, NoMemory>
+    ensures { IfOk result (λ text. is_none text ≡ are_in_range limits) }
+{
+    if are_in_range(limits) {
+        return Ok(None);
+    }
+    let Limits {
+        words,
+        budget,
+        depth,
+    } = limits;
+    let mut text = String::new(alloc);
+    add_limit(
+        &mut text,
+        "the words of a space",
+        words,
+        LEAST_WORDS,
+        MOST_WORDS,
+    )?;
+    add_limit(&mut text, "the steps of a thread", budget, 1, MOST_BUDGET)?;
+    add_limit(&mut text, "the frames of a thread", depth, 1, MOST_DEPTH)?;
+    Ok(Some(text))
+}

@@ -1,0 +1,24 @@
+-- The lines of threads, one after another.
+use Rattle.std.proofs.Common.{◌≡◌, ◌+◌, ◌<◌, ℕ, List, ◌∷◌, [], ◌++◌, length, take, get_or, Option, None, Some, arith, sym, ◌∙◌, ap, zero, suc, append_assoc}
+use Rattle.std.proofs.lemmas.List.{append-nil}
+use Rattle.std.specs.Io.KnownBytes.{Appends}
+use Rattle.cil_model.specs.declared.reports.End.{End}
+use Rattle.driver.specs.Threads.{line_of, lines_from}
+
+-- a line more
+pub lines_more : (thread k n : ℕ) (ends : List (Option End)) (d : Option End) → thread + k ≡ n → k < length ends
+    → lines_from thread (take (suc k) ends) ≡ lines_from thread (take k ends) ++ line_of n (get_or ends k d)
+lines_more thread k n [] d is below = absurd (omega arith)
+lines_more thread zero n (end ∷ ends) d is below =
+    let same : thread ≡ n = omega (arith, is) in
+    append-nil (line_of thread end) ∙ ap (λ m. line_of m end) same
+lines_more thread (suc k) n (end ∷ ends) d is below =
+    ap (λ lines. line_of thread end ++ lines) (lines_more (thread + 1) k n ends d (omega (arith, is)) (omega (arith, below)))
+    ∙ sym (append_assoc (line_of thread end) (lines_from (thread + 1) (take k ends)) (line_of n (get_or ends k d)))
+
+-- bytes behind bytes
+pub appends_more : (a b c : Option (List ℕ)) (bs cs : List ℕ) → Appends a b bs → Appends b c cs → Appends a c (bs ++ cs)
+appends_more None b c bs cs p q = tt
+appends_more (Some x) None c bs cs p q = absurd p
+appends_more (Some x) (Some y) None bs cs p q = absurd q
+appends_more (Some x) (Some y) (Some z) bs cs p q = q ∙ ap (λ l. l ++ cs) p ∙ append_assoc x bs cs

@@ -1,0 +1,4 @@
+pub mod Failures
+pub mod Orders
+pub mod Outcomes
+pub mod Threads

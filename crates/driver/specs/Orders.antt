@@ -1,0 +1,31 @@
+-- What an order names (this profile).
+use Rattle.std.specs.Prelude.{◌≡◌, ◌⊎◌, ℕ, Bool, true, false, List, Option, Some, None}
+use Rattle.cil_model.specs.Sources.{is_too_long}
+use Rattle.driver.specs.declared.orders.Order.{Order}
+use Rattle.driver.specs.declared.orders.Order.TheVariants.{Check, Run, Replay, Trace, Flip}
+
+-- the name of the file that holds the source, where one does
+abbrev pub file_of : Order → Option (List ℕ)
+file_of (Check file explain) = Some file.now
+file_of (Run file schedule limits explain) = Some file.now
+file_of (Replay file schedule limits explain) = Some file.now
+file_of (Trace file schedule limits) = Some file.now
+file_of (Flip sizes) = None
+
+-- the name of the file that holds the schedule's text, where one does
+abbrev pub schedule_file_of : Order → Option (List ℕ)
+schedule_file_of (Replay file schedule limits explain) = Some schedule.now
+schedule_file_of (Trace file schedule limits) = Some schedule.now
+schedule_file_of _ = None
+
+-- a refusal is to be explained
+abbrev pub is_explained : Order → Bool
+is_explained (Check file explain) = explain
+is_explained (Run file schedule limits explain) = explain
+is_explained (Replay file schedule limits explain) = explain
+is_explained _ = false
+
+-- these bytes are the source that a file holds, or too long as that is too
+abbrev pub StandsFor : List ℕ → List ℕ → Type 0
+StandsFor bytes source =
+    (bytes ≡ source) ⊎ ((is_too_long bytes ≡ true) × (is_too_long source ≡ true))

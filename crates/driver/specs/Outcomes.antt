@@ -1,0 +1,221 @@
+-- What comes of an order: what is printed, and the status that the program ends with (this profile).
+use Rattle.std.specs.Io.KnownBytes.{Appends}
+use Rattle.std.specs.Fmt.{decimal}
+use Rattle.std.specs.Prelude.{◌≡◌, ◌≢◌, ◌⊎◌, ◌*◌, ◌++◌, ◌∷◌, [], ℕ, Bool, true, false, List, Option, Some, None, Err, codes}
+use Rattle.std.specs.List.{zip}
+use Rattle.machine_states.specs.Budgets.{AreWithinBudget}
+use Rattle.cil_model.specs.Ranges.{are_in_range}
+use Rattle.flip_trial.specs.Trial.{place_count}
+use Rattle.flip_trial.specs.declared.sizes.Sizes.{Sizes}
+use Rattle.cil_model.specs.Sources.{HasTree, IsAnswer}
+use Rattle.event_trace.specs.Traces.{IsTraced}
+use Rattle.machine_states.specs.StandsFor.{Represents}
+use Rattle.reference_machine.specs.Runs.{opening}
+use Rattle.cil_model.specs.declared.events.Event.{Event}
+use Rattle.cil_model.specs.declared.limits.Limits.{Limits}
+use Rattle.cil_model.specs.declared.trees.Tree.{Tree}
+use Rattle.ilasm_reader.specs.Answers.{IsReadAnswer}
+use Rattle.ilasm_reader.specs.declared.reading.ReadError.{ReadError}
+use Rattle.cil_model.specs.Legality.{IsLegal, least_broken}
+use Rattle.machine_states.specs.Runs.{IsRunOf, StandsAfter}
+use Rattle.reference_machine.specs.States.{State}
+use Rattle.cil_model.specs.Typings.{IsAccepted}
+use Rattle.cil_model.specs.declared.reports.End.{End}
+use Rattle.cil_model.specs.declared.reports.Report.{Report}
+use Rattle.metadata.specs.RuleNumbers.{number_of as legality_number_of}
+use Rattle.metadata.specs.declared.program.MetaError.{MetaError}
+use Rattle.metadata.specs.declared.program.MetaError.TheVariants.{OutOfMemory as NoMemoryForNames}
+use Rattle.verifier.specs.Verdicts.{IsVerdict}
+use Rattle.verifier.specs.declared.refusals.VerifyError.{VerifyError}
+use Rattle.machine_states.specs.MachineContents.{Content}
+use Rattle.interleaving_core.specs.declared.machine.Refused.TheVariants.{Limits as BadLimits}
+use Rattle.schedule_text.specs.Items.{words}
+use Rattle.schedule_text.specs.Readings.{AreRead, IsFirstFault}
+use Rattle.schedule_text.specs.declared.errors.ScheduleError.{ScheduleError}
+use Rattle.driver.specs.Failures.{failure_of_making, failure_of_reading, failure_of_resolving}
+use Rattle.driver.specs.Failures.{failure_of_schedule, failure_of_verifying, is_refusal, message_of}
+use Rattle.driver.specs.Failures.{IsStatusOf, status_of_failure}
+use Rattle.driver.specs.Orders.{is_explained}
+use Rattle.driver.specs.Threads.{ends_of, lines_from, status_of}
+use Rattle.driver.specs.declared.failure.Failure.{Failure}
+use Rattle.driver.specs.declared.failure.Failure.TheVariants.{Memory, Device}
+use Rattle.driver.specs.declared.orders.Order.{Order}
+use Rattle.driver.specs.declared.orders.Order.TheVariants.{Check, Run, Replay, Trace, Flip}
+
+-- ---- the source
+
+-- the bytes have this tree, and it is an accepted program
+pub record IsAcceptedSource (source : List ℕ) (tree : Tree) : Type 0 where
+  pub read : IsAnswer source (HasTree tree)
+  pub accepted : IsAccepted tree
+
+-- the bytes have a tree that is an accepted program
+abbrev pub IsLetIn : List ℕ → Type 0
+IsLetIn source = (tree : Tree) × IsAcceptedSource source tree
+
+-- a tree is no legal program: the least rule that it breaks has the number that is told, but for want of memory
+abbrev pub IsIllegal : Tree → Failure → Type 0
+IsIllegal tree failure = (error : MetaError) × (error ≢ NoMemoryForNames → least_broken tree ≡ Some (legality_number_of error)) × (failure ≡ failure_of_resolving error)
+
+-- a legal program is not accepted: this is the first method without a typing, but for want of memory
+abbrev pub IsUntyped : Tree → Failure → Type 0
+IsUntyped tree failure = IsLegal tree × ((error : VerifyError) × IsVerdict tree (Err error) × (failure ≡ failure_of_verifying error))
+
+-- why a source is not accepted: its bytes have no tree, or the tree is no legal program, or a method of it has no typing; or memory is wanted
+abbrev pub IsNotAccepted : List ℕ → Failure → Type 0
+IsNotAccepted source failure =
+    ((error : ReadError) × IsReadAnswer source (Err error) × (failure ≡ failure_of_reading error))
+    ⊎ ((tree : Tree) × IsAnswer source (HasTree tree) × (IsIllegal tree failure ⊎ (IsUntyped tree failure ⊎ (failure ≡ Memory))))
+
+-- ---- the run
+
+-- a machine has its limits in range, and stands after these events, of which it gave these reports
+abbrev pub IsRun : Tree → Limits → List Event → List Report → Content → Type 0
+IsRun tree limits events reports content = (are_in_range limits ≡ true) × StandsAfter tree limits events reports content
+
+-- a machine has run a list of events: the bytes have a tree that is an accepted program, and it stands after the events
+abbrev pub HasRunTo : List ℕ → Limits → List Event → List Report → Content → Type 0
+HasRunTo source limits events reports content = (tree : Tree) × IsAcceptedSource source tree × IsRun tree limits events reports content
+
+-- why an accepted program was not run: its limits come first, then memory
+abbrev pub IsNotRunWithin : Limits → Failure → Type 0
+IsNotRunWithin limits failure =
+    ((are_in_range limits ≡ false) × (failure ≡ failure_of_making BadLimits))
+    ⊎ ((are_in_range limits ≡ true) × (failure ≡ Memory))
+
+-- why no machine has run a list of events, whichever it is: the source, then the limits and memory
+abbrev pub IsNotRun : List ℕ → Limits → Failure → Type 0
+IsNotRun source limits failure = IsNotAccepted source failure ⊎ (IsLetIn source × IsNotRunWithin limits failure)
+
+-- a machine has run by a text: the text writes the events that it has run
+abbrev pub IsRunBy : List ℕ → Limits → List ℕ → List Report → Content → Type 0
+IsRunBy source limits text reports content = (events : List Event) × AreRead (words text) events × HasRunTo source limits events reports content
+
+-- the text of a schedule writes no events: this is its first fault
+abbrev pub IsBadSchedule : List ℕ → Failure → Type 0
+IsBadSchedule text failure = (error : ScheduleError) × IsFirstFault (words text) error × (failure ≡ failure_of_schedule error)
+
+-- why no machine has run by a text: what lets no list of events run, then the text
+abbrev pub IsNotRunBy : List ℕ → Limits → List ℕ → Failure → Type 0
+IsNotRunBy source limits text failure = IsNotRun source limits failure
+    ⊎ (IsLetIn source × (are_in_range limits ≡ true) × IsBadSchedule text failure)
+
+-- what is shown on the two outputs of bytes that were printed and of how the threads stand, and the status
+pub record IsShown (printed : List ℕ) (ends : List (Option End)) (out out' err err' : Option (List ℕ)) (status : ℕ) : Type 0 where
+  pub output : Appends out out' printed
+  pub errors : Appends err err' (lines_from 0 ends)
+  pub status_is : status ≡ status_of ends
+
+-- ---- a trial of the flip
+
+-- the two lines of a trial
+abbrev pub trial_text : ℕ → ℕ → List ℕ
+trial_text kept retired = codes "kept " ++ decimal kept ++ 10 ∷ codes "retired " ++ decimal retired ++ 10 ∷ []
+
+-- a trial is done: every load gave what was stored, and with the status 0 each first copy is retired
+abbrev pub IsTried : Sizes → Option (List ℕ) → Option (List ℕ) → ℕ → Type 0
+IsTried sizes out out' status = (retired : ℕ) × Appends out out' (trial_text (sizes.rounds * place_count sizes) retired)
+    × ((status ≡ 3) ⊎ ((status ≡ 0) × (retired ≡ place_count sizes)))
+
+-- ---- an order
+
+-- an output fails, or memory for it
+abbrev pub IsOfWriting : Failure → Type 0
+IsOfWriting failure = (failure ≡ Memory) ⊎ (failure ≡ Device)
+
+-- a check is done: the one line that it prints
+abbrev pub IsChecked : List ℕ → Option (List ℕ) → Option (List ℕ) → ℕ → Type 0
+IsChecked source out out' status =
+    IsLetIn source × Appends out out' (codes "accepted" ++ 10 ∷ []) × (status ≡ 0)
+
+-- why a check is not done
+abbrev pub IsNotChecked : List ℕ → Failure → Type 0
+IsNotChecked source failure =
+    IsNotAccepted source failure ⊎ (IsLetIn source × IsOfWriting failure)
+
+-- A run is done. The bytes have a tree that is an accepted program, the text writes events, and the reference machine's run
+-- over their steps is never stuck: what it printed, and how its threads stand, is shown. No thread made more steps than its
+-- budget has, and one that made as many has ended.
+pub record HasRun (source : List ℕ) (limits : Limits) (text : List ℕ) (out out' err err' : Option (List ℕ)) (status : ℕ) : Type 0 where
+  pub tree : Tree
+  pub is_accepted : IsAcceptedSource source tree
+  pub in_range : are_in_range limits ≡ true
+  pub events : List Event
+  pub are_read : AreRead (words text) events
+  pub reports : List Report
+  pub state : State
+  pub is_run : IsRunOf tree limits events reports state
+  pub budgets : AreWithinBudget limits (zip events reports) state
+  pub shown : IsShown state.printed (ends_of state) out out' err err' status
+
+-- why a run is not done
+abbrev pub HasNotRun : List ℕ → Limits → List ℕ → Failure → Type 0
+HasNotRun source limits text failure = IsNotRunBy source limits text failure ⊎ (IsLetIn source × IsOfWriting failure)
+
+-- a machine holds what a program begins with
+pub record IsOpened (tree : Tree) (limits : Limits) (machine : Content) : Type 0 where
+  pub same_program : machine.tree ≡ tree
+  pub same_limits : machine.limits ≡ limits
+  pub represents : (state : State) × (opening tree limits ≡ Some state) × Represents machine state
+
+-- the bytes have a tree that is an accepted program, whose machine has its limits in range and has run nothing, and the text writes events
+pub record IsReady (source : List ℕ) (limits : Limits) (text : List ℕ) (events : List Event) (machine : Content) : Type 0 where
+  pub tree : Tree
+  pub is_accepted : IsAcceptedSource source tree
+  pub in_range : are_in_range limits ≡ true
+  pub opened : IsOpened tree limits machine
+  pub are_read : AreRead (words text) events
+
+-- A run is traced: the text writes events, a line of each is shown of the turns that a machine makes which holds what the program begins
+-- with, and then what the run leaves, as if it were not traced.
+pub record HasTraced (source : List ℕ) (limits : Limits) (text : List ℕ) (out out' err err' : Option (List ℕ)) (status : ℕ) : Type 0 where
+  pub events : List Event
+  pub begins : Content
+  pub ready : IsReady source limits text events begins
+  pub after : Content
+  pub reports : List Report
+  pub between : Option (List ℕ)
+  pub traced : IsTraced begins events after reports out between
+  pub run : HasRun source limits text between out' err err' status
+
+-- an order is carried out: a run takes its schedule from the command line, a replay from the file
+abbrev pub IsDone : Order → List ℕ → List ℕ → Option (List ℕ) → Option (List ℕ) → Option (List ℕ) → Option (List ℕ) → ℕ → Type 0
+IsDone (Check file explain) source schedule out out' err err' status =
+    IsChecked source out out' status × (err' ≡ err)
+IsDone (Run file text limits explain) source schedule out out' err err' status =
+    HasRun source limits text.now out out' err err' status
+IsDone (Replay file name limits explain) source schedule out out' err err' status =
+    HasRun source limits schedule out out' err err' status
+IsDone (Trace file name limits) source schedule out out' err err' status =
+    HasTraced source limits schedule out out' err err' status
+IsDone (Flip sizes) source schedule out out' err err' status =
+    IsTried sizes out out' status × (err' ≡ err)
+
+-- why an order is not carried out
+abbrev pub IsNotDone : Order → List ℕ → List ℕ → Failure → Type 0
+IsNotDone (Check file explain) source schedule failure = IsNotChecked source failure
+IsNotDone (Run file text limits explain) source schedule failure =
+    HasNotRun source limits text.now failure
+IsNotDone (Replay file name limits explain) source schedule failure =
+    HasNotRun source limits schedule failure
+IsNotDone (Trace file name limits) source schedule failure =
+    HasNotRun source limits schedule failure
+IsNotDone (Flip sizes) source schedule failure = IsOfWriting failure
+
+-- what is told of a failure on the standard error: its line alone, or its line and a text that explains it
+abbrev pub IsTelling : Bool → Failure → Option (List ℕ) → Option (List ℕ) → Type 0
+IsTelling false failure err err' = Appends err err' (message_of failure)
+IsTelling true failure err err' = (text : List ℕ) × Appends err err' (message_of failure ++ text)
+
+-- what is told of a failure of an order: nothing is printed of a refusal but its telling
+abbrev pub IsTold : Order → Failure → Option (List ℕ) → Option (List ℕ) → Option (List ℕ) → Option (List ℕ) → ℕ → Type 0
+IsTold order failure out out' err err' status = IsStatusOf failure status
+    × (is_refusal failure ≡ true → (out' ≡ out)
+    × (status ≡ status_of_failure failure → IsTelling (is_explained order) failure err err'))
+
+-- the order is carried out, or it is told why it is not
+abbrev pub IsOutcome : Order → List ℕ → List ℕ → Option (List ℕ) → Option (List ℕ) → Option (List ℕ) → Option (List ℕ) → ℕ → Type 0
+IsOutcome order source schedule out out' err err' status =
+    IsDone order source schedule out out' err err' status
+    ⊎ ((failure : Failure) × IsNotDone order source schedule failure
+    × IsTold order failure out out' err err' status)

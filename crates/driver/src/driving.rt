@@ -1,0 +1,142 @@
+//! Does what an order asks for.
+
+ghost use Rattle.std.specs.Prelude.{◌≡◌, IfErr, IfOk, true};
+ghost use Rattle.driver.specs.Failures.{is_refusal};
+ghost use Rattle.driver.specs.Outcomes.{HasNotRun, HasRun, HasTraced, IsChecked, IsDone, IsNotChecked};
+ghost use Rattle.driver.specs.Outcomes.{IsNotDone, IsOfWriting, IsOutcome, IsTried};
+
+use crate::explaining::tell_failure;
+use crate::failure::Failure;
+use crate::orders::Order;
+use crate::running::{accept, open, run_source};
+use crate::showing::{say_accepted, show, show_trial};
+use cil_model::limits::Limits;
+use event_trace::trace;
+use flip_trial::Sizes;
+use std::alloc::Global;
+use std::io::Write;
+use std::sync::Wait;
+use std::thread::Threads;
+
+/// Does a command on the bytes of its files, and answers the status: a replay and a trace take their schedule
+/// from `schedule`, which the others pass over. Faults are looked for in this order: the source, the limits,
+/// the schedule, the run.
+///
+/// What a run prints goes to `out` and how its threads stand to `err`, once the run has ended; a trace has
+/// printed a line of each event to `out` before. A refusal prints `error` and its number to `err`, and what
+/// explains it where the order asks for that; want of memory prints `memory`, a failed write `device`. No
+/// command has a record yet, so `record` stays as it was.
+pub fn drive<W: Write, E: Write>(
+    rt: &(impl Threads + Wait),
+    alloc: Global,
+    order: &Order<'_>,
+    source: &[u8],
+    schedule: &[u8],
+    out: &mut W,
+    err: &mut E,
+    record: &mut Vec<u8>,
+) -> u8
+    ensures outcome { IsOutcome order.now source.now schedule.now (W.contents out.old) (W.contents out.new)
+        (E.contents err.old) (E.contents err.new) result }
+    ensures kept { «record».new ≡ «record».old }
+{
+    match perform(rt, alloc, order, source, schedule, out, err) {
+        Ok(status) => status,
+        Err(failure) => tell_failure(alloc, order, failure, source, schedule, err),
+    }
+}
+
+fn perform<W: Write, E: Write>(
+    rt: &(impl Threads + Wait),
+    alloc: Global,
+    order: &Order<'_>,
+    source: &[u8],
+    schedule: &[u8],
+    out: &mut W,
+    err: &mut E,
+) -> Result<u8, Failure>
+    ensures done { IfOk result (IsDone order.now source.now schedule.now (W.contents out.old)
+        (W.contents out.new) (E.contents err.old) (E.contents err.new)) }
+    ensures failed { IfErr result (IsNotDone order.now source.now schedule.now) }
+    ensures untouched { IfErr result (λ failure. is_refusal failure ≡ true
+        → (W.contents out.new ≡ W.contents out.old) × (E.contents err.new ≡ E.contents err.old)) }
+{
+    match *order {
+        Order::Check { .. } => check(alloc, source, out),
+        Order::Run {
+            schedule: text,
+            limits,
+            ..
+        } => show_run(rt, alloc, source, limits, text.as_bytes(), out, err),
+        Order::Replay { limits, .. } => show_run(rt, alloc, source, limits, schedule, out, err),
+        Order::Trace { limits, .. } => show_trace(alloc, source, limits, schedule, out, err),
+        Order::Flip(sizes) => try_flip(rt, alloc, sizes, out),
+    }
+}
+
+/// Tries the flip by threads, prints what came of it, and answers the status.
+fn try_flip<W: Write>(
+    rt: &impl Threads,
+    alloc: Global,
+    sizes: Sizes,
+    out: &mut W,
+) -> Result<u8, Failure>
+    ensures done { IfOk result (IsTried sizes (W.contents out.old) (W.contents out.new)) }
+    ensures failed { IfErr result IsOfWriting }
+{
+    let outcome = flip_trial::run(rt, alloc, sizes)?;
+    show_trial(outcome, out)?;
+    Ok(if outcome.finished { 0 } else { 3 })
+}
+
+/// Says that a source is accepted, and answers the status.
+fn check<W: Write>(alloc: Global, source: &[u8], out: &mut W) -> Result<u8, Failure>
+    ensures done { IfOk result (IsChecked source.now (W.contents out.old) (W.contents out.new)) }
+    ensures failed { IfErr result (IsNotChecked source.now) }
+    ensures untouched { IfErr result (λ failure. is_refusal failure ≡ true
+        → W.contents out.new ≡ W.contents out.old) }
+{
+    accept(alloc, source)?;
+    say_accepted(out)?;
+    Ok(0)
+}
+
+/// Runs a source by the events of a text, prints what the run leaves, and answers its status.
+fn show_run<W: Write, E: Write>(
+    rt: &impl Wait,
+    alloc: Global,
+    source: &[u8],
+    limits: Limits,
+    text: &[u8],
+    out: &mut W,
+    err: &mut E,
+) -> Result<u8, Failure>
+    ensures done { IfOk result (HasRun source.now limits text.now (W.contents out.old)
+        (W.contents out.new) (E.contents err.old) (E.contents err.new)) }
+    ensures failed { IfErr result (HasNotRun source.now limits text.now) }
+    ensures untouched { IfErr result (λ failure. is_refusal failure ≡ true
+        → (W.contents out.new ≡ W.contents out.old) × (E.contents err.new ≡ E.contents err.old)) }
+{
+    let outcome = run_source(rt, alloc, source, limits, text)?;
+    show(alloc, &outcome.machine, out, err)
+}
+
+/// Runs a source by the events of a text, prints a line of each, then what the run leaves, and answers its status.
+fn show_trace<W: Write, E: Write>(
+    alloc: Global,
+    source: &[u8],
+    limits: Limits,
+    text: &[u8],
+    out: &mut W,
+    err: &mut E,
+) -> Result<u8, Failure>
+    ensures done { IfOk result (HasTraced source.now limits text.now (W.contents out.old)
+        (W.contents out.new) (E.contents err.old) (E.contents err.new)) }
+    ensures failed { IfErr result (HasNotRun source.now limits text.now) }
+    ensures untouched { IfErr result (λ failure. is_refusal failure ≡ true
+        → (W.contents out.new ≡ W.contents out.old) × (E.contents err.new ≡ E.contents err.old)) }
+{
+    let (mut machine, events) = open(alloc, source, limits, text)?;
+    trace(alloc, &mut machine, events.as_slice(), out)?;
+    show(alloc, &machine, out, err)
+}

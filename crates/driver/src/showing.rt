@@ -1,0 +1,96 @@
+//! What is printed of an order that is carried out.
+
+ghost use Rattle.std.specs.Prelude.{◌≡◌, ◌++◌, ◌∷◌, [], codes, map, IfErr, IfOk, OnOk};
+ghost use Rattle.std.specs.List.{list_all, list_any};
+ghost use Rattle.std.specs.Io.KnownBytes.{Appends};
+ghost use Rattle.threads_monitors.specs.Threads.{end_of};
+ghost use Rattle.driver.specs.Outcomes.{IsOfWriting, IsShown, trial_text};
+ghost use Rattle.driver.specs.Threads.{is_done, is_live, line_of, lines_from, status_of};
+
+use crate::failure::Failure;
+use cil_model::reports::End;
+use flip_trial::Outcome;
+use interleaving_core::Machine;
+use std::alloc::Global;
+use std::io;
+use std::io::Write;
+
+/// Writes the one line of a check.
+pub(crate) fn say_accepted<W: Write>(out: &mut W) -> Result<(), Failure>
+    ensures said { OnOk result (Appends (W.contents out.old) (W.contents out.new) (codes "accepted" ++ 10 ∷ [])) }
+    ensures failed { IfErr result IsOfWriting }
+{
+    writeln!(out, "accepted")?;
+    Ok(())
+}
+
+/// Prints what came of a trial.
+pub(crate) fn show_trial<W: Write>(outcome: Outcome, out: &mut W) -> io::Result<()>
+    ensures { OnOk result (Appends (W.contents out.old) (W.contents out.new) (trial_text outcome.kept outcome.retired)) }
+{
+    writeln!(out, "kept {}\nretired {}", outcome.kept, outcome.retired)
+}
+
+/// Prints what a run leaves, and answers its status.
+pub(crate) fn show<W: Write, E: Write>(
+    alloc: Global,
+    machine: &Machine,
+    out: &mut W,
+    err: &mut E,
+) -> Result<u8, Failure>
+    ensures shown { IfOk result (IsShown machine.now.printed (map end_of machine.now.threads) (W.contents out.old) (W.contents out.new)
+        (E.contents err.old) (E.contents err.new)) }
+    ensures failed { IfErr result IsOfWriting }
+{
+    let ends = machine.ends(alloc)?;
+    out.write_all(machine.console())?;
+    show_ends(ends.as_slice(), err)?;
+    Ok(status_of(ends.as_slice()))
+}
+
+/// Writes a line for each thread, in the order of their numbers.
+fn show_ends<E: Write>(ends: &[Option<End>], err: &mut E) -> io::Result<()>
+    ensures { OnOk result (Appends (E.contents err.old) (E.contents err.new) (lines_from 0 ends.now)) }
+{
+    for (thread, end) in ends.iter().enumerate() {
+        show_end(thread, *end, err)?;
+    }
+    Ok(())
+}
+
+/// Writes how one thread stands.
+fn show_end<E: Write>(thread: usize, end: Option<End>, err: &mut E) -> io::Result<()>
+    ensures { OnOk result (Appends (E.contents err.old) (E.contents err.new) (line_of thread end)) }
+{
+    match end {
+        None => writeln!(err, "thread {thread}: live"),
+        Some(End::Done) => writeln!(err, "thread {thread}: done"),
+        Some(End::Budget) => writeln!(err, "thread {thread}: budget"),
+        Some(End::Fault(fault)) => writeln!(err, "thread {thread}: {fault}"),
+    }
+}
+
+/// The status of a run whose threads stand so.
+fn status_of(ends: &[Option<End>]) -> u8
+    ensures { result ≡ status_of ends.now }
+{
+    if is_some_live(ends) {
+        4
+    } else if are_all_done(ends) {
+        0
+    } else {
+        3
+    }
+}
+
+fn is_some_live(ends: &[Option<End>]) -> bool
+    ensures { result ≡ list_any is_live ends.now }
+{
+    ends.iter().any(|end| end.is_none())
+}
+
+fn are_all_done(ends: &[Option<End>]) -> bool
+    ensures { result ≡ list_all is_done ends.now }
+{
+    ends.iter().all(|end| *end == Some(End::Done))
+}

@@ -1,0 +1,113 @@
+-- Columns are printable.
+use Rattle.std.proofs.Common.{◌≡◌, ◌++◌, ℕ, List, [], ◌∷◌, Option, Some, None, codes, refl, ap, ◌∙◌, append_assoc}
+use Rattle.std.proofs.lemmas.List.Elements.{All-cons, All-nil}
+use Rattle.std.specs.Prelude.{All, decimal, option_and_then}
+use Rattle.cil_model.specs.declared.types.ClassName.{ClassName}
+use Rattle.cil_model.specs.declared.trees.Line.{Line}
+use Rattle.cil_model.specs.declared.trees.Method.{Method}
+use Rattle.cil_model.specs.declared.events.Event.{Event}
+use Rattle.cil_model.specs.declared.events.Event.TheVariants.{Step, Ack, Gc}
+use Rattle.cil_model.specs.declared.reports.End.TheVariants.{Done, Budget, Fault as ByFault}
+use Rattle.cil_model.specs.declared.reports.Fault.{Fault}
+use Rattle.cil_model.specs.declared.reports.Fault.TheVariants as fault
+use Rattle.cil_model.specs.declared.reports.Report.{Report}
+use Rattle.cil_model.specs.declared.reports.Report.TheVariants.{Ran, Blocked, Ended, Absent, Acked, NothingPosted, Worked, Waiting, CycleDone}
+use Rattle.cil_model.specs.ExceptionNames.{name_of as fault_text}
+use Rattle.object_memory.specs.Cells.{used_words}
+use Rattle.interleaving_core.specs.declared.positions.Position.{Position}
+use Rattle.schedule_text.specs.Items.{name_of as event_text}
+use Rattle.instruction_text.specs.Characters.{IsPrintable}
+use Rattle.instruction_text.proofs.Printable.{Printable, both, printable_class, printable_decimal, printable_instruction, printable_method_name, word}
+use Rattle.event_trace.specs.Columns.{found_at, instruction_column, line_text, position_for, report_text, size_columns}
+use Rattle.event_trace.specs.Laws.{LinesHaveColumns}
+
+printable_event : (e : Event) → Printable (event_text e)
+printable_event (Step t) = both (word (codes "s") refl) (printable_decimal t)
+printable_event (Ack t) = both (word (codes "a") refl) (printable_decimal t)
+printable_event Gc = word (codes "g") refl
+
+printable_fault : (f : Fault) → Printable (fault_text f)
+printable_fault fault.NullReference = word (fault_text fault.NullReference) refl
+printable_fault fault.IndexOutOfRange = word (fault_text fault.IndexOutOfRange) refl
+printable_fault fault.ArrayTypeMismatch = word (fault_text fault.ArrayTypeMismatch) refl
+printable_fault fault.InvalidCast = word (fault_text fault.InvalidCast) refl
+printable_fault fault.DivideByZero = word (fault_text fault.DivideByZero) refl
+printable_fault fault.Arithmetic = word (fault_text fault.Arithmetic) refl
+printable_fault fault.Overflow = word (fault_text fault.Overflow) refl
+printable_fault fault.OutOfMemory = word (fault_text fault.OutOfMemory) refl
+printable_fault fault.TooManyThreads = word (fault_text fault.TooManyThreads) refl
+printable_fault fault.StackOverflow = word (fault_text fault.StackOverflow) refl
+printable_fault fault.ArgumentNull = word (fault_text fault.ArgumentNull) refl
+printable_fault fault.SynchronizationLock = word (fault_text fault.SynchronizationLock) refl
+printable_fault fault.ThreadState = word (fault_text fault.ThreadState) refl
+
+printable_report : (r : Report) → Printable (report_text r)
+printable_report (Ended (ByFault f)) = printable_fault f
+printable_report Ran = word (report_text Ran) refl
+printable_report Blocked = word (report_text Blocked) refl
+printable_report (Ended Done) = word (report_text (Ended Done)) refl
+printable_report (Ended Budget) = word (report_text (Ended Budget)) refl
+printable_report Absent = word (report_text Absent) refl
+printable_report Acked = word (report_text Acked) refl
+printable_report NothingPosted = word (report_text NothingPosted) refl
+printable_report Worked = word (report_text Worked) refl
+printable_report Waiting = word (report_text Waiting) refl
+printable_report CycleDone = word (report_text CycleDone) refl
+
+printable_line : (o : Option Line) → Printable (line_text o)
+printable_line None = word [] refl
+printable_line (Some line) = both (word (codes "  ") refl) (printable_instruction line.instruction)
+
+printable_instruction_column : (at : Option ((ClassName × Method) × ℕ)) → Printable (instruction_column at)
+printable_instruction_column None = word (codes "-") refl
+printable_instruction_column (Some at) =
+    both (both (both (both (both (printable_class at.0.0) (word (codes "::") refl)) (printable_method_name at.0.1.name)) (word (codes "+") refl)) (printable_decimal at.1)) (printable_line _)
+
+-- the columns of a thread's frames and of its stack
+pub record SizeColumns (after : Option Position) : Type 0 where
+  pub frames : List ℕ
+  pub height : List ℕ
+  pub frames_printable : Printable frames
+  pub height_printable : Printable height
+  pub are : size_columns after ≡ frames ++ 9 ∷ height
+
+sizes_of : (after : Option Position) → SizeColumns after
+sizes_of None = record { frames = codes "-"; height = codes "-"; frames_printable = word (codes "-") refl; height_printable = word (codes "-") refl; are = refl }
+sizes_of (Some p) = record { frames = decimal p.frames; height = decimal p.height; frames_printable = printable_decimal p.frames; height_printable = printable_decimal p.height; are = refl }
+
+-- columns that are all printable
+record Columns (columns : List (List ℕ)) : Type 0 where
+  printable : All IsPrintable columns
+
+no_columns : Columns []
+no_columns = record { printable = All-nil IsPrintable }
+
+-- a column before others
+at_front : {column : List ℕ} {columns : List (List ℕ)} → Printable column → Columns columns → Columns (column ∷ columns)
+at_front {column = column} {columns = columns} p h = record { printable = All-cons IsPrintable column columns p.is h.printable }
+
+grouped : (a b c d e f : List ℕ) → a ++ b ++ c ++ d ++ e ++ f ≡ a ++ (b ++ (c ++ (d ++ (e ++ f))))
+grouped a b c d e f = append_assoc (a ++ b ++ c ++ d) e f ∙ (append_assoc (a ++ b ++ c) d (e ++ f) ∙ (append_assoc (a ++ b) c (d ++ (e ++ f)) ∙ append_assoc a b (c ++ (d ++ (e ++ f)))))
+
+joined : (a b c d f h w : List ℕ) →
+    a ++ 9 ∷ b ++ 9 ∷ c ++ 9 ∷ d ++ 9 ∷ (f ++ 9 ∷ h) ++ 9 ∷ w ++ 10 ∷ [] ≡ a ++ 9 ∷ (b ++ 9 ∷ (c ++ 9 ∷ (d ++ 9 ∷ (f ++ 9 ∷ (h ++ 9 ∷ w))))) ++ 10 ∷ []
+joined a b c d f h w =
+    ap (λ l. l ++ 10 ∷ [])
+    (grouped a (9 ∷ b) (9 ∷ c) (9 ∷ d) (9 ∷ (f ++ 9 ∷ h)) (9 ∷ w) ∙ ap (λ l. a ++ 9 ∷ (b ++ 9 ∷ (c ++ 9 ∷ (d ++ 9 ∷ l)))) (append_assoc f (9 ∷ h) (9 ∷ w)))
+
+pub line_columns : LinesHaveColumns
+line_columns n e r before after =
+    let at = option_and_then (found_at before.tree) (position_for before e) in
+    let sizes = sizes_of (position_for after e) in
+    let words = used_words after.objects.block.cells in
+    let columns =
+    at_front (printable_decimal n) (at_front (printable_event e) (at_front (printable_report r) (at_front (printable_instruction_column at)
+    (at_front sizes.frames_printable (at_front sizes.height_printable (at_front (printable_decimal words) no_columns)))))) in (
+      decimal n ∷ event_text e ∷ report_text r ∷ instruction_column at ∷ sizes.frames ∷ sizes.height ∷ decimal words ∷ [],
+      refl,
+      record {
+        printable = columns.printable;
+        is = ap (λ (cs : List ℕ). decimal n ++ 9 ∷ event_text e ++ 9 ∷ report_text r ++ 9 ∷ instruction_column at ++ 9 ∷ cs ++ 9 ∷ decimal words ++ 10 ∷ []) sizes.are
+            ∙ joined (decimal n) (event_text e) (report_text r) (instruction_column at) sizes.frames sizes.height (decimal words);
+      },
+    )

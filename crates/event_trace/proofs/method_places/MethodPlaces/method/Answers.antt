@@ -1,0 +1,14 @@
+use Rattle.std.proofs.Common.{◌≡◌, ◌∙◌, Some, ap, map, sym}
+use Rattle.std.specs.Prelude.{option_and_then, slice_get}
+use Rattle.name_tables.specs.BuiltInTable.{built_in_entry}
+use Rattle.method_table.specs.AllMethods.{all_methods}
+use Rattle.event_trace.specs.Places.{method_by}
+use Rattle.event_trace.proofs.PlaceLaws.{at_number}
+use Rattle.event_trace.proofs.method_places.MethodPlaces.method.Goals as goal
+
+pub returns : goal.returns
+returns c =
+    let by = method_by (map built_in_entry c.args.self.now.built_ins) c.args.tree.now in
+    let there : slice_get c.args.self.now.places.items c.args.number ≡ Some c.in_ok-place.place =
+    ap (λ ps. slice_get ps c.args.number) (sym c.as_slice.ensures.value) ∙ sym c.in_ok-place.ensures in
+    c.declared.ensures ∙ (sym (ap (option_and_then by) there) ∙ at_number by c.args.self.now.places.items (all_methods c.args.tree.now) c.args.number c.requires)

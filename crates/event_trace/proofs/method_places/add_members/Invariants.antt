@@ -1,0 +1,13 @@
+use Rattle.std.proofs.Common.{◌≡◌, List, Some}
+use Rattle.std.specs.Prelude.{slice_get}
+use Rattle.cil_model.specs.declared.types.ClassName.{ClassName}
+use Rattle.cil_model.specs.declared.trees.Class.{Class}
+use Rattle.cil_model.specs.declared.trees.Tree.{Tree}
+use Rattle.cil_model.specs.Declarations.{Declaration}
+use Rattle.event_trace.proofs.PlaceLaws.{Stand, own_methods}
+use Rattle.event_trace.proofs.method_places.add_members.Given as goal
+
+-- the places of the methods among so many members are listed
+abbrev pub invariant-loop-member : goal.invariant-loop-member
+invariant-loop-member l = (first : List (ClassName × Declaration)) (tree : Tree) (c : Class) → slice_get tree.classes l.class ≡ Some c → c.members ≡ l.members →
+    Stand first tree l.initial.places.items l.places.items (own_methods c l.member)

@@ -1,0 +1,83 @@
+-- The columns of a line of a trace (this profile).
+use Rattle.std.specs.Prelude.{◌++◌, ℕ, List, [], ◌∷◌, Option, Some, None, codes, decimal, option_and_then, option_map, slice_get}
+use Rattle.cil_model.specs.declared.types.ClassName.{ClassName}
+use Rattle.cil_model.specs.declared.events.Event.{Event}
+use Rattle.cil_model.specs.declared.events.Event.TheVariants.{Step, Ack, Gc}
+use Rattle.cil_model.specs.declared.reports.End.TheVariants.{Done, Budget, Fault}
+use Rattle.cil_model.specs.declared.reports.Report.{Report}
+use Rattle.cil_model.specs.declared.reports.Report.TheVariants.{Ran, Blocked, Ended, Absent, Acked, NothingPosted, Worked, Waiting, CycleDone}
+use Rattle.cil_model.specs.declared.trees.Line.{Line}
+use Rattle.cil_model.specs.declared.trees.Method.{Method}
+use Rattle.cil_model.specs.declared.trees.Tree.{Tree}
+use Rattle.cil_model.specs.Bodies.{lines_of}
+use Rattle.cil_model.specs.ExceptionNames.{name_of as fault_text}
+use Rattle.object_memory.specs.Cells.{used_words}
+use Rattle.method_table.specs.AllMethods.{all_methods}
+use Rattle.machine_states.specs.MachineContents.{Content}
+use Rattle.interleaving_core.specs.Positions.{position_at}
+use Rattle.interleaving_core.specs.declared.positions.Position.{Position}
+use Rattle.schedule_text.specs.Items.{name_of as event_text}
+use Rattle.instruction_text.specs.Texts.{class_text, instruction_text, method_name_text}
+
+-- ---- the report
+
+abbrev pub report_text : Report → List ℕ
+report_text Ran = codes "ran"
+report_text Blocked = codes "blocked"
+report_text (Ended Done) = codes "done"
+report_text (Ended Budget) = codes "budget"
+report_text (Ended (Fault fault)) = fault_text fault
+report_text Absent = codes "absent"
+report_text Acked = codes "acked"
+report_text NothingPosted = codes "nothing-posted"
+report_text Worked = codes "worked"
+report_text Waiting = codes "waiting"
+report_text CycleDone = codes "cycle-done"
+
+-- ---- where the thread is
+
+-- two spaces and the instruction, where there is one
+abbrev pub line_text : Option Line → List ℕ
+line_text None = []
+line_text (Some line) = codes "  " ++ instruction_text line.instruction
+
+-- a place of a method that is known with its class
+abbrev pub place_text : ClassName × Method → ℕ → List ℕ
+place_text found n = class_text found.0 ++ codes "::" ++ method_name_text found.1.name ++ codes "+" ++ decimal n ++ line_text (slice_get (lines_of found.1) n)
+
+-- the thread of an event; none of one of the collector
+abbrev pub thread_of : Event → Option ℕ
+thread_of (Step t) = Some t
+thread_of (Ack t) = Some t
+thread_of Gc = None
+
+-- where the thread of an event is
+abbrev pub position_for : Content → Event → Option Position
+position_for c e = option_and_then (position_at c.threads) (thread_of e)
+
+-- the method and the place there
+abbrev pub found_at : Tree → Position → Option ((ClassName × Method) × ℕ)
+found_at tree p = option_map (λ (found : ClassName × Method). (found, p.place)) (slice_get (all_methods tree) p.method)
+
+-- ---- columns
+
+-- the instruction at a place, or a hyphen
+abbrev pub instruction_column : Option ((ClassName × Method) × ℕ) → List ℕ
+instruction_column None = codes "-"
+instruction_column (Some at) = place_text at.0 at.1
+
+-- how many frames a thread has, and how high the stack of the one that runs is, or hyphens
+abbrev pub size_columns : Option Position → List ℕ
+size_columns None = codes "-" ++ 9 ∷ codes "-"
+size_columns (Some p) = decimal p.frames ++ 9 ∷ decimal p.height
+
+-- The number of an event, the event, its report, where its thread was before it, its frames and its stack after it, and the words that
+-- objects take then: a tab between two, and a line feed behind all.
+abbrev pub columns_text : ℕ → Event → Report → Option ((ClassName × Method) × ℕ) → Option Position → ℕ → List ℕ
+columns_text n e r before after words =
+    decimal n ++ 9 ∷ event_text e ++ 9 ∷ report_text r ++ 9 ∷ instruction_column before ++ 9 ∷ size_columns after ++ 9 ∷ decimal words ++ 10 ∷ []
+
+-- the line of an event from one content to the next
+abbrev pub line_of : ℕ → Event → Report → Content → Content → List ℕ
+line_of n e r before after =
+    columns_text n e r (option_and_then (found_at before.tree) (position_for before e)) (position_for after e) (used_words after.objects.block.cells)

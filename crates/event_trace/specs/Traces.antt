@@ -1,0 +1,27 @@
+-- A run with the text of its events (this profile).
+use Rattle.std.specs.Prelude.{◌≡◌, ◌+◌, ◌++◌, ℕ, List, [], ◌∷◌, length, Option}
+use Rattle.std.specs.Io.KnownBytes.{Appends}
+use Rattle.std.specs.List.{zip}
+use Rattle.cil_model.specs.declared.events.Event.{Event}
+use Rattle.cil_model.specs.declared.reports.Report.{Report}
+use Rattle.machine_states.specs.MachineContents.{Content}
+use Rattle.machine_states.specs.Runs.{AreTurns, FollowsReference}
+use Rattle.machine_states.specs.Turns.{IsTurn}
+use Rattle.event_trace.specs.Columns.{line_of}
+
+-- one event after another, each with its report and its line; the numbers of the lines begin with this one
+abbrev pub AreTraced : ℕ → Content → List Event → Content → List Report → List ℕ → Type 0
+AreTraced n c [] after reports text = (after ≡ c) × (reports ≡ []) × (text ≡ [])
+AreTraced n c (e ∷ es) after [] text = ⊥
+AreTraced n c (e ∷ es) after (r ∷ rs) text =
+    (next : Content) × (more : List ℕ) × IsTurn c e (next, r) × (text ≡ line_of n e r c next ++ more) × AreTraced (n + 1) next es after rs more
+
+-- The events are done in order, from one content to another, each with a report. A writer has taken a line of each, numbered from 1. The
+-- reference machine's run over the steps among them is never stuck, gives the steps' reports, and comes to a state that the machine represents.
+pub record IsTraced (old : Content) (events : List Event) (new : Content) (reports : List Report) (out out' : Option (List ℕ)) : Type 0 where
+  pub text : List ℕ
+  pub lines : AreTraced 1 old events new reports text
+  pub appended : Appends out out' text
+  pub turns : AreTurns old events new reports
+  pub each : length reports ≡ length events
+  pub follows : FollowsReference old new (zip events reports)

@@ -1,0 +1,51 @@
+//! Why a trace was not written to its end.
+
+ghost use Rattle.std.specs.Prelude.{◌≡◌};
+ghost use Rattle.event_trace.specs.Errors.{IsErrorOfWriting};
+ghost use Rattle.event_trace.specs.declared.errors.TraceError.TheVariants.{Memory};
+
+use cil_model::memory::NoMemory;
+use std::alloc::AllocFailed;
+use std::io;
+use std::io::ErrorKind;
+use thiserror::Error;
+
+/// Why a trace was not written to its end.
+#[derive(Clone, Copy, Debug, PartialEq, Eq, Error)]
+pub enum TraceError {
+    /// Memory ran out, for an event or for what is written of it.
+    #[error("out of memory")]
+    Memory,
+    /// A write failed.
+    #[error("a write failed")]
+    Device,
+}
+
+impl From<NoMemory> for TraceError {
+    ghost from_gives = { λ _ error. error ≡ Memory };
+
+    fn from(_error: NoMemory) -> TraceError {
+        TraceError::Memory
+    }
+}
+
+impl<T: Drop> From<AllocFailed<T>> for TraceError {
+    ghost from_gives = { λ _ error. error ≡ Memory };
+
+    fn from(_error: AllocFailed<T>) -> TraceError {
+        TraceError::Memory
+    }
+}
+
+/// Want of memory may come by a writer too.
+impl From<io::Error> for TraceError {
+    ghost from_gives = { IsErrorOfWriting };
+
+    fn from(error: io::Error) -> TraceError {
+        if error.kind() == ErrorKind::OutOfMemory {
+            TraceError::Memory
+        } else {
+            TraceError::Device
+        }
+    }
+}

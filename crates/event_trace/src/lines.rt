@@ -1,0 +1,62 @@
+//! The line of an event.
+
+use crate::columns::{EventText, ReportText, SizeColumns};
+use crate::owned_methods::InstructionPlace;
+use cil_model::events::Event;
+use cil_model::reports::Report;
+use interleaving_core::Position;
+use std::fmt;
+
+/// What is written of an event.
+#[derive(Clone, Copy)]
+pub(crate) struct TraceLine<'a> {
+    /// The number of the event, from 1.
+    pub(crate) number: usize,
+    pub(crate) event: Event,
+    pub(crate) report: Report,
+    /// Where the event's thread was before it.
+    pub(crate) before: Option<InstructionPlace<'a>>,
+    /// Where it is after it.
+    pub(crate) after: Option<Position>,
+    /// The words that objects take after it.
+    pub(crate) words: u32,
+}
+
+/// The columns with a tab between two, and a line feed behind them.
+impl<'a> fmt::Display for TraceLine<'a> {
+    ghost use Rattle.std.specs.Prelude.{Some};
+    ghost use Rattle.event_trace.specs.Lines.{text_of};
+
+    ghost output = { λ line. Some (text_of line) };
+
+    fn fmt<W: fmt::Write>(&self, f: &mut fmt::Formatter<W>) -> fmt::Result {
+        let event = EventText(self.event);
+        let report = ReportText(self.report);
+        let instruction = InstructionColumn(self.before);
+        let sizes = SizeColumns(self.after);
+        let TraceLine { number, words, .. } = self;
+        writeln!(
+            f,
+            "{number}\t{event}\t{report}\t{instruction}\t{sizes}\t{words}"
+        )
+    }
+}
+
+/// An instruction with its place, or a hyphen where there is none.
+#[derive(Clone, Copy)]
+struct InstructionColumn<'a>(Option<InstructionPlace<'a>>);
+
+impl<'a> fmt::Display for InstructionColumn<'a> {
+    ghost use Rattle.std.specs.Prelude.{Some, option_map};
+    ghost use Rattle.event_trace.specs.Columns.{instruction_column};
+    ghost use Rattle.event_trace.specs.Lines.{seen};
+
+    ghost output = { λ column. Some (instruction_column (option_map seen column.0)) };
+
+    fn fmt<W: fmt::Write>(&self, f: &mut fmt::Formatter<W>) -> fmt::Result {
+        match self.0 {
+            None => write!(f, "-"),
+            Some(at) => write!(f, "{at}"),
+        }
+    }
+}

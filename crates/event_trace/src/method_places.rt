@@ -1,0 +1,153 @@
+//! Where the methods of a program are declared, by their numbers.
+
+ghost use Rattle.std.specs.Prelude.{◌≡◌, ◌++◌, IfOk, List, OnOk, Some, length, map, option_map, slice_get};
+ghost use Rattle.std.specs.List.{flat_map};
+ghost use Rattle.cil_model.specs.declared.types.ClassName.{ClassName as AnyClassName};
+ghost use Rattle.cil_model.specs.declared.trees.Tree.{Tree as AnyTree};
+ghost use Rattle.cil_model.specs.declared.trees.Class.{Class as AnyClass};
+ghost use Rattle.cil_model.specs.Declarations.{Declaration};
+ghost use Rattle.name_tables.specs.BuiltInTable.{built_in_entry};
+ghost use Rattle.name_tables.specs.Numbers.{source_entry};
+ghost use Rattle.method_table.specs.AllMethods.{all_methods, owned_methods};
+ghost use Rattle.event_trace.specs.Places.{built_in_method, method_by, methods_by, owned, source_method};
+
+use crate::owned_methods::{OwnedMethod, Owner};
+use cil_model::memory::NoMemory;
+use cil_model::sequences::Sequence;
+use cil_model::trees::{Class, Member, Tree};
+use name_tables::built_in::BuiltInClass;
+use std::alloc::Global;
+
+/// Where a method is declared.
+#[derive(Clone, Copy, Debug)]
+pub(crate) enum MethodPlace {
+    /// In a built-in class, by its place among them, at a place among its methods.
+    BuiltIn { class: usize, method: usize },
+    /// In a class of the source, by its place there, at a place among its members.
+    Source { class: usize, member: usize },
+}
+
+/// Where each method of a program is declared, by its number among the methods of all classes. It keeps nothing of the tree.
+#[derive(Drop)]
+pub(crate) struct MethodPlaces {
+    built_ins: Sequence<BuiltInClass>,
+    places: Vec<MethodPlace>,
+}
+
+impl MethodPlaces {
+    ghost use Rattle.event_trace.specs.Places.{ArePlacesOf};
+
+    /// The places of the methods of a tree. Fails for want of memory alone.
+    pub(crate) fn new(alloc: Global, tree: &Tree) -> Result<Self, NoMemory>
+        ensures { IfOk result (ArePlacesOf tree.now) }
+    {
+        let built_ins = BuiltInClass::all(alloc)?;
+        let mut places = Vec::new(alloc);
+        add_built_ins(&mut places, built_ins.as_slice())?;
+        add_classes(&mut places, tree.classes.as_slice())?;
+        Ok(MethodPlaces { built_ins, places })
+    }
+
+    /// The method with this number, in the tree that the places were made of. None where no method has it. Takes constant time, and no
+    /// memory.
+    pub(crate) fn method<'a>(&'a self, tree: &'a Tree, number: u32) -> Option<OwnedMethod<'a>>
+        requires { ArePlacesOf tree.now self.now }
+        ensures { option_map owned result ≡ slice_get (all_methods tree.now) number }
+    {
+        let place = place_at(self.places.as_slice(), number as usize)?;
+        self.declared(tree, place)
+    }
+
+    /// The method that is declared at a place. None where there is none.
+    fn declared<'a>(&'a self, tree: &'a Tree, place: MethodPlace) -> Option<OwnedMethod<'a>>
+        ensures { option_map owned result ≡ method_by (map built_in_entry self.now.built_ins) tree.now place }
+    {
+        match place {
+            MethodPlace::BuiltIn { class, method } => {
+                built_in_method(self.built_ins.as_slice().get(class)?, method)
+            }
+            MethodPlace::Source { class, member } => {
+                source_method(tree.classes.as_slice().get(class)?, member)
+            }
+        }
+    }
+}
+
+fn place_at(places: &[MethodPlace], number: usize) -> Option<MethodPlace>
+    ensures { result ≡ slice_get places.now number }
+{
+    places.get(number).copied()
+}
+
+/// The method at a place of a built-in class.
+fn built_in_method(class: &BuiltInClass, place: usize) -> Option<OwnedMethod<'_>>
+    ensures { option_map owned result ≡ built_in_method place (built_in_entry class.now) }
+{
+    let method = class.methods.as_slice().get(place)?;
+    Some(OwnedMethod {
+        owner: Owner::BuiltIn(&class.name),
+        method,
+    })
+}
+
+/// The method at a place among the members of a class of the source. None where there is a field.
+fn source_method(class: &Class, place: usize) -> Option<OwnedMethod<'_>>
+    ensures { option_map owned result ≡ source_method place class.now }
+{
+    match class.members.as_slice().get(place)? {
+        Member::Field(_) => None,
+        Member::Method(method) => Some(OwnedMethod {
+            owner: Owner::Source(class),
+            method,
+        }),
+    }
+}
+
+/// Appends the places of the methods of all built-in classes.
+fn add_built_ins(places: &mut Vec<MethodPlace>, classes: &[BuiltInClass]) -> Result<(), NoMemory>
+    ensures { (first : List (AnyClassName × Declaration)) (tree : AnyTree) → map built_in_entry classes.now ≡ first →
+        OnOk result (methods_by first tree places.new.items ≡ methods_by first tree places.old.items ++ map Some (flat_map owned_methods first)) }
+{
+    for (class, built_in) in classes.iter().enumerate() {
+        add_built_in(places, class, built_in.methods.as_slice().len())?;
+    }
+    Ok(())
+}
+
+/// Appends the places of so many methods of a built-in class, by its place among them.
+fn add_built_in(places: &mut Vec<MethodPlace>, class: usize, methods: usize) -> Result<(), NoMemory>
+    ensures { (first : List (AnyClassName × Declaration)) (tree : AnyTree) (e : AnyClassName × Declaration) → slice_get first class ≡ Some e → length e.1.methods ≡ methods →
+        OnOk result (methods_by first tree places.new.items ≡ methods_by first tree places.old.items ++ map Some (owned_methods e)) }
+{
+    for method in 0..methods {
+        places.push(MethodPlace::BuiltIn { class, method })?;
+    }
+    Ok(())
+}
+
+/// Appends the places of the methods of all classes of a source.
+fn add_classes(places: &mut Vec<MethodPlace>, classes: &[Class]) -> Result<(), NoMemory>
+    ensures { (first : List (AnyClassName × Declaration)) (tree : AnyTree) → tree.classes ≡ classes.now → OnOk result (methods_by first tree places.new.items ≡ methods_by first tree places.old.items ++ map Some (flat_map owned_methods (map source_entry classes.now))) }
+{
+    for (class, declared) in classes.iter().enumerate() {
+        add_members(places, class, declared.members.as_slice())?;
+    }
+    Ok(())
+}
+
+/// Appends the places of the methods among the members of a class of the source, by its place there.
+fn add_members(
+    places: &mut Vec<MethodPlace>,
+    class: usize,
+    members: &[Member],
+) -> Result<(), NoMemory>
+    ensures { (first : List (AnyClassName × Declaration)) (tree : AnyTree) (c : AnyClass) → slice_get tree.classes class ≡ Some c → c.members ≡ members.now →
+        OnOk result (methods_by first tree places.new.items ≡ methods_by first tree places.old.items ++ map Some (owned_methods (source_entry c))) }
+{
+    for (member, declared) in members.iter().enumerate() {
+        if let Member::Method(_) = declared {
+            places.push(MethodPlace::Source { class, member })?;
+        }
+    }
+    Ok(())
+}

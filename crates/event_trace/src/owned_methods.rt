@@ -1,0 +1,110 @@
+//! Methods with the classes that declare them.
+
+ghost use Rattle.std.specs.Prelude.{◌≡◌, option_map, slice_get};
+ghost use Rattle.cil_model.specs.Bodies.{code_of, lines_of};
+
+use cil_model::instructions::{Instruction, MethodName};
+use cil_model::trees::{Class, Code, Line, Method, MethodKind};
+use cil_model::types::ClassName;
+use instruction_text::{CharactersText, ClassText, InstructionText, MethodNameText};
+use std::fmt;
+
+/// The class that declares a method: a built-in one, by its name, or one of the source.
+#[derive(Clone, Copy)]
+pub(crate) enum Owner<'a> {
+    BuiltIn(&'a ClassName),
+    Source(&'a Class),
+}
+
+/// The class's name, of a built-in one with its assembly.
+impl<'a> fmt::Display for Owner<'a> {
+    ghost use Rattle.std.specs.Prelude.{Some};
+    ghost use Rattle.instruction_text.specs.Texts.{class_text};
+    ghost use Rattle.event_trace.specs.Places.{owner_name};
+
+    ghost output = { λ owner. Some (class_text (owner_name owner)) };
+
+    fn fmt<W: fmt::Write>(&self, f: &mut fmt::Formatter<W>) -> fmt::Result {
+        match self {
+            Owner::BuiltIn(name) => write!(f, "{}", ClassText(*name)),
+            Owner::Source(class) => write!(f, "{}", CharactersText(&class.name)),
+        }
+    }
+}
+
+/// A method with the class that declares it.
+#[derive(Clone, Copy)]
+pub(crate) struct OwnedMethod<'a> {
+    pub(crate) owner: Owner<'a>,
+    pub(crate) method: &'a Method,
+}
+
+/// An instruction of a method, by its place in the method's code.
+#[derive(Clone, Copy)]
+pub(crate) struct InstructionPlace<'a> {
+    pub(crate) found: OwnedMethod<'a>,
+    pub(crate) place: u32,
+}
+
+/// `Class::Method+N  instruction`.
+impl<'a> fmt::Display for InstructionPlace<'a> {
+    ghost use Rattle.std.specs.Prelude.{Some};
+    ghost use Rattle.event_trace.specs.Places.{owned};
+    ghost use Rattle.event_trace.specs.Columns.{place_text};
+
+    ghost output = { λ at. Some (place_text (owned at.found) at.place) };
+
+    fn fmt<W: fmt::Write>(&self, f: &mut fmt::Formatter<W>) -> fmt::Result {
+        let OwnedMethod { owner, method } = self.found;
+        let name = MethodNameText(&method.name);
+        let line = LineText(line_at(method, self.place as usize));
+        write!(f, "{owner}::{name}+{}{line}", self.place)
+    }
+}
+
+/// Two spaces and the instruction of a line. Nothing where there is no line.
+#[derive(Clone, Copy)]
+struct LineText<'a>(Option<&'a Line>);
+
+impl<'a> fmt::Display for LineText<'a> {
+    ghost use Rattle.std.specs.Prelude.{Some, option_map};
+    ghost use Rattle.event_trace.specs.Columns.{line_text};
+
+    ghost output = { λ text. Some (line_text (option_map (λ line. line.now) text.0)) };
+
+    fn fmt<W: fmt::Write>(&self, f: &mut fmt::Formatter<W>) -> fmt::Result {
+        match self.0 {
+            None => Ok(()),
+            Some(line) => write!(f, "  {}", InstructionText(&line.instruction)),
+        }
+    }
+}
+
+/// The line at a place of a method's code. None where there is none.
+fn line_at(method: &Method, place: usize) -> Option<&Line>
+    ensures { option_map (λ l. l.now) result ≡ slice_get (lines_of method.now) place }
+{
+    lines_of(method).get(place)
+}
+
+/// The lines of a method's code. None of one that has no code.
+fn lines_of(method: &Method) -> &[Line]
+    ensures { result.now ≡ lines_of method.now }
+{
+    match code_of(&method.kind) {
+        None => &[],
+        Some(code) => code.lines.as_slice(),
+    }
+}
+
+/// The code of a method, where it has some.
+fn code_of(kind: &MethodKind) -> Option<&Code>
+    ensures { option_map (λ c. c.now) result ≡ code_of kind.now }
+{
+    match kind {
+        MethodKind::Static(code) => Some(code),
+        MethodKind::Instance(code) => Some(code),
+        MethodKind::Virtual { code, .. } => Some(code),
+        MethodKind::Abstract { .. } => None,
+    }
+}

@@ -1,0 +1,127 @@
+-- How ilasm writes instructions and what they name (II.7.1, II.15, III; the words are those of this profile's grammar).
+use Rattle.std.specs.Prelude.{◌++◌, ℕ, zero, suc, false, true, List, [], ◌∷◌, Option, Some, None, codes, flat_map}
+use Rattle.std.specs.Fmt.{signed_decimal}
+use Rattle.cil_model.specs.Grammar.{binary_word, unary_word, shift_word, comparison_word, branch_word}
+use Rattle.cil_model.specs.declared.types.ClassName.{ClassName}
+use Rattle.cil_model.specs.declared.types.Element.{Element}
+use Rattle.cil_model.specs.declared.types.Element.TheVariants.{Int32, Int64, Object, String, Class}
+use Rattle.cil_model.specs.declared.types.DeclaredType.{DeclaredType}
+use Rattle.cil_model.specs.declared.types.Signature.{Signature}
+use Rattle.cil_model.specs.declared.instructions.MethodName.{MethodName}
+use Rattle.cil_model.specs.declared.instructions.MethodName.TheVariants.{Constructor, Named}
+use Rattle.cil_model.specs.declared.instructions.FieldReference.{FieldReference}
+use Rattle.cil_model.specs.declared.instructions.MethodReference.{MethodReference}
+use Rattle.cil_model.specs.declared.instructions.Instruction.{Instruction}
+use Rattle.cil_model.specs.declared.instructions.Instruction.TheVariants.{NoOperation, LoadInt32, LoadInt64, LoadNull, LoadString, LoadArgument, StoreArgument, LoadLocal, StoreLocal, Duplicate, Pop, Binary, Unary, Shift, Compare, ConvertInt32, ConvertInt64, Branch, BranchTrue, BranchFalse, BranchCompare, Switch, LoadField, StoreField, LoadStaticField, StoreStaticField, NewArray, LoadLength, LoadElementInt32, LoadElementInt64, LoadElementReference, StoreElementInt32, StoreElementInt64, StoreElementReference, CastClass, IsInstance, Call, CallVirtual, NewObject, Return}
+use Rattle.instruction_text.specs.Characters.{characters_text}
+
+-- texts with a comma and a space between them
+abbrev pub listed : {A : Type 0} → (A → List ℕ) → List A → List ℕ
+listed text [] = []
+listed text (x ∷ xs) = text x ++ flat_map (λ y. codes ", " ++ text y) xs
+
+-- ---- types
+
+-- the assembly of a class in brackets
+abbrev pub assembly_text : Option (List ℕ) → List ℕ
+assembly_text None = []
+assembly_text (Some name) = codes "[" ++ characters_text name ++ codes "]"
+
+abbrev pub class_text : ClassName → List ℕ
+class_text c = assembly_text c.assembly ++ characters_text c.name
+
+abbrev pub element_text : Element → List ℕ
+element_text Int32 = codes "int32"
+element_text Int64 = codes "int64"
+element_text Object = codes "object"
+element_text String = codes "string"
+element_text (Class c) = codes "class " ++ class_text c
+
+-- so many pairs of brackets
+abbrev pub brackets_text : ℕ → List ℕ
+brackets_text zero = []
+brackets_text (suc n) = brackets_text n ++ codes "[]"
+
+abbrev pub type_text : DeclaredType → List ℕ
+type_text t = element_text t.element ++ brackets_text t.brackets
+
+-- what a method leaves
+abbrev pub return_text : Option DeclaredType → List ℕ
+return_text None = codes "void"
+return_text (Some t) = type_text t
+
+abbrev pub types_text : List DeclaredType → List ℕ
+types_text ts = codes "(" ++ listed type_text ts ++ codes ")"
+
+-- ---- members
+
+abbrev pub method_name_text : MethodName → List ℕ
+method_name_text Constructor = codes ".ctor"
+method_name_text (Named name) = characters_text name
+
+abbrev pub field_text : FieldReference → List ℕ
+field_text r = type_text r.field_type ++ codes " " ++ class_text r.owner ++ codes "::" ++ characters_text r.name
+
+abbrev pub method_text : MethodReference → List ℕ
+method_text r = return_text r.signature.return_type ++ codes " " ++ class_text r.owner ++ codes "::" ++ method_name_text r.name ++ types_text r.signature.parameters
+
+-- a method that is no constructor
+abbrev pub virtual_text : ClassName → List ℕ → Signature → List ℕ
+virtual_text owner name signature = return_text signature.return_type ++ codes " " ++ class_text owner ++ codes "::" ++ characters_text name ++ types_text signature.parameters
+
+abbrev pub constructor_text : ClassName → List DeclaredType → List ℕ
+constructor_text owner parameters = codes "void " ++ class_text owner ++ codes "::.ctor" ++ types_text parameters
+
+-- ---- instructions
+
+abbrev pub labels_text : List (List ℕ) → List ℕ
+labels_text labels = codes "(" ++ listed characters_text labels ++ codes ")"
+
+-- the word of an instruction without an operand; none of one with an operand
+abbrev pub word_text : Instruction → List ℕ
+word_text NoOperation = codes "nop"
+word_text LoadNull = codes "ldnull"
+word_text Duplicate = codes "dup"
+word_text Pop = codes "pop"
+word_text (Binary op) = binary_word op
+word_text (Unary op) = unary_word op
+word_text (Shift op) = shift_word op
+word_text (Compare op) = comparison_word op
+word_text ConvertInt32 = codes "conv.i4"
+word_text ConvertInt64 = codes "conv.i8"
+word_text LoadLength = codes "ldlen"
+word_text LoadElementInt32 = codes "ldelem.i4"
+word_text LoadElementInt64 = codes "ldelem.i8"
+word_text LoadElementReference = codes "ldelem.ref"
+word_text StoreElementInt32 = codes "stelem.i4"
+word_text StoreElementInt64 = codes "stelem.i8"
+word_text StoreElementReference = codes "stelem.ref"
+word_text Return = codes "ret"
+word_text _ = []
+
+-- an instruction in its long form, with one space before its operand
+abbrev pub instruction_text : Instruction → List ℕ
+instruction_text (LoadInt32 z) = codes "ldc.i4 " ++ signed_decimal z
+instruction_text (LoadInt64 z) = codes "ldc.i8 " ++ signed_decimal z
+instruction_text (LoadString characters) = codes "ldstr \"" ++ characters_text characters ++ codes "\""
+instruction_text (LoadArgument n) = codes "ldarg " ++ signed_decimal n
+instruction_text (StoreArgument n) = codes "starg " ++ signed_decimal n
+instruction_text (LoadLocal n) = codes "ldloc " ++ signed_decimal n
+instruction_text (StoreLocal n) = codes "stloc " ++ signed_decimal n
+instruction_text (Branch label) = codes "br " ++ characters_text label
+instruction_text (BranchTrue label) = codes "brtrue " ++ characters_text label
+instruction_text (BranchFalse label) = codes "brfalse " ++ characters_text label
+instruction_text (BranchCompare op label) = branch_word op ++ codes " " ++ characters_text label
+instruction_text (Switch labels) = codes "switch " ++ labels_text labels
+instruction_text (LoadField r) = codes "ldfld " ++ field_text r
+instruction_text (StoreField r) = codes "stfld " ++ field_text r
+instruction_text (LoadStaticField r) = codes "ldsfld " ++ field_text r
+instruction_text (StoreStaticField r) = codes "stsfld " ++ field_text r
+instruction_text (NewArray t) = codes "newarr " ++ type_text t
+instruction_text (CastClass t) = codes "castclass " ++ type_text t
+instruction_text (IsInstance t) = codes "isinst " ++ type_text t
+instruction_text (Call true r) = codes "call instance " ++ method_text r
+instruction_text (Call false r) = codes "call " ++ method_text r
+instruction_text (CallVirtual owner name signature) = codes "callvirt instance " ++ virtual_text owner name signature
+instruction_text (NewObject owner parameters) = codes "newobj instance " ++ constructor_text owner parameters
+instruction_text instruction = word_text instruction

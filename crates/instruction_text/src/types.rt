@@ -1,0 +1,104 @@
+//! Classes and types, as they stand in the text.
+
+use crate::characters::CharactersText;
+use cil_model::types::{ClassName, DeclaredType, Element};
+use std::fmt;
+
+/// A class by its name, with its assembly in brackets where it has one (ECMA-335 II.7.3): `[mscorlib]System.Console` or `Dog`.
+#[derive(Clone, Copy, Debug)]
+pub struct ClassText<'a>(pub &'a ClassName);
+
+impl<'a> fmt::Display for ClassText<'a> {
+    ghost use Rattle.std.specs.Prelude.{Some};
+    ghost use Rattle.instruction_text.specs.Texts.{class_text};
+
+    ghost output = { λ class. Some (class_text class.0.now) };
+
+    fn fmt<W: fmt::Write>(&self, f: &mut fmt::Formatter<W>) -> fmt::Result {
+        let name = CharactersText(&self.0.name);
+        match &self.0.assembly {
+            None => write!(f, "{name}"),
+            Some(assembly) => write!(f, "[{}]{name}", CharactersText(assembly)),
+        }
+    }
+}
+
+/// A type without brackets (ECMA-335 II.7.1).
+#[derive(Clone, Copy)]
+struct ElementText<'a>(&'a Element);
+
+impl<'a> fmt::Display for ElementText<'a> {
+    ghost use Rattle.std.specs.Prelude.{Some};
+    ghost use Rattle.instruction_text.specs.Texts.{element_text};
+
+    ghost output = { λ element. Some (element_text element.0.now) };
+
+    fn fmt<W: fmt::Write>(&self, f: &mut fmt::Formatter<W>) -> fmt::Result {
+        match self.0 {
+            Element::Int32 => write!(f, "int32"),
+            Element::Int64 => write!(f, "int64"),
+            Element::Object => write!(f, "object"),
+            Element::String => write!(f, "string"),
+            Element::Class(class) => write!(f, "class {}", ClassText(class)),
+        }
+    }
+}
+
+/// A type with its pairs of brackets (ECMA-335 II.7.1): `class Dog[]`.
+#[derive(Clone, Copy)]
+pub(crate) struct TypeText<'a>(pub(crate) &'a DeclaredType);
+
+impl<'a> fmt::Display for TypeText<'a> {
+    ghost use Rattle.std.specs.Prelude.{Some};
+    ghost use Rattle.instruction_text.specs.Texts.{type_text};
+
+    ghost output = { λ declared. Some (type_text declared.0.now) };
+
+    fn fmt<W: fmt::Write>(&self, f: &mut fmt::Formatter<W>) -> fmt::Result {
+        write!(f, "{}", ElementText(&self.0.element))?;
+        for _bracket in 0..self.0.brackets {
+            write!(f, "[]")?;
+        }
+        Ok(())
+    }
+}
+
+/// The type that a method leaves, or `void` (ECMA-335 II.15.3).
+#[derive(Clone, Copy)]
+pub(crate) struct ReturnText<'a>(pub(crate) &'a Option<DeclaredType>);
+
+impl<'a> fmt::Display for ReturnText<'a> {
+    ghost use Rattle.std.specs.Prelude.{Some};
+    ghost use Rattle.instruction_text.specs.Texts.{return_text};
+
+    ghost output = { λ left. Some (return_text left.0.now) };
+
+    fn fmt<W: fmt::Write>(&self, f: &mut fmt::Formatter<W>) -> fmt::Result {
+        match self.0 {
+            None => write!(f, "void"),
+            Some(declared) => write!(f, "{}", TypeText(declared)),
+        }
+    }
+}
+
+/// Types in parentheses, with a comma and a space between two: `(int32, object)`.
+#[derive(Clone, Copy)]
+pub(crate) struct TypesText<'a>(pub(crate) &'a [DeclaredType]);
+
+impl<'a> fmt::Display for TypesText<'a> {
+    ghost use Rattle.std.specs.Prelude.{Some};
+    ghost use Rattle.instruction_text.specs.Texts.{types_text};
+
+    ghost output = { λ types. Some (types_text types.0.now) };
+
+    fn fmt<W: fmt::Write>(&self, f: &mut fmt::Formatter<W>) -> fmt::Result {
+        let Some((first, others)) = self.0.split_first() else {
+            return write!(f, "()");
+        };
+        write!(f, "({}", TypeText(first))?;
+        for declared in others {
+            write!(f, ", {}", TypeText(declared))?;
+        }
+        write!(f, ")")
+    }
+}

@@ -1,0 +1,43 @@
+//! The token at an offset, as it stands in the text.
+
+/// Letters, digits, `_` and `.`.
+fn is_word_byte(byte: u8) -> bool {
+    byte.is_ascii_alphanumeric() || byte == b'_' || byte == b'.'
+}
+
+/// How many letters, digits, `_` and `.` stand together where these bytes begin.
+fn run_length(bytes: &[u8]) -> usize {
+    bytes.iter().take_while(|byte| is_word_byte(**byte)).count()
+}
+
+/// How many bytes stand before the end of a string literal, its quote counted, or before the end of the line.
+fn literal_length(bytes: &[u8]) -> usize {
+    let mut is_escaped = false;
+    for (place, byte) in bytes.iter().enumerate() {
+        if *byte == b'\n' {
+            return place;
+        }
+        if *byte == b'"' && !is_escaped {
+            return place.saturating_add(1);
+        }
+        is_escaped = *byte == b'\\' && !is_escaped;
+    }
+    bytes.len()
+}
+
+/// How many bytes the token has with which these begin; one where none begins, and none where there is no byte.
+fn token_length(bytes: &[u8]) -> usize {
+    match bytes {
+        [] => 0,
+        [b'"', rest @ ..] => literal_length(rest).saturating_add(1),
+        [b'-', rest @ ..] => run_length(rest).saturating_add(1),
+        [b':', b':', ..] => 2,
+        _ => run_length(bytes).max(1),
+    }
+}
+
+/// The bytes of the token that begins at an offset of a text; one byte where none begins there, and none behind the end.
+pub fn token_at(text: &[u8], offset: usize) -> &[u8] {
+    let rest = text.get(offset..).unwrap_or(&[]);
+    rest.get(..token_length(rest)).unwrap_or(rest)
+}

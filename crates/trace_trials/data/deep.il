@@ -1,0 +1,14 @@
+.assembly extern mscorlib {}
+.class public auto ansi P extends [mscorlib]System.Object {
+ .method public static void deeper() cil managed {
+  .maxstack 0
+  call void P::deeper()
+  ret
+ }
+ .method public static void Main() cil managed {
+  .entrypoint
+  .maxstack 0
+  call void P::deeper()
+  ret
+ }
+}
