@@ -40,6 +40,3 @@ pub fn exit(frames: &mut FrameMemory, heap: &mut Heap, thread: u8) -> Effect
         other => other,
     }
 }
-
-#[cfg(test)]
-mod tests;

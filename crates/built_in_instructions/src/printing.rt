@@ -69,6 +69,3 @@ pub fn write(
     frames.pop();
     Ok(go_on(frames))
 }
-
-#[cfg(test)]
-mod tests;

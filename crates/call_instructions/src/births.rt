@@ -38,6 +38,3 @@ pub fn new_plain_object(frames: &mut FrameMemory, heap: &mut Heap, class: u16, s
     let object = heap.birth(Kind::Instance(class), slots);
     leave_born(frames, object)
 }
-
-#[cfg(test)]
-mod tests;

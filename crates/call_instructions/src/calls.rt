@@ -40,6 +40,3 @@ pub fn construct(frames: &mut FrameMemory, callee: Callee, object: Addr) -> Effe
     frames.push_frame(callee.method, callee.arguments, callee.locals, Some(object));
     Effect::GoesOn
 }
-
-#[cfg(test)]
-mod tests;

@@ -36,6 +36,3 @@ pub fn return_from(frames: &mut FrameMemory, has_value: bool) -> Effect
     }
     give(frames, None)
 }
-
-#[cfg(test)]
-mod tests;

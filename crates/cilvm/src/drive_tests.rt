@@ -1,7 +1,7 @@
-use crate::line::{LineFault, order};
 use cil_model::events::Event;
 use cil_model::limits::Limits;
 use cil_model::reports::{End, Report};
+use command_line::{LineFault, order};
 use driver::{Order, accept, drive, run_events};
 use interleaving_core::{Machine, Refused};
 use std::alloc::Global;

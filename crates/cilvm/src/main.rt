@@ -1,12 +1,10 @@
 //! The program `cilvm`.
 #![tactic(auto)]
 
-mod commands;
 mod files;
-mod line;
 
+use command_line::LineFault;
 use driver::{Failure, Order};
-use line::LineFault;
 use std::fs::File;
 use std::process::ExitCode;
 use std::sync::Wait;
@@ -34,7 +32,7 @@ fn program(rt: &HostRuntime, threads: &(impl Threads + Wait)) -> Result<u8, Fail
         Err(error) => return Err(Failure::from(error)),
     };
     let words: Vec<&str> = given.iter().map(|word| word.as_str()).collect(alloc)?;
-    match line::order(alloc, words.as_slice()) {
+    match command_line::order(alloc, words.as_slice()) {
         Ok(order) => carry_out(rt, threads, &order),
         Err(LineFault::Help(text)) => {
             print!(rt; "{text}")?;
@@ -81,5 +79,7 @@ fn carry_out(
 
 #[cfg(test)]
 mod drive_tests;
+#[cfg(test)]
+mod line_tests;
 #[cfg(test)]
 mod tests;

@@ -13,6 +13,3 @@ mod verdicts;
 pub use explanations::explain;
 pub use limits::explain_limits;
 pub use schedules::explain_schedule;
-
-#[cfg(test)]
-mod tests;

@@ -11,6 +11,3 @@ mod tracing;
 
 pub use errors::TraceError;
 pub use tracing::trace;
-
-#[cfg(test)]
-mod tests;

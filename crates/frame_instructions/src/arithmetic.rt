@@ -130,6 +130,3 @@ fn in_64_bits(value: Value) -> Value
         Value::Ref(_) => unreachable!(),
     }
 }
-
-#[cfg(test)]
-mod tests;

@@ -80,6 +80,3 @@ pub fn switch(frames: &mut FrameMemory, places: &[usize]) -> Effect
         _ => unreachable!(),
     }
 }
-
-#[cfg(test)]
-mod tests;

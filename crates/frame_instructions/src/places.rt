@@ -56,6 +56,3 @@ pub fn leave_result(frames: &mut FrameMemory, outcome: Result<Value, Fault>) -> 
         Err(fault) => Effect::Raises(fault),
     }
 }
-
-#[cfg(test)]
-mod tests;

@@ -62,6 +62,3 @@ pub fn pop(frames: &mut FrameMemory) -> Effect
     frames.pop();
     go_on(frames)
 }
-
-#[cfg(test)]
-mod tests;

@@ -11,6 +11,3 @@ pub use characters::CharactersText;
 pub use instructions::InstructionText;
 pub use references::MethodNameText;
 pub use types::ClassText;
-
-#[cfg(test)]
-mod tests;

@@ -3,8 +3,6 @@
 
 mod conversions;
 mod integers;
-#[cfg(test)]
-mod tests;
 
 pub use conversions::{sign_extended, truncated};
 pub use integers::Integer;

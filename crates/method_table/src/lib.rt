@@ -5,8 +5,6 @@ mod actions;
 pub mod laws;
 mod methods;
 mod table;
-#[cfg(test)]
-mod tests;
 
 pub use actions::Action;
 pub use methods::{TableMethod, value_kind};

@@ -13,6 +13,3 @@ pub use references::TypesNamed;
 pub use shown::{ClassText, MethodText, TypeText};
 pub use sites::{MemberSpot, Sites, class_name, key_of, method_place};
 pub use unknown::{ClassFault, Role, Unknown, first_unknown};
-
-#[cfg(test)]
-mod tests;

@@ -117,6 +117,3 @@ pub fn leave_born(frames: &mut FrameMemory, object: Option<Addr>) -> Effect
         None => Effect::Raises(Fault::OutOfMemory),
     }
 }
-
-#[cfg(test)]
-mod tests;

@@ -62,6 +62,3 @@ pub fn store_field(frames: &mut FrameMemory, heap: &mut Heap, slot: u32) -> Effe
         _ => unreachable!(),
     }
 }
-
-#[cfg(test)]
-mod tests;

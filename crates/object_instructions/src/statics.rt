@@ -23,6 +23,3 @@ pub fn store_static(frames: &mut FrameMemory, statics: &mut [Value], number: u32
     statics[number as usize] = frames.pop();
     go_on(frames)
 }
-
-#[cfg(test)]
-mod tests;

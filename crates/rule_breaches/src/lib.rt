@@ -14,6 +14,3 @@ pub use entry::BadEntry;
 pub use implemented::NotImplemented;
 pub use kinds::Misfit;
 pub use limits::Passed;
-
-#[cfg(test)]
-mod tests;

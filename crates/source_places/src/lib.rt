@@ -13,6 +13,3 @@ pub use lexemes::token_at;
 pub use lines::{Position, position_of};
 pub use outlines::Outline;
 pub use places::{ClassPart, LinePart, MemberPart, Place};
-
-#[cfg(test)]
-mod tests;

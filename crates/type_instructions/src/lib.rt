@@ -6,6 +6,4 @@
 #![tactic(auto)]
 
 pub mod casts;
-#[cfg(test)]
-mod tests;
 pub mod types;

@@ -8,6 +8,3 @@ mod typings;
 mod wanted;
 
 pub use typings::{Told, Untyped, told_typing};
-
-#[cfg(test)]
-mod tests;

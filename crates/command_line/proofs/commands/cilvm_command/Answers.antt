@@ -1,0 +1,30 @@
+use Rattle.std.proofs.Common.{◌≡◌, ◌∙◌, ap, ap₂, codes}
+use Rattle.std.proofs.lemmas.Result.{IfOk-weaker}
+use Rattle.clap.specs.Words.{App, app_of, new_app, with_subcommand}
+use Rattle.command_line.specs.CommandLine.{check_app, replay_app, run_app, trace_app, with_required_subcommand}
+use Rattle.command_line.proofs.commands.cilvm_command.Goals as goal
+
+abbrev one : App
+one = with_subcommand (with_required_subcommand (new_app (codes "cilvm"))) check_app.top
+
+abbrev two : App
+two = with_subcommand one run_app.top
+
+abbrev three : App
+three = with_subcommand two replay_app.top
+
+abbrev four : App
+four = with_subcommand three trace_app.top
+
+pub returns : goal.returns
+returns c =
+    let first : app_of c.in_ok-subcommand.field-0 ≡ one = c.in_ok-subcommand.ensures.shape c.in_ok-check.ensures.local
+    ∙ ap₂ with_subcommand c.program.ensures (ap (λ (a : App). a.top) c.in_ok-check.ensures.app) in
+    let second : app_of c.in_ok-subcommand-2.field-0 ≡ two = c.in_ok-subcommand-2.ensures.shape c.in_ok-run.ensures.local
+    ∙ ap₂ with_subcommand first (ap (λ (a : App). a.top) c.in_ok-run.ensures.app) in
+    let third : app_of c.in_ok-subcommand-3.field-0 ≡ three = c.in_ok-subcommand-3.ensures.shape c.in_ok-replay.ensures.local
+    ∙ ap₂ with_subcommand second (ap (λ (a : App). a.top) c.in_ok-replay.ensures.app) in
+    let fourth : app_of c.in_ok-subcommand-4.field-0 ≡ four = c.in_ok-subcommand-4.ensures.shape c.in_ok-trace.ensures.local
+    ∙ ap₂ with_subcommand third (ap (λ (a : App). a.top) c.in_ok-trace.ensures.app) in
+    IfOk-weaker c.subcommand-5.result _ _ (λ r added. added.shape c.in_ok-flip.ensures.local
+    ∙ ap₂ with_subcommand fourth (ap (λ (a : App). a.top) c.in_ok-flip.ensures.app)) c.subcommand-5.ensures

@@ -1,0 +1,203 @@
+-- The command line of `cilvm`: the arguments that clap is given, and the order that its matches
+-- hold (this profile).
+use Rattle.std.specs.Prelude.{◌≡◌, ◌≢◌, ◌⊎◌, ℕ, Bool, pos, true, false, List, [], ◌∷◌, codes}
+use Rattle.std.specs.Prelude.{Option, Some, None, Result, Ok, Err, option_map, option_and_then}
+use Rattle.std.specs.Prelude.{if◌then◌else◌, ⊤}
+use Rattle.std.specs.Str.{bytes_eq}
+use Rattle.std.specs.Str.Parse.{digits_value, without_leading_plus}
+use Rattle.clap.specs.ValueTests.{is_unsigned_in}
+use Rattle.clap.specs.Words.{App, IsAmong, Kinds, Row, Rule, Text, fault_of, first_of, new_app}
+use Rattle.clap.specs.Words.{new_rule, subcommand_of, with_rule, with_subcommand}
+use Rattle.clap.specs.declared.builder.action.ArgAction.TheVariants.{SetTrue}
+use Rattle.clap.specs.declared.builder.value_parser.ValueParser.TheVariants as vp
+use Rattle.clap.specs.declared.error.kind.ErrorKind.{ErrorKind}
+use Rattle.clap.specs.declared.error.kind.ErrorKind.TheVariants.{DisplayHelp, OutOfMemory}
+use Rattle.cil_model.specs.Ranges.{are_in_range}
+use Rattle.cil_model.specs.declared.limits.Limits.{Limits}
+use Rattle.cil_model.specs.declared.limits.TheConstants.{LEAST_WORDS, MOST_WORDS}
+use Rattle.cil_model.specs.declared.limits.TheConstants.{MOST_BUDGET, MOST_DEPTH}
+use Rattle.driver.specs.declared.orders.Order.{Order}
+use Rattle.driver.specs.declared.orders.Order.TheVariants.{Check, Run, Replay, Trace, Flip}
+use Rattle.command_line.specs.declared.line.LineFault.{LineFault}
+use Rattle.command_line.specs.declared.line.LineFault.TheVariants.{Help, Bad, Memory}
+
+-- ---- the arguments
+
+-- a value without a name, which has to be given
+abbrev pub file_rule : Text → Rule
+file_rule id = record (new_rule id) { required = true; value_names = 1 }
+
+-- `--id VALUE`
+abbrev pub text_rule : Text → Rule
+text_rule id = record (new_rule id) { long = Some id; value_names = 1 }
+
+-- `--id N` with `least ≤ N ≤ most`
+abbrev pub number_rule : Text → ℕ → ℕ → Rule
+number_rule id least most =
+    record (text_rule id) { parser = Some (vp.Signed (pos least) (pos most)) }
+
+-- `--id`
+abbrev pub flag_rule : Text → Rule
+flag_rule id = record (new_rule id) { long = Some id; action = Some SetTrue }
+
+abbrev pub with_default : Text → Rule → Rule
+with_default text rule = record rule { defaults = text ∷ [] }
+
+abbrev pub needed : Rule → Rule
+needed rule = record rule { required = true }
+
+abbrev pub with_limits : App → App
+with_limits a = with_rule (with_rule (with_rule a
+    (with_default (codes "65536") (number_rule (codes "words") LEAST_WORDS MOST_WORDS)))
+    (with_default (codes "100000") (number_rule (codes "budget") 1 MOST_BUDGET)))
+    (with_default (codes "64") (number_rule (codes "depth") 1 MOST_DEPTH))
+
+abbrev pub with_explain : App → App
+with_explain a = with_rule a (flag_rule (codes "explain"))
+
+abbrev pub check_app : App
+check_app = with_explain (with_rule (new_app (codes "check")) (file_rule (codes "file")))
+
+abbrev pub run_app : App
+run_app = with_limits (with_explain (with_rule (with_rule (new_app (codes "run")) (file_rule (codes "file")))
+    (needed (text_rule (codes "schedule")))))
+
+-- a command that takes its schedule from a file
+abbrev pub with_files : Text → App
+with_files name = with_rule (with_rule (new_app name) (file_rule (codes "file"))) (file_rule (codes "schedule"))
+
+abbrev pub replay_app : App
+replay_app = with_limits (with_explain (with_files (codes "replay")))
+
+abbrev pub trace_app : App
+trace_app = with_limits (with_files (codes "trace"))
+
+-- all four numbers have to be given
+abbrev pub flip_app : App
+flip_app = with_rule (with_rule (with_rule (with_rule (new_app (codes "flip"))
+    (needed (number_rule (codes "seats") 1 16))) (needed (number_rule (codes "objects") 1 256)))
+    (needed (number_rule (codes "slots") 1 16))) (needed (number_rule (codes "rounds") 0 10000))
+
+abbrev pub with_required_subcommand : App → App
+with_required_subcommand a =
+    record a { top = record a.top { subcommand_required = true; arg_required_else_help = true } }
+
+abbrev pub cilvm_app : App
+cilvm_app = with_subcommand (with_subcommand (with_subcommand (with_subcommand (with_subcommand
+    (with_required_subcommand (new_app (codes "cilvm"))) check_app.top) run_app.top) replay_app.top)
+    trace_app.top) flip_app.top
+
+-- ---- what the words ask for
+
+-- the command with its files and options
+pub data Wanted : Type 0 where
+  check : Text → Bool → Wanted
+  run : Text → Text → Limits → Bool → Wanted
+  replay : Text → Text → Limits → Bool → Wanted
+  trace : Text → Text → Limits → Wanted
+  flip : ℕ → ℕ → ℕ → ℕ → Wanted
+
+abbrev pub wanted_of : Order → Wanted
+wanted_of (Check file explain) = check file.now explain
+wanted_of (Run file schedule limits explain) = run file.now schedule.now limits explain
+wanted_of (Replay file schedule limits explain) = replay file.now schedule.now limits explain
+wanted_of (Trace file schedule limits) = trace file.now schedule.now limits
+wanted_of (Flip sizes) = flip sizes.seats sizes.objects sizes.slots sizes.rounds
+
+-- the number that the text writes in decimal digits, where it lies in the range
+abbrev pub number_in : ℕ → ℕ → Text → Option ℕ
+number_in least most text =
+    if is_unsigned_in least most text then Some (digits_value 10 (without_leading_plus text))
+    else None
+
+abbrev pub number_at : ℕ → ℕ → Text → List Row → Option ℕ
+number_at least most id rows = option_and_then (number_in least most) (first_of id rows)
+
+abbrev pub limits_in : List Row → Option Limits
+limits_in rows = option_and_then (λ words. option_and_then (λ budget. option_map (λ depth. record {
+  words = words;
+  budget = budget;
+  depth = depth;
+}) (number_at 1 MOST_DEPTH (codes "depth") rows)) (number_at 1 MOST_BUDGET (codes "budget") rows))
+    (number_at LEAST_WORDS MOST_WORDS (codes "words") rows)
+
+-- a flag that is given has the value `true`
+abbrev pub is_true : Option Text → Bool
+is_true None = false
+is_true (Some text) = bytes_eq text (codes "true")
+
+abbrev pub flag_at : Text → List Row → Bool
+flag_at id rows = is_true (first_of id rows)
+
+abbrev pub check_in : List Row → Option Wanted
+check_in rows = option_map (λ file. check file (flag_at (codes "explain") rows)) (first_of (codes "file") rows)
+
+-- a source's file, a schedule and the limits of a run
+abbrev pub scheduled_in : List Row → Option (Text × Text × Limits)
+scheduled_in rows = option_and_then (λ file. option_and_then (λ schedule. option_map (λ limits. (file, schedule, limits))
+    (limits_in rows)) (first_of (codes "schedule") rows)) (first_of (codes "file") rows)
+
+abbrev pub run_in : List Row → Option Wanted
+run_in rows = option_map (λ (s : Text × Text × Limits). run s.0 s.1 s.2 (flag_at (codes "explain") rows)) (scheduled_in rows)
+
+abbrev pub replay_in : List Row → Option Wanted
+replay_in rows = option_map (λ (s : Text × Text × Limits). replay s.0 s.1 s.2 (flag_at (codes "explain") rows)) (scheduled_in rows)
+
+abbrev pub trace_in : List Row → Option Wanted
+trace_in rows = option_map (λ (s : Text × Text × Limits). trace s.0 s.1 s.2) (scheduled_in rows)
+
+abbrev pub flip_in : List Row → Option Wanted
+flip_in rows = option_and_then (λ seats. option_and_then (λ objects. option_and_then (λ slots.
+    option_map (flip seats objects slots) (number_at 0 10000 (codes "rounds") rows))
+    (number_at 1 16 (codes "slots") rows)) (number_at 1 256 (codes "objects") rows))
+    (number_at 1 16 (codes "seats") rows)
+
+-- what a subcommand's name and its matches ask for
+abbrev pub named_in : Text → List Row → Option Wanted
+named_in name rows =
+    if bytes_eq name (codes "check") then check_in rows
+    else (if bytes_eq name (codes "run") then run_in rows
+    else (if bytes_eq name (codes "replay") then replay_in rows
+    else (if bytes_eq name (codes "trace") then trace_in rows
+    else (if bytes_eq name (codes "flip") then flip_in rows else None))))
+
+abbrev pub wanted_in : Option (Text × List Row) → Option Wanted
+wanted_in = option_and_then (λ p. named_in p.0 p.1)
+
+-- what the words ask for, by what clap finds in them
+abbrev pub wanted_by : List Text → Option Wanted
+wanted_by words = wanted_in (subcommand_of cilvm_app words)
+
+-- what clap has against the words, a wish for help among it
+abbrev pub faults_of : List Text → Kinds
+faults_of words = fault_of cilvm_app words
+
+-- a mistake is among what clap has against the words
+abbrev pub HasMistake : List Text → Type 0
+HasMistake words = (k : ErrorKind) × IsAmong k (faults_of words) × (k ≢ DisplayHelp)
+
+-- ---- the answer
+
+-- the fault that an error of clap becomes, unless memory runs out
+abbrev pub FaultIs : ErrorKind → LineFault → Type 0
+FaultIs k (Help text) = k ≡ DisplayHelp
+FaultIs k (Bad text) = (k ≢ DisplayHelp) × (k ≢ OutOfMemory)
+FaultIs k Memory = ⊤
+
+abbrev pub Refuses : List Text → LineFault → Type 0
+Refuses words (Help text) = IsAmong DisplayHelp (faults_of words)
+Refuses words (Bad text) = HasMistake words ⊎ (wanted_by words ≡ None)
+Refuses words Memory = ⊤
+
+-- Ok comes where clap takes the words, and holds what they ask for
+abbrev pub Answers : List Text → Result Order LineFault → Type 0
+Answers words (Ok order) = (faults_of words ≡ []) × (wanted_by words ≡ Some (wanted_of order))
+Answers words (Err fault) = Refuses words fault
+
+-- each number of the order lies in its range
+abbrev pub IsInRange : Order → Type 0
+IsInRange (Check file explain) = ⊤
+IsInRange (Run file schedule limits explain) = are_in_range limits ≡ true
+IsInRange (Replay file schedule limits explain) = are_in_range limits ≡ true
+IsInRange (Trace file schedule limits) = are_in_range limits ≡ true
+IsInRange (Flip sizes) = ⊤

@@ -1,0 +1,223 @@
+//! The commands that clap reads, with their help.
+ghost use Rattle.std.specs.Prelude.{◌≡◌, IfOk, Some, pos, false};
+ghost use Rattle.std.specs.Prelude.{codes, ◌≤◌, ◌^◌, ◌<◌};
+ghost use Rattle.clap.specs.Words.{app_of, new_app, rule_of};
+ghost use Rattle.clap.specs.declared.builder.command.Command.TheViews.{out-Command};
+ghost use Rattle.command_line.specs.CommandLine.{check_app, cilvm_app, file_rule, flag_rule, number_rule};
+ghost use Rattle.command_line.specs.CommandLine.{flip_app, needed, replay_app, run_app, text_rule, trace_app};
+ghost use Rattle.command_line.specs.CommandLine.{with_explain, with_files, with_limits, with_required_subcommand};
+
+use cil_model::limits::{LEAST_WORDS, MOST_BUDGET, MOST_DEPTH, MOST_WORDS};
+use clap::{Arg, ArgAction, Command, value_parser};
+use std::alloc::{AllocError, Global};
+
+fn file_argument<'a>(alloc: Global, id: &'a str, name: &'a str, help: &'a str) -> Arg<'a>
+    ensures rule { rule_of result ≡ file_rule id.entry.now }
+    ensures local { result.global ≡ false }
+{
+    Arg::new(alloc, id)
+        .required(true)
+        .value_name(name)
+        .help(help)
+}
+
+fn text_option<'a>(alloc: Global, id: &'a str, name: &'a str, help: &'a str) -> Arg<'a>
+    ensures rule { rule_of result ≡ text_rule id.entry.now }
+    ensures local { result.global ≡ false }
+{
+    Arg::new(alloc, id).long(id).value_name(name).help(help)
+}
+
+fn number_option<'a>(alloc: Global, id: &'a str, least: u32, most: u32, help: &'a str) -> Arg<'a>
+    ensures rule { rule_of result ≡ number_rule id.entry.now least most }
+    ensures local { result.global ≡ false }
+{
+    Arg::new(alloc, id)
+        .long(id)
+        .value_name("N")
+        .help(help)
+        .value_parser(value_parser!(u32).range(i64::from(least)..=i64::from(most)))
+}
+
+/// An option that has to be given.
+fn needed_number<'a>(alloc: Global, id: &'a str, least: u32, most: u32, help: &'a str) -> Arg<'a>
+    ensures rule { rule_of result ≡ needed (number_rule id.entry.now least most) }
+    ensures local { result.global ≡ false }
+{
+    number_option(alloc, id, least, most, help).required(true)
+}
+
+/// The option that has a refusal explained.
+fn with_explain<'a>(alloc: Global, command: Command<'a>) -> Result<Command<'a>, AllocError>
+    requires { (out-Command command).has_globals ≡ false }
+    ensures app { IfOk result (λ c. app_of c ≡ with_explain (app_of command.entry)) }
+    ensures local { IfOk result (λ c. (out-Command c).has_globals ≡ false) }
+{
+    let explain = Arg::new(alloc, "explain")
+        .long("explain")
+        .action(ArgAction::SetTrue)
+        .help("After a refusal, shows its place and its rule");
+    command.arg(explain)
+}
+
+/// A command that takes a source and a schedule, each from a file.
+fn with_files<'a>(alloc: Global, name: &'a str) -> Result<Command<'a>, AllocError>
+    ensures app { IfOk result (λ c. app_of c ≡ with_files name.entry.now) }
+    ensures local { IfOk result (λ c. (out-Command c).has_globals ≡ false) }
+{
+    let file = file_argument(alloc, "file", "FILE", "The source, in ilasm text");
+    let schedule = file_argument(alloc, "schedule", "SCHEDULE", "The file with the events");
+    Command::new(alloc, name).arg(file)?.arg(schedule)
+}
+
+fn with_limits<'a>(alloc: Global, command: Command<'a>) -> Result<Command<'a>, AllocError>
+    requires { (out-Command command).has_globals ≡ false }
+    ensures app { IfOk result (λ c. app_of c ≡ with_limits (app_of command.entry)) }
+    ensures local { IfOk result (λ c. (out-Command c).has_globals ≡ false) }
+{
+    let words = number_option(
+        alloc,
+        "words",
+        LEAST_WORDS,
+        MOST_WORDS,
+        "Words of 64 bits in a space, 64 to 1048576",
+    )
+    .default_value("65536");
+    let budget = number_option(
+        alloc,
+        "budget",
+        1,
+        MOST_BUDGET,
+        "Steps that each thread may take, 1 to 1000000",
+    )
+    .default_value("100000");
+    let depth = number_option(
+        alloc,
+        "depth",
+        1,
+        MOST_DEPTH,
+        "Calls that a thread may have open, 1 to 256",
+    )
+    .default_value("64");
+    command.arg(words)?.arg(budget)?.arg(depth)
+}
+
+fn check_command<'a>(alloc: Global) -> Result<Command<'a>, AllocError>
+    ensures app { IfOk result (λ c. app_of c ≡ check_app) }
+    ensures local { IfOk result (λ c. (out-Command c).has_globals ≡ false) }
+{
+    let file = file_argument(alloc, "file", "FILE", "The source, in ilasm text");
+    let command = Command::new(alloc, "check")
+        .about("Says whether a source is accepted")
+        .after_help("Example:\n  cilvm check examples/add.il")
+        .arg(file)?;
+    with_explain(alloc, command)
+}
+
+fn run_command<'a>(alloc: Global) -> Result<Command<'a>, AllocError>
+    ensures app { IfOk result (λ c. app_of c ≡ run_app) }
+    ensures local { IfOk result (λ c. (out-Command c).has_globals ≡ false) }
+{
+    let file = file_argument(alloc, "file", "FILE", "The source, in ilasm text");
+    let schedule = text_option(
+        alloc,
+        "schedule",
+        "EVENTS",
+        "The events in their order, as 's0*5 g a0'",
+    )
+    .required(true);
+    let command = Command::new(alloc, "run")
+        .about("Runs a source by a schedule given on the command line")
+        .after_help(
+            "Events, with spaces between them:\n  s0    a step of thread 0: one instruction\n  a0    its acknowledgement to the collector\n  g     an event of the collector\n  s0*5  five steps; '*' and a count may follow each event\nThe threads have the numbers 0 to 15, and a schedule has at most 1000000 events.\n\nExample, which prints 5:\n  cilvm run examples/add.il --schedule 's0*5'",
+        )
+        .arg(file)?
+        .arg(schedule)?;
+    let command = with_explain(alloc, command)?;
+    with_limits(alloc, command)
+}
+
+fn replay_command<'a>(alloc: Global) -> Result<Command<'a>, AllocError>
+    ensures app { IfOk result (λ c. app_of c ≡ replay_app) }
+    ensures local { IfOk result (λ c. (out-Command c).has_globals ≡ false) }
+{
+    let command = with_files(alloc, "replay")?
+        .about("Runs a source by a schedule that a file holds")
+        .after_help(
+            "The file has the events in the form that 'cilvm run --help' tells, on as many lines as you like.\n\nExample, which prints 5:\n  cilvm replay examples/add.il examples/add.schedule",
+        );
+    let command = with_explain(alloc, command)?;
+    with_limits(alloc, command)
+}
+
+fn trace_command<'a>(alloc: Global) -> Result<Command<'a>, AllocError>
+    ensures app { IfOk result (λ c. app_of c ≡ trace_app) }
+    ensures local { IfOk result (λ c. (out-Command c).has_globals ≡ false) }
+{
+    let command = with_files(alloc, "trace")?
+        .about("Replays a schedule, and prints a line of each event")
+        .after_help(
+            "A line has these columns, with tabs between them: the event's number, the event, what was reported of it, the instruction that the thread was at, the thread's frames and the height of its stack after the event, and the words in use after it. What the program prints and how its threads stand follow as 'cilvm replay' prints them.\n\nExample:\n  cilvm trace examples/add.il examples/add.schedule",
+        );
+    with_limits(alloc, command)
+}
+
+fn flip_command<'a>(alloc: Global) -> Result<Command<'a>, AllocError>
+    ensures app { IfOk result (λ c. app_of c ≡ flip_app) }
+    ensures local { IfOk result (λ c. (out-Command c).has_globals ≡ false) }
+{
+    let seats = needed_number(
+        alloc,
+        "seats",
+        1,
+        16,
+        "Threads that store and load, 1 to 16",
+    );
+    let objects = needed_number(alloc, "objects", 1, 256, "Objects, 1 to 256");
+    let slots = needed_number(alloc, "slots", 1, 16, "Slots of each object, 1 to 16");
+    let rounds = needed_number(
+        alloc,
+        "rounds",
+        0,
+        10_000,
+        "Stores to each slot, 0 to 10000",
+    );
+    Command::new(alloc, "flip")
+        .about("Tries the copying of slots without a lock, by threads")
+        .after_help(
+            "Each seat is a thread. In each round it stores an object to each of its slots and loads it again, while another thread copies all slots, moves the seats to the copies and retires the first ones. 'kept' counts the loads that gave what was stored, 'retired' the slots whose first copy was retired.\n\nExample, which prints 'kept 24' and 'retired 6':\n  cilvm flip --seats 1 --objects 2 --slots 3 --rounds 4",
+        )
+        .arg(seats)?
+        .arg(objects)?
+        .arg(slots)?
+        .arg(rounds)
+}
+
+fn program<'a>(alloc: Global) -> Command<'a>
+    ensures { app_of result ≡ with_required_subcommand (new_app (codes "cilvm")) }
+{
+    Command::new(alloc, "cilvm")
+        .about("A machine that runs CIL threads while a collector copies their heap")
+        .after_help(
+            "'cilvm COMMAND --help' says what a command takes.\n\nExample, which prints 5:\n  cilvm run examples/add.il --schedule 's0*5'",
+        )
+        .subcommand_required(true)
+        .arg_required_else_help(true)
+}
+
+/// The whole command line.
+pub fn cilvm_command<'a>(alloc: Global) -> Result<Command<'a>, AllocError>
+    ensures { IfOk result (λ c. app_of c ≡ cilvm_app) }
+{
+    let check = check_command(alloc)?;
+    let run = run_command(alloc)?;
+    let replay = replay_command(alloc)?;
+    let trace = trace_command(alloc)?;
+    let flip = flip_command(alloc)?;
+    program(alloc)
+        .subcommand(check)?
+        .subcommand(run)?
+        .subcommand(replay)?
+        .subcommand(trace)?
+        .subcommand(flip)
+}

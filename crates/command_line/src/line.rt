@@ -1,0 +1,203 @@
+//! Reads the command line.
+ghost use Rattle.std.specs.Prelude.{◌≡◌, IfOk, IfSome, codes, map, option_map, IfErr, is_some, true, ◌≤◌};
+ghost use Rattle.clap.specs.Words.{found_of, first_of, kind_of, rows_of, subcommand_rows_of};
+ghost use Rattle.command_line.specs.CommandLine.{Answers, FaultIs, IsInRange, check_in, limits_in};
+ghost use Rattle.command_line.specs.CommandLine.{flag_at, number_at, number_in, flip_in, replay_in, run_in, scheduled_in, trace_in, wanted_in};
+ghost use Rattle.command_line.specs.CommandLine.{wanted_of};
+ghost use Rattle.cil_model.specs.Ranges.{are_in_range};
+ghost use Rattle.command_line.specs.declared.line.LineFault.TheVariants.{Memory};
+
+use crate::commands::cilvm_command;
+use cil_model::limits::{LEAST_WORDS, Limits, MOST_BUDGET, MOST_DEPTH, MOST_WORDS};
+use clap::error::ErrorKind;
+use clap::{ArgMatches, Error};
+use driver::Order;
+use flip_trial::Sizes;
+use std::alloc::{AllocError, Global};
+
+/// Why the words of a command line hold no order.
+#[derive(Debug, Drop)]
+pub enum LineFault {
+    /// Help was asked for: the text for the standard output.
+    Help(String),
+    /// The words have a mistake: the text for the standard error.
+    Bad(String),
+    /// Memory ran out.
+    Memory,
+}
+
+impl From<AllocError> for LineFault {
+    ghost from_gives = { λ _ fault. fault ≡ Memory };
+
+    fn from(_error: AllocError) -> LineFault {
+        LineFault::Memory
+    }
+}
+
+/// Reads the words of a command line, of which the first is the program's name.
+pub fn order<'a>(alloc: Global, words: &'a [&'a str]) -> Result<Order<'a>, LineFault>
+    ensures answer { Answers (map (λ word. word.now) words.entry.now) result }
+    ensures range { IfOk result IsInRange }
+{
+    let command = cilvm_command(alloc)?;
+    match command.try_get_matches_from(words) {
+        Ok(matches) => match wanted(&matches) {
+            Some(order) => Ok(order),
+            None => Err(LineFault::Bad(String::from_str(
+                alloc,
+                "error: the command line holds no order\n",
+            )?)),
+        },
+        Err(error) => Err(line_fault(alloc, &error)),
+    }
+}
+
+fn line_fault(alloc: Global, error: &Error) -> LineFault
+    ensures { FaultIs (kind_of error.now) result }
+{
+    let kind = error.kind();
+    if kind == ErrorKind::OutOfMemory {
+        return LineFault::Memory;
+    }
+    match error.to_string(alloc) {
+        Ok(text) if kind == ErrorKind::DisplayHelp => LineFault::Help(text),
+        Ok(text) => LineFault::Bad(text),
+        Err(_) => LineFault::Memory,
+    }
+}
+
+fn wanted<'a>(matches: &ArgMatches<'a>) -> Option<Order<'a>>
+    ensures value { option_map wanted_of result ≡ wanted_in (subcommand_rows_of matches.now) }
+    ensures range { IfSome result IsInRange }
+{
+    let (name, found) = matches.subcommand()?;
+    match name {
+        "check" => wanted_check(found),
+        "run" => wanted_run(found),
+        "replay" => wanted_replay(found),
+        "trace" => wanted_trace(found),
+        "flip" => wanted_flip(found),
+        _ => None,
+    }
+}
+
+fn wanted_check<'a>(found: &ArgMatches<'a>) -> Option<Order<'a>>
+    ensures value { option_map wanted_of result ≡ check_in (rows_of (found_of found.now)) }
+    ensures range { IfSome result IsInRange }
+{
+    let file = text(found, "file")?;
+    let explain = flag(found, "explain");
+    Some(Order::Check { file, explain })
+}
+
+fn wanted_run<'a>(found: &ArgMatches<'a>) -> Option<Order<'a>>
+    ensures value { option_map wanted_of result ≡ run_in (rows_of (found_of found.now)) }
+    ensures range { IfSome result IsInRange }
+{
+    let (file, schedule, limits) = scheduled(found)?;
+    let explain = flag(found, "explain");
+    Some(Order::Run {
+        file,
+        schedule,
+        limits,
+        explain,
+    })
+}
+
+fn wanted_replay<'a>(found: &ArgMatches<'a>) -> Option<Order<'a>>
+    ensures value { option_map wanted_of result ≡ replay_in (rows_of (found_of found.now)) }
+    ensures range { IfSome result IsInRange }
+{
+    let (file, schedule, limits) = scheduled(found)?;
+    let explain = flag(found, "explain");
+    Some(Order::Replay {
+        file,
+        schedule,
+        limits,
+        explain,
+    })
+}
+
+fn wanted_trace<'a>(found: &ArgMatches<'a>) -> Option<Order<'a>>
+    ensures value { option_map wanted_of result ≡ trace_in (rows_of (found_of found.now)) }
+    ensures range { IfSome result IsInRange }
+{
+    let (file, schedule, limits) = scheduled(found)?;
+    Some(Order::Trace {
+        file,
+        schedule,
+        limits,
+    })
+}
+
+fn wanted_flip<'a>(found: &ArgMatches<'a>) -> Option<Order<'a>>
+    ensures value { option_map wanted_of result ≡ flip_in (rows_of (found_of found.now)) }
+    ensures range { IfSome result IsInRange }
+{
+    let seats = number(found, "seats", 1, 16)?;
+    let objects = number(found, "objects", 1, 256)?;
+    let slots = number(found, "slots", 1, 16)?;
+    let rounds = number(found, "rounds", 0, 10_000)?;
+    Some(Order::Flip(Sizes::new(seats as u8, objects as u16, slots as u8, rounds as u16)))
+}
+
+/// The source's file, the schedule and the limits of a run.
+fn scheduled<'a>(found: &ArgMatches<'a>) -> Option<(&'a str, &'a str, Limits)>
+    ensures value { option_map (λ s. (s.0.now, s.1.now, s.2)) result ≡ scheduled_in (rows_of (found_of found.now)) }
+    ensures range { IfSome result (λ s. are_in_range s.2 ≡ true) }
+{
+    let file = text(found, "file")?;
+    let schedule = text(found, "schedule")?;
+    let limits = limits(found)?;
+    Some((file, schedule, limits))
+}
+
+fn limits(found: &ArgMatches<'_>) -> Option<Limits>
+    ensures value { result ≡ limits_in (rows_of (found_of found.now)) }
+    ensures range { IfSome result (λ limits. are_in_range limits ≡ true) }
+{
+    let words = number(found, "words", LEAST_WORDS, MOST_WORDS)?;
+    let budget = number(found, "budget", 1, MOST_BUDGET)?;
+    let depth = number(found, "depth", 1, MOST_DEPTH)?;
+    Some(Limits {
+        words,
+        budget,
+        depth,
+    })
+}
+
+/// The text that was given for `id`.
+fn text<'a>(found: &ArgMatches<'a>, id: &str) -> Option<&'a str>
+    ensures { option_map (λ s. s.now) result ≡ first_of id.now (rows_of (found_of found.now)) }
+{
+    found.get_str(id)
+}
+
+/// Whether the flag `id` was given.
+fn flag(found: &ArgMatches<'_>, id: &str) -> bool
+    ensures { result ≡ flag_at id.now (rows_of (found_of found.now)) }
+{
+    match text(found, id) {
+        Some("true") => true,
+        _ => false,
+    }
+}
+
+/// The number that was given for `id`, or its default, where it lies in the range.
+fn number(found: &ArgMatches<'_>, id: &str, least: u32, most: u32) -> Option<u32>
+    ensures value { result ≡ number_at least most id.now (rows_of (found_of found.now)) }
+    ensures range { IfSome result (λ n. (least ≤ n) × (n ≤ most)) }
+{
+    number_in(text(found, id)?, least, most)
+}
+
+/// The number that `text` writes, where it lies in the range.
+fn number_in(text: &str, least: u32, most: u32) -> Option<u32>
+    ensures value { result ≡ number_in least most text.now }
+    ensures range { IfSome result (λ n. (least ≤ n) × (n ≤ most)) }
+{
+    match text.parse::<u32>() {
+        Ok(number) if least <= number && number <= most => Some(number),
+        _ => None,
+    }
+}
