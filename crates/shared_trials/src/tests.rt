@@ -1,4 +1,5 @@
-use crate::{act_again, act_alone, act_in_turns, act_many, end_without_ticket, run_both};
+use crate::pair::{act_in_turns, act_many, run_both};
+use crate::single::{act_again, act_alone, end_without_ticket};
 use cil_model::events::Event;
 use cil_model::limits::Limits;
 use cil_model::reports::{End, Report};
