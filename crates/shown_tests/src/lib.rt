@@ -1,17 +1,7 @@
-//! What people are shown: places in a source, broken rules, explanations, the text of instructions and the lines of a trace.
+//! What people are shown, where no whole run shows it: the parts of a source by line and column, and instructions as text.
 #![tactic(auto)]
 
 #[cfg(test)]
-mod explanations;
-#[cfg(test)]
 mod instructions;
 #[cfg(test)]
-mod names;
-#[cfg(test)]
 mod places;
-#[cfg(test)]
-mod rules;
-#[cfg(test)]
-mod traces;
-#[cfg(test)]
-mod typings;
