@@ -1,8 +1,6 @@
-//! Sources with what the layers above the reader answer for them: nearest declarations, names and legality, layout, the flow rule, the verdict, and which of them run.
+//! Sources with what the layers above the reader answer for them: names and legality, layout, the flow rule, the verdict, and which of them run.
 #![tactic(auto)]
 
-#[cfg(test)]
-mod bases;
 #[cfg(test)]
 mod layout_memory;
 #[cfg(test)]
