@@ -1,6 +1,6 @@
 //! Reads the files that an order names.
 ghost use Rattle.std.specs.Prelude.{◌≡◌, IfOk, IfSome};
-ghost use Rattle.driver.specs.Orders.{StandsFor};
+ghost use Rattle.orders.specs.Orders.{StandsFor};
 
 use cil_model::limits::MOST_SOURCE_BYTES;
 use std::alloc::Global;

@@ -1,7 +1,7 @@
 use cil_model::limits::Limits;
 use command_line::{LineFault, order};
-use driver::Order;
 use flip_trial::Sizes;
+use orders::Order;
 use std::process::Abort;
 use std::test::Fail;
 

@@ -4,7 +4,8 @@
 mod files;
 
 use command_line::LineFault;
-use driver::{Failure, Order};
+use driver::Failure;
+use orders::Order;
 use std::fs::File;
 use std::process::ExitCode;
 use std::sync::Wait;

@@ -1,6 +1,7 @@
 use crate::carry_out;
 use cil_model::limits::Limits;
-use driver::{Failure, Order};
+use driver::Failure;
+use orders::Order;
 
 static LIMITS: Limits = Limits {
     words: 64,

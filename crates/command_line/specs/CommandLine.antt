@@ -16,8 +16,8 @@ use Rattle.cil_model.specs.Ranges.{are_in_range}
 use Rattle.cil_model.specs.declared.limits.Limits.{Limits}
 use Rattle.cil_model.specs.declared.limits.TheConstants.{LEAST_WORDS, MOST_WORDS}
 use Rattle.cil_model.specs.declared.limits.TheConstants.{MOST_BUDGET, MOST_DEPTH}
-use Rattle.driver.specs.declared.orders.Order.{Order}
-use Rattle.driver.specs.declared.orders.Order.TheVariants.{Check, Run, Replay, Trace, Flip}
+use Rattle.orders.specs.declared.order.Order.{Order}
+use Rattle.orders.specs.declared.order.Order.TheVariants.{Check, Run, Replay, Trace, Flip}
 use Rattle.command_line.specs.declared.line.LineFault.{LineFault}
 use Rattle.command_line.specs.declared.line.LineFault.TheVariants.{Help, Bad, Memory}
 

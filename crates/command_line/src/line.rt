@@ -11,8 +11,8 @@ use crate::commands::cilvm_command;
 use cil_model::limits::{LEAST_WORDS, Limits, MOST_BUDGET, MOST_DEPTH, MOST_WORDS};
 use clap::error::ErrorKind;
 use clap::{ArgMatches, Error};
-use driver::Order;
 use flip_trial::Sizes;
+use orders::Order;
 use std::alloc::{AllocError, Global};
 
 /// Why the words of a command line hold no order.

@@ -1,4 +1,3 @@
 pub mod Failures
-pub mod Orders
 pub mod Outcomes
 pub mod Threads

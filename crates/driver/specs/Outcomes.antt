@@ -35,12 +35,12 @@ use Rattle.schedule_text.specs.declared.errors.ScheduleError.{ScheduleError}
 use Rattle.driver.specs.Failures.{failure_of_making, failure_of_reading, failure_of_resolving}
 use Rattle.driver.specs.Failures.{failure_of_schedule, failure_of_verifying, is_refusal, message_of}
 use Rattle.driver.specs.Failures.{IsStatusOf, status_of_failure}
-use Rattle.driver.specs.Orders.{is_explained}
+use Rattle.orders.specs.Orders.{is_explained}
 use Rattle.driver.specs.Threads.{ends_of, lines_from, status_of}
 use Rattle.driver.specs.declared.failure.Failure.{Failure}
 use Rattle.driver.specs.declared.failure.Failure.TheVariants.{Memory, Device}
-use Rattle.driver.specs.declared.orders.Order.{Order}
-use Rattle.driver.specs.declared.orders.Order.TheVariants.{Check, Run, Replay, Trace, Flip}
+use Rattle.orders.specs.declared.order.Order.{Order}
+use Rattle.orders.specs.declared.order.Order.TheVariants.{Check, Run, Replay, Trace, Flip}
 
 -- ---- the source
 

@@ -7,12 +7,12 @@ ghost use Rattle.driver.specs.Outcomes.{IsNotDone, IsOfWriting, IsOutcome, IsTri
 
 use crate::explaining::tell_failure;
 use crate::failure::Failure;
-use crate::orders::Order;
 use crate::running::{accept, open, run_source};
 use crate::showing::{say_accepted, show, show_trial};
 use cil_model::limits::Limits;
 use event_trace::trace;
 use flip_trial::Sizes;
+use orders::Order;
 use std::alloc::Global;
 use std::io::Write;
 use std::sync::Wait;

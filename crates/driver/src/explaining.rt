@@ -3,14 +3,14 @@
 ghost use Rattle.std.specs.Prelude.{◌≡◌, ◌≢◌, List, ℕ, OnOk};
 ghost use Rattle.std.specs.Io.KnownBytes.{Appends};
 ghost use Rattle.driver.specs.Failures.{IsStatusOf};
-ghost use Rattle.driver.specs.Orders.{is_explained};
+ghost use Rattle.orders.specs.Orders.{is_explained};
 ghost use Rattle.driver.specs.Outcomes.{IsTelling};
 
 use crate::failure::{Failure, report};
-use crate::orders::Order;
 use cil_model::limits::Limits;
 use cil_model::memory::NoMemory;
 use diagnostics::{explain, explain_limits, explain_schedule};
+use orders::Order;
 use schedule_text::read_schedule;
 use std::alloc::Global;
 use std::io::Write;

@@ -4,11 +4,9 @@
 mod driving;
 mod explaining;
 mod failure;
-mod orders;
 mod running;
 mod showing;
 
 pub use driving::drive;
 pub use failure::{Failure, report};
-pub use orders::Order;
 pub use running::{accept, run_events, run_source};

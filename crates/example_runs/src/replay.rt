@@ -1,7 +1,8 @@
 //! What `cilvm replay` prints.
 
 use cil_model::limits::Limits;
-use driver::{Order, drive};
+use driver::drive;
+use orders::Order;
 use std::alloc::Global;
 use std::io;
 use std::io::Write;

@@ -1,8 +1,8 @@
 -- What an order names (this profile).
 use Rattle.std.specs.Prelude.{◌≡◌, ◌⊎◌, ℕ, Bool, true, false, List, Option, Some, None}
 use Rattle.cil_model.specs.Sources.{is_too_long}
-use Rattle.driver.specs.declared.orders.Order.{Order}
-use Rattle.driver.specs.declared.orders.Order.TheVariants.{Check, Run, Replay, Trace, Flip}
+use Rattle.orders.specs.declared.order.Order.{Order}
+use Rattle.orders.specs.declared.order.Order.TheVariants.{Check, Run, Replay, Trace, Flip}
 
 -- the name of the file that holds the source, where one does
 abbrev pub file_of : Order → Option (List ℕ)

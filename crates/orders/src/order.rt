@@ -1,6 +1,6 @@
 //! What a command line asks for.
 ghost use Rattle.std.specs.Prelude.{◌≡◌, option_map};
-ghost use Rattle.driver.specs.Orders.{file_of, is_explained, schedule_file_of};
+ghost use Rattle.orders.specs.Orders.{file_of, is_explained, schedule_file_of};
 
 use cil_model::limits::Limits;
 use flip_trial::Sizes;
