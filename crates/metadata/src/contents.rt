@@ -2,8 +2,7 @@
 
 ghost use Rattle.std.specs.Prelude.{◌≡◌, IfOk, option_map, slice_get, option_and_then};
 ghost use Rattle.cil_model.specs.Legality.{IsLegal};
-ghost use Rattle.metadata.specs.Contents.{IsContents, IsEntryPoint};
-ghost use Rattle.resolved_code.specs.Resolved.{AreResolved};
+ghost use Rattle.metadata.specs.Contents.{IsContents};
 
 use crate::entry::entry_number;
 use cil_model::memory::NoMemory;
@@ -29,39 +28,18 @@ impl Contents {
         requires { IsLegal names.now.classes.tree.now }
         ensures { IfOk result (λ c. IsContents names.now.classes.tree.now c) }
     {
+        let Some(entry_point) = entry_number(names.classes.all()) else {
+            unreachable!()
+        };
         let literals = Literals::new(alloc, names.classes.tree)?;
+        let Some(classes) = resolve_classes(alloc, names, &literals)? else {
+            unreachable!()
+        };
         Ok(Contents {
-            classes: legal_classes(alloc, names, &literals)?,
+            classes,
             literals: literals.texts(alloc)?,
-            entry_point: legal_entry(names),
+            entry_point,
         })
-    }
-}
-
-/// The number of the entry point of a legal tree.
-fn legal_entry(names: &NameTables) -> MemberNumber
-    requires { IsLegal names.now.classes.tree.now }
-    ensures { IsEntryPoint names.now.classes.tree.now result }
-{
-    match entry_number(names.classes.all()) {
-        None => unreachable!(),
-        Some(entry_point) => entry_point,
-    }
-}
-
-/// The classes of a legal tree by their numbers. Fails for want of memory alone.
-fn legal_classes(
-    alloc: Global,
-    names: &NameTables,
-    literals: &Literals,
-) -> Result<Sequence<ResolvedClass>, NoMemory>
-    requires legal { IsLegal names.now.classes.tree.now }
-    requires same_tree { literals.now.tree.now ≡ names.now.classes.tree.now }
-    ensures { IfOk result (λ r. AreResolved names.now.classes.tree.now r) }
-{
-    match resolve_classes(alloc, names, literals)? {
-        None => unreachable!(),
-        Some(classes) => Ok(classes),
     }
 }
 

@@ -81,21 +81,19 @@ fn reference_text(alloc: Global, instruction: &Instruction) -> Result<String, No
 
 // ---- names that stand twice
 
-/// The first key that stands again further on.
-fn repeated_key<'a>(keys: &Places<TextKey<'a>>) -> Option<&'a Text> {
-    match keys.keys().get(keys.repeated()?) {
-        None => None,
-        Some(key) => Some(key.text),
+/// A key that stands again further on.
+fn repeated(alloc: Global, keys: Vec<TextKey>) -> Result<Option<String>, NoMemory> {
+    let places = Places::new(alloc, keys)?;
+    let Some(place) = places.repeated() else {
+        return Ok(None);
+    };
+    match places.keys().get(place) {
+        None => Ok(None),
+        Some(key) => Ok(Some(copied(alloc, key.text)?)),
     }
 }
 
-/// The first text that stands again further on.
-fn repeated<'a>(alloc: Global, keys: Vec<TextKey<'a>>) -> Result<Option<&'a Text>, NoMemory> {
-    let keys = Places::new(alloc, keys)?;
-    Ok(repeated_key(&keys))
-}
-
-fn repeated_label<'a>(alloc: Global, methods: &[&'a Method]) -> Result<Option<&'a Text>, NoMemory> {
+fn repeated_label(alloc: Global, methods: &[&Method]) -> Result<Option<String>, NoMemory> {
     for method in methods {
         if let Some(label) = repeated(alloc, label_keys(alloc, method)?)? {
             return Ok(Some(label));
@@ -104,40 +102,31 @@ fn repeated_label<'a>(alloc: Global, methods: &[&'a Method]) -> Result<Option<&'
     Ok(None)
 }
 
-fn method_at<'a>(methods: &[&'a Method], place: Option<usize>) -> Option<&'a Method> {
-    methods.get(place?).copied()
-}
-
 fn repeated_method<'a>(
     alloc: Global,
     methods: &[&'a Method],
 ) -> Result<Option<&'a Method>, NoMemory> {
-    let keys = Places::new(alloc, method_keys(alloc, methods)?)?;
-    Ok(method_at(methods, keys.repeated()))
-}
-
-/// What stands twice in the methods of a class: a method, a label, else nothing, and then the class is named alone.
-fn doubled_in_methods(
-    alloc: Global,
-    class: &Text,
-    methods: &[&Method],
-) -> Result<String, NoMemory> {
-    if let Some(method) = repeated_method(alloc, methods)? {
-        return member_text(alloc, class.as_str(), method_name(&method.name));
-    }
-    match repeated_label(alloc, methods)? {
-        None => copied(alloc, class),
-        Some(label) => member_text(alloc, class.as_str(), label.as_str()),
-    }
+    let places = Places::new(alloc, method_keys(alloc, methods)?)?;
+    let Some(place) = places.repeated() else {
+        return Ok(None);
+    };
+    Ok(methods.get(place).copied())
 }
 
 /// What stands twice in a class: a field, a method, a label, else an interface, for which the class is named alone.
 fn doubled_in_class(alloc: Global, class: &Class) -> Result<String, NoMemory> {
+    let owner = class.name.as_str();
     if let Some(field) = repeated(alloc, field_names(alloc, class)?)? {
-        return member_text(alloc, class.name.as_str(), field.as_str());
+        return member_text(alloc, owner, field.as_str());
     }
     let methods = methods_of(alloc, class)?;
-    doubled_in_methods(alloc, &class.name, methods.as_slice())
+    if let Some(method) = repeated_method(alloc, methods.as_slice())? {
+        return member_text(alloc, owner, method_name(&method.name));
+    }
+    match repeated_label(alloc, methods.as_slice())? {
+        None => copied(alloc, &class.name),
+        Some(label) => member_text(alloc, owner, label.as_str()),
+    }
 }
 
 fn doubled_in_classes(alloc: Global, classes: &[Class]) -> Result<String, NoMemory> {
@@ -151,12 +140,12 @@ fn doubled_in_classes(alloc: Global, classes: &[Class]) -> Result<String, NoMemo
 
 fn doubled(alloc: Global, tree: &Tree) -> Result<String, NoMemory> {
     if let Some(name) = repeated(alloc, text_keys(alloc, tree.externs.as_slice())?)? {
-        return copied(alloc, name);
+        return Ok(name);
     }
     let classes = tree.classes.as_slice();
     match repeated(alloc, class_names(alloc, classes)?)? {
         None => doubled_in_classes(alloc, classes),
-        Some(name) => copied(alloc, name),
+        Some(name) => Ok(name),
     }
 }
 
@@ -186,14 +175,10 @@ fn missing_label<'a>(labels: &Places<TextKey<'a>>, lines: &'a [Line]) -> Option<
     None
 }
 
-fn unknown_label_of(alloc: Global, method: &Method) -> Result<Option<&Text>, NoMemory> {
-    let labels = Places::new(alloc, label_keys(alloc, method)?)?;
-    Ok(missing_label(&labels, lines_of(method)))
-}
-
 fn unknown_label<'a>(alloc: Global, methods: &[&'a Method]) -> Result<Option<&'a Text>, NoMemory> {
     for method in methods {
-        if let Some(label) = unknown_label_of(alloc, method)? {
+        let labels = Places::new(alloc, label_keys(alloc, method)?)?;
+        if let Some(label) = missing_label(&labels, lines_of(method)) {
             return Ok(Some(label));
         }
     }

@@ -26,10 +26,11 @@ pub(crate) fn is_own_base(names: &NameTables, class: &Class) -> bool
 pub fn has_cycle(names: &NameTables) -> bool
     ensures { result ≡ has_cycle names.now.classes.tree.now }
 {
-    for class in names.classes.tree.classes.as_slice() {
-        if is_own_base(names, class) {
-            return true;
-        }
-    }
-    false
+    names
+        .classes
+        .tree
+        .classes
+        .as_slice()
+        .iter()
+        .any(|class| is_own_base(names, class))
 }

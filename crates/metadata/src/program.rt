@@ -1,10 +1,8 @@
 // Legal programs, and why a tree is none.
 
-ghost use Rattle.std.specs.Prelude.{◌≡◌, ◌≢◌, Some, IfOk, IfErr, map, option_map};
-ghost use Rattle.cil_model.specs.Declarations.{built_ins};
+ghost use Rattle.std.specs.Prelude.{◌≡◌, ◌≢◌, Some, IfOk, IfErr, option_map};
 ghost use Rattle.cil_model.specs.Legality.{IsLegal, least_broken};
 ghost use Rattle.cil_model.specs.Mentions.{literals_of};
-ghost use Rattle.name_tables.specs.BuiltInTable.{built_in_entry};
 ghost use Rattle.resolved_code.specs.Resolved.{AreResolved};
 ghost use Rattle.metadata.specs.Contents.{IsContents, IsFieldOf, IsMethodOf, IsEntryPoint};
 ghost use Rattle.metadata.specs.RuleNumbers.{number_of};
@@ -129,37 +127,20 @@ impl Program {
     }
 }
 
-/// What a legal tree is by numbers; of another what it breaks first, with its name. The tree's names are known by number.
-fn contents_of(alloc: Global, names: &NameTables) -> Result<Contents, MetaError>
-    ensures legal { IfOk result (λ c. IsLegal names.now.classes.tree.now × IsContents names.now.classes.tree.now c) }
-    ensures broken { IfErr result (λ e. e ≢ OutOfMemory → least_broken names.now.classes.tree.now ≡ Some (number_of e)) }
-{
-    match least_broken(alloc, names)? {
-        None => Ok(Contents::of_legal(alloc, names)?),
-        Some(rule) => Err(MetaError::Broken {
-            rule,
-            culprit: culprit(alloc, names, rule)?,
-        }),
-    }
-}
-
-/// What a legal tree is by numbers; of another what it breaks first, with its name. The built-in classes are given.
-fn checked_with(alloc: Global, tree: &Tree, table: &[BuiltInClass]) -> Result<Contents, MetaError>
-    requires { map built_in_entry table.now ≡ built_ins }
-    ensures legal { IfOk result (λ c. IsLegal tree.now × IsContents tree.now c) }
-    ensures broken { IfErr result (λ e. e ≢ OutOfMemory → least_broken tree.now ≡ Some (number_of e)) }
-{
-    let names = NameTables::new(alloc, tree, table)?;
-    contents_of(alloc, &names)
-}
-
 /// What a legal tree is by numbers; of another what it breaks first, with its name.
 fn checked(alloc: Global, tree: &Tree) -> Result<Contents, MetaError>
     ensures legal { IfOk result (λ c. IsLegal tree.now × IsContents tree.now c) }
     ensures broken { IfErr result (λ e. e ≢ OutOfMemory → least_broken tree.now ≡ Some (number_of e)) }
 {
     let table = BuiltInClass::all(alloc)?;
-    checked_with(alloc, tree, table.as_slice())
+    let names = NameTables::new(alloc, tree, table.as_slice())?;
+    match least_broken(alloc, &names)? {
+        None => Ok(Contents::of_legal(alloc, &names)?),
+        Some(rule) => Err(MetaError::Broken {
+            rule,
+            culprit: culprit(alloc, &names, rule)?,
+        }),
+    }
 }
 
 /// The program of a legal tree. Another tree is dropped, and the error has the least number of a rule that it breaks. Want of
