@@ -1,15 +1,11 @@
 //! Assemblies, classes and their members.
 
-ghost use Rattle.std.specs.Prelude.{codes, ℕ, List, Some};
-ghost use Rattle.cil_model.specs.declared.tokens.Token.{Token};
-ghost use Rattle.cil_model.specs.declared.types.ClassName.{ClassName};
-ghost use Rattle.cil_model.specs.declared.tokens.Symbol.TheVariants.{OpenBrace, CloseBrace};
-ghost use Rattle.ilasm_tokens.specs.Steps.{bind, Gives};
-ghost use Rattle.ilasm_reader.specs.Parsing.{assembly_at, block_at, class_at, class_name_at, extern_at, field_at, implements_at, in_block, interface_at, interface_member_at, member_at, name_at, plain_class_at, sign_at, starts_extern, tree_at, word_at};
+ghost use Rattle.ilasm_tokens.specs.Steps.{Gives};
+ghost use Rattle.ilasm_reader.specs.Parsing.{assembly_at, block_at, class_at, extern_at, field_at, implements_at, in_block, interface_at, interface_member_at, member_at, plain_class_at, starts_extern, tree_at};
 
-use crate::lists::{Parse, Starts, commas, expect_empty_block, in_block, many};
+use crate::lists::{Parse, Starts, commas, in_block, many};
 use crate::methods::method;
-use crate::single::{after_word, expect_symbol, expect_word, expect_words, flag, name};
+use crate::single::{after_word, expect_symbol, expect_word, flag, name};
 use crate::types::{AnyType, ClassReference};
 use cil_model::sequences::Sequence;
 use cil_model::texts::Text;
@@ -28,7 +24,8 @@ const FEW: usize = 4;
 fn field(alloc: Global, tokens: Tokens<'_>) -> Result<(Field, Tokens<'_>), Failure>
     ensures { Gives (λ x. (x.0, x.1.now)) result (field_at tokens.now) }
 {
-    let rest = expect_words(tokens, b".field", b"public")?;
+    let rest = expect_word(tokens, b".field")?;
+    let rest = expect_word(rest, b"public")?;
     let (is_static, rest) = flag(rest, b"static");
     let (field_type, rest) = AnyType::parse(alloc, rest)?;
     let (name, rest) = name(alloc, rest)?;
@@ -130,8 +127,10 @@ fn implements(
 fn interface(alloc: Global, tokens: Tokens<'_>) -> Result<(Class, Tokens<'_>), Failure>
     ensures { Gives (λ x. (x.0, x.1.now)) result (interface_at tokens.now) }
 {
-    let rest = expect_words(tokens, b"interface", b"public")?;
-    let rest = expect_words(rest, b"abstract", b"auto")?;
+    let rest = expect_word(tokens, b"interface")?;
+    let rest = expect_word(rest, b"public")?;
+    let rest = expect_word(rest, b"abstract")?;
+    let rest = expect_word(rest, b"auto")?;
     let rest = expect_word(rest, b"ansi")?;
     let (name, rest) = name(alloc, rest)?;
     let (members, rest) = block::<InterfaceMember>(alloc, rest)?;
@@ -146,19 +145,6 @@ fn interface(alloc: Global, tokens: Tokens<'_>) -> Result<(Class, Tokens<'_>), F
     ))
 }
 
-/// The class that a class extends, and the interfaces that it lists.
-#[tactic(auto, unfolding(ilasm_tokens::specs::Steps::bind))]
-fn heritage(
-    alloc: Global,
-    tokens: Tokens<'_>,
-) -> Result<((ClassName, Sequence<ClassName>), Tokens<'_>), Failure>
-    ensures { Gives {Y = (ClassName × List ClassName) × List Token} (λ x. (x.0, x.1.now)) result (bind (word_at (codes "extends") tokens.now) (λ extends. bind (class_name_at extends) (λ base. bind (implements_at base.1) (λ interfaces. Some ((base.0, interfaces.0), interfaces.1))))) }
-{
-    let (base, rest) = ClassReference::parse(alloc, expect_word(tokens, b"extends")?)?;
-    let (interfaces, rest) = implements(alloc, rest)?;
-    Ok(((base, interfaces), rest))
-}
-
 /// A class that is no interface, behind the word `.class`.
 #[tactic(auto, unfolding(crate::specs::Parsing::plain_class_at, ilasm_tokens::specs::Steps::bind))]
 fn plain_class(alloc: Global, tokens: Tokens<'_>) -> Result<(Class, Tokens<'_>), Failure>
@@ -166,9 +152,12 @@ fn plain_class(alloc: Global, tokens: Tokens<'_>) -> Result<(Class, Tokens<'_>),
 {
     let rest = expect_word(tokens, b"public")?;
     let (is_abstract, rest) = flag(rest, b"abstract");
-    let rest = expect_words(rest, b"auto", b"ansi")?;
+    let rest = expect_word(rest, b"auto")?;
+    let rest = expect_word(rest, b"ansi")?;
     let (name, rest) = name(alloc, rest)?;
-    let ((base, interfaces), rest) = heritage(alloc, rest)?;
+    let rest = expect_word(rest, b"extends")?;
+    let (base, rest) = ClassReference::parse(alloc, rest)?;
+    let (interfaces, rest) = implements(alloc, rest)?;
     let (members, rest) = block::<AnyMember>(alloc, rest)?;
     let kind = ClassKind::Class {
         is_abstract,
@@ -216,15 +205,6 @@ impl Starts for AnyClass {
     }
 }
 
-/// The name of an assembly, and its block, which is empty.
-#[tactic(auto, unfolding(ilasm_tokens::specs::Steps::bind))]
-fn assembly_name(alloc: Global, tokens: Tokens<'_>) -> Result<(Text, Tokens<'_>), Failure>
-    ensures { Gives {Y = List ℕ × List Token} (λ x. (x.0, x.1.now)) result (bind (name_at tokens.now) (λ name. bind (sign_at OpenBrace name.1) (λ inside. bind (sign_at CloseBrace inside) (λ rest. Some (name.0, rest))))) }
-{
-    let (name, rest) = name(alloc, tokens)?;
-    Ok((name, expect_empty_block(rest)?))
-}
-
 /// An assembly that the source uses.
 pub struct Extern;
 
@@ -237,7 +217,12 @@ impl Parse for Extern {
 
     #[tactic(auto, unfolding(crate::specs::Parsing::extern_at, ilasm_tokens::specs::Steps::bind))]
     fn parse(alloc: Global, tokens: Tokens<'_>) -> Result<(Text, Tokens<'_>), Failure> {
-        assembly_name(alloc, expect_words(tokens, b".assembly", b"extern")?)
+        let rest = expect_word(tokens, b".assembly")?;
+        let rest = expect_word(rest, b"extern")?;
+        let (name, rest) = name(alloc, rest)?;
+        let rest = expect_symbol(rest, Symbol::OpenBrace)?;
+        let rest = expect_symbol(rest, Symbol::CloseBrace)?;
+        Ok((name, rest))
     }
 
     ghost consumes = { λ ts x rest e. ((extern_sound ts).out (x, rest) e).1 };
@@ -263,7 +248,9 @@ fn assembly(alloc: Global, tokens: Tokens<'_>) -> Result<(Option<Text>, Tokens<'
     let Some(rest) = after_word(tokens, b".assembly") else {
         return Ok((None, tokens));
     };
-    let (name, rest) = assembly_name(alloc, rest)?;
+    let (name, rest) = name(alloc, rest)?;
+    let rest = expect_symbol(rest, Symbol::OpenBrace)?;
+    let rest = expect_symbol(rest, Symbol::CloseBrace)?;
     Ok((Some(name), rest))
 }
 

@@ -5,7 +5,7 @@ ghost use Rattle.ilasm_tokens.specs.Steps.{Gives};
 ghost use Rattle.ilasm_reader.specs.Parsing.{code_at, in_block, label_at, line_at, locals_at, max_stack_at, starts_label};
 
 use crate::instructions::instruction;
-use crate::lists::{Parse, Starts, commas_to_end, in_block, many};
+use crate::lists::{Parse, Starts, commas, in_block, many};
 use crate::single::{after_name, after_word, expect_symbol, expect_word, flag, integer, name};
 use crate::types::Parameter;
 use cil_model::sequences::Sequence;
@@ -92,7 +92,8 @@ fn locals(
     };
     let rest = expect_word(rest, b"init")?;
     let rest = expect_symbol(rest, Symbol::OpenParenthesis)?;
-    commas_to_end::<Parameter>(alloc, rest)
+    let (locals, rest) = commas::<Parameter>(alloc, rest)?;
+    Ok((locals, expect_symbol(rest, Symbol::CloseParenthesis)?))
 }
 
 /// How high the stack may be.

@@ -1,10 +1,8 @@
 //! Lists of parts.
 
-ghost use Rattle.std.specs.Prelude.{◌≡◌, ◌≤◌, List, Bool, true, length, Some};
-ghost use Rattle.cil_model.specs.declared.tokens.Token.{Token};
-ghost use Rattle.cil_model.specs.declared.tokens.Symbol.TheVariants.{OpenBrace, CloseBrace, CloseParenthesis};
-ghost use Rattle.ilasm_tokens.specs.Steps.{bind, Gives, Consumes, many};
-ghost use Rattle.ilasm_reader.specs.Parsing.{Parser, starts_comma, after_comma, commas_at, parentheses_at, in_block, sign_at};
+ghost use Rattle.std.specs.Prelude.{◌≡◌, ◌≤◌, List, Bool, true, length};
+ghost use Rattle.ilasm_tokens.specs.Steps.{Gives, Consumes, many};
+ghost use Rattle.ilasm_reader.specs.Parsing.{Parser, starts_comma, after_comma, commas_at, parentheses_at, in_block};
 
 use crate::single::{after_symbol, expect_symbol};
 use cil_model::sequences::Sequence;
@@ -129,18 +127,6 @@ pub fn commas<P: Parse>(
     Ok((Sequence::new(items), rest))
 }
 
-/// One or more, with commas between, up to the end of parentheses.
-#[tactic(auto, unfolding(ilasm_tokens::specs::Steps::bind))]
-pub fn commas_to_end<P: Parse>(
-    alloc: Global,
-    tokens: Tokens<'_>,
-) -> Result<(Sequence<P::Tree>, Tokens<'_>), Failure>
-    ensures { Gives {Y = List P.Tree × List Token} (λ x. (x.0, x.1.now)) result (bind (commas_at P.parsed_at tokens.now) (λ items. bind (sign_at CloseParenthesis items.1) (λ rest. Some (items.0, rest)))) }
-{
-    let (items, rest) = commas::<P>(alloc, tokens)?;
-    Ok((items, expect_symbol(rest, Symbol::CloseParenthesis)?))
-}
-
 /// Any number in parentheses, with commas between.
 #[tactic(auto, unfolding(crate::specs::Parsing::parentheses_at, ilasm_tokens::specs::Steps::bind, ilasm_tokens::specs::Steps::choice))]
 pub fn parentheses<P: Parse>(
@@ -153,18 +139,8 @@ pub fn parentheses<P: Parse>(
     if let Some(rest) = after_symbol(inside, Symbol::CloseParenthesis) {
         return Ok((Sequence::new(Vec::new(alloc)), rest));
     }
-    commas_to_end::<P>(alloc, inside)
-}
-
-/// The tokens behind a block with nothing in it, which must stand here.
-#[tactic(auto, unfolding(ilasm_tokens::specs::Steps::bind))]
-pub fn expect_empty_block(tokens: Tokens<'_>) -> Result<Tokens<'_>, Failure>
-    ensures { Gives (λ r. r.now) result (bind (sign_at OpenBrace tokens.now) (λ inside. sign_at CloseBrace inside)) }
-{
-    expect_symbol(
-        expect_symbol(tokens, Symbol::OpenBrace)?,
-        Symbol::CloseBrace,
-    )
+    let (items, rest) = commas::<P>(alloc, inside)?;
+    Ok((items, expect_symbol(rest, Symbol::CloseParenthesis)?))
 }
 
 /// Whether a block goes on: its end is neither here nor missing.

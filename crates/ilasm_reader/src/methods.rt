@@ -1,17 +1,14 @@
 //! Methods.
 
-ghost use Rattle.cil_model.specs.declared.tokens.Token.{Token};
-ghost use Rattle.cil_model.specs.declared.types.DeclaredType.{DeclaredType};
-ghost use Rattle.cil_model.specs.declared.instructions.MethodName.{MethodName};
-ghost use Rattle.std.specs.Prelude.{codes, List, Option, Some};
-ghost use Rattle.ilasm_tokens.specs.Steps.{bind, Gives};
-ghost use Rattle.ilasm_reader.specs.Parsing.{body_at, constructor_words_at, first_words_at, head_at, method_at, named_head_at, parameter_at, parentheses_at, virtual_words_at, word_at};
+ghost use Rattle.ilasm_tokens.specs.Steps.{Gives};
+ghost use Rattle.ilasm_reader.specs.Parsing.{body_at, constructor_words_at, first_words_at, head_at, method_at, virtual_words_at};
 
 use crate::code::code;
-use crate::lists::{expect_empty_block, parentheses};
-use crate::single::{after_word, expect_words, flag, name};
+use crate::lists::parentheses;
+use crate::single::{after_word, expect_symbol, expect_word, flag, name};
 use crate::types::{Parameter, return_type};
 use cil_model::instructions::MethodName;
+use cil_model::tokens::Symbol;
 use cil_model::trees::{Method, MethodKind};
 use cil_model::types::{DeclaredType, Signature};
 use ilasm_tokens::failure::Failure;
@@ -35,7 +32,8 @@ fn virtual_words(tokens: Tokens<'_>) -> Result<(Beginning, Tokens<'_>), Failure>
 {
     let (is_new_slot, rest) = flag(tokens, b"newslot");
     let (is_abstract, rest) = flag(rest, b"abstract");
-    let rest = expect_words(rest, b"virtual", b"instance")?;
+    let rest = expect_word(rest, b"virtual")?;
+    let rest = expect_word(rest, b"instance")?;
     let beginning = if is_abstract {
         Beginning::Abstract { is_new_slot }
     } else {
@@ -49,7 +47,7 @@ fn virtual_words(tokens: Tokens<'_>) -> Result<(Beginning, Tokens<'_>), Failure>
 fn constructor_words(tokens: Tokens<'_>) -> Result<Tokens<'_>, Failure>
     ensures { Gives (λ r. r.now) result (constructor_words_at tokens.now) }
 {
-    expect_words(tokens, b"rtspecialname", b"instance")
+    expect_word(expect_word(tokens, b"rtspecialname")?, b"instance")
 }
 
 /// The words before a method's return type.
@@ -69,21 +67,8 @@ fn first_words(tokens: Tokens<'_>) -> Result<(Beginning, Tokens<'_>), Failure>
     virtual_words(tokens)
 }
 
-/// The return type and the name of a method that is no constructor.
-#[tactic(auto, unfolding(crate::specs::Parsing::named_head_at, ilasm_tokens::specs::Steps::bind))]
-fn named_head(
-    alloc: Global,
-    tokens: Tokens<'_>,
-) -> Result<((Option<DeclaredType>, MethodName), Tokens<'_>), Failure>
-    ensures { Gives (λ x. (x.0, x.1.now)) result (named_head_at tokens.now) }
-{
-    let (return_type, rest) = return_type(alloc, tokens)?;
-    let (name, rest) = name(alloc, rest)?;
-    Ok(((return_type, MethodName::Named(name)), rest))
-}
-
 /// The return type and the name.
-#[tactic(auto, unfolding(crate::specs::Parsing::head_at, ilasm_tokens::specs::Steps::bind))]
+#[tactic(auto, unfolding(crate::specs::Parsing::head_at, crate::specs::Parsing::named_head_at, ilasm_tokens::specs::Steps::bind))]
 fn head(
     alloc: Global,
     beginning: Beginning,
@@ -92,10 +77,13 @@ fn head(
     ensures { Gives (λ x. (x.0, x.1.now)) result (head_at beginning tokens.now) }
 {
     if let Beginning::Constructor = beginning {
-        let rest = expect_words(tokens, b"void", b".ctor")?;
+        let rest = expect_word(tokens, b"void")?;
+        let rest = expect_word(rest, b".ctor")?;
         return Ok(((None, MethodName::Constructor), rest));
     }
-    named_head(alloc, tokens)
+    let (return_type, rest) = return_type(alloc, tokens)?;
+    let (name, rest) = name(alloc, rest)?;
+    Ok(((return_type, MethodName::Named(name)), rest))
 }
 
 /// The kind, with the code that stands here; an abstract method has an empty block.
@@ -108,7 +96,8 @@ fn body(
     ensures { Gives (λ x. (x.0, x.1.now)) result (body_at beginning tokens.now) }
 {
     if let Beginning::Abstract { is_new_slot } = beginning {
-        let rest = expect_empty_block(tokens)?;
+        let rest = expect_symbol(tokens, Symbol::OpenBrace)?;
+        let rest = expect_symbol(rest, Symbol::CloseBrace)?;
         return Ok((MethodKind::Abstract { is_new_slot }, rest));
     }
     let (code, rest) = code(alloc, tokens)?;
@@ -120,35 +109,24 @@ fn body(
     Ok((kind, rest))
 }
 
-/// The signature of a method and its name, up to its body.
-#[tactic(auto, unfolding(ilasm_tokens::specs::Steps::bind))]
-fn signature(
-    alloc: Global,
-    beginning: Beginning,
-    tokens: Tokens<'_>,
-) -> Result<((MethodName, Signature), Tokens<'_>), Failure>
-    ensures { Gives {Y = (MethodName × Option DeclaredType × List DeclaredType) × List Token} (λ x. ((x.0.0, x.0.1.return_type, x.0.1.parameters), x.1.now)) result (bind (head_at beginning tokens.now) (λ head. bind (parentheses_at parameter_at head.1) (λ parameters. bind (word_at (codes "cil") parameters.1) (λ managed. bind (word_at (codes "managed") managed) (λ rest. Some ((head.0.1, head.0.0, parameters.0), rest)))))) }
-{
-    let ((return_type, name), rest) = head(alloc, beginning, tokens)?;
-    let (parameters, rest) = parentheses::<Parameter>(alloc, rest)?;
-    let rest = expect_words(rest, b"cil", b"managed")?;
-    let signature = Signature {
-        parameters,
-        return_type,
-    };
-    Ok(((name, signature), rest))
-}
-
 /// A method.
 #[tactic(auto, unfolding(crate::specs::Parsing::method_at, ilasm_tokens::specs::Steps::bind))]
 pub fn method(alloc: Global, tokens: Tokens<'_>) -> Result<(Method, Tokens<'_>), Failure>
     ensures { Gives (λ x. (x.0, x.1.now)) result (method_at tokens.now) }
 {
-    let rest = expect_words(tokens, b".method", b"public")?;
+    let rest = expect_word(tokens, b".method")?;
+    let rest = expect_word(rest, b"public")?;
     let rest = after_word(rest, b"hidebysig").unwrap_or(rest);
     let (beginning, rest) = first_words(rest)?;
-    let ((name, signature), rest) = signature(alloc, beginning, rest)?;
+    let ((return_type, name), rest) = head(alloc, beginning, rest)?;
+    let (parameters, rest) = parentheses::<Parameter>(alloc, rest)?;
+    let rest = expect_word(rest, b"cil")?;
+    let rest = expect_word(rest, b"managed")?;
     let (kind, rest) = body(alloc, beginning, rest)?;
+    let signature = Signature {
+        parameters,
+        return_type,
+    };
     Ok((
         Method {
             name,

@@ -1,22 +1,15 @@
 //! Fields, methods and labels that instructions name.
 
-ghost use Rattle.std.specs.Prelude.{List, Some};
-ghost use Rattle.cil_model.specs.declared.tokens.Token.{Token};
-ghost use Rattle.cil_model.specs.declared.tokens.Symbol.TheVariants.{DoubleColon};
-ghost use Rattle.cil_model.specs.declared.types.ClassName.{ClassName};
-ghost use Rattle.cil_model.specs.declared.types.DeclaredType.{DeclaredType};
-ghost use Rattle.cil_model.specs.declared.instructions.MethodName.{MethodName};
-ghost use Rattle.ilasm_tokens.specs.Steps.{bind, Gives};
-ghost use Rattle.ilasm_reader.specs.Parsing.{class_name_at, field_reference_at, method_name_at, method_reference_at, name_at, parentheses_at, sign_at, type_at};
+ghost use Rattle.ilasm_tokens.specs.Steps.{Gives};
+ghost use Rattle.ilasm_reader.specs.Parsing.{field_reference_at, method_name_at, method_reference_at, name_at};
 
 use crate::lists::{Parse, parentheses};
 use crate::single::{after_word, expect_symbol, expect_word, name};
 use crate::types::{AnyType, ClassReference, return_type};
 use cil_model::instructions::{FieldReference, MethodName, MethodReference};
-use cil_model::sequences::Sequence;
 use cil_model::texts::Text;
 use cil_model::tokens::Symbol;
-use cil_model::types::{ClassName, DeclaredType, Signature};
+use cil_model::types::Signature;
 use ilasm_tokens::failure::Failure;
 use ilasm_tokens::source_tokens::Tokens;
 use std::alloc::Global;
@@ -38,15 +31,6 @@ impl Parse for Target {
     ghost consumes = { λ ts x rest e. ((name_sound ts).out (x, rest) e).1 };
 }
 
-/// `owner::`, which stands before the name of a member.
-#[tactic(auto, unfolding(ilasm_tokens::specs::Steps::bind))]
-fn owner(alloc: Global, tokens: Tokens<'_>) -> Result<(ClassName, Tokens<'_>), Failure>
-    ensures { Gives {Y = ClassName × List Token} (λ x. (x.0, x.1.now)) result (bind (class_name_at tokens.now) (λ owner. bind (sign_at DoubleColon owner.1) (λ rest. Some (owner.0, rest)))) }
-{
-    let (owner, rest) = ClassReference::parse(alloc, tokens)?;
-    Ok((owner, expect_symbol(rest, Symbol::DoubleColon)?))
-}
-
 /// `type owner::name`.
 #[tactic(auto, unfolding(crate::specs::Parsing::field_reference_at, ilasm_tokens::specs::Steps::bind))]
 pub fn field_reference(
@@ -56,7 +40,8 @@ pub fn field_reference(
     ensures { Gives (λ x. (x.0, x.1.now)) result (field_reference_at tokens.now) }
 {
     let (field_type, rest) = AnyType::parse(alloc, tokens)?;
-    let (owner, rest) = owner(alloc, rest)?;
+    let (owner, rest) = ClassReference::parse(alloc, rest)?;
+    let rest = expect_symbol(rest, Symbol::DoubleColon)?;
     let (name, rest) = name(alloc, rest)?;
     Ok((
         FieldReference {
@@ -80,19 +65,6 @@ fn method_name(alloc: Global, tokens: Tokens<'_>) -> Result<(MethodName, Tokens<
     Ok((MethodName::Named(name), rest))
 }
 
-/// `name(types)`, with a name or `.ctor`.
-#[tactic(auto, unfolding(ilasm_tokens::specs::Steps::bind))]
-fn named_parameters(
-    alloc: Global,
-    tokens: Tokens<'_>,
-) -> Result<((MethodName, Sequence<DeclaredType>), Tokens<'_>), Failure>
-    ensures { Gives {Y = (MethodName × List DeclaredType) × List Token} (λ x. (x.0, x.1.now)) result (bind (method_name_at tokens.now) (λ name. bind (parentheses_at type_at name.1) (λ parameters. Some ((name.0, parameters.0), parameters.1)))) }
-{
-    let (name, rest) = method_name(alloc, tokens)?;
-    let (parameters, rest) = parentheses::<AnyType>(alloc, rest)?;
-    Ok(((name, parameters), rest))
-}
-
 /// `type owner::name(types)`, with a name or `.ctor`.
 #[tactic(auto, unfolding(crate::specs::Parsing::method_reference_at, ilasm_tokens::specs::Steps::bind))]
 pub fn method_reference(
@@ -102,8 +74,10 @@ pub fn method_reference(
     ensures { Gives (λ x. (x.0, x.1.now)) result (method_reference_at tokens.now) }
 {
     let (return_type, rest) = return_type(alloc, tokens)?;
-    let (owner, rest) = owner(alloc, rest)?;
-    let ((name, parameters), rest) = named_parameters(alloc, rest)?;
+    let (owner, rest) = ClassReference::parse(alloc, rest)?;
+    let rest = expect_symbol(rest, Symbol::DoubleColon)?;
+    let (name, rest) = method_name(alloc, rest)?;
+    let (parameters, rest) = parentheses::<AnyType>(alloc, rest)?;
     let signature = Signature {
         parameters,
         return_type,

@@ -1,7 +1,7 @@
 //! Single tokens.
 
 ghost use Rattle.std.specs.Prelude.{◌≡◌, option_map};
-ghost use Rattle.ilasm_tokens.specs.Steps.{bind, Gives};
+ghost use Rattle.ilasm_tokens.specs.Steps.{Gives};
 ghost use Rattle.ilasm_reader.specs.Parsing.{word_at, sign_at, any_word_at, name_at, integer_at, quoted_at, flag_at};
 
 use cil_model::texts::Text;
@@ -46,18 +46,6 @@ pub fn expect_word<'a>(tokens: Tokens<'a>, word: &[u8]) -> Result<Tokens<'a>, Fa
         Some(rest) => Ok(rest),
         None => Err(Failure::Refused { left: tokens.len() }),
     }
-}
-
-/// The tokens behind two reserved words, which must stand here.
-#[tactic(auto, unfolding(ilasm_tokens::specs::Steps::bind))]
-pub fn expect_words<'a>(
-    tokens: Tokens<'a>,
-    first: &[u8],
-    second: &[u8],
-) -> Result<Tokens<'a>, Failure>
-    ensures { Gives (λ r. r.now) result (bind (word_at first.now tokens.now) (λ rest. word_at second.now rest)) }
-{
-    expect_word(expect_word(tokens, first)?, second)
 }
 
 /// The tokens behind a symbol, which must stand here.
