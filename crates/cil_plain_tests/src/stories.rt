@@ -69,7 +69,7 @@ enum Work<'b> {
 }
 
 /// `r` where the thread ran, `b` where it was blocked, `a` where it is absent, and its end in brackets.
-pub fn tell_report(text: &mut String, report: Report) -> Result<(), NoMemory> {
+fn tell_report(text: &mut String, report: Report) -> Result<(), NoMemory> {
     match report {
         Report::Ran => text.push('r')?,
         Report::Blocked => text.push('b')?,
@@ -227,7 +227,7 @@ const HEAD: &str = ".assembly extern mscorlib {} .assembly extern cilvm {}
 ";
 
 /// A source with both externs and a class `P` whose `Main` has this code, beside these classes.
-pub fn main_source(alloc: Global, classes: &str, code: &str) -> Result<String, NoMemory> {
+fn main_source(alloc: Global, classes: &str, code: &str) -> Result<String, NoMemory> {
     Ok(format!(in alloc;
         "{HEAD}{classes} .class public auto ansi P extends [mscorlib]System.Object {{ .field public static object lock .method public static void Main() cil managed {{ .entrypoint .maxstack 8 .locals init (object, int32) {code} }} }}"
     )?)
@@ -243,14 +243,4 @@ pub fn main_story(
 ) -> Result<String, NoMemory> {
     let source = main_source(alloc, classes, code)?;
     story(alloc, source.as_str(), limits, schedule)
-}
-
-/// The part so many times, and then the last one.
-pub fn repeated(alloc: Global, part: &str, count: usize, last: &str) -> Result<String, NoMemory> {
-    let mut text = String::new(alloc);
-    for _ in 0..count {
-        text.push_str(part)?;
-    }
-    text.push_str(last)?;
-    Ok(text)
 }

@@ -2,8 +2,7 @@ use cil_model::events::Event;
 use cil_model::limits::Limits;
 use cil_model::reports::{End, Report};
 use command_line::{LineFault, order};
-use driver::{accept, drive, run_events};
-use interleaving_core::{Machine, Refused};
+use driver::{drive, run_events};
 use orders::Order;
 use std::alloc::Global;
 use std::io;
@@ -385,43 +384,6 @@ fn looks_at_the_limits_after_the_source(rt: HostRuntime) {
     assert!(rt; err.as_slice() == b"error 103\n".as_slice());
 }
 
-/// The machine of the sum with this budget and this many words.
-fn machine(
-    rt: &(impl Abort + AllocGlobal + Threads + Wait),
-    words: u32,
-    budget: u32,
-) -> Result<Machine, Refused> {
-    let alloc = rt.alloc();
-    let limits = Limits {
-        words,
-        budget,
-        depth: 64,
-    };
-    match accept(alloc, SUM.as_bytes()) {
-        Ok(verified) => Machine::new(alloc, verified, limits),
-        Err(_) => panic!(rt; "the sum is refused"),
-    }
-}
-
-#[test]
-fn reports_each_event(rt: HostRuntime) {
-    let mut machine = machine(&rt, 65536, 3).expect(&rt, "a machine");
-    let mut reports = Vec::new(rt.alloc());
-    let steps = [Event::Step(0); 9];
-    machine
-        .run(rt.alloc(), &steps, &mut reports)
-        .expect(&rt, "memory");
-    let ended = Report::Ended(End::Budget);
-    let (ran, absent) = (Report::Ran, Report::Absent);
-    let wanted = [
-        ran, ran, ended, absent, absent, absent, absent, absent, absent,
-    ];
-    assert!(rt; reports.as_slice() == wanted.as_slice());
-    assert!(rt; machine.end_of(0) == Some(End::Budget) && machine.end_of(1).is_none());
-    assert!(rt; !machine.is_live(0) && machine.live() == 0 && machine.started() == 1);
-    assert!(rt; machine.console().is_empty());
-}
-
 #[test]
 fn runs_a_list_of_events(rt: HostRuntime) {
     let limits = Limits {
@@ -466,39 +428,6 @@ fn runs_a_list_of_events(rt: HostRuntime) {
     }
     assert!(rt; outcome.console() == b"5\n".as_slice());
     assert!(rt; outcome.machine.end_of(0) == Some(End::Done) && outcome.machine.started() == 1);
-}
-
-#[test]
-fn passes_over_events_without_a_collector(rt: HostRuntime) {
-    let mut machine = machine(&rt, 64, 5).expect(&rt, "a machine");
-    for (event, wanted) in [
-        (Event::Gc, Report::Waiting),
-        (Event::Ack(0), Report::NothingPosted),
-        (Event::Ack(1), Report::Absent),
-        (Event::Step(7), Report::Absent),
-        (Event::Step(0), Report::Ran),
-    ] {
-        assert!(rt; machine.step(rt.alloc(), event) == Ok(wanted), "{wanted:?}");
-    }
-    assert!(rt; machine.is_live(0) && machine.live() == 1);
-    assert!(rt; machine.end_of(0).is_none());
-}
-
-#[test]
-fn refuses_limits_out_of_range(rt: HostRuntime) {
-    for (words, budget, is_taken) in [
-        (63, 1, false),
-        (64, 1, true),
-        (1_048_576, 1_000_000, true),
-        (1_048_577, 1, false),
-        (64, 0, false),
-        (64, 1_000_001, false),
-    ] {
-        match machine(&rt, words, budget) {
-            Ok(_) => assert!(rt; is_taken, "{words} words, a budget of {budget}"),
-            Err(refused) => assert!(rt; !is_taken && refused.number() == 401, "{words}, {budget}"),
-        }
-    }
 }
 
 /// What was written to an output that holds its bytes itself, and so never wants memory.

@@ -1,8 +1,10 @@
-//! Explains a refusal of each kind: the sources, schedules and limits of a table, each under its name.
+//! Answers and explains a refusal of each kind: the sources, schedules and limits of a table, each under its name.
 #![tactic(auto)]
 
+mod answers;
 mod cases;
 
+use answers::source_answer;
 use anyhow::Result;
 use cases::{Case, cases_of, expanded};
 use cil_model::limits::Limits;
@@ -22,25 +24,47 @@ fn main(rt: HostRuntime) -> Result<()> {
     Ok(())
 }
 
-/// What is told of a case, by the first word of its name.
+/// What is told of a case, by the first word of its name: what the library answers, and the explanation of a refusal.
 fn told(alloc: Global, case: &Case) -> Result<String> {
     let text = expanded(alloc, case.body)?;
-    let told = match case.name.split(' ').next() {
-        Some("schedule") => schedule_told(alloc, text.as_slice())?,
-        Some("limits") => explain_limits(alloc, limits_of(text.as_slice()))?,
-        _ => explain(alloc, "bad.il", text.as_slice())?,
-    };
-    match told {
-        Some(told) => Ok(told),
-        None => Ok(String::from_str(alloc, "accepted\n")?),
+    match case.name.split(' ').next() {
+        Some("schedule") => schedule_told(alloc, text.as_slice()),
+        Some("limits") => limits_told(alloc, text.as_slice()),
+        _ => source_told(alloc, text.as_slice()),
     }
 }
 
-fn schedule_told(alloc: Global, text: &[u8]) -> Result<Option<String>> {
+fn source_told(alloc: Global, text: &[u8]) -> Result<String> {
+    let answer = source_answer(alloc, text)?;
+    let explanation = explain(alloc, "bad.il", text)?;
+    together(alloc, answer.as_str(), explanation)
+}
+
+fn schedule_told(alloc: Global, text: &[u8]) -> Result<String> {
     match read_schedule(alloc, text) {
-        Ok(_) => Ok(None),
-        Err(error) => Ok(Some(explain_schedule(alloc, "bad.schedule", text, error)?)),
+        Ok(events) => Ok(format!(in alloc; "{} events\n", events.len())?),
+        Err(error) => {
+            let answer = format!(in alloc; "error {}: {error}", error.number())?;
+            let explanation = explain_schedule(alloc, "bad.schedule", text, error)?;
+            together(alloc, answer.as_str(), Some(explanation))
+        }
     }
+}
+
+fn limits_told(alloc: Global, text: &[u8]) -> Result<String> {
+    match explain_limits(alloc, limits_of(text))? {
+        Some(explanation) => Ok(explanation),
+        None => Ok(String::from_str(alloc, "in range\n")?),
+    }
+}
+
+/// An answer, and below it the explanation, where there is one.
+fn together(alloc: Global, answer: &str, explanation: Option<String>) -> Result<String> {
+    let mut text = format!(in alloc; "{answer}\n")?;
+    if let Some(explanation) = explanation {
+        text.push_str(explanation.as_str())?;
+    }
+    Ok(text)
 }
 
 /// The limits that three numbers tell. A missing one is 0.

@@ -1,4 +1,4 @@
-//! Sources with what the layers above the reader answer for them: names and legality, layout, the flow rule, the verdict, and which of them run.
+//! Sources with what the layers above the reader make of them: numbers, a layout, stacks of types, typings, and the table of methods.
 #![tactic(auto)]
 
 #[cfg(test)]
@@ -6,15 +6,11 @@ mod layout_memory;
 #[cfg(test)]
 mod layouts;
 #[cfg(test)]
-mod limits;
+mod methods;
 #[cfg(test)]
 mod refused_memory;
 #[cfg(test)]
 mod resolved;
-#[cfg(test)]
-mod rules;
-#[cfg(test)]
-mod sources;
 #[cfg(test)]
 mod stacks;
 #[cfg(test)]
