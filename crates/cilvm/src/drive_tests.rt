@@ -543,3 +543,30 @@ fn tells_of_outputs_that_fail(rt: HostRuntime) {
     );
     assert!(rt; status == 5);
 }
+
+/// The first line fits into the output, and the second doesn't.
+#[test]
+fn tells_of_a_trace_that_is_not_written(rt: HostRuntime) {
+    let alloc = rt.alloc();
+    let words = ["cilvm", "trace", "add.il", "add.schedule"];
+    let Ok(order) = order(alloc, words.as_slice()) else {
+        panic!(rt; "{words:?} hold no order");
+    };
+    let mut out = Cursor::new([0; 40]);
+    let mut err = Vec::new(alloc);
+    let mut record = Vec::new(alloc);
+    let status = drive(
+        &rt,
+        alloc,
+        &order,
+        SUM.as_bytes(),
+        b"s0*3",
+        &mut out,
+        &mut err,
+        &mut record,
+    );
+    assert!(rt; status == 5);
+    assert!(rt; err.as_slice() == b"device\n".as_slice());
+    let line = b"1\ts0\tran\tP::Main+0  ldc.i4 2\t1\t1\t0\n";
+    assert!(rt; out.get_ref().as_slice().starts_with(line.as_slice()));
+}

@@ -4,7 +4,7 @@ ghost use Rattle.std.specs.Prelude.{codes, ◌≤◌, ◌^◌, ◌<◌};
 ghost use Rattle.clap.specs.Words.{app_of, new_app, rule_of};
 ghost use Rattle.clap.specs.declared.builder.command.Command.TheViews.{out-Command};
 ghost use Rattle.command_line.specs.CommandLine.{check_app, cilvm_app, file_rule, flag_rule, number_rule};
-ghost use Rattle.command_line.specs.CommandLine.{flip_app, needed, replay_app, run_app, text_rule, trace_app};
+ghost use Rattle.command_line.specs.CommandLine.{flip_app, needed, replay_app, run_app, text_rule, trace_app, with_default};
 ghost use Rattle.command_line.specs.CommandLine.{with_explain, with_files, with_limits, with_required_subcommand};
 
 use cil_model::limits::{LEAST_WORDS, MOST_BUDGET, MOST_DEPTH, MOST_WORDS};
@@ -21,11 +21,16 @@ fn file_argument<'a>(alloc: Global, id: &'a str, name: &'a str, help: &'a str) -
         .help(help)
 }
 
-fn text_option<'a>(alloc: Global, id: &'a str, name: &'a str, help: &'a str) -> Arg<'a>
-    ensures rule { rule_of result ≡ text_rule id.entry.now }
+/// An option whose text has to be given.
+fn needed_text<'a>(alloc: Global, id: &'a str, name: &'a str, help: &'a str) -> Arg<'a>
+    ensures rule { rule_of result ≡ needed (text_rule id.entry.now) }
     ensures local { result.global ≡ false }
 {
-    Arg::new(alloc, id).long(id).value_name(name).help(help)
+    Arg::new(alloc, id)
+        .long(id)
+        .value_name(name)
+        .help(help)
+        .required(true)
 }
 
 fn number_option<'a>(alloc: Global, id: &'a str, least: u32, most: u32, help: &'a str) -> Arg<'a>
@@ -47,6 +52,21 @@ fn needed_number<'a>(alloc: Global, id: &'a str, least: u32, most: u32, help: &'
     number_option(alloc, id, least, most, help).required(true)
 }
 
+/// An option that has a default.
+fn limit_option<'a>(
+    alloc: Global,
+    id: &'a str,
+    least: u32,
+    most: u32,
+    default: &'a str,
+    help: &'a str,
+) -> Arg<'a>
+    ensures rule { rule_of result ≡ with_default default.entry.now (number_rule id.entry.now least most) }
+    ensures local { result.global ≡ false }
+{
+    number_option(alloc, id, least, most, help).default_value(default)
+}
+
 /// The option that has a refusal explained.
 fn with_explain<'a>(alloc: Global, command: Command<'a>) -> Result<Command<'a>, AllocError>
     requires { (out-Command command).has_globals ≡ false }
@@ -65,9 +85,9 @@ fn with_files<'a>(alloc: Global, name: &'a str) -> Result<Command<'a>, AllocErro
     ensures app { IfOk result (λ c. app_of c ≡ with_files name.entry.now) }
     ensures local { IfOk result (λ c. (out-Command c).has_globals ≡ false) }
 {
-    let file = file_argument(alloc, "file", "FILE", "The source, in ilasm text");
-    let schedule = file_argument(alloc, "schedule", "SCHEDULE", "The file with the events");
-    Command::new(alloc, name).arg(file)?.arg(schedule)
+    Command::new(alloc, name)
+        .arg(file_argument(alloc, "file", "FILE", "The source, in ilasm text"))?
+        .arg(file_argument(alloc, "schedule", "SCHEDULE", "The file with the events"))
 }
 
 fn with_limits<'a>(alloc: Global, command: Command<'a>) -> Result<Command<'a>, AllocError>
@@ -75,42 +95,41 @@ fn with_limits<'a>(alloc: Global, command: Command<'a>) -> Result<Command<'a>, A
     ensures app { IfOk result (λ c. app_of c ≡ with_limits (app_of command.entry)) }
     ensures local { IfOk result (λ c. (out-Command c).has_globals ≡ false) }
 {
-    let words = number_option(
-        alloc,
-        "words",
-        LEAST_WORDS,
-        MOST_WORDS,
-        "Words of 64 bits in a space, 64 to 1048576",
-    )
-    .default_value("65536");
-    let budget = number_option(
-        alloc,
-        "budget",
-        1,
-        MOST_BUDGET,
-        "Steps that each thread may take, 1 to 1000000",
-    )
-    .default_value("100000");
-    let depth = number_option(
-        alloc,
-        "depth",
-        1,
-        MOST_DEPTH,
-        "Calls that a thread may have open, 1 to 256",
-    )
-    .default_value("64");
-    command.arg(words)?.arg(budget)?.arg(depth)
+    command
+        .arg(limit_option(
+            alloc,
+            "words",
+            LEAST_WORDS,
+            MOST_WORDS,
+            "65536",
+            "Words of 64 bits in a space, 64 to 1048576",
+        ))?
+        .arg(limit_option(
+            alloc,
+            "budget",
+            1,
+            MOST_BUDGET,
+            "100000",
+            "Steps that each thread may take, 1 to 1000000",
+        ))?
+        .arg(limit_option(
+            alloc,
+            "depth",
+            1,
+            MOST_DEPTH,
+            "64",
+            "Calls that a thread may have open, 1 to 256",
+        ))
 }
 
 fn check_command<'a>(alloc: Global) -> Result<Command<'a>, AllocError>
     ensures app { IfOk result (λ c. app_of c ≡ check_app) }
     ensures local { IfOk result (λ c. (out-Command c).has_globals ≡ false) }
 {
-    let file = file_argument(alloc, "file", "FILE", "The source, in ilasm text");
     let command = Command::new(alloc, "check")
         .about("Says whether a source is accepted")
         .after_help("Example:\n  cilvm check examples/add.il")
-        .arg(file)?;
+        .arg(file_argument(alloc, "file", "FILE", "The source, in ilasm text"))?;
     with_explain(alloc, command)
 }
 
@@ -118,21 +137,18 @@ fn run_command<'a>(alloc: Global) -> Result<Command<'a>, AllocError>
     ensures app { IfOk result (λ c. app_of c ≡ run_app) }
     ensures local { IfOk result (λ c. (out-Command c).has_globals ≡ false) }
 {
-    let file = file_argument(alloc, "file", "FILE", "The source, in ilasm text");
-    let schedule = text_option(
-        alloc,
-        "schedule",
-        "EVENTS",
-        "The events in their order, as 's0*5 g a0'",
-    )
-    .required(true);
     let command = Command::new(alloc, "run")
         .about("Runs a source by a schedule given on the command line")
         .after_help(
             "Events, with spaces between them:\n  s0    a step of thread 0: one instruction\n  a0    its acknowledgement to the collector\n  g     an event of the collector\n  s0*5  five steps; '*' and a count may follow each event\nThe threads have the numbers 0 to 15, and a schedule has at most 1000000 events.\n\nExample, which prints 5:\n  cilvm run examples/add.il --schedule 's0*5'",
         )
-        .arg(file)?
-        .arg(schedule)?;
+        .arg(file_argument(alloc, "file", "FILE", "The source, in ilasm text"))?
+        .arg(needed_text(
+            alloc,
+            "schedule",
+            "EVENTS",
+            "The events in their order, as 's0*5 g a0'",
+        ))?;
     let command = with_explain(alloc, command)?;
     with_limits(alloc, command)
 }
@@ -166,31 +182,27 @@ fn flip_command<'a>(alloc: Global) -> Result<Command<'a>, AllocError>
     ensures app { IfOk result (λ c. app_of c ≡ flip_app) }
     ensures local { IfOk result (λ c. (out-Command c).has_globals ≡ false) }
 {
-    let seats = needed_number(
-        alloc,
-        "seats",
-        1,
-        16,
-        "Threads that store and load, 1 to 16",
-    );
-    let objects = needed_number(alloc, "objects", 1, 256, "Objects, 1 to 256");
-    let slots = needed_number(alloc, "slots", 1, 16, "Slots of each object, 1 to 16");
-    let rounds = needed_number(
-        alloc,
-        "rounds",
-        0,
-        10_000,
-        "Stores to each slot, 0 to 10000",
-    );
     Command::new(alloc, "flip")
         .about("Tries the copying of slots without a lock, by threads")
         .after_help(
             "Each seat is a thread. In each round it stores an object to each of its slots and loads it again, while another thread copies all slots, moves the seats to the copies and retires the first ones. 'kept' counts the loads that gave what was stored, 'retired' the slots whose first copy was retired.\n\nExample, which prints 'kept 24' and 'retired 6':\n  cilvm flip --seats 1 --objects 2 --slots 3 --rounds 4",
         )
-        .arg(seats)?
-        .arg(objects)?
-        .arg(slots)?
-        .arg(rounds)
+        .arg(needed_number(
+            alloc,
+            "seats",
+            1,
+            16,
+            "Threads that store and load, 1 to 16",
+        ))?
+        .arg(needed_number(alloc, "objects", 1, 256, "Objects, 1 to 256"))?
+        .arg(needed_number(alloc, "slots", 1, 16, "Slots of each object, 1 to 16"))?
+        .arg(needed_number(
+            alloc,
+            "rounds",
+            0,
+            10_000,
+            "Stores to each slot, 0 to 10000",
+        ))
 }
 
 fn program<'a>(alloc: Global) -> Command<'a>
@@ -209,15 +221,9 @@ fn program<'a>(alloc: Global) -> Command<'a>
 pub fn cilvm_command<'a>(alloc: Global) -> Result<Command<'a>, AllocError>
     ensures { IfOk result (λ c. app_of c ≡ cilvm_app) }
 {
-    let check = check_command(alloc)?;
-    let run = run_command(alloc)?;
-    let replay = replay_command(alloc)?;
-    let trace = trace_command(alloc)?;
-    let flip = flip_command(alloc)?;
-    program(alloc)
-        .subcommand(check)?
-        .subcommand(run)?
-        .subcommand(replay)?
-        .subcommand(trace)?
-        .subcommand(flip)
+    let command = program(alloc).subcommand(check_command(alloc)?)?;
+    let command = command.subcommand(run_command(alloc)?)?;
+    let command = command.subcommand(replay_command(alloc)?)?;
+    let command = command.subcommand(trace_command(alloc)?)?;
+    command.subcommand(flip_command(alloc)?)
 }

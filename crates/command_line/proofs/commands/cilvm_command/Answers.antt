@@ -18,13 +18,13 @@ four = with_subcommand three trace_app.top
 
 pub returns : goal.returns
 returns c =
-    let first : app_of c.in_ok-subcommand.field-0 ≡ one = c.in_ok-subcommand.ensures.shape c.in_ok-check.ensures.local
-    ∙ ap₂ with_subcommand c.program.ensures (ap (λ (a : App). a.top) c.in_ok-check.ensures.app) in
-    let second : app_of c.in_ok-subcommand-2.field-0 ≡ two = c.in_ok-subcommand-2.ensures.shape c.in_ok-run.ensures.local
-    ∙ ap₂ with_subcommand first (ap (λ (a : App). a.top) c.in_ok-run.ensures.app) in
-    let third : app_of c.in_ok-subcommand-3.field-0 ≡ three = c.in_ok-subcommand-3.ensures.shape c.in_ok-replay.ensures.local
-    ∙ ap₂ with_subcommand second (ap (λ (a : App). a.top) c.in_ok-replay.ensures.app) in
-    let fourth : app_of c.in_ok-subcommand-4.field-0 ≡ four = c.in_ok-subcommand-4.ensures.shape c.in_ok-trace.ensures.local
-    ∙ ap₂ with_subcommand third (ap (λ (a : App). a.top) c.in_ok-trace.ensures.app) in
-    IfOk-weaker c.subcommand-5.result _ _ (λ r added. added.shape c.in_ok-flip.ensures.local
-    ∙ ap₂ with_subcommand fourth (ap (λ (a : App). a.top) c.in_ok-flip.ensures.app)) c.subcommand-5.ensures
+    let first : app_of c.in_ok-command.command ≡ one = c.in_ok-command.ensures.shape c.in_ok-check_command.ensures.local
+    ∙ ap₂ with_subcommand c.program.ensures (ap (λ (a : App). a.top) c.in_ok-check_command.ensures.app) in
+    let second : app_of c.in_ok-command-2.command ≡ two = c.in_ok-command-2.ensures.shape c.in_ok-run_command.ensures.local
+    ∙ ap₂ with_subcommand first (ap (λ (a : App). a.top) c.in_ok-run_command.ensures.app) in
+    let third : app_of c.in_ok-command-3.command ≡ three = c.in_ok-command-3.ensures.shape c.in_ok-replay_command.ensures.local
+    ∙ ap₂ with_subcommand second (ap (λ (a : App). a.top) c.in_ok-replay_command.ensures.app) in
+    let fourth : app_of c.in_ok-command-4.command ≡ four = c.in_ok-command-4.ensures.shape c.in_ok-trace_command.ensures.local
+    ∙ ap₂ with_subcommand third (ap (λ (a : App). a.top) c.in_ok-trace_command.ensures.app) in
+    IfOk-weaker c.subcommand-5.result _ _ (λ r added. added.shape c.in_ok-flip_command.ensures.local
+    ∙ ap₂ with_subcommand fourth (ap (λ (a : App). a.top) c.in_ok-flip_command.ensures.app)) c.subcommand-5.ensures
