@@ -8,3 +8,9 @@ pub mod Acting
 pub mod Running
 pub mod Calling
 pub mod Returning
+pub mod Lists
+pub mod Zeros
+pub mod Constructors
+pub mod Births
+pub mod Frames
+pub mod NewObjects

@@ -11,7 +11,7 @@ use Rattle.machine_states.specs.MachineContents.{Content}
 use Rattle.machine_states.specs.StandsFor.{IsThread, Names, Represents, StandsAlike}
 use Rattle.machine_states.proofs.AgreeLaws.{agree_at}
 use Rattle.interleaving_core.proofs.Budgets.{LiveHaveSteps}
-use Rattle.step_laws.proofs.Settings.{budget_is_some as budget_of}
+use Rattle.machine_states.proofs.LimitRanges.{budget_is_some as budget_of}
 
 module _ (c : Content) (s : State) (r : Represents c s) where
   pub some_budget : 1 ≤ c.limits.budget

@@ -18,7 +18,7 @@ use Rattle.interpreter.specs.declared.outcomes.Outcome.{Outcome}
 use Rattle.interpreter.specs.declared.outcomes.Outcome.TheVariants.{Comes, Starts, Joins}
 use Rattle.machine_states.specs.MachineContents.{Content}
 use Rattle.machine_states.specs.Turns.{Answer, IsThreadTurn, IsTurn, PrintsOrStarts, after_request, counted, finished, left_by, started, thread_for}
-use Rattle.step_laws.specs.Ready.{IsAnswerable}
+use Rattle.machine_states.specs.Ready.{IsAnswerable}
 use Rattle.interleaving_core.specs.Finishing.{IsInstructed, live_thread}
 use Rattle.interleaving_core.proofs.Finished.{finished_printed, set_length}
 

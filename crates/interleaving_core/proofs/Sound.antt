@@ -20,8 +20,7 @@ use Rattle.method_table.specs.Prepared.{IsMethodTable}
 use Rattle.machine_states.specs.MachineContents.{Content}
 use Rattle.machine_states.specs.StandsFor.{Represents}
 use Rattle.machine_states.specs.Turns.{IsTurn, content_at, opening_content}
-use Rattle.machine_laws.proofs.Whole.{asked_is_answerable, thread_is_ready}
-use Rattle.step_laws.proofs.OpeningContents.{opening_represents}
+use Rattle.machine_laws.proofs.Whole.{asked_is_answerable, opening_is_represented, thread_is_ready}
 use Rattle.interleaving_core.specs.Views.{CanGoOn, IsSound, content_of}
 use Rattle.interleaving_core.specs.declared.engine.Engine.{Engine}
 use Rattle.interleaving_core.proofs.Finished.{same_program, turn_few, turn_keeps_words}
@@ -74,7 +73,7 @@ same_after c d event (Err x) turns refused = (ap (λ (y : Content). y.tree) refu
 module _ (tree : Tree) (limits : Limits) (accepted : IsAccepted tree) (in_range : IsTrue (are_in_range limits)) (c : Content) (is : opening_content tree limits ≡ Some c) where
   pub opened_represents : (s : State) × (opening tree limits ≡ Some s) × Represents c s
   opened_represents =
-      let first = opening_represents tree limits accepted in_range in
+      let first = opening_is_represented tree limits accepted in_range in
       (first.1, first.3, subst (λ x. Represents x first.1) (same_some first.0 c (sym first.2 ∙ is)) first.4)
 
 -- and its heap has all words of the limit

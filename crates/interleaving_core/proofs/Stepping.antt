@@ -22,7 +22,7 @@ use Rattle.interpreter.specs.declared.outcomes.Outcome.{Outcome}
 use Rattle.interpreter.specs.declared.outcomes.Outcome.TheVariants.{Comes, Starts, Joins}
 use Rattle.machine_states.specs.MachineContents.{Content}
 use Rattle.machine_states.specs.Turns.{Answer, IsStandingTurn, IsThreadTurn, IsTurn, finished, left_by, started, thread_for}
-use Rattle.step_laws.specs.Ready.{IsAnswerable}
+use Rattle.machine_states.specs.Ready.{IsAnswerable}
 use Rattle.interleaving_core.specs.Finishing.{CanFinish, IsInstructed, finish, live_thread}
 use Rattle.interleaving_core.proofs.Asking.{start_changes_nothing}
 

@@ -13,7 +13,7 @@ use Rattle.interpreter.specs.Instructions.{IsDone}
 use Rattle.machine_states.specs.MachineContents.{Content}
 use Rattle.machine_states.specs.StandsFor.{Represents}
 use Rattle.machine_states.specs.Turns.{Answer}
-use Rattle.step_laws.specs.Ready.{IsReady, IsAnswerable}
+use Rattle.machine_states.specs.Ready.{IsReady, IsAnswerable}
 use Rattle.interleaving_core.specs.declared.engine.Engine.{Engine}
 
 -- the content of an engine, without the tables that it runs by

@@ -1,11 +1,15 @@
 -- Each instruction does the same on a machine as on the reference machine; so does each step, from the opening on.
-use Rattle.std.proofs.Common.{◌≡◌, ℕ, List, [], ◌∷◌, Option, Some, None, slice_get, refl}
+use Rattle.std.proofs.Common.{◌≡◌, ℕ, IsTrue, List, [], ◌∷◌, Option, Some, None, slice_get, refl}
 use Rattle.cil_model.specs.declared.instructions.Instruction.{Instruction}
+use Rattle.cil_model.specs.declared.limits.Limits.{Limits}
+use Rattle.cil_model.specs.declared.trees.Tree.{Tree}
 use Rattle.cil_model.specs.Bodies.{lines_of}
+use Rattle.cil_model.specs.Ranges.{are_in_range}
+use Rattle.cil_model.specs.Typings.{IsAccepted}
 use Rattle.reference_machine.specs.States.{Frame as StateFrame, State}
 use Rattle.reference_machine.specs.Effects.{Setting}
 use Rattle.reference_machine.specs.Steps.{Answers, execute, step}
-use Rattle.reference_machine.specs.Runs.{is_refusal}
+use Rattle.reference_machine.specs.Runs.{is_refusal, opening}
 use Rattle.cil_model.specs.declared.events.Event.TheVariants.{Step}
 use Rattle.cil_model.specs.declared.reports.Report.{Report}
 use Rattle.resolved_code.specs.Resolved.{IsOperation, no_operation, load_int32, load_int64, load_null, load_string, load_argument, store_argument, load_local, store_local, duplicate, pop, binary, unary, shift, compare, convert_int32, convert_int64, branch, branch_true, branch_false, branch_compare, switch, load_field, store_field, load_static_field, store_static_field, new_array, load_length, load_element_int32, load_element_int64, load_element_reference, store_element_int32, store_element_int64, store_element_reference, cast_class, is_instance, call, call_virtual, new_object, return}
@@ -17,7 +21,7 @@ use Rattle.threads_monitors.specs.declared.threads.Standing.TheVariants.{Live}
 use Rattle.interpreter.specs.Instructions.{IsDone, operation_turn}
 use Rattle.machine_states.specs.MachineContents.{Content}
 use Rattle.machine_states.specs.StandsFor.{Names, Represents}
-use Rattle.machine_states.specs.Turns.{Answer, IsTurn}
+use Rattle.machine_states.specs.Turns.{Answer, IsTurn, opening_content}
 use Rattle.machine_states.proofs.Instructions.{IsSetting, DoesAlike, InstructionsAreAlike}
 use Rattle.heap_laws.proofs.Changes.{cells_may_change, literals_may_change}
 use Rattle.heap_laws.proofs.Births.{births_stand}
@@ -26,14 +30,15 @@ use Rattle.object_laws.proofs.Fields.{load_field_alike, store_field_alike}
 use Rattle.object_laws.proofs.Statics.{load_static_field_alike, store_static_field_alike}
 use Rattle.object_laws.proofs.Lengths.{new_array_alike, load_length_alike}
 use Rattle.object_laws.proofs.Arrays.{load_element_int32_alike, load_element_int64_alike, load_element_reference_alike, store_element_int32_alike, store_element_int64_alike}
-use Rattle.type_laws.proofs.Casts.{cast_class_alike, is_instance_alike}
-use Rattle.type_laws.proofs.Stores.{store_element_reference_alike}
+use Rattle.class_laws.proofs.Casts.{cast_class_alike, is_instance_alike}
+use Rattle.class_laws.proofs.Stores.{store_element_reference_alike}
 use Rattle.call_laws.proofs.Running.{methods_run_alike}
 use Rattle.call_laws.proofs.Calling.{call_alike}
 use Rattle.call_laws.proofs.Returning.{return_alike}
-use Rattle.target_laws.proofs.VirtualCalls.{call_virtual_alike}
-use Rattle.new_object_laws.proofs.NewObjects.{new_object_alike}
-use Rattle.step_laws.specs.Ready.{IsReady, IsAnswerable}
+use Rattle.class_laws.proofs.VirtualCalls.{call_virtual_alike}
+use Rattle.call_laws.proofs.NewObjects.{new_object_alike}
+use Rattle.machine_states.specs.Ready.{IsReady, IsAnswerable}
+use Rattle.step_laws.proofs.OpeningContents.{opening_represents}
 use Rattle.step_laws.proofs.Steps.{thread_ready, answerable, step_follows}
 
 module _ (here : Setting) (name : Names) (m : Frames) (o : Objects) (statics : List Value) (printed : List ℕ) (s : State) (f : StateFrame) (below : List StateFrame) where
@@ -84,6 +89,13 @@ module _ (here : Setting) (name : Names) (m : Frames) (o : Objects) (statics : L
 -- each instruction, wherever a typed frame is at it
 pub each_alike : InstructionsAreAlike
 each_alike here name m o statics printed s f below i operation at = by_operation here name m o statics printed s f below i operation at.resolved at
+
+-- ---- the opening
+
+-- an accepted program has a first content, which represents its opening state
+pub opening_is_represented : (tree : Tree) (limits : Limits) → IsAccepted tree → IsTrue (are_in_range limits) →
+    (c : Content) × (s : State) × (opening_content tree limits ≡ Some c) × (opening tree limits ≡ Some s) × Represents c s
+opening_is_represented = opening_represents
 
 -- ---- steps
 

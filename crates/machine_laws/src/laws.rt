@@ -16,7 +16,7 @@ ghost use Rattle.interpreter.specs.Instructions.{IsDone};
 ghost use Rattle.machine_states.specs.MachineContents.{Content};
 ghost use Rattle.machine_states.specs.StandsFor.{Represents};
 ghost use Rattle.machine_states.specs.Turns.{Answer, IsTurn, opening_content};
-ghost use Rattle.step_laws.specs.Ready.{IsReady, IsAnswerable};
+ghost use Rattle.machine_states.specs.Ready.{IsReady, IsAnswerable};
 
 /// What a machine holds before its first event represents the opening state of its program.
 pub fn openings_represent()

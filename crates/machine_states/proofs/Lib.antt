@@ -7,3 +7,4 @@ pub mod Statements
 pub mod Zeros
 pub mod Memories
 pub mod StandsLaws
+pub mod LimitRanges

@@ -1,5 +1,5 @@
 -- What locals, fields and words hold at first: zeros of the same kinds.
-use Rattle.std.proofs.Common.{◌≡◌, ℕ, zero, suc, pos, List, [], ◌∷◌, map, flat_map, length, replicate, Some, refl, sym, ap, ◌∙◌, subst}
+use Rattle.std.proofs.Common.{◌≡◌, ◌≤◌, ℕ, zero, suc, pos, List, [], ◌∷◌, map, flat_map, length, replicate, Option, Some, None, refl, sym, ap, ◌∙◌, subst, arith}
 use Rattle.std.proofs.Math.Facts.{sfits_lit}
 use Rattle.std.proofs.lemmas.List.{length-map, append-nil}
 use Rattle.std.specs.Prelude.{option_to_list, FitsSigned}
@@ -34,6 +34,14 @@ locals_are m code coded = ap (map kind_of_type) (ap (λ o. flat_map (λ (c : Cod
 -- how many there are
 pub local_count : (m : Method) (code : Code) → code_of m.kind ≡ Some code → length (local_kinds m) ≡ length code.locals
 local_count m code coded = ap length (locals_are m code coded) ∙ length-map code.locals kind_of_type
+
+-- a method with code of few locals, or without code, has few
+pub locals_low : (m : Method) (most : ℕ) → ((code : Code) → code_of m.kind ≡ Some code → length code.locals ≤ most) → length (local_kinds m) ≤ most
+locals_low m most each = by_code (code_of m.kind) refl
+  where
+    by_code : (o : Option Code) → code_of m.kind ≡ o → length (map kind_of_type (flat_map (λ (c : Code). c.locals) (option_to_list o))) ≤ most
+    by_code None e = omega arith
+    by_code (Some code) e = subst (λ n. n ≤ most) (sym (length-map (flat_map (λ (c : Code). c.locals) (code ∷ [])) kind_of_type ∙ ap length (append-nil code.locals))) (each code e)
 
 module _ (name : Names) where
   -- what a place of a type holds at first

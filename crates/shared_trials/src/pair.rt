@@ -3,16 +3,63 @@
 ghost use Rattle.std.specs.Prelude.{◌≡◌, IfOk, IfSome};
 ghost use Rattle.shared_machine.specs.Codes.{add};
 ghost use Rattle.shared_machine.specs.Histories.{count_of, events_of, reports_of};
-ghost use Rattle.shared_machine.specs.Worlds.{HasRun, IfDid, added, fresh};
+ghost use Rattle.shared_machine.specs.Worlds.{AgreesWith, HasRun, IfDid, added, fresh};
 
 use crate::single::act_often;
 use cil_model::events::Event;
-use interleaving_core::Machine;
-use shared_machine::{Answer, Opening, Outcome, Shared, perform};
+use shared_machine::{Answer, Machine, Opening, Outcome, Shared, perform};
 use std::alloc::{AllocError, Global};
 use std::sync::Wait;
 use std::thread::{Threads, join};
 use worker_counts::{Blank, Ticket};
+
+/// The first two tickets.
+fn two<M: Opening>(mut tickets: Vec<Ticket<M>>) -> Option<(Ticket<M>, Ticket<M>)>
+    requires { tickets.items ≡ fresh 2 }
+    ensures { IfSome result (λ t. (t.0 ≡ record { worker = 0; count = 0 }) × (t.1 ≡ record { worker = 1; count = 0 })) }
+{
+    let other = tickets.pop()?;
+    let one = tickets.pop()?;
+    Some((one, other))
+}
+
+/// Puts a machine under a lock for two workers, with their tickets.
+fn open_both<M: Opening>(
+    alloc: Global,
+    blank: Blank,
+    core: Machine,
+) -> Result<Option<(Shared<M>, Ticket<M>, Ticket<M>)>, AllocError>
+    requires book { blank.table.shared.table_id ≡ M.table }
+    requires core { core ≡ M.opening }
+    requires workers { M.workers ≡ 2 }
+    ensures { IfOk result (λ made. IfSome made (λ m. (m.1 ≡ record { worker = 0; count = 0 }) × (m.2 ≡ record { worker = 1; count = 0 }))) }
+{
+    let (shared, tickets) = Shared::<M>::new(alloc, blank, core, 2)?;
+    match two(tickets) {
+        None => Ok(None),
+        Some((one, other)) => Ok(Some((shared, one, other))),
+    }
+}
+
+/// Ends a run with the tickets of both workers. None where one is missing.
+fn finish_both<M: Opening>(
+    alloc: Global,
+    shared: Shared<M>,
+    one: Ticket<M>,
+    other: Ticket<M>,
+) -> Result<Option<Outcome>, AllocError>
+    ensures ran { IfOk result (λ end. IfSome end (λ o. HasRun M.opening (events_of o.history.entries) (reports_of o.history.entries) o.machine)) }
+    ensures one { IfOk result (λ end. IfSome end (λ o. AgreesWith o.history.entries one)) }
+    ensures other { IfOk result (λ end. IfSome end (λ o. AgreesWith o.history.entries other)) }
+{
+    let mut tickets = Vec::new(alloc);
+    tickets.push(one)?;
+    tickets.push(other)?;
+    match shared.finish(tickets) {
+        Ok(outcome) => Ok(Some(outcome)),
+        Err(_) => Ok(None),
+    }
+}
 
 /// Two threads act once each, and the run ends. Whatever the schedule, each worker's entries in the history are those that its ticket had
 /// and the event that it asked for, with the report that it was answered.
@@ -41,12 +88,9 @@ pub fn act_both<M: Opening + Send + Sync, R: Threads + Wait + Sync>(
             ensures did { IfDid result.0 (λ report. result.1 ≡ added other second report) }
         { lock.act(rt, alloc, other, second) },
     );
-    let mut tickets = Vec::new(alloc);
-    tickets.push(one)?;
-    tickets.push(other)?;
-    match shared.finish(tickets) {
-        Ok(outcome) => Ok(Some((answer, other_answer, outcome))),
-        Err(_) => Ok(None),
+    match finish_both(alloc, shared, one, other)? {
+        None => Ok(None),
+        Some(outcome) => Ok(Some((answer, other_answer, outcome))),
     }
 }
 
@@ -66,21 +110,10 @@ pub fn run_both<M: Opening + Send + Sync, R: Threads + Wait + Sync>(
     ensures one { IfOk result (λ end. IfSome end (λ x. IfDid x.0 (λ report. count_of 0 x.2.history.entries ≡ add 0 first report))) }
     ensures other { IfOk result (λ end. IfSome end (λ x. IfDid x.1 (λ report. count_of 1 x.2.history.entries ≡ add 0 second report))) }
 {
-    let (shared, tickets) = Shared::<M>::new(alloc, blank, core, 2)?;
-    let Some((one, other)) = two(tickets) else {
+    let Some((shared, one, other)) = open_both::<M>(alloc, blank, core)? else {
         return Ok(None);
     };
     act_both(rt, alloc, shared, one, other, first, second)
-}
-
-/// The first two tickets.
-fn two<M: Opening>(mut tickets: Vec<Ticket<M>>) -> Option<(Ticket<M>, Ticket<M>)>
-    requires { tickets.items ≡ fresh 2 }
-    ensures { IfSome result (λ t. (t.0 ≡ record { worker = 0; count = 0 }) × (t.1 ≡ record { worker = 1; count = 0 })) }
-{
-    let other = tickets.pop()?;
-    let one = tickets.pop()?;
-    Some((one, other))
 }
 
 /// Two threads act often, each with its own event, and the run ends.
@@ -96,8 +129,7 @@ pub fn act_many<M: Opening + Send + Sync, R: Threads + Wait + Sync>(
     requires core { core ≡ M.opening }
     requires workers { M.workers ≡ 2 }
 {
-    let (shared, tickets) = Shared::<M>::new(alloc, blank, core, 2)?;
-    let Some((one, other)) = two(tickets) else {
+    let Some((shared, one, other)) = open_both::<M>(alloc, blank, core)? else {
         return Ok(None);
     };
     let lock = &shared;
@@ -106,10 +138,7 @@ pub fn act_many<M: Opening + Send + Sync, R: Threads + Wait + Sync>(
         move || act_often(rt, alloc, lock, one, events.0, times),
         move || act_often(rt, alloc, lock, other, events.1, times),
     );
-    let mut tickets = Vec::new(alloc);
-    tickets.push(one)?;
-    tickets.push(other)?;
-    Ok(shared.finish(tickets).ok())
+    finish_both(alloc, shared, one, other)
 }
 
 /// Two workers do so many events each in turns, under one lock, and the run ends.
@@ -125,15 +154,11 @@ pub fn act_in_turns<M: Opening, R: Wait>(
     requires core { core ≡ M.opening }
     requires workers { M.workers ≡ 2 }
 {
-    let (shared, tickets) = Shared::<M>::new(alloc, blank, core, 2)?;
-    let Some((one, other)) = two(tickets) else {
+    let Some((shared, one, other)) = open_both::<M>(alloc, blank, core)? else {
         return Ok(None);
     };
     let (one, other) = alternate(rt, alloc, &shared, one, other, events, times);
-    let mut tickets = Vec::new(alloc);
-    tickets.push(one)?;
-    tickets.push(other)?;
-    Ok(shared.finish(tickets).ok())
+    finish_both(alloc, shared, one, other)
 }
 
 /// Two workers in turns, under one lock.

@@ -6,8 +6,7 @@ ghost use Rattle.shared_machine.specs.Worlds.{HasRun};
 
 use cil_model::events::Event;
 use cil_model::reports::Report;
-use interleaving_core::Machine;
-use shared_machine::{Answer, Opening, Outcome, Shared, stop};
+use shared_machine::{Answer, Machine, Opening, Outcome, Shared, stop};
 use std::alloc::{AllocError, Global};
 use std::sync::Wait;
 use worker_counts::{Blank, Ticket};

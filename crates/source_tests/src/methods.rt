@@ -1,12 +1,7 @@
 // The table of a small program. Its methods follow the ten built-in ones. With each allocation refused in turn
 // (`rt try --test --fail-alloc N`) the answers are the usual ones or want of memory.
 
-use cil_model::instructions::{Instruction, MethodName};
-use cil_model::memory::NoMemory;
-use cil_model::sequences::Sequence;
-use cil_model::texts::Text;
-use cil_model::trees::{Class, ClassKind, Code, Line, Member, Method, MethodKind, Tree};
-use cil_model::types::{ClassName, DeclaredType, Element, Signature};
+use ilasm_reader::read;
 use metadata::resolve;
 use method_table::{Action, MethodTable, TableMethod};
 use name_tables::lookups::MemberNumber;
@@ -14,103 +9,18 @@ use object_memory::ValueKind;
 use std::alloc::Global;
 use std::test::Fail;
 
-fn text(alloc: Global, characters: &str) -> Result<Text, NoMemory> {
-    Ok(Text::new(String::from_str(alloc, characters)?))
-}
-
-/// Locals of each kind: `int32`, `int64`, `int32[]` and `string`.
-fn locals(alloc: Global) -> Result<Sequence<DeclaredType>, NoMemory> {
-    let mut types = Vec::new(alloc);
-    for (element, brackets) in [
-        (Element::Int32, 0),
-        (Element::Int64, 0),
-        (Element::Int32, 1),
-        (Element::String, 0),
-    ] {
-        types.push(DeclaredType { element, brackets })?;
-    }
-    Ok(Sequence::new(types))
-}
-
-/// `ret` alone.
-fn code(
-    alloc: Global,
-    is_entry_point: bool,
-    locals: Sequence<DeclaredType>,
-) -> Result<Code, NoMemory> {
-    let line = Line {
-        labels: Sequence::new(Vec::new(alloc)),
-        instruction: Instruction::Return,
-    };
-    Ok(Code {
-        is_entry_point,
-        max_stack: 1,
-        locals,
-        lines: Sequence::new(vec![in alloc; line]?),
-    })
-}
-
-/// `static void Main()`, the entry point.
-fn main_method(alloc: Global) -> Result<Member, NoMemory> {
-    Ok(Member::Method(Method {
-        name: MethodName::Named(text(alloc, "Main")?),
-        signature: Signature {
-            parameters: Sequence::new(Vec::new(alloc)),
-            return_type: None,
-        },
-        kind: MethodKind::Static(code(alloc, true, Sequence::new(Vec::new(alloc)))?),
-    }))
-}
-
-/// `newslot virtual instance int64 sum(int32)`, with a local of each kind.
-fn sum_method(alloc: Global) -> Result<Member, NoMemory> {
-    let parameter = DeclaredType {
-        element: Element::Int32,
-        brackets: 0,
-    };
-    Ok(Member::Method(Method {
-        name: MethodName::Named(text(alloc, "sum")?),
-        signature: Signature {
-            parameters: Sequence::new(vec![in alloc; parameter]?),
-            return_type: Some(DeclaredType {
-                element: Element::Int64,
-                brackets: 0,
-            }),
-        },
-        kind: MethodKind::Virtual {
-            is_new_slot: true,
-            code: code(alloc, false, locals(alloc)?)?,
-        },
-    }))
-}
-
-/// A class of two methods.
-fn tree(alloc: Global) -> Result<Tree, NoMemory> {
-    let mut members = Vec::new(alloc);
-    members.push(main_method(alloc)?)?;
-    members.push(sum_method(alloc)?)?;
-    let class = Class {
-        name: text(alloc, "M")?,
-        kind: ClassKind::Class {
-            is_abstract: false,
-            base: ClassName {
-                assembly: Some(text(alloc, "mscorlib")?),
-                name: text(alloc, "System.Object")?,
-            },
-            interfaces: Sequence::new(Vec::new(alloc)),
-        },
-        members: Sequence::new(members),
-    };
-    Ok(Tree {
-        externs: Sequence::new(vec![in alloc; text(alloc, "mscorlib")?]?),
-        assembly: None,
-        classes: Sequence::new(vec![in alloc; class]?),
-    })
-}
+/// `sum` has a parameter and a local of each kind.
+const SOURCE: &str = ".assembly extern mscorlib {}
+.class public auto ansi M extends [mscorlib]System.Object {
+ .method public static void Main() cil managed { .entrypoint .maxstack 1 ret }
+ .method public newslot virtual instance int64 sum(int32) cil managed { .maxstack 1
+  .locals init (int32, int64, int32[], string)
+  ldc.i8 0 ret } }
+";
 
 /// The table of the program; none where memory is wanting.
 fn table(alloc: Global) -> Option<MethodTable> {
-    let tree = tree(alloc).ok()?;
+    let tree = read(alloc, SOURCE.as_bytes()).ok()?;
     let program = resolve(alloc, tree).ok()?;
     MethodTable::new(alloc, &program).ok()
 }

@@ -1,11 +1,15 @@
 // What methods become by numbers. Classes 0 to 4 are the built-in ones.
 
+ghost use Rattle.std.specs.Prelude.{◌≡◌};
+
 use ilasm_reader::read;
 use metadata::resolve;
 use name_tables::built_in::BuiltInClass;
 use name_tables::lookups::{MemberNumber, NameTables};
 use resolved_code::literals::Literals;
 use resolved_code::resolved::resolve_classes;
+use std::alloc::AllocGlobal;
+use std::process::Abort;
 use std::test::Fail;
 
 const SOURCE: &str = ".assembly extern mscorlib {}
@@ -25,25 +29,18 @@ const SOURCE: &str = ".assembly extern mscorlib {}
 const OPERATIONS: &str =
     "Static(Body { max_stack: 8, locals: Sequence { items: [] }, operations: Sequence { items: [LoadString(0), Pop, LoadString(1), StoreStaticField(MemberNumber { class: 5, place: 0 }), LoadString(0), Pop, NewObject(MemberNumber { class: 6, place: 0 }), Duplicate, LoadField { owner: 6, field: MemberNumber { class: 5, place: 1 } }, BranchTrue(0), CallVirtual { owner: 6, method: MemberNumber { class: 6, place: 1 } }, LoadInt32(1), NewArray(NumberedType { element: Class(6), brackets: 0 }), Pop, LoadInt32(0), Switch(Sequence { items: [6, 0] }), Return] } })";
 
-/// The operations of `Main`.
-#[test]
-fn operands_are_numbers(rt: HostRuntime) -> Result<(), Fail> {
+/// The operations of `Main` are those, and the literals are two.
+fn assert_operations(
+    rt: &(impl Abort + AllocGlobal),
+    names: &NameTables,
+    literals: &Literals,
+) -> Result<(), Fail>
+    requires { literals.now.tree.now ≡ names.now.classes.tree.now }
+{
     let alloc = rt.alloc();
-    let Ok(tree) = read(alloc, SOURCE.as_bytes()) else {
-        return Err(Fail::new("no tree"));
-    };
-    let table = BuiltInClass::all(alloc)?;
-    let names = NameTables::new(alloc, &tree, table.as_slice())?;
-    let literals = Literals::new(alloc, &tree)?;
-    let Some(classes) = resolve_classes(alloc, &names, &literals)? else {
-        return Err(Fail::new("a name is unknown"));
-    };
-    let Some(class) = classes.as_slice().get(6) else {
-        return Err(Fail::new("too few classes"));
-    };
-    let Some(method) = class.methods.as_slice().get(2) else {
-        return Err(Fail::new("too few methods"));
-    };
+    let classes = resolve_classes(alloc, names, literals)?.expect(rt, "the classes");
+    let class = classes.as_slice().get(6).expect(rt, "a class");
+    let method = class.methods.as_slice().get(2).expect(rt, "a method");
     assert_eq!(rt;
         format!(in alloc; "{:?}", method.kind)?.as_str(),
         OPERATIONS
@@ -52,16 +49,22 @@ fn operands_are_numbers(rt: HostRuntime) -> Result<(), Fail> {
     Ok(())
 }
 
+#[test]
+fn operands_are_numbers(rt: HostRuntime) -> Result<(), Fail> {
+    let alloc = rt.alloc();
+    let tree = read(alloc, SOURCE.as_bytes()).expect(&rt, "a tree");
+    let table = BuiltInClass::all(alloc)?;
+    let names = NameTables::new(alloc, &tree, table.as_slice())?;
+    let literals = Literals::new(alloc, &tree)?;
+    assert_operations(&rt, &names, &literals)
+}
+
 /// The entry point, the literals and the members of a program.
 #[test]
 fn program_tells_numbers(rt: HostRuntime) -> Result<(), Fail> {
     let alloc = rt.alloc();
-    let Ok(tree) = read(alloc, SOURCE.as_bytes()) else {
-        return Err(Fail::new("no tree"));
-    };
-    let Ok(program) = resolve(alloc, tree) else {
-        return Err(Fail::new("not legal"));
-    };
+    let tree = read(alloc, SOURCE.as_bytes()).expect(&rt, "a tree");
+    let program = resolve(alloc, tree).expect(&rt, "a program");
     let entry_point = program.entry_point();
     assert_eq!(rt; entry_point, MemberNumber { class: 6, place: 2 });
     assert_eq!(rt; program.classes().len(), 7);

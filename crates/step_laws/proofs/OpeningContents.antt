@@ -26,7 +26,7 @@ use Rattle.object_memory.specs.Objects.{no_objects}
 use Rattle.machine_states.specs.MachineContents.{Content}
 use Rattle.machine_states.specs.StandsFor.{IsHeap, StandsBy, Represents}
 use Rattle.machine_states.specs.Turns.{content_at, opening_content}
-use Rattle.step_laws.proofs.Settings.{budget_is_some, depth_is_some, words_are_few}
+use Rattle.machine_states.proofs.LimitRanges.{budget_is_some, depth_is_some, words_are_few}
 use Rattle.machine_states.proofs.Zeros.{fields_stand}
 use Rattle.step_laws.proofs.Beginnings.{beginning_stands}
 use Rattle.step_laws.proofs.LiteralNames.{same_for_each, free_first, literal_names, IsNamedLiteral, named_literal, literal_named, literals_small, literals_apart}

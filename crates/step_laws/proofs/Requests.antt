@@ -26,7 +26,7 @@ use Rattle.machine_states.specs.Turns.{Answer, after_request}
 use Rattle.machine_states.proofs.AgreeLaws.{agree_length, agree_drop}
 use Rattle.machine_states.proofs.Going.{moved_frames, place_is_small}
 use Rattle.machine_states.proofs.Instructions.{IsSetting, AsksFor}
-use Rattle.step_laws.specs.Ready.{HasThreadOperand}
+use Rattle.machine_states.specs.Ready.{HasThreadOperand}
 use Rattle.step_laws.proofs.Settings.{setting_of, is_alive, is_running, in_setting}
 use Rattle.step_laws.proofs.Settling.{done}
 use Rattle.step_laws.proofs.ThreadObjects.{reference_is, IsThreadObject, thread_object_is}

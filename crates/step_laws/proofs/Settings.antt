@@ -1,18 +1,13 @@
 -- Where a live thread is: at an instruction of the reference machine, in a setting in which both do alike.
-use Rattle.std.proofs.Common.{◌≡◌, ◌≤◌, ℕ, Bool, false, ◌&&◌, IsTrue, List, [], ◌∷◌, Option, Some, None, option_map, option_and_then, slice_get, refl, sym, ap, ◌∙◌, subst, arith}
-use Rattle.std.specs.Prelude.{IsSome, nat_le}
-use Rattle.std.proofs.lemmas.Bool.Decides.{nat_tests}
+use Rattle.std.proofs.Common.{◌≡◌, ℕ, Bool, false, List, [], ◌∷◌, Option, Some, None, option_map, option_and_then, slice_get, refl, sym, ap, ◌∙◌, subst}
+use Rattle.std.specs.Prelude.{IsSome}
 use Rattle.cil_model.specs.declared.instructions.Instruction.{Instruction}
-use Rattle.cil_model.specs.declared.limits.Limits.{Limits}
-use Rattle.cil_model.specs.declared.limits.TheConstants.{LEAST_WORDS, MOST_WORDS, MOST_BUDGET, MOST_DEPTH}
 use Rattle.cil_model.specs.declared.reports.End.{End}
 use Rattle.cil_model.specs.declared.trees.Line.{Line}
 use Rattle.cil_model.specs.declared.trees.Method.{Method}
 use Rattle.cil_model.specs.declared.types.ClassName.{ClassName}
 use Rattle.cil_model.specs.Bodies.{lines_of}
-use Rattle.cil_model.specs.Ranges.{is_between, are_in_range}
 use Rattle.cil_model.proofs.BelowLaws.{none_is_some, same_some}
-use Rattle.cil_model.proofs.SameLaws.{both_first, both_second}
 use Rattle.reference_machine.specs.States.{Frame as StateFrame, Thread as StateThread, State}
 use Rattle.reference_machine.specs.Effects.{Setting}
 use Rattle.reference_machine.specs.Steps.{instruction_at, execute}
@@ -24,34 +19,11 @@ use Rattle.threads_monitors.specs.Frames.{Frames}
 use Rattle.threads_monitors.specs.declared.threads.Standing.TheVariants.{Live}
 use Rattle.interpreter.specs.Instructions.{HasSmallConstant, IsAt, line_at, operation_turn}
 use Rattle.machine_states.specs.MachineContents.{Content}
+use Rattle.machine_states.specs.Ready.{IsReady}
 use Rattle.machine_states.specs.StandsFor.{Names, IsFrame, AreFrames, IsThread, StandsAlike, Represents}
 use Rattle.machine_states.proofs.AgreeLaws.{agree_at}
 use Rattle.machine_states.proofs.Instructions.{IsSetting, DoesAlike, InstructionsAreAlike}
-use Rattle.step_laws.specs.Ready.{IsReady}
-
--- ---- limits
-
-between_low : (low high n : ℕ) → IsTrue (is_between low high n) → low ≤ n
-between_low low high n h = let first : IsTrue (nat_le low n) = both_first (nat_le low n) (nat_le n high) h in grind (arith, nat_tests)
-
-between_high : (low high n : ℕ) → IsTrue (is_between low high n) → n ≤ high
-between_high low high n h = let second : IsTrue (nat_le n high) = both_second (nat_le low n) (nat_le n high) h in grind (arith, nat_tests)
-
-module _ (limits : Limits) (h : IsTrue (are_in_range limits)) where
-  budget_between : IsTrue (is_between 1 MOST_BUDGET limits.budget)
-  budget_between = both_second (is_between LEAST_WORDS MOST_WORDS limits.words) _ (both_first (is_between LEAST_WORDS MOST_WORDS limits.words && is_between 1 MOST_BUDGET limits.budget) _ h)
-
-  pub budget_is_some : 1 ≤ limits.budget
-  budget_is_some = between_low 1 MOST_BUDGET limits.budget budget_between
-
-  pub budget_is_small : limits.budget ≤ MOST_BUDGET
-  budget_is_small = between_high 1 MOST_BUDGET limits.budget budget_between
-
-  pub depth_is_some : 1 ≤ limits.depth
-  depth_is_some = between_low 1 MOST_DEPTH limits.depth (both_second (is_between LEAST_WORDS MOST_WORDS limits.words && is_between 1 MOST_BUDGET limits.budget) _ h)
-
-  pub words_are_few : limits.words ≤ MOST_WORDS
-  words_are_few = between_high LEAST_WORDS MOST_WORDS limits.words (both_first _ _ (both_first (is_between LEAST_WORDS MOST_WORDS limits.words && is_between 1 MOST_BUDGET limits.budget) _ h))
+use Rattle.machine_states.proofs.LimitRanges.{budget_is_small}
 
 -- ---- a live thread
 

@@ -33,7 +33,8 @@ use Rattle.machine_states.proofs.Extending.{thread_extends}
 use Rattle.machine_states.proofs.Memories.{memory_beside}
 use Rattle.interpreter.specs.declared.outcomes.Outcome.TheVariants.{Comes}
 use Rattle.machine_states.proofs.Instructions.{LeavesMemory, ComesAlike, is_refused_fault, is_refused_effect}
-use Rattle.step_laws.proofs.Settings.{setting_of, budget_is_some, is_alive, is_running}
+use Rattle.machine_states.proofs.LimitRanges.{budget_is_some}
+use Rattle.step_laws.proofs.Settings.{setting_of, is_alive, is_running}
 
 -- a thread with a step left isn't spent
 some_left : (n : ℕ) → (suc n == 0) ≡ false

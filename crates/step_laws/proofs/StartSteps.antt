@@ -32,7 +32,7 @@ use Rattle.machine_states.specs.Turns.{Answer, after_request, counted, started, 
 use Rattle.machine_states.proofs.AgreeLaws.{agree_append, agree_length}
 use Rattle.machine_states.proofs.Instructions.{is_refused_fault}
 use Rattle.machine_states.proofs.Statements.{CellsMayChange}
-use Rattle.step_laws.proofs.Settings.{depth_is_some}
+use Rattle.machine_states.proofs.LimitRanges.{depth_is_some}
 use Rattle.machine_states.proofs.Memories.{heap_beside}
 use Rattle.step_laws.proofs.Settling.{Follows, done, finish, comes}
 use Rattle.step_laws.proofs.Beginnings.{beginning_stands}

@@ -24,7 +24,7 @@ use Rattle.machine_states.specs.Turns.{Answer, IsStandingTurn, IsThreadTurn, IsT
 use Rattle.machine_states.proofs.AgreeLaws.{agree_at, agree_get}
 use Rattle.machine_states.proofs.Instructions.{InstructionsAreAlike, ComesAlike, is_refused_effect, is_refused_outcome}
 use Rattle.machine_states.proofs.Statements.{CellsMayChange}
-use Rattle.step_laws.specs.Ready.{IsReady, IsAnswerable}
+use Rattle.machine_states.specs.Ready.{IsReady, IsAnswerable}
 use Rattle.step_laws.proofs.Settings.{setting_of, is_alive, does_alike, live_is_ready}
 use Rattle.step_laws.proofs.Settling.{Follows, done, comes}
 use Rattle.step_laws.proofs.Requests.{here, running, below, Asks, asked_of, has_operand, place_below}

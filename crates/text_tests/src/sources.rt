@@ -49,6 +49,11 @@ ldc.i4.m1 ldc.i4.0 ldc.i4.1 ldc.i4.2 ldc.i4.3 ldc.i4.4 ldc.i4.5 ldc.i4.6 ldc.i4.
 ldarg.0 ldarg.1 ldarg.2 ldarg.3 ldloc.0 ldloc.1 ldloc.2 ldloc.3 stloc.0 stloc.1 stloc.2 stloc.3
 } }"#;
 
+/// What a source is read as. It has no contract, so no test proves anything of a tree.
+fn parsed(alloc: Global, source: &[u8]) -> Result<Tree, ReadError> {
+    read(alloc, source)
+}
+
 /// A source with one method, whose body is repeated.
 fn method_of(alloc: Global, body: &str, times: usize) -> Result<String, Fail> {
     let mut source = String::new(alloc);
@@ -84,7 +89,7 @@ fn lines_of(tree: &Tree) -> &[Line] {
 
 #[test]
 fn reads_the_sum(rt: HostRuntime) -> Result<(), Fail> {
-    let tree = read(rt.alloc(), SUM.as_bytes())?;
+    let tree = parsed(rt.alloc(), SUM.as_bytes())?;
     assert_eq!(rt; tree.externs.as_slice().len(), 1);
     assert!(rt; tree.assembly.is_none());
     let Some(code) = code_of(&tree) else {
@@ -114,7 +119,7 @@ fn reads_the_sum(rt: HostRuntime) -> Result<(), Fail> {
 
 #[test]
 fn reads_every_class_and_member(rt: HostRuntime) -> Result<(), Fail> {
-    let tree = read(rt.alloc(), FORMS.as_bytes())?;
+    let tree = parsed(rt.alloc(), FORMS.as_bytes())?;
     assert_eq!(rt; tree.externs.as_slice().len(), 2);
     assert!(rt; tree.assembly.is_some());
     let [interface, class] = tree.classes.as_slice() else {
@@ -159,7 +164,7 @@ fn reads_every_class_and_member(rt: HostRuntime) -> Result<(), Fail> {
 
 #[test]
 fn reads_every_instruction(rt: HostRuntime) -> Result<(), Fail> {
-    let tree = read(rt.alloc(), INSTRUCTIONS.as_bytes())?;
+    let tree = parsed(rt.alloc(), INSTRUCTIONS.as_bytes())?;
     // There are 82 names, and `switch`, `newarr` and `call` stand twice.
     assert_eq!(rt; lines_of(&tree).len(), 85);
     Ok(())
@@ -183,7 +188,7 @@ fn tells_why_and_where(rt: HostRuntime) -> Result<(), Fail> {
             103,
         ),
     ] {
-        let found = read(rt.alloc(), source.as_bytes()).err();
+        let found = parsed(rt.alloc(), source.as_bytes()).err();
         assert_eq!(rt; found, Some(error), "{source}");
         assert_eq!(rt; error.number(), number);
     }
@@ -230,7 +235,7 @@ fn refuses_what_no_rule_gives(rt: HostRuntime) -> Result<(), Fail> {
         "unknown",
     ] {
         let source = method_of(rt.alloc(), body, 1)?;
-        let found = read(rt.alloc(), source.as_bytes()).err();
+        let found = parsed(rt.alloc(), source.as_bytes()).err();
         assert_eq!(rt; found.map(|error| error.number()), Some(103), "{body}");
     }
     Ok(())
@@ -246,7 +251,7 @@ fn refuses_each_cut_of_the_sum(rt: HostRuntime) -> Result<(), Fail> {
         };
         // Nothing, or the first line.
         let is_whole = length == 0 || length == 28 || length == 29;
-        match read(rt.alloc(), cut) {
+        match parsed(rt.alloc(), cut) {
             Ok(_) => assert!(rt; is_whole, "{length}"),
             Err(error) => {
                 assert!(rt; !is_whole, "{length}");
@@ -262,7 +267,7 @@ fn refuses_each_foreign_byte(rt: HostRuntime) -> Result<(), Fail> {
     for (offset, _) in SUM.bytes().enumerate() {
         let mut bytes = Vec::from_slice(rt.alloc(), SUM.as_bytes())?;
         bytes[offset] = 200;
-        let found = read(rt.alloc(), &bytes).err();
+        let found = parsed(rt.alloc(), &bytes).err();
         assert_eq!(rt; found, Some(ReadError::NotAscii { offset }));
     }
     Ok(())
@@ -272,11 +277,11 @@ fn refuses_each_foreign_byte(rt: HostRuntime) -> Result<(), Fail> {
 fn refuses_what_is_too_long(rt: HostRuntime) -> Result<(), Fail> {
     let mut bytes = vec![in rt.alloc(); b'('; MOST_SOURCE_BYTES]?;
     assert_eq!(rt;
-        read(rt.alloc(), &bytes).err(),
+        parsed(rt.alloc(), &bytes).err(),
         Some(ReadError::NoTree { offset: 0 })
     );
     bytes.push(200)?;
-    assert_eq!(rt; read(rt.alloc(), &bytes).err(), Some(ReadError::TooLong));
+    assert_eq!(rt; parsed(rt.alloc(), &bytes).err(), Some(ReadError::TooLong));
     Ok(())
 }
 
@@ -284,7 +289,7 @@ fn refuses_what_is_too_long(rt: HostRuntime) -> Result<(), Fail> {
 fn refuses_an_integer_of_a_million_digits(rt: HostRuntime) -> Result<(), Fail> {
     let bytes = vec![in rt.alloc(); b'7'; 1_000_000]?;
     assert_eq!(rt;
-        read(rt.alloc(), &bytes).err(),
+        parsed(rt.alloc(), &bytes).err(),
         Some(ReadError::NoToken { offset: 0 })
     );
     Ok(())
@@ -293,11 +298,11 @@ fn refuses_an_integer_of_a_million_digits(rt: HostRuntime) -> Result<(), Fail> {
 #[test]
 fn reads_long_lists(rt: HostRuntime) -> Result<(), Fail> {
     let source = method_of(rt.alloc(), "ldc.i4.1 pop ", 2048)?;
-    let tree = read(rt.alloc(), source.as_bytes())?;
+    let tree = parsed(rt.alloc(), source.as_bytes())?;
     assert_eq!(rt; lines_of(&tree).len(), 4096);
     let source = method_of(rt.alloc(), "l: ", 100_000)?;
     assert_eq!(rt;
-        read(rt.alloc(), source.as_bytes())
+        parsed(rt.alloc(), source.as_bytes())
             .err()
             .map(|error| error.number()),
         Some(103)
@@ -308,7 +313,7 @@ fn reads_long_lists(rt: HostRuntime) -> Result<(), Fail> {
     }
     source.push_str("ret ")?;
     let source = method_of(rt.alloc(), source.as_str(), 1)?;
-    let tree = read(rt.alloc(), source.as_bytes())?;
+    let tree = parsed(rt.alloc(), source.as_bytes())?;
     assert_eq!(rt; lines_of(&tree).len(), 1);
     Ok(())
 }
@@ -324,7 +329,7 @@ fn answers_as_usual_or_has_no_memory(rt: HostRuntime) {
         ("\"no end", Some(ReadError::NoToken { offset: 0 })),
         ("caf\u{e9}", Some(ReadError::NotAscii { offset: 3 })),
     ] {
-        match read(rt.alloc(), source.as_bytes()) {
+        match parsed(rt.alloc(), source.as_bytes()) {
             Err(ReadError::OutOfMemory) => {}
             found => assert_eq!(rt; found.err(), usual, "{source}"),
         }

@@ -1,10 +1,11 @@
-use Rattle.std.proofs.Common.{List, [], ◌∷◌, ◌++◌, ap, ◌∙◌}
-use Rattle.worker_counts.specs.Counts.{Count}
-use Rattle.shared_trials.proofs.Tickets.{did_counts, first_agrees, second_agrees}
+use Rattle.std.proofs.Common.{subst}
+use Rattle.std.specs.Prelude.{IfSome}
+use Rattle.shared_machine.specs.Worlds.{AgreesWith}
+use Rattle.shared_trials.proofs.Tickets.{did_counts}
 use Rattle.shared_trials.proofs.pair.act_both.Goals as goal
 
-pub returns-in-Ok-clause-one : goal.returns-in-Ok-clause-one
-returns-in-Ok-clause-one g c = did_counts _ _ _ _ c.in-Ok.outcome.history.entries c.join-one.ensures.first (first_agrees c.in-Ok.outcome.history.entries _ _ _ _ c.in_ok-push-2.ensures.items (c.in_ok-push.ensures.items ∙ ap (λ (l : List Count). l ++ c.join-one.result.0.1 ∷ []) c.new-tickets.ensures.items) c.in-Ok.ensures.counts)
+pub returns-in-Some-clause-one : goal.returns-in-Some-clause-one
+returns-in-Some-clause-one g c = did_counts _ _ _ _ c.in-Some.outcome.history.entries c.join-one.ensures.first (subst (λ end. IfSome end (λ o. AgreesWith o.history.entries c.join-one.result.0.1)) c.in-Some.is c.in_ok-finish_both.ensures.one)
 
-pub returns-in-Ok-clause-other : goal.returns-in-Ok-clause-other
-returns-in-Ok-clause-other g c = did_counts _ _ _ _ c.in-Ok.outcome.history.entries c.join-one.ensures.second (second_agrees c.in-Ok.outcome.history.entries _ _ _ _ c.in_ok-push-2.ensures.items (c.in_ok-push.ensures.items ∙ ap (λ (l : List Count). l ++ c.join-one.result.0.1 ∷ []) c.new-tickets.ensures.items) c.in-Ok.ensures.counts)
+pub returns-in-Some-clause-other : goal.returns-in-Some-clause-other
+returns-in-Some-clause-other g c = did_counts _ _ _ _ c.in-Some.outcome.history.entries c.join-one.ensures.second (subst (λ end. IfSome end (λ o. AgreesWith o.history.entries c.join-one.result.1.1)) c.in-Some.is c.in_ok-finish_both.ensures.other)

@@ -29,7 +29,7 @@ use Rattle.machine_states.specs.StandsFor.{Names, IsValue, null_reference}
 use Rattle.machine_states.proofs.Instructions.{IsSetting, DoesAlike}
 use Rattle.machine_states.proofs.Going.{leaves_is, next_alike}
 use Rattle.machine_states.proofs.Operands.{fine, one_operand}
-use Rattle.type_laws.proofs.ObjectTypes.{may_stand_as_is}
+use Rattle.class_laws.proofs.ObjectTypes.{may_stand_as_is}
 
 module _ (here : Setting) (name : Names) (m : Frames) (o : Objects) (statics : List Value) (printed : List ℕ) (s : State) (f : StateFrame) (below : List StateFrame) where
   abbrev Alike : MachineTurn → StateEffect → Type 0

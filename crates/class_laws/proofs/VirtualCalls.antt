@@ -35,9 +35,9 @@ use Rattle.machine_states.proofs.Instructions.{IsSetting, DoesAlike}
 use Rattle.machine_states.proofs.Going.{own_frame}
 use Rattle.machine_states.proofs.Operands.{fine}
 use Rattle.machine_states.proofs.Statements.{MethodsRunAlike}
-use Rattle.target_laws.proofs.ObjectClasses.{method_by, chosen_is}
+use Rattle.class_laws.proofs.ObjectClasses.{method_by, chosen_is}
 use Rattle.machine_states.proofs.Memories.{named_is_not_null}
-use Rattle.target_laws.proofs.ChosenMethods.{IsChosen, is_chosen, chosen_has_number}
+use Rattle.class_laws.proofs.ChosenMethods.{IsChosen, is_chosen, chosen_has_number}
 
 -- ---- the operand pushed first
 

@@ -41,10 +41,10 @@ use Rattle.machine_states.proofs.Instructions.{IsSetting, GoesAlike, DoesAlike}
 use Rattle.machine_states.proofs.Going.{own_frame, leaves_is, onward_alike}
 use Rattle.machine_states.proofs.Operands.{fine}
 use Rattle.machine_states.proofs.Statements.{BirthsStand, IsBirth}
-use Rattle.new_object_laws.proofs.Births.{by_birth, birth_goes, memory_after}
-use Rattle.new_object_laws.proofs.Constructors.{constructor, finds_own, numbered_own, class_named, class_is_in, slots_are_at, plain_has_none, is_numbered}
-use Rattle.new_object_laws.proofs.Frames.{depth_is, frames_in, constructs_is, frames_stand}
-use Rattle.new_object_laws.proofs.Zeros.{new_instance_stands}
+use Rattle.call_laws.proofs.Births.{by_birth, birth_goes, memory_after}
+use Rattle.call_laws.proofs.Constructors.{constructor, finds_own, numbered_own, class_named, class_is_in, slots_are_at, plain_has_none, is_numbered}
+use Rattle.call_laws.proofs.Frames.{depth_is, frames_in, constructs_is, frames_stand}
+use Rattle.call_laws.proofs.Zeros.{new_instance_stands}
 
 -- what doesn't stick passed its test
 not_stuck : (here : Setting) (b : Bool) (e : StateEffect) → IsTypedEffect here.tree (if b then e else Sticks) → b ≡ true

@@ -31,7 +31,7 @@ use Rattle.method_table.specs.MethodNumbers.{number_of}
 use Rattle.method_table.specs.Prepared.{local_kinds}
 use Rattle.method_table.proofs.NumberLaws.{declared_is_numbered}
 use Rattle.interpreter.specs.Calls.{class_in, slots_at}
-use Rattle.new_object_laws.proofs.Zeros.{locals_low}
+use Rattle.machine_states.proofs.Zeros.{locals_low}
 use Rattle.machine_states.proofs.Going.{below_test}
 
 -- a method with its class

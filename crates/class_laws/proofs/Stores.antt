@@ -40,7 +40,7 @@ use Rattle.machine_states.proofs.Instructions.{IsSetting, DoesAlike}
 use Rattle.machine_states.proofs.Going.{onward_is, onward_alike}
 use Rattle.machine_states.proofs.Operands.{fine, three_operands}
 use Rattle.machine_states.proofs.Statements.{CellsMayChange}
-use Rattle.type_laws.proofs.ObjectTypes.{may_stand_as_is, IsArrayAt, array_there}
+use Rattle.class_laws.proofs.ObjectTypes.{may_stand_as_is, IsArrayAt, array_there}
 use Rattle.machine_states.proofs.Memories.{named_is_not_null}
 
 -- an index is one on both

@@ -22,7 +22,7 @@ use Rattle.type_soundness.proofs.DeclaredClasses.{found_itself}
 use Rattle.name_tables.specs.Numbers.{class_number, method_at}
 use Rattle.name_tables.proofs.NumberLaws.{IsNumbered, numbered}
 use Rattle.method_table.proofs.FlatLaws.{numbered_at}
-use Rattle.target_laws.proofs.ObjectClasses.{method_by}
+use Rattle.class_laws.proofs.ObjectClasses.{method_by}
 
 -- ---- what fills a slot
 

@@ -1,3 +1,6 @@
+pub mod ObjectTypes
+pub mod Casts
+pub mod Stores
 pub mod ObjectClasses
 pub mod ChosenMethods
 pub mod VirtualCalls

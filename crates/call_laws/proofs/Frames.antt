@@ -34,10 +34,10 @@ use Rattle.machine_states.proofs.Extending.{values_extend, frame_list_extends, o
 use Rattle.machine_states.proofs.Instructions.{IsSetting}
 use Rattle.machine_states.proofs.Going.{own_frame, place_is_small, room_left}
 use Rattle.machine_states.proofs.Statements.{IsBirth}
-use Rattle.new_object_laws.proofs.Lists.{drop_inserted, reverse_inserted, length_inserted}
+use Rattle.call_laws.proofs.Lists.{drop_inserted, reverse_inserted, length_inserted}
 use Rattle.machine_states.proofs.Zeros.{locals_stand}
 use Rattle.machine_states.proofs.Going.{below_test}
-use Rattle.new_object_laws.proofs.Constructors.{constructor, arguments_count, few_arguments, few_locals, is_numbered}
+use Rattle.call_laws.proofs.Constructors.{constructor, arguments_count, few_arguments, few_locals, is_numbered}
 
 -- ---- tests on numbers
 

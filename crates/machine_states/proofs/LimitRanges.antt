@@ -1,0 +1,30 @@
+-- Limits in their ranges, one by one.
+use Rattle.std.proofs.Common.{◌≤◌, ℕ, ◌&&◌, IsTrue, arith}
+use Rattle.std.specs.Prelude.{nat_le}
+use Rattle.std.proofs.lemmas.Bool.Decides.{nat_tests}
+use Rattle.cil_model.specs.declared.limits.Limits.{Limits}
+use Rattle.cil_model.specs.declared.limits.TheConstants.{LEAST_WORDS, MOST_WORDS, MOST_BUDGET, MOST_DEPTH}
+use Rattle.cil_model.specs.Ranges.{is_between, are_in_range}
+use Rattle.cil_model.proofs.SameLaws.{both_first, both_second}
+
+between_low : (low high n : ℕ) → IsTrue (is_between low high n) → low ≤ n
+between_low low high n h = let first : IsTrue (nat_le low n) = both_first (nat_le low n) (nat_le n high) h in grind (arith, nat_tests)
+
+between_high : (low high n : ℕ) → IsTrue (is_between low high n) → n ≤ high
+between_high low high n h = let second : IsTrue (nat_le n high) = both_second (nat_le low n) (nat_le n high) h in grind (arith, nat_tests)
+
+module _ (limits : Limits) (h : IsTrue (are_in_range limits)) where
+  budget_between : IsTrue (is_between 1 MOST_BUDGET limits.budget)
+  budget_between = both_second (is_between LEAST_WORDS MOST_WORDS limits.words) _ (both_first (is_between LEAST_WORDS MOST_WORDS limits.words && is_between 1 MOST_BUDGET limits.budget) _ h)
+
+  pub budget_is_some : 1 ≤ limits.budget
+  budget_is_some = between_low 1 MOST_BUDGET limits.budget budget_between
+
+  pub budget_is_small : limits.budget ≤ MOST_BUDGET
+  budget_is_small = between_high 1 MOST_BUDGET limits.budget budget_between
+
+  pub depth_is_some : 1 ≤ limits.depth
+  depth_is_some = between_low 1 MOST_DEPTH limits.depth (both_second (is_between LEAST_WORDS MOST_WORDS limits.words && is_between 1 MOST_BUDGET limits.budget) _ h)
+
+  pub words_are_few : limits.words ≤ MOST_WORDS
+  words_are_few = between_high LEAST_WORDS MOST_WORDS limits.words (both_first _ _ (both_first (is_between LEAST_WORDS MOST_WORDS limits.words && is_between 1 MOST_BUDGET limits.budget) _ h))

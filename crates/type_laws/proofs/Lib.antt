@@ -1,3 +1,0 @@
-pub mod ObjectTypes
-pub mod Casts
-pub mod Stores
