@@ -12,7 +12,7 @@ use cil_model::trees::Tree;
 use ilasm_reader::{ReadError, read};
 use metadata::{MetaError, Program, Rule, resolve};
 use std::alloc::Global;
-use typing_refusals::{Untyped, told_typing};
+use crate::typing_refusals::{Untyped, told_typing};
 
 /// The tree of a source that was read before; None where it has none.
 fn tree_of(alloc: Global, source: &[u8]) -> Result<Option<Tree>, NoMemory> {

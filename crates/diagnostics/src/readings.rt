@@ -6,7 +6,7 @@ use cil_model::limits::MOST_SOURCE_BYTES;
 use cil_model::memory::NoMemory;
 use ilasm_reader::ReadError;
 use ilasm_tokens::words::{WordUse, use_of};
-use source_places::token_at;
+use crate::source_map::token_at;
 use std::alloc::Global;
 use std::fmt;
 

@@ -4,11 +4,11 @@ use crate::messages::Named;
 use cil_model::memory::NoMemory;
 use cil_model::trees::Tree;
 use metadata::Rule;
-use name_breaches::Sites;
+use crate::name_breaches::Sites;
 use name_tables::built_in::BuiltInClass;
 use name_tables::lookups::NameTables;
-use rule_breaches::{Breach, first_breach};
-use source_places::{Outline, Place};
+use crate::rule_breaches::{Breach, first_breach};
+use crate::source_map::{Outline, Place};
 use std::alloc::Global;
 
 /// The offset of a part of the source, where it is there.

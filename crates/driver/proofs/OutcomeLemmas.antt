@@ -3,11 +3,11 @@ use Rattle.std.proofs.Common.{◌≡◌, ◌↔◌, ◌<◌, nat_le, ℕ, Bool, 
 use Rattle.std.proofs.lemmas.Bool.{and_parts}
 use Rattle.std.proofs.lemmas.Bool.Decides.{nat_tests}
 use Rattle.std.specs.Prelude.{IfErr, IfOk, IsErrAnd}
-use Rattle.machine_states.proofs.StandsLaws.{ends_stand, printed_stands, stands_after}
+use Rattle.simulation.proofs.StandsLaws.{ends_stand, printed_stands, stands_after}
 use Rattle.cil_model.specs.Legality.{IsLegal}
-use Rattle.machine_states.specs.MachineContents.{Content}
-use Rattle.machine_states.specs.Runs.{StandsAfter}
-use Rattle.machine_states.specs.StandsFor.{Represents}
+use Rattle.simulation.specs.MachineContents.{Content}
+use Rattle.simulation.specs.Runs.{StandsAfter}
+use Rattle.simulation.specs.StandsFor.{Represents}
 use Rattle.shared_machine.specs.Worlds.{HasRun as Ran}
 use Rattle.threads_monitors.specs.Threads.{end_of}
 use Rattle.cil_model.specs.Ranges.{are_in_range}

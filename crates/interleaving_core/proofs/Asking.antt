@@ -21,16 +21,16 @@ use Rattle.method_table.specs.MethodNumbers.{number_of}
 use Rattle.threads_monitors.specs.Frames.{Frames}
 use Rattle.threads_monitors.specs.declared.effects.Effect.{Effect}
 use Rattle.threads_monitors.specs.declared.effects.Effect.TheVariants.{Raises}
-use Rattle.frame_instructions.specs.Frames.{Turn, given, onward, top_of}
-use Rattle.object_instructions.specs.ObjectTurns.{ObjectTurn, beside}
-use Rattle.call_instructions.specs.Calls.{call_turn}
-use Rattle.built_in_instructions.specs.BuiltInTurns.{enter_turn, exit_turn, write_turn}
+use Rattle.instructions.specs.Frames.{Turn, given, onward, top_of}
+use Rattle.instructions.specs.ObjectTurns.{ObjectTurn, beside}
+use Rattle.instructions.specs.Calls.{call_turn}
+use Rattle.instructions.specs.BuiltInTurns.{enter_turn, exit_turn, write_turn}
 use Rattle.interpreter.specs.Operations.{constant_rule, stack_rule, arithmetic_rule, branch_rule, field_rule, array_rule, type_rule, static_rule}
 use Rattle.interpreter.specs.Instructions.{IsDone, MachineTurn, of_frames, of_objects, of_statics, of_calls, operation_turn}
 use Rattle.interpreter.specs.Calls.{CallTurn, act_turn, beside_console, called_as, call_rule, chosen_at, new_at, receiver, return_rule, run_chosen, run_turn, top_reference, virtual_at}
 use Rattle.interpreter.specs.declared.outcomes.Outcome.{Outcome}
 use Rattle.interpreter.specs.declared.outcomes.Outcome.TheVariants.{Comes, Starts, Joins}
-use Rattle.machine_states.specs.Turns.{Answer}
+use Rattle.simulation.specs.Turns.{Answer}
 
 -- an outcome for the thread itself, or a wait, is no start
 comes_not : {A : Type 0} (e : Effect) (object : Addr) → Comes e ≡ Starts object → A

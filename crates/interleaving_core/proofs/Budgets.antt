@@ -9,7 +9,7 @@ use Rattle.cil_model.specs.declared.reports.End.{End}
 use Rattle.cil_model.specs.declared.reports.Report.{Report}
 use Rattle.cil_model.specs.declared.reports.Report.TheVariants.{Absent, NothingPosted, Waiting}
 use Rattle.cil_model.proofs.BelowLaws.{none_is_some}
-use Rattle.monitor_counts.proofs.ChangedEntries.{set_is_there}
+use Rattle.size_bounds.proofs.ChangedEntries.{set_is_there}
 use Rattle.reference_machine.proofs.RunLaws.{get_before}
 use Rattle.threads_monitors.specs.Frames.{Frames}
 use Rattle.threads_monitors.specs.Threads.{end_after, is_live, is_live_at, report_of, standing_after}
@@ -19,9 +19,9 @@ use Rattle.threads_monitors.specs.declared.threads.Standing.{Standing}
 use Rattle.threads_monitors.specs.declared.threads.Standing.TheVariants.{Live, Ended}
 use Rattle.threads_monitors.specs.declared.threads.Thread.{Thread}
 use Rattle.interpreter.specs.declared.outcomes.Outcome.{Outcome}
-use Rattle.machine_states.specs.Budgets.{KeepsBudgets, made_step, steps_left_of, steps_made}
-use Rattle.machine_states.specs.MachineContents.{Content}
-use Rattle.machine_states.specs.Turns.{Answer, IsStandingTurn, IsThreadTurn, IsTurn, counted, finished, left_by}
+use Rattle.simulation.specs.Budgets.{KeepsBudgets, made_step, steps_left_of, steps_made}
+use Rattle.simulation.specs.MachineContents.{Content}
+use Rattle.simulation.specs.Turns.{Answer, IsStandingTurn, IsThreadTurn, IsTurn, counted, finished, left_by}
 use Rattle.interleaving_core.specs.Finishing.{live_thread}
 use Rattle.interleaving_core.proofs.Finished.{HasBegun, finished_by}
 

@@ -13,8 +13,8 @@ use Rattle.name_tables.specs.Numbers.{declarations, method_at}
 use Rattle.name_tables.proofs.NumberLaws.{declared_at_number}
 use Rattle.class_layout.proofs.ClassNumbers.{number_of_place}
 use Rattle.method_table.specs.Prepared.{local_kinds}
-use Rattle.legal_sizes.proofs.MethodSizes.{locals_few}
-use Rattle.machine_states.proofs.Zeros.{locals_low}
+use Rattle.size_bounds.proofs.MethodSizes.{locals_few}
+use Rattle.simulation.proofs.Zeros.{locals_low}
 
 module _ (tree : Tree) (legal : IsLegal tree) (class place : ℕ) where
   -- where its class declares it

@@ -17,10 +17,10 @@ use Rattle.reference_machine.specs.Runs.{opening}
 use Rattle.reference_machine.specs.States.{State}
 use Rattle.method_table.specs.MethodNumbers.{number_of}
 use Rattle.method_table.specs.Prepared.{IsMethodTable}
-use Rattle.machine_states.specs.MachineContents.{Content}
-use Rattle.machine_states.specs.StandsFor.{Represents}
-use Rattle.machine_states.specs.Turns.{IsTurn, content_at, opening_content}
-use Rattle.machine_laws.proofs.Whole.{asked_is_answerable, opening_is_represented, thread_is_ready}
+use Rattle.simulation.specs.MachineContents.{Content}
+use Rattle.simulation.specs.StandsFor.{Represents}
+use Rattle.simulation.specs.Turns.{IsTurn, content_at, opening_content}
+use Rattle.step_simulation.proofs.Whole.{asked_is_answerable, opening_is_represented, thread_is_ready}
 use Rattle.interleaving_core.specs.Views.{CanGoOn, IsSound, content_of}
 use Rattle.interleaving_core.specs.declared.engine.Engine.{Engine}
 use Rattle.interleaving_core.proofs.Finished.{same_program, turn_few, turn_keeps_words}

@@ -7,7 +7,7 @@ use Rattle.cil_model.specs.declared.reports.Fault.{Fault}
 use Rattle.cil_model.specs.declared.reports.Report.{Report}
 use Rattle.cil_model.specs.declared.trees.Tree.{Tree}
 use Rattle.cil_model.proofs.BelowLaws.{none_is_some, same_some}
-use Rattle.monitor_counts.proofs.ChangedEntries.{set_is_there}
+use Rattle.size_bounds.proofs.ChangedEntries.{set_is_there}
 use Rattle.reference_machine.proofs.RunLaws.{get_before}
 use Rattle.object_memory.specs.declared.addresses.Addr.{Addr}
 use Rattle.object_memory.specs.Objects.{Objects, with_slot}
@@ -20,9 +20,9 @@ use Rattle.threads_monitors.specs.declared.threads.Standing.TheVariants.{Live, E
 use Rattle.threads_monitors.specs.declared.threads.Thread.{Thread}
 use Rattle.interpreter.specs.declared.outcomes.Outcome.{Outcome}
 use Rattle.interpreter.specs.declared.outcomes.Outcome.TheVariants.{Comes, Starts, Joins}
-use Rattle.machine_states.specs.MachineContents.{Content}
-use Rattle.machine_states.specs.Turns.{Answer, IsStandingTurn, IsThreadTurn, IsTurn, finished, left_by, started, thread_for}
-use Rattle.machine_states.specs.Ready.{IsAnswerable}
+use Rattle.simulation.specs.MachineContents.{Content}
+use Rattle.simulation.specs.Turns.{Answer, IsStandingTurn, IsThreadTurn, IsTurn, finished, left_by, started, thread_for}
+use Rattle.simulation.specs.Ready.{IsAnswerable}
 use Rattle.interleaving_core.specs.Finishing.{CanFinish, IsInstructed, finish, live_thread}
 use Rattle.interleaving_core.proofs.Asking.{start_changes_nothing}
 

@@ -31,15 +31,15 @@ use Rattle.threads_monitors.specs.Frames.{Frames, with_stack}
 use Rattle.threads_monitors.specs.Monitors.{with_entry, with_exit, with_monitor_or}
 use Rattle.threads_monitors.specs.declared.effects.Effect.{Effect}
 use Rattle.threads_monitors.specs.declared.effects.Effect.TheVariants.{GoesOn, Returns, Blocks, Raises}
-use Rattle.frame_instructions.specs.Frames.{Turn, given, leaves, onward, top_of}
-use Rattle.object_instructions.specs.ObjectTurns.{ObjectTurn, beside, born, in_range, index_in, leaves_born, load_element_turn, load_field_turn, load_length_turn, load_slot, new_array_of, new_array_turn, object_of, place_in, slots_of, store_element_turn, store_field_turn, store_slot}
-use Rattle.call_instructions.specs.Calls.{Called, call_turn, construct_turn, constructs, is_full, new_object_turn, new_plain_object_turn}
-use Rattle.built_in_instructions.specs.BuiltInTurns.{carried, enter_turn, is_countable, exit_turn, reference_from, write_turn}
+use Rattle.instructions.specs.Frames.{Turn, given, leaves, onward, top_of}
+use Rattle.instructions.specs.ObjectTurns.{ObjectTurn, beside, born, in_range, index_in, leaves_born, load_element_turn, load_field_turn, load_length_turn, load_slot, new_array_of, new_array_turn, object_of, place_in, slots_of, store_element_turn, store_field_turn, store_slot}
+use Rattle.instructions.specs.Calls.{Called, call_turn, construct_turn, constructs, is_full, new_object_turn, new_plain_object_turn}
+use Rattle.instructions.specs.BuiltInTurns.{carried, enter_turn, is_countable, exit_turn, reference_from, write_turn}
 use Rattle.interpreter.specs.Operations.{array_held, array_rule, arithmetic_rule, branch_rule, constant_rule, held_at, slot_at, stack_rule, static_rule, type_rule}
 use Rattle.interpreter.specs.Instructions.{IsDone, MachineTurn, of_calls, of_frames, of_objects, of_statics, operation_turn}
 use Rattle.interpreter.specs.Calls.{CallTurn, act_turn, beside_console, call_rule, called_as, chosen_at, class_in, made, new_at, receiver, return_rule, run_chosen, run_turn, slots_at, top_reference, virtual_at}
 use Rattle.interpreter.specs.declared.outcomes.Outcome.{Outcome}
-use Rattle.machine_states.specs.Turns.{Answer}
+use Rattle.simulation.specs.Turns.{Answer}
 
 -- ---- what rules are put together from
 

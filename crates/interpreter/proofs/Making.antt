@@ -15,9 +15,9 @@ use Rattle.name_tables.specs.Numbers.{method_at}
 use Rattle.object_memory.specs.Objects.{Objects}
 use Rattle.method_table.specs.MethodNumbers.{number_of}
 use Rattle.threads_monitors.specs.Frames.{Frames}
-use Rattle.frame_instructions.specs.Frames.{given}
-use Rattle.object_instructions.specs.ObjectTurns.{ObjectTurn}
-use Rattle.call_instructions.specs.Calls.{new_object_turn, new_plain_object_turn}
+use Rattle.instructions.specs.Frames.{given}
+use Rattle.instructions.specs.ObjectTurns.{ObjectTurn}
+use Rattle.instructions.specs.Calls.{new_object_turn, new_plain_object_turn}
 use Rattle.interpreter.specs.Calls.{called_as, class_in, slots_at, made, new_at}
 
 module _ (tree : Tree) (n : MemberNumber) (m : Frames) (o : Objects) where

@@ -16,9 +16,9 @@ use Rattle.metadata.specs.Contents.{BothAlike}
 use Rattle.object_memory.specs.Objects.{Objects}
 use Rattle.method_table.specs.MethodNumbers.{number_of}
 use Rattle.threads_monitors.specs.Frames.{Frames}
-use Rattle.frame_instructions.specs.Frames.{Turn, given}
-use Rattle.object_instructions.specs.ObjectTurns.{beside}
-use Rattle.call_instructions.specs.Calls.{call_turn}
+use Rattle.instructions.specs.Frames.{Turn, given}
+use Rattle.instructions.specs.ObjectTurns.{beside}
+use Rattle.instructions.specs.Calls.{call_turn}
 use Rattle.interpreter.specs.Calls.{beside_console, act_turn, called_as, run_turn, run_at}
 
 -- ---- options

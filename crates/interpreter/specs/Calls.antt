@@ -30,10 +30,10 @@ use Rattle.method_table.specs.Prepared.{local_kinds}
 use Rattle.threads_monitors.specs.Frames.{Frames}
 use Rattle.threads_monitors.specs.declared.effects.Effect.{Effect}
 use Rattle.threads_monitors.specs.declared.effects.Effect.TheVariants.{Raises}
-use Rattle.frame_instructions.specs.Frames.{Turn, given, with_top, onward}
-use Rattle.object_instructions.specs.ObjectTurns.{ObjectTurn, beside}
-use Rattle.call_instructions.specs.Calls.{Called, call_turn, new_object_turn, new_plain_object_turn, return_turn}
-use Rattle.built_in_instructions.specs.BuiltInTurns.{enter_turn, exit_turn, write_turn}
+use Rattle.instructions.specs.Frames.{Turn, given, with_top, onward}
+use Rattle.instructions.specs.ObjectTurns.{ObjectTurn, beside}
+use Rattle.instructions.specs.Calls.{Called, call_turn, new_object_turn, new_plain_object_turn, return_turn}
+use Rattle.instructions.specs.BuiltInTurns.{enter_turn, exit_turn, write_turn}
 use Rattle.interpreter.specs.Operations.{small}
 use Rattle.interpreter.specs.declared.outcomes.Outcome.{Outcome}
 use Rattle.interpreter.specs.declared.outcomes.Outcome.TheVariants.{Comes, Starts, Joins}

@@ -15,8 +15,8 @@ use Rattle.object_memory.specs.declared.values.Value.{Value}
 use Rattle.object_memory.specs.Objects.{Objects}
 use Rattle.threads_monitors.specs.Frames.{Frames}
 use Rattle.threads_monitors.specs.declared.effects.Effect.{Effect}
-use Rattle.frame_instructions.specs.Frames.{Turn}
-use Rattle.object_instructions.specs.ObjectTurns.{ObjectTurn}
+use Rattle.instructions.specs.Frames.{Turn}
+use Rattle.instructions.specs.ObjectTurns.{ObjectTurn}
 use Rattle.interpreter.specs.declared.outcomes.Outcome.{Outcome}
 use Rattle.interpreter.specs.declared.outcomes.Outcome.TheVariants.{Comes}
 use Rattle.interpreter.specs.Operations.{constant_rule, stack_rule, arithmetic_rule, branch_rule, field_rule, array_rule, type_rule, static_rule}

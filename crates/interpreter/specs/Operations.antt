@@ -23,11 +23,11 @@ use Rattle.object_memory.specs.Objects.{Objects}
 use Rattle.resolved_code.specs.declared.types.NumberedElement.{NumberedElement}
 use Rattle.resolved_code.specs.declared.types.NumberedElement.TheVariants.{Int32 as NumberedInt32, Int64 as NumberedInt64, Object as NumberedObject, String as NumberedString, Class as NumberedClass}
 use Rattle.resolved_code.specs.declared.types.NumberedType.{NumberedType}
-use Rattle.object_instructions.specs.ObjectTurns.{ObjectTurn, load_field_turn, store_field_turn, load_length_turn, load_element_turn, store_element_turn, new_array_turn, load_static_turn, store_static_turn}
-use Rattle.type_instructions.specs.TypeTurns.{cast_class_turn, is_instance_turn, store_reference_turn}
+use Rattle.instructions.specs.ObjectTurns.{ObjectTurn, load_field_turn, store_field_turn, load_length_turn, load_element_turn, store_element_turn, new_array_turn, load_static_turn, store_static_turn}
+use Rattle.instructions.specs.TypeTurns.{cast_class_turn, is_instance_turn, store_reference_turn}
 use Rattle.threads_monitors.specs.declared.effects.Effect.{Effect}
 use Rattle.threads_monitors.specs.Frames.{Frames}
-use Rattle.frame_instructions.specs.Frames.{Turn, given, jump, onward, leaves, argument_turn, local_turn, store_argument_turn, store_local_turn, duplicate_turn, pop_turn, binary_turn, unary_turn, shift_turn, compare_turn, convert_32_turn, convert_64_turn, branch_true_turn, branch_false_turn, branch_compare_turn, switch_turn}
+use Rattle.instructions.specs.Frames.{Turn, given, jump, onward, leaves, argument_turn, local_turn, store_argument_turn, store_local_turn, duplicate_turn, pop_turn, binary_turn, unary_turn, shift_turn, compare_turn, convert_32_turn, convert_64_turn, branch_true_turn, branch_false_turn, branch_compare_turn, switch_turn}
 
 -- ---- operands
 

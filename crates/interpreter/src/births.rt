@@ -6,8 +6,8 @@ ghost use Rattle.method_table.specs.Prepared.{IsMethodTable};
 ghost use Rattle.interpreter.specs.Calls.{class_in, slots_at, new_at};
 
 use crate::calls::entry;
-use call_instructions::Callee;
-use call_instructions::births::{new_object, new_plain_object};
+use instructions::Callee;
+use instructions::births::{new_object, new_plain_object};
 use class_layout::Layout;
 use metadata::Program;
 use method_table::MethodTable;

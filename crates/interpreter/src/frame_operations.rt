@@ -3,7 +3,7 @@
 ghost use Rattle.std.specs.Prelude.{◌≡◌, IsSome, Some};
 ghost use Rattle.interpreter.specs.Operations.{constant_rule, stack_rule, arithmetic_rule, branch_rule};
 
-use frame_instructions::{arithmetic, branches, places, stack};
+use instructions::{arithmetic, branches, places, stack};
 use object_memory::{Addr, Value};
 use resolved_code::operations::Operation;
 use threads_monitors::{Effect, FrameMemory};

@@ -1,4 +1,4 @@
-use source_places::{
+use diagnostics::source_map::{
     ClassPart, LinePart, MemberPart, Outline, Place, excerpt, position_of, token_at,
 };
 use std::test::Fail;

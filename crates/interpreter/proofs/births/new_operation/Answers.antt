@@ -5,7 +5,7 @@ use Rattle.reference_machine.specs.BuiltIn.{action_of}
 use Rattle.method_table.specs.MethodNumbers.{number_of}
 use Rattle.method_table.specs.Prepared.{action_named, IsTableMethod}
 use Rattle.method_table.proofs.NumberLaws.{number_of_place}
-use Rattle.call_instructions.specs.Calls.{new_object_turn}
+use Rattle.instructions.specs.Calls.{new_object_turn}
 use Rattle.interpreter.specs.Calls.{made, new_at}
 use Rattle.interpreter.proofs.Running.{called_alike}
 use Rattle.interpreter.proofs.Making.{Making, making, made_plain, made_called}

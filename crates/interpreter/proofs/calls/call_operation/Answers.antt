@@ -1,6 +1,6 @@
 use Rattle.std.proofs.Common.{subst}
 use Rattle.std.specs.Prelude.{IsSome}
-use Rattle.object_instructions.specs.ObjectTurns.{beside}
+use Rattle.instructions.specs.ObjectTurns.{beside}
 use Rattle.interpreter.specs.Calls.{call_rule, return_rule}
 use Rattle.interpreter.proofs.Running.{mapped_there}
 use Rattle.interpreter.proofs.calls.call_operation.Goals as goal

@@ -5,8 +5,8 @@ use Rattle.reference_machine.specs.BuiltIn.{action_of}
 use Rattle.method_table.specs.MethodNumbers.{number_of}
 use Rattle.method_table.specs.Prepared.{action_named, IsTableMethod}
 use Rattle.method_table.proofs.NumberLaws.{number_of_place}
-use Rattle.call_instructions.specs.Calls.{call_turn}
-use Rattle.object_instructions.specs.ObjectTurns.{beside}
+use Rattle.instructions.specs.Calls.{call_turn}
+use Rattle.instructions.specs.ObjectTurns.{beside}
 use Rattle.interpreter.specs.Calls.{beside_console, called_as, prints}
 use Rattle.interpreter.proofs.Running.{there_is, given_there, called_alike, run_acts, run_calls, call_there}
 use Rattle.interpreter.proofs.calls.run.Goals as goal

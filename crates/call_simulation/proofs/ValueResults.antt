@@ -1,0 +1,135 @@
+-- What operations on values answer, of both machines.
+use Rattle.std.proofs.Common.{◌≡◌, ◌==◌, ℤ, pos, Bool, true, false, not, Some, Result, Ok, Err, refl, sym, ap, ◌∙◌, subst, true≢false, lit<}
+use Rattle.std.specs.Int.{w32, w64}
+use Rattle.std.proofs.lemmas.Bool.{eqb-true, eq-eqb}
+use Rattle.cil_model.specs.declared.instructions.BinaryOperation.{BinaryOperation}
+use Rattle.cil_model.specs.declared.instructions.UnaryOperation.{UnaryOperation}
+use Rattle.cil_model.specs.declared.instructions.ShiftOperation.{ShiftOperation}
+use Rattle.cil_model.specs.declared.instructions.Comparison.{Comparison}
+use Rattle.cil_model.specs.declared.instructions.Comparison.TheVariants.{Equal, Greater, Less}
+use Rattle.cil_model.specs.declared.instructions.BranchComparison.{BranchComparison}
+use Rattle.cil_model.specs.declared.instructions.BranchComparison.TheVariants.{Equal as BranchEqual, NotEqual}
+use Rattle.cil_model.specs.declared.reports.Fault.{Fault}
+use Rattle.cil_model.specs.declared.trees.Tree.{Tree}
+use Rattle.cil_model.proofs.BelowLaws.{same_some}
+use Rattle.cil_model.proofs.SameLaws.{same_text_equal, same_text_itself}
+use Rattle.reference_machine.specs.Values.{ObjectName, Born, Literal, Value as StateValue, Int32 as Int32Value, Int64 as Int64Value, same_object}
+use Rattle.reference_machine.specs.Arithmetic.{binary, binary_value, unary_value, shift_value, compare_values, branch_values, is_set as is_set_value, convert_32, convert_64, one_or_zero as one_or_zero_value, result_as}
+use Rattle.reference_machine.specs.States.{State}
+use Rattle.object_memory.specs.declared.addresses.Addr.{Addr}
+use Rattle.object_memory.specs.declared.values.Value.{Value}
+use Rattle.object_memory.specs.declared.values.Value.TheVariants.{Int32, Int64}
+use Rattle.object_memory.specs.Objects.{Objects}
+use Rattle.instructions.specs.Frames.{held_as, binary_result, unary_result, shift_result, comparison, branch_test, one_or_zero, is_set, in_32_bits, in_64_bits}
+use Rattle.simulation.specs.StandsFor.{Names, IsValue, int32, int64, native, null_reference, reference, IsHeap}
+use Rattle.call_simulation.proofs.Fitting.{FitsResult, binary_fits, unary_fits, shift_fits, cast_fits, widened_fits}
+use Rattle.call_simulation.proofs.Meeting.{Meets, IsResult, Same, meets_itself}
+use Rattle.simulation.proofs.Memories.{named_is_not_null, null_is_not_named}
+
+-- ---- names of objects
+
+-- a name is the same as itself, and as no other
+same_object_itself : (n : ObjectName) → same_object n n ≡ true
+same_object_itself (Born n) = eq-eqb n n refl
+same_object_itself (Literal characters) = same_text_itself characters
+
+same_object_equal : (m n : ObjectName) → same_object m n ≡ true → m ≡ n
+same_object_equal (Born m) (Born n) h = ap Born (eqb-true m n h)
+same_object_equal (Literal a) (Literal b) h = ap Literal (same_text_equal a b h)
+same_object_equal (Born m) (Literal b) h = absurd (true≢false (sym h))
+same_object_equal (Literal a) (Born n) h = absurd (true≢false (sym h))
+
+-- two tests that imply each other are the same
+same_tests : (a b : Bool) → (a ≡ true → b ≡ true) → (b ≡ true → a ≡ true) → a ≡ b
+same_tests true b h k = sym (h refl)
+same_tests false true h k = k refl
+same_tests false false h k = refl
+
+module _ (tree : Tree) (name : Names) (o : Objects) (s : State) (heap : IsHeap tree name o s) where
+  -- equal addresses have equal names, and equal names one address
+  pub same_reference_alike : (a b : Addr) (m n : ObjectName) → name a.number ≡ Some m → name b.number ≡ Some n → (a.number == b.number) ≡ same_object m n
+  same_reference_alike a b m n is is' =
+      same_tests (a.number == b.number) (same_object m n)
+      (λ h. let e : m ≡ n = same_some m n (sym is ∙ ap name (eqb-true a.number b.number h) ∙ is') in subst (λ k. same_object m k ≡ true) e (same_object_itself m))
+      (λ h. eq-eqb a.number b.number (heap.apart a.number b.number n (is ∙ ap Some (same_object_equal m n h)) is'))
+
+  -- ---- tests
+
+  pub comparison_meets : (op : Comparison) (v w : Value) (u x : StateValue) → IsValue name v u → IsValue name w x → Meets Same (comparison op v w) (compare_values op u x)
+  comparison_meets Equal v w u x (int32 y fits) (int32 z fits') = refl
+  comparison_meets Equal v w u x (int64 y fits) (int64 z fits') = refl
+  comparison_meets Equal v w u x null_reference null_reference = refl
+  comparison_meets Equal v w u x null_reference (reference b n is) = null_is_not_named tree name o s heap b.number n is
+  comparison_meets Equal v w u x (reference a m is) null_reference = named_is_not_null tree name o s heap a.number m is
+  comparison_meets Equal v w u x (reference a m is) (reference b n is') = same_reference_alike a b m n is is'
+  comparison_meets Equal v w u x h k = tt
+  comparison_meets Greater v w u x (int32 y fits) (int32 z fits') = refl
+  comparison_meets Greater v w u x (int64 y fits) (int64 z fits') = refl
+  comparison_meets Greater v w u x h k = tt
+  comparison_meets Less v w u x (int32 y fits) (int32 z fits') = refl
+  comparison_meets Less v w u x (int64 y fits) (int64 z fits') = refl
+  comparison_meets Less v w u x h k = tt
+
+  pub branch_test_meets : (op : BranchComparison) (v w : Value) (u x : StateValue) → IsValue name v u → IsValue name w x → Meets Same (branch_test op v w) (branch_values op u x)
+  branch_test_meets op v w u x (int32 y fits) (int32 z fits') = meets_itself (branch_values op (Int32Value y) (Int32Value z))
+  branch_test_meets op v w u x (int64 y fits) (int64 z fits') = meets_itself (branch_values op (Int64Value y) (Int64Value z))
+  branch_test_meets BranchEqual v w u x h k = comparison_meets Equal v w u x h k
+  branch_test_meets NotEqual v w u x null_reference null_reference = refl
+  branch_test_meets NotEqual v w u x null_reference (reference b n is) = ap not (null_is_not_named tree name o s heap b.number n is)
+  branch_test_meets NotEqual v w u x (reference a m is) null_reference = ap not (named_is_not_null tree name o s heap a.number m is)
+  branch_test_meets NotEqual v w u x (reference a m is) (reference b n is') = ap not (same_reference_alike a b m n is is')
+  branch_test_meets op v w u x h k = tt
+
+  pub is_set_meets : (v : Value) (u : StateValue) → IsValue name v u → Meets Same (is_set v) (is_set_value u)
+  is_set_meets v u (int32 z fits) = refl
+  is_set_meets v u (int64 z fits) = refl
+  is_set_meets v u (native z fits) = tt
+  is_set_meets v u null_reference = refl
+  is_set_meets v u (reference a n is) = ap not (named_is_not_null tree name o s heap a.number n is)
+
+module _ (name : Names) where
+  -- ---- integers
+
+  -- a result of one size, or the fault
+  held_meets_32 : (r : Result ℤ Fault) → FitsResult w32 r → Meets (IsResult name) (Some (held_as Int32 r)) (result_as Int32Value r)
+  held_meets_32 (Ok z) fits = int32 z fits
+  held_meets_32 (Err f) fits = refl
+
+  held_meets_64 : (r : Result ℤ Fault) → FitsResult w64 r → Meets (IsResult name) (Some (held_as Int64 r)) (result_as Int64Value r)
+  held_meets_64 (Ok z) fits = int64 z fits
+  held_meets_64 (Err f) fits = refl
+
+  pub binary_meets : (op : BinaryOperation) (v w : Value) (u x : StateValue) → IsValue name v u → IsValue name w x → Meets (IsResult name) (binary_result op v w) (binary_value op u x)
+  binary_meets op v w u x (int32 y fits) (int32 z fits') = held_meets_32 (binary w32 op y z) (binary_fits w32 op y z fits)
+  binary_meets op v w u x (int64 y fits) (int64 z fits') = held_meets_64 (binary w64 op y z) (binary_fits w64 op y z fits)
+  binary_meets op v w u x h k = tt
+
+  pub unary_meets : (op : UnaryOperation) (v : Value) (u : StateValue) → IsValue name v u → Meets (IsValue name) (unary_result op v) (unary_value op u)
+  unary_meets op v u (int32 z fits) = int32 _ (unary_fits w32 op z)
+  unary_meets op v u (int64 z fits) = int64 _ (unary_fits w64 op z)
+  unary_meets op v u h = tt
+
+  pub shift_meets : (op : ShiftOperation) (v w : Value) (u x : StateValue) → IsValue name v u → IsValue name w x → Meets (IsValue name) (shift_result op v w) (shift_value op u x)
+  shift_meets op v w u x (int32 y fits) (int32 z fits') = int32 _ (shift_fits w32 op y z fits)
+  shift_meets op v w u x (int64 y fits) (int32 z fits') = int64 _ (shift_fits w64 op y z fits)
+  shift_meets op v w u x h k = tt
+
+  pub narrow_meets : (v : Value) (u : StateValue) → IsValue name v u → Meets (IsValue name) (in_32_bits v) (convert_32 u)
+  narrow_meets v u (int32 z fits) = int32 z fits
+  narrow_meets v u (int64 z fits) = int32 _ (cast_fits w32 _)
+  narrow_meets v u (native z fits) = int32 _ (cast_fits w32 _)
+  narrow_meets v u h = tt
+
+  pub wide_meets : (v : Value) (u : StateValue) → IsValue name v u → Meets (IsValue name) (in_64_bits v) (convert_64 u)
+  wide_meets v u (int32 z fits) = int64 z (widened_fits z fits)
+  wide_meets v u (int64 z fits) = int64 z fits
+  wide_meets v u (native z fits) = int64 z fits
+  wide_meets v u h = tt
+
+  -- what a test leaves
+  pub one_or_zero_alike : (a b : Bool) → Same a b → IsValue name (one_or_zero a) (one_or_zero_value b)
+  one_or_zero_alike a b e = subst (λ c. IsValue name (one_or_zero a) (one_or_zero_value c)) e (of_test a)
+    where
+      of_test : (c : Bool) → IsValue name (one_or_zero c) (one_or_zero_value c)
+      of_test true = int32 (pos 1) (record { sfits = lit< tt })
+      of_test false = int32 (pos 0) (record { sfits = lit< tt })

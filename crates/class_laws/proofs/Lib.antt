@@ -1,6 +1,0 @@
-pub mod ObjectTypes
-pub mod Casts
-pub mod Stores
-pub mod ObjectClasses
-pub mod ChosenMethods
-pub mod VirtualCalls

@@ -1,0 +1,9 @@
+// Why a method has no typing, to a person: the instruction at fault, in words, and the stacks there.
+
+mod numbered;
+mod refusals;
+mod replays;
+mod typings;
+mod wanted;
+
+pub use typings::{Told, Untyped, told_typing};

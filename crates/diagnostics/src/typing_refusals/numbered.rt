@@ -1,0 +1,101 @@
+//! Types by numbers, as text.
+
+use cil_model::memory::NoMemory;
+use cil_model::trees::Tree;
+use flow_rules::entries::StackEntry;
+use crate::name_breaches::ClassText;
+use name_tables::built_in::BuiltInClass;
+use name_tables::keys::ClassKey;
+use resolved_code::types::{NumberedElement, NumberedType};
+use std::alloc::Global;
+use std::fmt;
+
+/// The names of classes by their numbers: the built-in ones first, and then those of the source.
+pub(crate) fn class_keys<'a>(
+    alloc: Global,
+    table: &'a [BuiltInClass],
+    tree: &'a Tree,
+) -> Result<Vec<ClassKey<'a>>, NoMemory> {
+    let mut keys = Vec::new(alloc);
+    for class in table {
+        keys.push(ClassKey::of(&class.name))?;
+    }
+    for class in tree.classes.as_slice() {
+        keys.push(ClassKey::of_source(class))?;
+    }
+    Ok(keys)
+}
+
+/// The class of a number.
+#[derive(Clone, Copy)]
+pub(crate) struct NumberedClass<'a>(pub &'a [ClassKey<'a>], pub usize);
+
+impl fmt::Display for NumberedClass<'_> {
+    fn fmt<W: fmt::Write>(&self, f: &mut fmt::Formatter<W>) -> fmt::Result {
+        match self.0.get(self.1) {
+            None => write!(f, "?"),
+            Some(class) => {
+                let class = ClassText(*class);
+                write!(f, "{class}")
+            }
+        }
+    }
+}
+
+/// A type by its number: `int32`, `Dog[]`.
+#[derive(Clone, Copy)]
+pub(crate) struct TypeOf<'a>(pub &'a [ClassKey<'a>], pub NumberedType);
+
+impl fmt::Display for TypeOf<'_> {
+    fn fmt<W: fmt::Write>(&self, f: &mut fmt::Formatter<W>) -> fmt::Result {
+        match self.1.element {
+            NumberedElement::Int32 => write!(f, "int32")?,
+            NumberedElement::Int64 => write!(f, "int64")?,
+            NumberedElement::Object => write!(f, "object")?,
+            NumberedElement::String => write!(f, "string")?,
+            NumberedElement::Class(number) => {
+                let class = NumberedClass(self.0, number);
+                write!(f, "{class}")?;
+            }
+        }
+        for _ in 0..self.1.brackets {
+            write!(f, "[]")?;
+        }
+        Ok(())
+    }
+}
+
+/// What is known of a value on the stack.
+#[derive(Clone, Copy)]
+pub(crate) struct EntryOf<'a>(pub &'a [ClassKey<'a>], pub StackEntry);
+
+impl fmt::Display for EntryOf<'_> {
+    fn fmt<W: fmt::Write>(&self, f: &mut fmt::Formatter<W>) -> fmt::Result {
+        match self.1 {
+            StackEntry::Declared(declared) => {
+                let declared = TypeOf(self.0, declared);
+                write!(f, "{declared}")
+            }
+            StackEntry::NativeInt => write!(f, "native int"),
+            StackEntry::Null => write!(f, "null"),
+        }
+    }
+}
+
+/// A stack, which is kept with its top first, written with its top last; `empty` where it holds nothing.
+#[derive(Clone, Copy)]
+pub(crate) struct StackOf<'a>(pub &'a [ClassKey<'a>], pub &'a [StackEntry]);
+
+impl fmt::Display for StackOf<'_> {
+    fn fmt<W: fmt::Write>(&self, f: &mut fmt::Formatter<W>) -> fmt::Result {
+        if self.1.is_empty() {
+            return write!(f, "empty");
+        }
+        for (place, entry) in self.1.iter().rev().enumerate() {
+            let comma = if place == 0 { "" } else { ", " };
+            let entry = EntryOf(self.0, *entry);
+            write!(f, "{comma}{entry}")?;
+        }
+        Ok(())
+    }
+}

@@ -1,2 +1,0 @@
-//! Instructions that touch frames alone do the same on a machine as on the reference machine. It has no code; its lemmas are in proofs/.
-#![tactic(auto)]

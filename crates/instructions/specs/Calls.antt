@@ -1,0 +1,85 @@
+-- What calls and returns do to frames (III.3.19, III.4.21, III.3.57). A rule has no answer where an operand is missing or of another
+-- kind, or where there is no room for it: no verified program comes there.
+use Rattle.std.specs.Prelude.{ℕ, ◌+◌, ◌-◌, ◌==◌, Bool, true, false, ◌&&◌, if◌then◌else◌, nat_lt, nat_le, List, ◌∷◌, length, Option, Some, None}
+use Rattle.cil_model.specs.declared.limits.TheConstants.{MOST_INSTRUCTIONS}
+use Rattle.cil_model.specs.declared.reports.Fault.TheVariants.{OutOfMemory, StackOverflow}
+use Rattle.object_memory.specs.declared.addresses.Addr.{Addr}
+use Rattle.object_memory.specs.declared.values.Value.{Value}
+use Rattle.object_memory.specs.declared.values.ValueKind.{ValueKind}
+use Rattle.object_memory.specs.declared.values.Value.TheVariants.{Ref}
+use Rattle.threads_monitors.specs.Frames.{Frames, size, with_place, with_stack, with_inserted, with_call, returned}
+use Rattle.threads_monitors.specs.declared.effects.Effect.TheVariants.{GoesOn, Returns, Raises}
+use Rattle.object_memory.specs.declared.kinds.Kind.TheVariants.{Instance}
+use Rattle.object_memory.specs.Objects.{Objects, with_birth}
+use Rattle.instructions.specs.Frames.{Turn, with_top}
+use Rattle.instructions.specs.ObjectTurns.{ObjectTurn, beside, born}
+use Rattle.instructions.specs.declared.calls.Callee.{Callee}
+
+-- goes on once the frame is at the instruction behind
+abbrev pub behind : Frames → (Frames → Turn) → Turn
+behind m go = if nat_lt m.running.place MOST_INSTRUCTIONS then go (with_place m (m.running.place + 1)) else None
+
+-- ---- calls
+
+-- a method that is called: its number, how many arguments it has, and what its locals hold
+pub record Called : Type 0 where
+  pub method : ℕ
+  pub arguments : ℕ
+  pub locals : List ValueKind
+
+abbrev pub called : Callee → Called
+called c = record { method = c.method; arguments = c.arguments; locals = c.locals.now }
+
+-- as many frames as there may be
+abbrev pub is_full : Frames → Bool
+is_full m = length m.below + 1 == m.depth
+
+-- a frame for the method, on the uppermost operands
+abbrev pub entered : Called → Option Addr → Frames → Turn
+entered callee object m =
+    if nat_lt (length m.below + 1) m.depth && nat_le callee.arguments (length m.running.stack) && nat_le (callee.arguments + length callee.locals) m.room
+    then Some (with_call m callee.method callee.arguments callee.locals object, GoesOn) else None
+
+-- call (III.3.19): the caller is at the instruction behind when it runs again
+abbrev pub call_turn : Called → Frames → Turn
+call_turn callee m = if is_full m then Some (m, Raises StackOverflow) else behind m (entered callee None)
+
+-- the new object is the constructor's first argument, beneath the others (III.4.21)
+abbrev pub construct_turn : Called → Addr → Frames → Turn
+construct_turn callee object m =
+    if nat_lt 0 callee.arguments && (nat_lt (size m.running) m.room && nat_le (callee.arguments - 1) (length m.running.stack))
+    then behind (with_inserted m (callee.arguments - 1) (Ref object)) (entered callee (Some object)) else None
+
+-- ---- births
+
+-- the constructor's frame for an object that was born, or memory is refused
+abbrev pub constructs : Called → Frames → Objects × Option Addr → ObjectTurn
+constructs callee m (o, None) = Some (m, o, Raises OutOfMemory)
+constructs callee m (o, Some a) = beside o (construct_turn callee a m)
+
+-- newobj (III.4.21) of a class with a constructor that has code: the depth is looked at before memory
+abbrev pub new_object_turn : ℕ → ℕ → Called → Frames → Objects → ObjectTurn
+new_object_turn class slots callee m o = if is_full m then Some (m, o, Raises StackOverflow) else constructs callee m (with_birth o (Instance class) slots)
+
+-- the same with a constructor that is built in, which is done at once
+abbrev pub new_plain_object_turn : ℕ → ℕ → Frames → Objects → ObjectTurn
+new_plain_object_turn class slots m o = born m (with_birth o (Instance class) slots)
+
+-- ---- returns
+
+-- the frame below goes on with what it is given; without one below the thread is done
+abbrev pub gives : Option Value → Frames → Turn
+gives v m = if length m.below == 0 then Some (m, Returns) else given_to v (returned m)
+  where
+    given_to : Option Value → Frames → Turn
+    given_to None m = Some (m, GoesOn)
+    given_to (Some v) m = if nat_lt (size m.running) m.room then Some (with_stack m (v ∷ m.running.stack), GoesOn) else None
+
+-- the object that was constructed, or what the method returns, if anything
+abbrev pub return_by : Option Addr → Bool → Frames → Turn
+return_by (Some object) has_value m = gives (Some (Ref object)) m
+return_by None true m = with_top m (λ v n. gives (Some v) n)
+return_by None false m = gives None m
+
+abbrev pub return_turn : Bool → Frames → Turn
+return_turn has_value m = return_by m.running.constructed has_value m

@@ -1,0 +1,5 @@
+pub mod Frames
+pub mod ObjectTurns
+pub mod Calls
+pub mod BuiltInTurns
+pub mod TypeTurns

@@ -1,0 +1,118 @@
+-- What instructions do to objects, arrays and static fields (III.4). A rule has no answer where an operand is missing or of another
+-- kind, or where there is no such object or slot: no verified program comes there.
+use Rattle.std.specs.Prelude.{ℕ, ◌==◌, ℤ, pos, negsuc, if◌then◌else◌, nat_lt, List, length, Option, Some, None, option_map, slice_get, slice_set}
+use Rattle.cil_model.specs.declared.reports.Fault.TheVariants.{NullReference, IndexOutOfRange, Overflow, OutOfMemory}
+use Rattle.object_memory.specs.declared.addresses.Addr.{Addr}
+use Rattle.object_memory.specs.declared.kinds.ArrayElement.{ArrayElement}
+use Rattle.object_memory.specs.declared.kinds.Kind.TheVariants.{Array}
+use Rattle.object_memory.specs.declared.values.Value.{Value}
+use Rattle.object_memory.specs.declared.values.Value.TheVariants.{Int32, Native, Ref}
+use Rattle.object_memory.specs.declared.values.ValueKind.{ValueKind}
+use Rattle.object_memory.specs.Cells.{Cell, cell_at}
+use Rattle.object_memory.specs.Objects.{Objects, with_birth, with_slot}
+use Rattle.object_memory.specs.Values.{value_word, value_in}
+use Rattle.threads_monitors.specs.Frames.{Frames}
+use Rattle.threads_monitors.specs.declared.effects.Effect.{Effect}
+use Rattle.threads_monitors.specs.declared.effects.Effect.TheVariants.{Raises}
+use Rattle.instructions.specs.Frames.{Turn, given, with_top, leaves, onward}
+
+-- the frames and the objects after an instruction, and what it comes to; or it has no answer
+abbrev pub ObjectTurn : Type 0
+ObjectTurn = Option (Frames × Objects × Effect)
+
+-- a turn of the frames beside these objects
+abbrev pub beside : Objects → Turn → ObjectTurn
+beside o turn = option_map (λ (t : Frames × Effect). (t.0, o, t.1)) turn
+
+-- ---- operands
+
+-- the object of a reference; null raises the fault
+abbrev pub object_of : Value → Frames → Objects → (Addr → ObjectTurn) → ObjectTurn
+object_of (Ref a) m o go = if a.number == 0 then Some (m, o, Raises NullReference) else go a
+object_of _ m o go = None
+
+-- an index or a length: 32 bits or of the native size (III.4.8, III.4.20)
+abbrev pub index_in : Value → Option ℤ
+index_in (Int32 x) = Some x
+index_in (Native x) = Some x
+index_in _ = None
+
+abbrev pub index_of : Value → (ℤ → ObjectTurn) → ObjectTurn
+index_of v go = given (index_in v) go
+
+-- ---- slots
+
+-- the slots of the object at an address
+abbrev pub slots_of : Objects → Addr → Option (List ℕ)
+slots_of o a = option_map (λ (c : Cell). c.slots) (cell_at o.block a)
+
+-- leaves the value of a slot, of its kind
+abbrev pub load_slot : ValueKind → ℕ → Addr → Frames → Objects → ObjectTurn
+load_slot kind slot a m o = given (slots_of o a) (λ slots. given (slice_get slots slot) (λ w. beside o (leaves (value_in kind w) m)))
+
+-- stores to a slot and goes on
+abbrev pub store_slot : Value → ℕ → Addr → Frames → Objects → ObjectTurn
+store_slot v slot a m o = given (slots_of o a) (λ slots. given (slice_get slots slot) (λ w. beside (with_slot o a slot (value_word v)) (onward m)))
+
+-- ldfld (III.4.10)
+abbrev pub load_field_turn : ValueKind → ℕ → Frames → Objects → ObjectTurn
+load_field_turn kind slot m o = with_top m (λ object n. object_of object n o (λ a. load_slot kind slot a n o))
+
+-- stfld (III.4.28)
+abbrev pub store_field_turn : ℕ → Frames → Objects → ObjectTurn
+store_field_turn slot m o = with_top m (λ v n. with_top n (λ object k. object_of object k o (λ a. store_slot v slot a k o)))
+
+-- ---- arrays
+
+-- the place of an element among so many, where there is one
+abbrev pub place_in : ℤ → ℕ → Option ℕ
+place_in (negsuc n) count = None
+place_in (pos n) count = if nat_lt n count then Some n else None
+
+-- an element that is there
+abbrev pub in_range : Option ℕ → Frames → Objects → (ℕ → ObjectTurn) → ObjectTurn
+in_range None m o go = Some (m, o, Raises IndexOutOfRange)
+in_range (Some n) m o go = go n
+
+-- ldlen (III.4.12)
+abbrev pub load_length_turn : Frames → Objects → ObjectTurn
+load_length_turn m o = with_top m (λ array n. object_of array n o (λ a. given (slots_of o a) (λ slots. beside o (leaves (Native (pos (length slots))) n))))
+
+-- ldelem.i4, ldelem.i8 and ldelem.ref (III.4.8)
+abbrev pub load_element_turn : ValueKind → Frames → Objects → ObjectTurn
+load_element_turn kind m o = with_top m (λ index n. with_top n (λ array k. object_of array k o (λ a. index_of index (λ i. given (slots_of o a) (λ slots.
+    in_range (place_in i (length slots)) k o (λ slot. load_slot kind slot a k o))))))
+
+-- stelem.i4 and stelem.i8 (III.4.27)
+abbrev pub store_element_turn : Frames → Objects → ObjectTurn
+store_element_turn m o = with_top m (λ v n. with_top n (λ index k. with_top k (λ array j. object_of array j o (λ a. index_of index (λ i. given (slots_of o a) (λ slots.
+    in_range (place_in i (length slots)) j o (λ slot. store_slot v slot a j o)))))))
+
+-- leaves the object that is born; without one memory is refused
+abbrev pub leaves_born : Option Addr → Frames → Turn
+leaves_born None m = Some (m, Raises OutOfMemory)
+leaves_born (Some a) m = leaves (Ref a) m
+
+-- the same beside the objects
+abbrev pub born : Frames → Objects × Option Addr → ObjectTurn
+born m birth = beside birth.0 (leaves_born birth.1 m)
+
+-- of a length that isn't negative
+abbrev pub new_array_of : ArrayElement → ℤ → Frames → Objects → ObjectTurn
+new_array_of element (negsuc n) m o = Some (m, o, Raises Overflow)
+new_array_of element (pos n) m o = born m (with_birth o (Array element) n)
+
+-- newarr (III.4.20)
+abbrev pub new_array_turn : ArrayElement → Frames → Objects → ObjectTurn
+new_array_turn element m o = with_top m (λ v n. index_of v (λ z. new_array_of element z n o))
+
+-- ---- static fields
+
+-- ldsfld (III.4.14)
+abbrev pub load_static_turn : ℕ → Frames → List Value → Turn
+load_static_turn number m statics = given (slice_get statics number) (λ v. leaves v m)
+
+-- stsfld (III.4.30): the frames and the static fields after it
+abbrev pub store_static_turn : ℕ → Frames → List Value → Option (Frames × List Value × Effect)
+store_static_turn number m statics = with_top m (λ v n.
+    if nat_lt number (length statics) then option_map (λ (t : Frames × Effect). (t.0, slice_set statics number v, t.1)) (onward n) else None)

@@ -1,0 +1,95 @@
+-- What casts and stores of references do, by the classes of objects (III.4.3, III.4.6, III.4.27). A rule has no answer where an operand
+-- is missing or of another kind, or where there is no such object or type: no verified program comes there.
+use Rattle.std.specs.Prelude.{ℕ, ◌==◌, Bool, true, if◌then◌else◌, length, Option, Some, None, option_map, option_and_then}
+use Rattle.std.specs.Option.{option_map_or}
+use Rattle.cil_model.specs.declared.types.DeclaredType.{DeclaredType}
+use Rattle.cil_model.specs.declared.types.Element.TheVariants.{String as StringElement}
+use Rattle.cil_model.specs.declared.trees.Tree.{Tree}
+use Rattle.cil_model.specs.declared.reports.Fault.TheVariants.{InvalidCast, ArrayTypeMismatch}
+use Rattle.cil_model.specs.Declarations.{plain}
+use Rattle.cil_model.specs.Assignable.{array_of, type_of_class, is_assignable}
+use Rattle.resolved_code.specs.Numbered.{class_name, type_at}
+use Rattle.resolved_code.specs.declared.types.NumberedElement.{NumberedElement}
+use Rattle.resolved_code.specs.declared.types.NumberedElement.TheVariants.{Int32 as NumberedInt32, Int64 as NumberedInt64, Object as NumberedObject, String as NumberedString, Class as NumberedClass}
+use Rattle.resolved_code.specs.declared.types.NumberedType.{NumberedType}
+use Rattle.object_memory.specs.declared.addresses.Addr.{Addr}
+use Rattle.object_memory.specs.declared.kinds.ArrayElement.{ArrayElement}
+use Rattle.object_memory.specs.declared.kinds.ElementType.{ElementType}
+use Rattle.object_memory.specs.declared.kinds.ElementType.TheVariants.{Int32, Int64, Object, String, Class}
+use Rattle.object_memory.specs.declared.kinds.Kind.{Kind}
+use Rattle.object_memory.specs.declared.kinds.Kind.TheVariants.{Instance, Array}
+use Rattle.object_memory.specs.declared.values.Value.{Value}
+use Rattle.object_memory.specs.declared.values.Value.TheVariants.{Ref}
+use Rattle.object_memory.specs.Cells.{Cell, cell_at, literal_number}
+use Rattle.object_memory.specs.Objects.{Objects}
+use Rattle.threads_monitors.specs.Frames.{Frames}
+use Rattle.threads_monitors.specs.declared.effects.Effect.TheVariants.{Raises}
+use Rattle.instructions.specs.Frames.{given, with_top, leaves}
+use Rattle.instructions.specs.ObjectTurns.{ObjectTurn, beside, object_of, index_of, slots_of, place_in, in_range, store_slot}
+
+-- ---- the types of objects
+
+-- a type without brackets, by the number of its class
+abbrev pub numbered : ElementType → NumberedElement
+numbered Int32 = NumberedInt32
+numbered Int64 = NumberedInt64
+numbered Object = NumberedObject
+numbered String = NumberedString
+numbered (Class c) = NumberedClass c
+
+-- what an array holds
+abbrev pub held_type : ArrayElement → NumberedType
+held_type a = record { element = numbered a.element; brackets = a.brackets }
+
+-- the type of an object
+abbrev pub type_of_kind : Tree → Kind → Option DeclaredType
+type_of_kind tree (Instance c) = option_map type_of_class (class_name tree c)
+type_of_kind tree (Array a) = option_map array_of (type_at tree (held_type a))
+
+-- of what lies at an address: a literal is a string
+abbrev pub type_of_address : Tree → Objects → Addr → Option DeclaredType
+type_of_address tree o a =
+    option_map_or (λ n. Some (plain StringElement)) (literal_number a) (option_and_then (λ (c : Cell). type_of_kind tree c.kind) (cell_at o.block a))
+
+-- whether a reference may stand where the type is wanted: null may everywhere
+abbrev pub may_stand : Tree → Objects → Value → DeclaredType → Option Bool
+may_stand tree o (Ref a) t = if a.number == 0 then Some true else option_map (λ own. is_assignable tree own t) (type_of_address tree o a)
+may_stand tree o _ t = None
+
+-- the same of a type by its number
+abbrev pub may_stand_as : Tree → Objects → Value → NumberedType → Option Bool
+may_stand_as tree o v to = option_and_then (may_stand tree o v) (type_at tree to)
+
+-- ---- instructions
+
+-- what castclass and isinst do with an object of another class
+abbrev pub cast_turn : Tree → (Frames → Objects → ObjectTurn) → NumberedType → Frames → Objects → ObjectTurn
+cast_turn tree otherwise to m o = with_top m (λ v n. given (may_stand_as tree o v to) (λ holds.
+    if holds then beside o (leaves v n) else otherwise n o))
+
+-- castclass (III.4.3)
+abbrev pub cast_class_turn : Tree → NumberedType → Frames → Objects → ObjectTurn
+cast_class_turn tree to m o = cast_turn tree (λ n p. Some (n, p, Raises InvalidCast)) to m o
+
+-- isinst (III.4.6)
+abbrev pub is_instance_turn : Tree → NumberedType → Frames → Objects → ObjectTurn
+is_instance_turn tree to m o = cast_turn tree (λ n p. beside p (leaves (Ref (record { number = 0 })) n)) to m o
+
+-- what an array holds, of an object of this kind
+abbrev pub element_in : Kind → Option ArrayElement
+element_in (Instance class) = None
+element_in (Array a) = Some a
+
+-- what the array at an address holds
+abbrev pub element_at : Objects → Addr → Option ArrayElement
+element_at o a = option_and_then (λ (c : Cell). element_in c.kind) (cell_at o.block a)
+
+-- stores to a place that is there what the array's own elements admit
+abbrev pub store_admitted : Tree → Value → ℕ → Addr → Frames → Objects → ObjectTurn
+store_admitted tree v slot a m o = given (element_at o a) (λ e. given (may_stand_as tree o v (held_type e)) (λ holds.
+    if holds then store_slot v slot a m o else Some (m, o, Raises ArrayTypeMismatch)))
+
+-- stelem.ref (III.4.27): the place is looked at before the class
+abbrev pub store_reference_turn : Tree → Frames → Objects → ObjectTurn
+store_reference_turn tree m o = with_top m (λ v n. with_top n (λ index k. with_top k (λ array j. object_of array j o (λ a. index_of index (λ i. given (slots_of o a) (λ slots.
+    in_range (place_in i (length slots)) j o (λ slot. store_admitted tree v slot a j o)))))))

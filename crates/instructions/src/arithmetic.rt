@@ -1,0 +1,132 @@
+// Arithmetic, comparisons and conversions.
+
+ghost use Rattle.std.specs.Prelude.{◌≡◌, ◌==◌, IsSome, Some};
+ghost use Rattle.instructions.specs.Frames.{binary_turn, unary_turn, shift_turn, compare_turn, convert_32_turn, convert_64_turn, comparison, in_32_bits, in_64_bits, one_or_zero};
+
+use crate::places::{leave, leave_result};
+use cil_model::instructions::{BinaryOperation, Comparison, ShiftOperation, UnaryOperation};
+use int_ops::{Integer, sign_extended, truncated};
+use object_memory::Value;
+use threads_monitors::{Effect, FrameMemory};
+
+/// `add`, `sub`, `mul`, their forms with `.ovf`, `div`, `rem`, `and`, `or`, `xor` (ECMA-335 III.1.5, table 2). The faults are
+/// those of `Integer::binary`.
+pub fn binary(frames: &mut FrameMemory, operation: BinaryOperation) -> Effect
+    requires { IsSome (binary_turn operation frames.old) }
+    ensures { Some (frames.new, result) ≡ binary_turn operation frames.old }
+{
+    let second = frames.pop();
+    let first = frames.pop();
+    match (first, second) {
+        (Value::Int32(x), Value::Int32(y)) => {
+            leave_result(frames, Integer::binary(operation, x, y).map(Value::Int32))
+        }
+        (Value::Int64(x), Value::Int64(y)) => {
+            leave_result(frames, Integer::binary(operation, x, y).map(Value::Int64))
+        }
+        _ => unreachable!(),
+    }
+}
+
+/// `neg` and `not` (ECMA-335 III.1.5, table 3).
+pub fn unary(frames: &mut FrameMemory, operation: UnaryOperation) -> Effect
+    requires { IsSome (unary_turn operation frames.old) }
+    ensures { Some (frames.new, result) ≡ unary_turn operation frames.old }
+{
+    match frames.pop() {
+        Value::Int32(x) => leave(frames, Value::Int32(Integer::unary(operation, x))),
+        Value::Int64(x) => leave(frames, Value::Int64(Integer::unary(operation, x))),
+        _ => unreachable!(),
+    }
+}
+
+/// `shl`, `shr` and `shr.un` (ECMA-335 III.1.5, table 6).
+pub fn shift(frames: &mut FrameMemory, operation: ShiftOperation) -> Effect
+    requires { IsSome (shift_turn operation frames.old) }
+    ensures { Some (frames.new, result) ≡ shift_turn operation frames.old }
+{
+    let amount = frames.pop();
+    let shifted = frames.pop();
+    match (shifted, amount) {
+        (Value::Int32(x), Value::Int32(y)) => {
+            leave(frames, Value::Int32(Integer::shift(operation, x, y)))
+        }
+        (Value::Int64(x), Value::Int32(y)) => {
+            leave(frames, Value::Int64(Integer::shift(operation, x, y)))
+        }
+        _ => unreachable!(),
+    }
+}
+
+/// `ceq`, `cgt` and `clt` (ECMA-335 III.3.21, III.3.22, III.3.25).
+pub fn compare(frames: &mut FrameMemory, operation: Comparison) -> Effect
+    requires { IsSome (compare_turn operation frames.old) }
+    ensures { Some (frames.new, result) ≡ compare_turn operation frames.old }
+{
+    let second = frames.pop();
+    let first = frames.pop();
+    let holds = holds(operation, first, second);
+    leave(frames, one_or_zero(holds))
+}
+
+/// Whether a comparison of two integers of one size, or of two references, holds.
+fn holds(operation: Comparison, first: Value, second: Value) -> bool
+    requires { IsSome (comparison operation first second) }
+    ensures { comparison operation first second ≡ Some result }
+{
+    match (first, second) {
+        (Value::Int32(x), Value::Int32(y)) => Integer::compare(operation, x, y),
+        (Value::Int64(x), Value::Int64(y)) => Integer::compare(operation, x, y),
+        (Value::Ref(x), Value::Ref(y)) => x == y,
+        _ => unreachable!(),
+    }
+}
+
+/// What a comparison leaves: 1 where it holds, else 0.
+fn one_or_zero(holds: bool) -> Value
+    ensures { result ≡ one_or_zero holds }
+{
+    Value::Int32(i32::from(holds))
+}
+
+/// `conv.i4` (ECMA-335 III.3.27).
+pub fn convert_to_32(frames: &mut FrameMemory) -> Effect
+    requires { IsSome (convert_32_turn frames.old) }
+    ensures { Some (frames.new, result) ≡ convert_32_turn frames.old }
+{
+    let value = frames.pop();
+    leave(frames, in_32_bits(value))
+}
+
+fn in_32_bits(value: Value) -> Value
+    requires { IsSome (in_32_bits value) }
+    ensures { in_32_bits value ≡ Some result }
+{
+    match value {
+        Value::Int32(x) => Value::Int32(x),
+        Value::Int64(x) => Value::Int32(truncated(x)),
+        Value::Native(x) => Value::Int32(truncated(x)),
+        Value::Ref(_) => unreachable!(),
+    }
+}
+
+/// `conv.i8` (ECMA-335 III.3.27).
+pub fn convert_to_64(frames: &mut FrameMemory) -> Effect
+    requires { IsSome (convert_64_turn frames.old) }
+    ensures { Some (frames.new, result) ≡ convert_64_turn frames.old }
+{
+    let value = frames.pop();
+    leave(frames, in_64_bits(value))
+}
+
+fn in_64_bits(value: Value) -> Value
+    requires { IsSome (in_64_bits value) }
+    ensures { in_64_bits value ≡ Some result }
+{
+    match value {
+        Value::Int32(x) => Value::Int64(sign_extended(x)),
+        Value::Int64(x) => Value::Int64(x),
+        Value::Native(x) => Value::Int64(x),
+        Value::Ref(_) => unreachable!(),
+    }
+}

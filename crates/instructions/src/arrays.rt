@@ -1,0 +1,119 @@
+// Arrays.
+
+ghost use Rattle.std.specs.Prelude.{◌≡◌, IsSome, Some};
+ghost use Rattle.instructions.specs.ObjectTurns.{load_length_turn, load_element_turn, store_element_turn, new_array_turn, leaves_born, index_in, place_in};
+ghost use Rattle.object_memory.specs.Objects.{with_birth};
+ghost use Rattle.object_memory.specs.declared.kinds.Kind.TheVariants.{Array};
+
+use crate::fields::{load_slot, store_slot};
+use cil_model::reports::Fault;
+use crate::places::leave;
+use object_memory::{Addr, ArrayElement, Heap, Kind, Value, ValueKind};
+use threads_monitors::{Effect, FrameMemory};
+
+/// A length or an index: an integer of 32 bits or of the native size (ECMA-335 III.4.8, III.4.20).
+pub fn index(value: Value) -> i64
+    requires { IsSome (index_in value) }
+    ensures { index_in value ≡ Some result }
+{
+    match value {
+        Value::Int32(number) => i64::from(number),
+        Value::Native(number) => number,
+        _ => unreachable!(),
+    }
+}
+
+/// The place of an element among so many. None where there is no such element.
+pub fn place_in(index: i64, count: u32) -> Option<u32>
+    ensures { result ≡ place_in index count }
+{
+    if 0 <= index && index < i64::from(count) {
+        Some(index as u32)
+    } else {
+        None
+    }
+}
+
+/// `ldlen` (ECMA-335 III.4.12). Null raises `NullReference`.
+pub fn load_length(frames: &mut FrameMemory, heap: &mut Heap) -> Effect
+    requires { IsSome (load_length_turn frames.old heap.old) }
+    ensures { Some (frames.new, heap.new, result) ≡ load_length_turn frames.old heap.old }
+{
+    match frames.pop() {
+        Value::Ref(array) if array.is_null() => Effect::Raises(Fault::NullReference),
+        Value::Ref(array) => leave(frames, Value::Native(i64::from(heap.slots(array)))),
+        _ => unreachable!(),
+    }
+}
+
+/// `ldelem.i4`, `ldelem.i8` and `ldelem.ref` (ECMA-335 III.4.8). Null raises `NullReference`, then an index that the array
+/// doesn't have `IndexOutOfRange`.
+pub fn load_element(frames: &mut FrameMemory, heap: &mut Heap, kind: ValueKind) -> Effect
+    requires { IsSome (load_element_turn kind frames.old heap.old) }
+    ensures { Some (frames.new, heap.new, result) ≡ load_element_turn kind frames.old heap.old }
+{
+    let operand = frames.pop();
+    let Value::Ref(array) = frames.pop() else {
+        unreachable!()
+    };
+    if array.is_null() {
+        return Effect::Raises(Fault::NullReference);
+    }
+    match place_in(index(operand), heap.slots(array)) {
+        Some(place) => load_slot(frames, heap, kind, array, place),
+        None => Effect::Raises(Fault::IndexOutOfRange),
+    }
+}
+
+/// `stelem.i4` and `stelem.i8` (ECMA-335 III.4.27). The faults are those of `load_element`.
+pub fn store_element(frames: &mut FrameMemory, heap: &mut Heap) -> Effect
+    requires { IsSome (store_element_turn frames.old heap.old) }
+    ensures { Some (frames.new, heap.new, result) ≡ store_element_turn frames.old heap.old }
+{
+    let value = frames.pop();
+    let operand = frames.pop();
+    let Value::Ref(array) = frames.pop() else {
+        unreachable!()
+    };
+    if array.is_null() {
+        return Effect::Raises(Fault::NullReference);
+    }
+    match place_in(index(operand), heap.slots(array)) {
+        Some(place) => store_slot(frames, heap, value, array, place),
+        None => Effect::Raises(Fault::IndexOutOfRange),
+    }
+}
+
+/// `newarr` (ECMA-335 III.4.20). A negative length raises `Overflow`, then a birth that is refused `OutOfMemory`.
+pub fn new_array(frames: &mut FrameMemory, heap: &mut Heap, element: ArrayElement) -> Effect
+    requires { IsSome (new_array_turn element frames.old heap.old) }
+    ensures { Some (frames.new, heap.new, result) ≡ new_array_turn element frames.old heap.old }
+{
+    let length = index(frames.pop());
+    if length < 0 {
+        return Effect::Raises(Fault::Overflow);
+    }
+    let address = array_born(heap, element, length.cast_unsigned());
+    leave_born(frames, address)
+}
+
+/// An array with so many elements. None exactly where it exceeds what is free.
+fn array_born(heap: &mut Heap, element: ArrayElement, length: u64) -> Option<Addr>
+    ensures { (heap.new, result) ≡ with_birth heap.old (Array element) length }
+{
+    if length > heap.free_words() as u64 {
+        return None;
+    }
+    heap.birth(Kind::Array(element), length as u32)
+}
+
+/// Leaves an object that was born. Where its birth was refused, it raises `OutOfMemory`.
+pub fn leave_born(frames: &mut FrameMemory, object: Option<Addr>) -> Effect
+    requires { IsSome (leaves_born object frames.old) }
+    ensures { Some (frames.new, result) ≡ leaves_born object frames.old }
+{
+    match object {
+        Some(object) => leave(frames, Value::Ref(object)),
+        None => Effect::Raises(Fault::OutOfMemory),
+    }
+}

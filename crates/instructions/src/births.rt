@@ -1,0 +1,40 @@
+// `newobj`.
+
+ghost use Rattle.std.specs.Prelude.{◌≡◌, IsSome, Some};
+ghost use Rattle.instructions.specs.Calls.{called, new_object_turn, new_plain_object_turn};
+
+use crate::calls::{Callee, construct};
+use cil_model::reports::Fault;
+use crate::arrays::leave_born;
+use object_memory::{Heap, Kind};
+use threads_monitors::{Effect, FrameMemory};
+
+/// `newobj` (ECMA-335 III.4.21) of a class, by its number and the number of its slots, with a constructor that has code. Where there
+/// are as many frames as there may be, it raises `StackOverflow`, and then, where the birth is refused, `OutOfMemory`.
+pub fn new_object(
+    frames: &mut FrameMemory,
+    heap: &mut Heap,
+    class: u16,
+    slots: u32,
+    callee: Callee,
+) -> Effect
+    requires { IsSome (new_object_turn class slots (called callee) frames.old heap.old) }
+    ensures { Some (frames.new, heap.new, result) ≡ new_object_turn class slots (called callee.entry) frames.old heap.old }
+{
+    if frames.is_full() {
+        return Effect::Raises(Fault::StackOverflow);
+    }
+    match heap.birth(Kind::Instance(class), slots) {
+        Some(object) => construct(frames, callee, object),
+        None => Effect::Raises(Fault::OutOfMemory),
+    }
+}
+
+/// `newobj` (ECMA-335 III.4.21) with a constructor that is built in. Where the birth is refused, it raises `OutOfMemory`.
+pub fn new_plain_object(frames: &mut FrameMemory, heap: &mut Heap, class: u16, slots: u32) -> Effect
+    requires { IsSome (new_plain_object_turn class slots frames.old heap.old) }
+    ensures { Some (frames.new, heap.new, result) ≡ new_plain_object_turn class slots frames.old heap.old }
+{
+    let object = heap.birth(Kind::Instance(class), slots);
+    leave_born(frames, object)
+}

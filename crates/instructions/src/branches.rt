@@ -1,0 +1,82 @@
+// Branches.
+
+ghost use Rattle.std.specs.Prelude.{◌≡◌, ◌^◌, ◌<◌, ℕ, IsSome, Some, slice_get, map};
+ghost use Rattle.instructions.specs.Frames.{branch_true_turn, branch_false_turn, branch_compare_turn, branch_test, switch_turn, is_set};
+
+use crate::places::{branch_if, go_on, jump};
+use cil_model::instructions::BranchComparison;
+use int_ops::Integer;
+use object_memory::Value;
+use threads_monitors::{Effect, FrameMemory};
+
+/// `brtrue` (ECMA-335 III.3.18).
+pub fn branch_true(frames: &mut FrameMemory, place: usize) -> Effect
+    requires { IsSome (branch_true_turn place frames.old) }
+    ensures { Some (frames.new, result) ≡ branch_true_turn place frames.old }
+{
+    let value = frames.pop();
+    branch_if(frames, is_set(value), place)
+}
+
+/// `brfalse` (ECMA-335 III.3.17).
+pub fn branch_false(frames: &mut FrameMemory, place: usize) -> Effect
+    requires { IsSome (branch_false_turn place frames.old) }
+    ensures { Some (frames.new, result) ≡ branch_false_turn place frames.old }
+{
+    let value = frames.pop();
+    branch_if(frames, !is_set(value), place)
+}
+
+/// Whether a value is neither zero nor null.
+fn is_set(value: Value) -> bool
+    requires { IsSome (is_set value) }
+    ensures { is_set value ≡ Some result }
+{
+    match value {
+        Value::Int32(x) => !Integer::is_zero(x),
+        Value::Int64(x) => !Integer::is_zero(x),
+        Value::Ref(x) => !x.is_null(),
+        Value::Native(_) => unreachable!(),
+    }
+}
+
+/// `beq`, `bne.un`, `bge`, `bgt`, `ble` and `blt` (ECMA-335 III.3.5 to III.3.14).
+pub fn branch_compare(frames: &mut FrameMemory, operation: BranchComparison, place: usize) -> Effect
+    requires { IsSome (branch_compare_turn operation place frames.old) }
+    ensures { Some (frames.new, result) ≡ branch_compare_turn operation place frames.old }
+{
+    let second = frames.pop();
+    let first = frames.pop();
+    branch_if(frames, is_taken(operation, first, second), place)
+}
+
+/// Whether a branch that compares two integers of one size, or two references, is taken.
+fn is_taken(operation: BranchComparison, first: Value, second: Value) -> bool
+    requires { IsSome (branch_test operation first second) }
+    ensures { branch_test operation first second ≡ Some result }
+{
+    match (first, second) {
+        (Value::Int32(x), Value::Int32(y)) => Integer::branches(operation, x, y),
+        (Value::Int64(x), Value::Int64(y)) => Integer::branches(operation, x, y),
+        (Value::Ref(x), Value::Ref(y)) => match operation {
+            BranchComparison::Equal => x == y,
+            BranchComparison::NotEqual => x != y,
+            _ => unreachable!(),
+        },
+        _ => unreachable!(),
+    }
+}
+
+/// `switch` (ECMA-335 III.3.66).
+pub fn switch(frames: &mut FrameMemory, places: &[usize]) -> Effect
+    requires { IsSome (switch_turn places.now frames.old) }
+    ensures { Some (frames.new, result) ≡ switch_turn places.now frames.old }
+{
+    match frames.pop() {
+        Value::Int32(number) => match places.get(number.cast_unsigned() as usize) {
+            Some(place) => jump(frames, *place),
+            None => go_on(frames),
+        },
+        _ => unreachable!(),
+    }
+}

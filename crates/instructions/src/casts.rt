@@ -1,0 +1,126 @@
+// Casts, and stores of references to arrays.
+
+ghost use Rattle.std.specs.Prelude.{◌≡◌, IsSome, Some};
+ghost use Rattle.class_layout.specs.Laid.{IsLayout};
+ghost use Rattle.instructions.specs.TypeTurns.{cast_class_turn, is_instance_turn, store_reference_turn, store_admitted, element_at, held_type};
+
+use crate::types::{may_stand, numbered};
+use cil_model::reports::Fault;
+use class_layout::Layout;
+use crate::places::leave;
+use metadata::Program;
+use crate::arrays::{index, place_in};
+use crate::fields::store_slot;
+use object_memory::{Addr, ArrayElement, Heap, Kind, Value};
+use resolved_code::types::NumberedType;
+use threads_monitors::{Effect, FrameMemory};
+
+/// `castclass` (ECMA-335 III.4.3). An object whose type does not fit raises `InvalidCast`; null fits.
+pub fn cast_class(
+    program: &Program,
+    layout: &Layout,
+    frames: &mut FrameMemory,
+    heap: &mut Heap,
+    to: NumberedType,
+) -> Effect
+    requires layout { IsLayout program.now layout.now }
+    requires there { IsSome (cast_class_turn program.now to frames.old heap.old) }
+    ensures { Some (frames.new, heap.new, result) ≡ cast_class_turn program.now to frames.old heap.old }
+{
+    let value = frames.pop();
+    if may_stand(program, layout, heap, value, to) {
+        leave(frames, value)
+    } else {
+        Effect::Raises(Fault::InvalidCast)
+    }
+}
+
+/// `isinst` (ECMA-335 III.4.6). An object whose type does not fit becomes null.
+pub fn is_instance(
+    program: &Program,
+    layout: &Layout,
+    frames: &mut FrameMemory,
+    heap: &mut Heap,
+    to: NumberedType,
+) -> Effect
+    requires layout { IsLayout program.now layout.now }
+    requires there { IsSome (is_instance_turn program.now to frames.old heap.old) }
+    ensures { Some (frames.new, heap.new, result) ≡ is_instance_turn program.now to frames.old heap.old }
+{
+    let value = frames.pop();
+    if may_stand(program, layout, heap, value, to) {
+        leave(frames, value)
+    } else {
+        leave(frames, Value::Ref(Addr::null()))
+    }
+}
+
+/// The type of what an array holds.
+fn held_type(array: ArrayElement) -> NumberedType
+    ensures { result ≡ held_type array }
+{
+    NumberedType {
+        element: numbered(array.element),
+        brackets: u32::from(array.brackets),
+    }
+}
+
+/// What an array holds. It is an array.
+fn element(heap: &Heap, array: Addr) -> ArrayElement
+    requires { IsSome (element_at heap.now array) }
+    ensures { element_at heap.now array ≡ Some result }
+{
+    match heap.kind(array) {
+        Kind::Array(element) => element,
+        Kind::Instance(_) => unreachable!(),
+    }
+}
+
+/// Stores a reference to a place of an array that is there, where the array's own elements admit it; else it raises
+/// `ArrayTypeMismatch`.
+fn store_admitted(
+    program: &Program,
+    layout: &Layout,
+    frames: &mut FrameMemory,
+    heap: &mut Heap,
+    value: Value,
+    array: Addr,
+    place: u32,
+) -> Effect
+    requires layout { IsLayout program.now layout.now }
+    requires there { IsSome (store_admitted program.now value place array frames.old heap.old) }
+    ensures { Some (frames.new, heap.new, result) ≡ store_admitted program.now value place array frames.old heap.old }
+{
+    let held = held_type(element(heap, array));
+    if may_stand(program, layout, heap, value, held) {
+        store_slot(frames, heap, value, array, place)
+    } else {
+        Effect::Raises(Fault::ArrayTypeMismatch)
+    }
+}
+
+/// `stelem.ref` (ECMA-335 III.4.27). Null raises `NullReference`, then an index that the array doesn't have `IndexOutOfRange`, then an
+/// object that the array's own elements don't admit `ArrayTypeMismatch`.
+pub fn store_reference(
+    program: &Program,
+    layout: &Layout,
+    frames: &mut FrameMemory,
+    heap: &mut Heap,
+) -> Effect
+    requires layout { IsLayout program.now layout.now }
+    requires there { IsSome (store_reference_turn program.now frames.old heap.old) }
+    ensures { Some (frames.new, heap.new, result) ≡ store_reference_turn program.now frames.old heap.old }
+{
+    let value = frames.pop();
+    let operand = frames.pop();
+    let Value::Ref(array) = frames.pop() else {
+        unreachable!()
+    };
+    if array.is_null() {
+        return Effect::Raises(Fault::NullReference);
+    }
+    match place_in(index(operand), heap.slots(array)) {
+        Some(place) => store_admitted(program, layout, frames, heap, value, array, place),
+        None => Effect::Raises(Fault::IndexOutOfRange),
+    }
+}

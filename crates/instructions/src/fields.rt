@@ -1,0 +1,64 @@
+// Fields of objects.
+
+ghost use Rattle.std.specs.Prelude.{◌≡◌, IsSome, Some};
+ghost use Rattle.instructions.specs.ObjectTurns.{load_field_turn, store_field_turn, load_slot, store_slot};
+
+use cil_model::reports::Fault;
+use crate::places::{go_on, leave};
+use object_memory::{Addr, Heap, Value, ValueKind};
+use threads_monitors::{Effect, FrameMemory};
+
+/// Leaves the value of a slot of an object.
+pub fn load_slot(
+    frames: &mut FrameMemory,
+    heap: &mut Heap,
+    kind: ValueKind,
+    object: Addr,
+    slot: u32,
+) -> Effect
+    requires { IsSome (load_slot kind slot object frames.old heap.old) }
+    ensures { Some (frames.new, heap.new, result) ≡ load_slot kind slot object frames.old heap.old }
+{
+    let word = heap.slot(object, slot);
+    leave(frames, Value::held(kind, word))
+}
+
+/// Stores a value to a slot of an object.
+pub fn store_slot(
+    frames: &mut FrameMemory,
+    heap: &mut Heap,
+    value: Value,
+    object: Addr,
+    slot: u32,
+) -> Effect
+    requires { IsSome (store_slot value slot object frames.old heap.old) }
+    ensures { Some (frames.new, heap.new, result) ≡ store_slot value slot object frames.old heap.old }
+{
+    heap.set_slot(object, slot, value.word());
+    go_on(frames)
+}
+
+/// `ldfld` (ECMA-335 III.4.10). Null raises `NullReference`.
+pub fn load_field(frames: &mut FrameMemory, heap: &mut Heap, kind: ValueKind, slot: u32) -> Effect
+    requires { IsSome (load_field_turn kind slot frames.old heap.old) }
+    ensures { Some (frames.new, heap.new, result) ≡ load_field_turn kind slot frames.old heap.old }
+{
+    match frames.pop() {
+        Value::Ref(object) if object.is_null() => Effect::Raises(Fault::NullReference),
+        Value::Ref(object) => load_slot(frames, heap, kind, object, slot),
+        _ => unreachable!(),
+    }
+}
+
+/// `stfld` (ECMA-335 III.4.28). Null raises `NullReference`.
+pub fn store_field(frames: &mut FrameMemory, heap: &mut Heap, slot: u32) -> Effect
+    requires { IsSome (store_field_turn slot frames.old heap.old) }
+    ensures { Some (frames.new, heap.new, result) ≡ store_field_turn slot frames.old heap.old }
+{
+    let value = frames.pop();
+    match frames.pop() {
+        Value::Ref(object) if object.is_null() => Effect::Raises(Fault::NullReference),
+        Value::Ref(object) => store_slot(frames, heap, value, object, slot),
+        _ => unreachable!(),
+    }
+}

@@ -1,0 +1,42 @@
+// `Monitor.Enter` and `Monitor.Exit`.
+
+ghost use Rattle.std.specs.Prelude.{◌≡◌, IsSome, Some};
+ghost use Rattle.instructions.specs.BuiltInTurns.{enter_turn, exit_turn};
+
+use crate::places::go_on;
+use object_memory::{Heap, Value};
+use threads_monitors::{Effect, FrameMemory};
+
+/// `Monitor.Enter` (ECMA-335 I.12.6.5) by a thread. Another thread's monitor blocks, and nothing changes. Null raises `ArgumentNull`.
+pub fn enter(frames: &mut FrameMemory, heap: &mut Heap, thread: u8) -> Effect
+    requires { IsSome (enter_turn thread frames.old heap.old) }
+    ensures { Some (frames.new, heap.new, result) ≡ enter_turn thread frames.old heap.old }
+{
+    let Value::Ref(object) = frames.operand(0) else {
+        unreachable!()
+    };
+    match threads_monitors::enter(heap, object, thread) {
+        Effect::GoesOn => {
+            frames.pop();
+            go_on(frames)
+        }
+        other => other,
+    }
+}
+
+/// `Monitor.Exit` (ECMA-335 I.12.6.5) by a thread. Any thread but the owner raises `SynchronizationLock`, and null `ArgumentNull`.
+pub fn exit(frames: &mut FrameMemory, heap: &mut Heap, thread: u8) -> Effect
+    requires { IsSome (exit_turn thread frames.old heap.old) }
+    ensures { Some (frames.new, heap.new, result) ≡ exit_turn thread frames.old heap.old }
+{
+    let Value::Ref(object) = frames.operand(0) else {
+        unreachable!()
+    };
+    match threads_monitors::exit(heap, object, thread) {
+        Effect::GoesOn => {
+            frames.pop();
+            go_on(frames)
+        }
+        other => other,
+    }
+}

@@ -1,4 +1,0 @@
-pub mod Lists
-pub mod Limits
-pub mod MethodSizes
-pub mod FieldSizes

@@ -1,0 +1,122 @@
+-- What a machine does on each event (this profile). Each machine without a collector is proved to do exactly this.
+use Rattle.std.specs.Prelude.{◌≡◌, ◌⊎◌, ◌<◌, ℕ, ◌+◌, if◌then◌else◌, List, [], ◌∷◌, map, length, drop, Option, Some, None, option_map, option_and_then, slice_get, slice_set}
+use Rattle.std.specs.Option.{option_map_or}
+use Rattle.cil_model.specs.declared.types.ClassName.{ClassName}
+use Rattle.cil_model.specs.declared.types.DeclaredType.{DeclaredType}
+use Rattle.cil_model.specs.declared.trees.Tree.{Tree}
+use Rattle.cil_model.specs.declared.trees.Method.{Method}
+use Rattle.cil_model.specs.declared.limits.Limits.{Limits}
+use Rattle.cil_model.specs.declared.events.Event.{Event}
+use Rattle.cil_model.specs.declared.events.Event.TheVariants.{Step, Ack, Gc}
+use Rattle.cil_model.specs.declared.reports.Report.{Report}
+use Rattle.cil_model.specs.declared.reports.Report.TheVariants.{Absent, NothingPosted, Waiting}
+use Rattle.cil_model.specs.Bodies.{entry_points}
+use Rattle.cil_model.specs.Fields.{FieldKey, static_fields}
+use Rattle.cil_model.specs.Mentions.{literals_of}
+use Rattle.name_tables.specs.declared.lookups.MemberNumber.{MemberNumber}
+use Rattle.object_memory.specs.declared.addresses.Addr.{Addr}
+use Rattle.object_memory.specs.declared.values.Value.{Value}
+use Rattle.object_memory.specs.declared.values.Value.TheVariants.{Ref}
+use Rattle.object_memory.specs.Objects.{Objects, no_objects}
+use Rattle.method_table.specs.MethodNumbers.{number_of}
+use Rattle.method_table.specs.Prepared.{kind_of_type, local_kinds}
+use Rattle.threads_monitors.specs.Frames.{Frames, new_frame, with_place, with_stack, zero_value}
+use Rattle.threads_monitors.specs.Threads.{is_live_at, join_effect, settled, start_fault, with_start}
+use Rattle.threads_monitors.specs.declared.effects.Effect.{Effect}
+use Rattle.threads_monitors.specs.declared.effects.Effect.TheVariants.{GoesOn, Returns, Blocks, Raises}
+use Rattle.threads_monitors.specs.declared.threads.Standing.{Standing}
+use Rattle.threads_monitors.specs.declared.threads.Standing.TheVariants.{Live, Ended}
+use Rattle.threads_monitors.specs.declared.threads.Thread.{Thread}
+use Rattle.interpreter.specs.Calls.{chosen_at}
+use Rattle.interpreter.specs.Instructions.{IsDone}
+use Rattle.interpreter.specs.declared.outcomes.Outcome.{Outcome}
+use Rattle.interpreter.specs.declared.outcomes.Outcome.TheVariants.{Comes, Starts, Joins}
+use Rattle.simulation.specs.MachineContents.{Content, frame_room}
+
+-- ---- the beginning
+
+-- a thread at the beginning of a method, which has this number, with its whole budget
+abbrev pub thread_at : Limits → ClassName × Method → List Value → ℕ → Thread
+thread_at limits found arguments n =
+    record { standing = Live (record { running = new_frame n arguments (local_kinds found.1) None; below = []; depth = limits.depth; room = frame_room }); steps_left = limits.budget }
+
+-- thread 0 is at the beginning of a method, nothing was born or printed, and each static field is 0 or null
+abbrev pub content_at : Tree → Limits → ClassName × Method → ℕ → Content
+content_at tree limits entry n = record {
+  tree = tree;
+  limits = limits;
+  threads = thread_at limits entry [] n ∷ [];
+  objects = no_objects limits.words (length (literals_of tree));
+  statics = map (λ (f : FieldKey × DeclaredType). zero_value (kind_of_type f.1)) (static_fields tree);
+  printed = [];
+}
+
+-- what a machine holds before its first event: its thread is at the entry point
+abbrev pub opening_content : Tree → Limits → Option Content
+opening_content tree limits = option_and_then (λ (entry : ClassName × Method). option_map (content_at tree limits entry) (number_of tree entry)) (slice_get (entry_points tree) 0)
+
+-- ---- what an instruction asks of other threads
+
+-- once it is done its operand is gone, and the thread is at the instruction behind; until then all stays
+abbrev pub after_request : Effect → Frames → Frames
+after_request GoesOn m = with_place (with_stack m (drop 1 m.running.stack)) (m.running.place + 1)
+after_request Returns m = m
+after_request Blocks m = m
+after_request (Raises x) m = m
+
+-- Cilvm.Thread's Run by number: the second method of the fifth class
+abbrev pub run_member : MemberNumber
+run_member = record { class = 4; place = 1 }
+
+-- the thread that begins where one is started on an object: at its Run
+abbrev pub thread_for : Tree → Limits → Objects → Addr → Option Thread
+thread_for tree limits o a = option_and_then (λ (found : ClassName × Method). option_map (thread_at limits found (Ref a ∷ [])) (number_of tree found)) (chosen_at tree o a run_member)
+
+-- the threads and objects after a start, or why there is none
+abbrev pub started : Tree → Limits → List Thread → Objects → Addr → Option (List Thread × Objects × Effect)
+started tree limits threads o a =
+    option_map_or (λ x. Some (threads, o, Raises x)) (start_fault threads o a) (option_map (with_start threads o a) (thread_for tree limits o a))
+
+-- ---- a step
+
+-- the thread's frames and the content beside them, once the step is counted
+abbrev pub counted : Content → ℕ → ℕ → Effect → Frames → Content × Report
+counted c t left effect m =
+    (record c { threads = slice_set c.threads t (settled effect (record { standing = Live m; steps_left = left })).0 }, (settled effect (record { standing = Live m; steps_left = left })).1)
+
+-- all that an instruction leaves
+abbrev pub Answer : Type 0
+Answer = Frames × Objects × List Value × List ℕ × Outcome
+
+-- the content with all that an instruction of a thread left, before the step is counted
+abbrev pub left_by : Content → ℕ → ℕ → Answer → Content
+left_by c t left a = record c { threads = slice_set c.threads t (record { standing = Live a.0; steps_left = left }); objects = a.1; statics = a.2; printed = a.3 }
+
+-- the step of a thread that had so many steps left, by what its instruction comes to
+abbrev pub finished : Content → ℕ → ℕ → Answer → Outcome → Option (Content × Report)
+finished c t left a (Comes e) = Some (counted (left_by c t left a) t left e a.0)
+finished c t left a (Starts object) =
+    option_map (λ (x : List Thread × Objects × Effect). counted (record (left_by c t left a) { threads = x.0; objects = x.1 }) t left x.2 (after_request x.2 a.0))
+    (started c.tree c.limits (left_by c t left a).threads a.1 object)
+finished c t left a (Joins object) =
+    Some (counted (left_by c t left a) t left (join_effect (left_by c t left a).threads a.1 object) (after_request (join_effect (left_by c t left a).threads a.1 object) a.0))
+
+-- a live thread does its next instruction; one that has ended is absent
+abbrev pub IsStandingTurn : Content → ℕ → ℕ → Standing → Content × Report → Type 0
+IsStandingTurn c t left (Live m) after = (a : Answer) × IsDone c.tree t m c.objects c.statics c.printed a × (finished c t left a a.4 ≡ Some after)
+IsStandingTurn c t left (Ended e) after = after ≡ (c, Absent)
+
+-- so is one that was never started
+abbrev pub IsThreadTurn : Content → ℕ → Option Thread → Content × Report → Type 0
+IsThreadTurn c t None after = after ≡ (c, Absent)
+IsThreadTurn c t (Some thread) after = IsStandingTurn c t thread.steps_left thread.standing after
+
+-- what an event does. Nothing is posted, and nothing is collected, until there is a collector.
+abbrev pub IsTurn : Content → Event → Content × Report → Type 0
+IsTurn c (Step t) after = IsThreadTurn c t (slice_get c.threads t) after
+IsTurn c (Ack t) after = after ≡ (c, if is_live_at c.threads t then NothingPosted else Absent)
+IsTurn c Gc after = after ≡ (c, Waiting)
+
+-- the event prints or starts a thread: what was printed, or the threads, are more after its turn
+abbrev pub PrintsOrStarts : Content → Event → Type 0
+PrintsOrStarts c e = (after : Content × Report) × IsTurn c e after × ((length c.printed < length after.0.printed) ⊎ (length c.threads < length after.0.threads))

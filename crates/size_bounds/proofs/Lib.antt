@@ -1,0 +1,9 @@
+pub mod ChangedEntries
+pub mod StateChanges
+pub mod InstructionSteps
+pub mod CountedSteps
+pub mod CountedOpenings
+pub mod Lists
+pub mod Limits
+pub mod MethodSizes
+pub mod FieldSizes

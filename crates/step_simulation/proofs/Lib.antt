@@ -1,0 +1,12 @@
+pub mod Settings
+pub mod Settling
+pub mod ThreadObjects
+pub mod Requests
+pub mod Joins
+pub mod Beginnings
+pub mod Starts
+pub mod StartSteps
+pub mod Steps
+pub mod LiteralNames
+pub mod OpeningContents
+pub mod Whole

@@ -1,0 +1,177 @@
+-- Each step of a thread comes to the same on both machines.
+use Rattle.std.proofs.Common.{◌≡◌, ◌-◌, if◌then◌else◌, is_none, ℕ, zero, suc, Bool, false, List, [], ◌∷◌, Option, Some, None, slice_get, slice_set, refl, sym, ap, ◌∙◌, subst}
+use Rattle.std.specs.Option.{option_map_or}
+use Rattle.cil_model.specs.declared.events.Event.TheVariants.{Step}
+use Rattle.cil_model.specs.declared.reports.End.{End}
+use Rattle.cil_model.specs.declared.reports.Report.{Report}
+use Rattle.cil_model.specs.declared.reports.Report.TheVariants.{Absent}
+use Rattle.cil_model.proofs.BelowLaws.{none_is_some, same_some}
+use Rattle.reference_machine.specs.States.{Frame as StateFrame, Thread as StateThread, State}
+use Rattle.reference_machine.specs.Steps.{Answers, effect_of, settled, step, step_of}
+use Rattle.reference_machine.specs.Runs.{is_refusal}
+use Rattle.object_memory.specs.declared.addresses.Addr.{Addr}
+use Rattle.threads_monitors.specs.Frames.{Frames}
+use Rattle.threads_monitors.specs.declared.threads.Standing.{Standing}
+use Rattle.threads_monitors.specs.declared.threads.Standing.TheVariants.{Live, Ended}
+use Rattle.threads_monitors.specs.declared.threads.Thread.{Thread}
+use Rattle.interpreter.specs.Instructions.{IsDone}
+use Rattle.interpreter.specs.declared.outcomes.Outcome.{Outcome}
+use Rattle.interpreter.specs.declared.outcomes.Outcome.TheVariants.{Comes, Starts, Joins}
+use Rattle.reference_machine.specs.BuiltIn.{Action, Start, Join, start, join}
+use Rattle.simulation.specs.MachineContents.{Content}
+use Rattle.simulation.specs.StandsFor.{IsThread, StandsAlike, Represents}
+use Rattle.simulation.specs.Turns.{Answer, IsStandingTurn, IsThreadTurn, IsTurn, finished}
+use Rattle.simulation.proofs.AgreeLaws.{agree_at, agree_get}
+use Rattle.simulation.proofs.Instructions.{InstructionsAreAlike, ComesAlike, is_refused_effect, is_refused_outcome}
+use Rattle.simulation.proofs.Statements.{CellsMayChange}
+use Rattle.simulation.specs.Ready.{IsReady, IsAnswerable}
+use Rattle.step_simulation.proofs.Settings.{setting_of, is_alive, does_alike, live_is_ready}
+use Rattle.step_simulation.proofs.Settling.{Follows, done, comes}
+use Rattle.step_simulation.proofs.Requests.{here, running, below, Asks, asked_of, has_operand, place_below}
+use Rattle.step_simulation.proofs.Joins.{joins}
+use Rattle.step_simulation.proofs.StartSteps.{start_asked, starts, start_has_thread}
+
+-- ---- lists
+
+-- the later change of one place stays
+set_twice : {X : Type 0} (xs : List X) (n : ℕ) (x y : X) → slice_set (slice_set xs n x) n y ≡ slice_set xs n y
+set_twice [] n x y = refl
+set_twice (z ∷ zs) zero x y = refl
+set_twice (z ∷ zs) (suc n) x y = ap (λ l. z ∷ l) (set_twice zs n x y)
+
+-- what is there may be set again
+set_itself : {X : Type 0} (xs : List X) (n : ℕ) (x : X) → slice_get xs n ≡ Some x → slice_set xs n x ≡ xs
+set_itself [] n x e = refl
+set_itself (z ∷ zs) zero x e = ap (λ y. y ∷ zs) (sym (same_some z x e))
+set_itself (z ∷ zs) (suc n) x e = ap (λ l. z ∷ l) (set_itself zs n x e)
+
+-- ---- an instruction that asks something of other threads
+
+module _ (c : Content) (s : State) (r : Represents c s) (t left : ℕ) (m : Frames) (there : slice_get c.threads t ≡ Some (record { standing = Live m; steps_left = left })) where
+  -- an instruction that asks leaves all as it was
+  abbrev asking : Outcome → Answer
+  asking out = (m, c.objects, c.statics, c.printed, out)
+
+  asks_itself : (action : Action) (object : Addr) (a : Answer) (out : Outcome) → Asks c s r t left m there action object a → Asks c s r t left m there action object (asking out)
+  asks_itself action object a out h = record { operand = h.operand; rest = h.rest; stack = h.stack; stands = h.stands; is = h.is; frames = refl; memory = (refl, refl, refl) }
+
+  asking_is : (action : Action) (object : Addr) (a : Answer) → Asks c s r t left m there action object a → a ≡ asking a.4
+  asking_is action object a h =
+      ap (λ x. (x, a.1, a.2, a.3, a.4)) h.frames ∙ ap (λ x. (m, x, a.2, a.3, a.4)) h.memory.0 ∙ ap (λ x. (m, c.objects, x, a.3, a.4)) h.memory.1 ∙ ap (λ x. (m, c.objects, c.statics, x, a.4)) h.memory.2
+
+  -- its thread stands where it stood
+  threads_stay : slice_set c.threads t (record { standing = Live m; steps_left = left }) ≡ c.threads
+  threads_stay = set_itself c.threads t (record { standing = Live m; steps_left = left }) there
+
+-- ---- threads that don't live
+
+absent : (c : Content) (s : State) (r : Represents c s) (t : ℕ) → step c.tree c.limits s t false ≡ Answers Absent s → Follows c s t (c, Absent)
+absent c s r t is = (s, is, r)
+
+none_absent : (c : Content) (s : State) (r : Represents c s) (t : ℕ) → slice_get c.threads t ≡ None → Follows c s t (c, Absent)
+none_absent c s r t none = by_thread (slice_get s.threads t) refl
+  where
+    by_thread : (u : Option StateThread) → slice_get s.threads t ≡ u → Follows c s t (c, Absent)
+    by_thread None is = absent c s r t (ap (λ x. option_map_or (step_of (setting_of c t false) s) x (Answers Absent s)) is)
+    by_thread (Some u) is =
+        let found : (x : Thread) × (slice_get c.threads t ≡ Some x) × IsThread c.tree c.limits r.stands.name x u = agree_get (IsThread c.tree c.limits r.stands.name) c.threads s.threads r.stands.by.threads t u is in
+        none_is_some found.0 (sym none ∙ found.1)
+
+ended_absent : (c : Content) (s : State) (r : Represents c s) (t left : ℕ) (e : End) → slice_get c.threads t ≡ Some (record { standing = Ended e; steps_left = left }) → Follows c s t (c, Absent)
+ended_absent c s r t left e there =
+    let found : (u : StateThread) × (slice_get s.threads t ≡ Some u) × IsThread c.tree c.limits r.stands.name (record { standing = Ended e; steps_left = left }) u =
+    agree_at (IsThread c.tree c.limits r.stands.name) c.threads s.threads r.stands.by.threads t (record { standing = Ended e; steps_left = left }) there in
+    by_end found.0 found.1 found.0.frames found.0.ended refl found.2.standing
+  where
+    by_end : (u : StateThread) → slice_get s.threads t ≡ Some u → (fs : List StateFrame) (e' : Option End) → u.ended ≡ e' → StandsAlike c.tree c.limits r.stands.name (Ended e) fs e' → Follows c s t (c, Absent)
+    by_end u at fs None ended h = elim h [ ]
+    by_end u at fs (Some e') ended h =
+        absent c s r t (
+        ap (λ x. option_map_or (step_of (setting_of c t false) s) x (Answers Absent s)) at ∙
+        ap (λ x. if is_none x then settled s t (u.steps_left - 1) u.frames (effect_of (setting_of c t false) s u.frames) else Answers Absent s) ended)
+
+-- ---- what a done instruction comes to
+
+module _ (each : InstructionsAreAlike) (c : Content) (s : State) (r : Represents c s) (t left : ℕ) (m : Frames) (there : slice_get c.threads t ≡ Some (record { standing = Live m; steps_left = left })) where
+  -- the same on the reference machine, where memory is refused to both
+  comes_alike : (a : Answer) → IsDone c.tree t m c.objects c.statics c.printed a →
+      ComesAlike (setting_of c t (is_refused_outcome a.4)) r.stands.name m c.objects c.statics c.printed s (is_alive c s r t left m there).running (is_alive c s r t left m there).below a.4 a
+      (done c s r t left m there (is_refused_outcome a.4))
+  comes_alike a d =
+      let refused : Bool = is_refused_outcome a.4 in
+      let x = does_alike each c s r t left m there refused d.operation d.at d.constant in
+      let same : x.answer ≡ a = same_some x.answer a (sym x.is ∙ sym d.is) in
+      subst (λ (y : Answer). refused ≡ is_refused_outcome y.4 →
+      ComesAlike (setting_of c t refused) r.stands.name m c.objects c.statics c.printed s (is_alive c s r t left m there).running (is_alive c s r t left m there).below y.4 y (done c s r t left m there refused))
+      same x.alike refl
+
+  module _ (cells_may_change : CellsMayChange) (after : Content × Report) where
+    -- a live thread's step
+    live_follows : (a : Answer) → IsDone c.tree t m c.objects c.statics c.printed a → finished c t left a a.4 ≡ Some after → Follows c s t after
+    live_follows a d is = by_answer a d (comes_alike a d) is
+      where
+        by_answer : (a : Answer) → IsDone c.tree t m c.objects c.statics c.printed a →
+            ComesAlike (setting_of c t (is_refused_outcome a.4)) r.stands.name m c.objects c.statics c.printed s (is_alive c s r t left m there).running (is_alive c s r t left m there).below a.4 a
+            (done c s r t left m there (is_refused_outcome a.4)) →
+            finished c t left a a.4 ≡ Some after → Follows c s t after
+        by_answer (m', o', statics', printed', Comes e) d' h is' =
+            subst (Follows c s t) (same_some _ after is')
+            (comes c s r t left m there (slice_set c.threads t (record { standing = Live m'; steps_left = left })) (λ x. set_twice c.threads t (record { standing = Live m'; steps_left = left }) x)
+            (is_refused_effect e) e refl (m', o', statics', printed', Comes e) h)
+        by_answer (m', o', statics', printed', Starts object) d' h is' =
+            starts c s r t left m there cells_may_change d'.operation d'.at d'.constant (slice_set c.threads t (record { standing = Live m; steps_left = left })) (threads_stay c s r t left m there) object
+            (asks_itself c s r t left m there Start object (m', o', statics', printed', Starts object) (Starts object) h) after
+            (subst (λ y. finished c t left y (Starts object) ≡ Some after) (asking_is c s r t left m there Start object (m', o', statics', printed', Starts object) h) is')
+        by_answer (m', o', statics', printed', Joins object) d' h is' =
+            subst (Follows c s t)
+            (same_some _ after (subst (λ y. finished c t left y (Joins object) ≡ Some after) (asking_is c s r t left m there Join object (m', o', statics', printed', Joins object) h) is'))
+            (joins c s r t left m there d'.operation d'.at d'.constant (slice_set c.threads t (record { standing = Live m; steps_left = left })) (threads_stay c s r t left m there) object
+            (asks_itself c s r t left m there Join object (m', o', statics', printed', Joins object) (Joins object) h))
+
+-- ---- all
+
+module _ (each : InstructionsAreAlike) (cells_may_change : CellsMayChange) where
+  -- a live thread is ready
+  pub thread_ready : (c : Content) (s : State) → Represents c s → (t left : ℕ) (m : Frames) → slice_get c.threads t ≡ Some (record { standing = Live m; steps_left = left }) → IsReady c t m
+  thread_ready c s r t left m there = live_is_ready each c s r t left m there
+
+  -- a step comes to the same on both
+  pub step_follows : (c : Content) (s : State) → Represents c s → (t : ℕ) (after : Content × Report) → IsTurn c (Step t) after →
+      (s' : State) × (step c.tree c.limits s t (is_refusal after.1) ≡ Answers after.1 s') × Represents after.0 s'
+  step_follows c s r t after turn = by_thread (slice_get c.threads t) refl turn
+    where
+      by_standing : (left : ℕ) (standing : Standing) → slice_get c.threads t ≡ Some (record { standing = standing; steps_left = left }) → IsStandingTurn c t left standing after → Follows c s t after
+      by_standing left (Live m) there (a, d, is) = live_follows each c s r t left m there cells_may_change after a d is
+      by_standing left (Ended e) there is = subst (Follows c s t) (sym is) (ended_absent c s r t left e there)
+
+      by_thread : (x : Option Thread) → slice_get c.threads t ≡ x → IsThreadTurn c t x after → Follows c s t after
+      by_thread None is h = subst (Follows c s t) (sym h) (none_absent c s r t is)
+      by_thread (Some x) is h = by_standing x.steps_left x.standing is h
+
+  -- what an instruction asks of other threads can be answered
+  pub answerable : (c : Content) (s : State) → Represents c s → (t left : ℕ) (m : Frames) → slice_get c.threads t ≡ Some (record { standing = Live m; steps_left = left }) →
+      (a : Answer) → IsDone c.tree t m c.objects c.statics c.printed a → IsAnswerable c t left a a.4
+  answerable c s r t left m there a d = by_answer a d (comes_alike each c s r t left m there a d)
+    where
+      by_answer : (a : Answer) → IsDone c.tree t m c.objects c.statics c.printed a →
+          ComesAlike (setting_of c t (is_refused_outcome a.4)) r.stands.name m c.objects c.statics c.printed s (is_alive c s r t left m there).running (is_alive c s r t left m there).below a.4 a
+          (done c s r t left m there (is_refused_outcome a.4)) →
+          IsAnswerable c t left a a.4
+      by_answer (m', o', statics', printed', Comes e) d' h = tt
+      by_answer (m', o', statics', printed', Starts object) d' h =
+          subst (λ y. IsAnswerable c t left y (Starts object)) (sym (asking_is c s r t left m there Start object (m', o', statics', printed', Starts object) h)) (
+            has_operand c s r t left m there Start (λ n. start (here c s r t left m there) s (running c s r t left m there) (below c s r t left m there) n own.rest) object (asking c s r t left m there (Starts object)) own (start_asked c s r t left m there object (asking c s r t left m there (Starts object)) own)
+                (place_below c s r t left m there d'.operation d'.at d'.constant),
+            start_has_thread c s r t left m there (slice_set c.threads t (record { standing = Live m; steps_left = left })) (threads_stay c s r t left m there) object own,
+          )
+        where
+          own : Asks c s r t left m there Start object (asking c s r t left m there (Starts object))
+          own = asks_itself c s r t left m there Start object (m', o', statics', printed', Starts object) (Starts object) h
+      by_answer (m', o', statics', printed', Joins object) d' h =
+          subst (λ y. IsAnswerable c t left y (Joins object)) (sym (asking_is c s r t left m there Join object (m', o', statics', printed', Joins object) h))
+          (has_operand c s r t left m there Join (λ n. join (here c s r t left m there) s (running c s r t left m there) (below c s r t left m there) own.rest) object (asking c s r t left m there (Joins object)) own
+          (asked_of c s r t left m there Join (λ rest n. join (here c s r t left m there) s (running c s r t left m there) (below c s r t left m there) rest) (λ v rest. refl) object (asking c s r t left m there (Joins object)) own)
+          (place_below c s r t left m there d'.operation d'.at d'.constant))
+        where
+          own : Asks c s r t left m there Join object (asking c s r t left m there (Joins object))
+          own = asks_itself c s r t left m there Join object (m', o', statics', printed', Joins object) (Joins object) h

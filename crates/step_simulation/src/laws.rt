@@ -1,0 +1,43 @@
+// Laws of machines. Each function has an empty body, and its contract is the law.
+
+ghost use Rattle.std.specs.Prelude.{◌≡◌, ℕ, IsTrue, Some, slice_get};
+ghost use Rattle.cil_model.specs.declared.trees.Tree.{Tree};
+ghost use Rattle.cil_model.specs.declared.limits.Limits.{Limits};
+ghost use Rattle.cil_model.specs.declared.events.Event.TheVariants.{Step};
+ghost use Rattle.cil_model.specs.declared.reports.Report.{Report};
+ghost use Rattle.cil_model.specs.Ranges.{are_in_range};
+ghost use Rattle.cil_model.specs.Typings.{IsAccepted};
+ghost use Rattle.reference_machine.specs.States.{State};
+ghost use Rattle.reference_machine.specs.Steps.{step, Answers};
+ghost use Rattle.reference_machine.specs.Runs.{is_refusal, opening};
+ghost use Rattle.threads_monitors.specs.Frames.{Frames};
+ghost use Rattle.threads_monitors.specs.declared.threads.Standing.TheVariants.{Live};
+ghost use Rattle.interpreter.specs.Instructions.{IsDone};
+ghost use Rattle.simulation.specs.MachineContents.{Content};
+ghost use Rattle.simulation.specs.StandsFor.{Represents};
+ghost use Rattle.simulation.specs.Turns.{Answer, IsTurn, opening_content};
+ghost use Rattle.simulation.specs.Ready.{IsReady, IsAnswerable};
+
+/// What a machine holds before its first event represents the opening state of its program.
+pub fn openings_represent()
+    ensures { (tree : Tree) (limits : Limits) → IsAccepted tree → IsTrue (are_in_range limits) →
+        (c : Content) × (s : State) × (opening_content tree limits ≡ Some c) × (opening tree limits ≡ Some s) × Represents c s }
+{}
+
+/// Where a machine represents a state, each live thread is at an instruction whose rule has an answer: no operand is missing or of
+/// another kind, and no frame, slot or object.
+pub fn live_threads_are_ready()
+    ensures { (c : Content) (s : State) → Represents c s → (t left : ℕ) (m : Frames) → slice_get c.threads t ≡ Some (record { standing = Live m; steps_left = left }) → IsReady c t m }
+{}
+
+/// And what the instruction asks of other threads can be answered.
+pub fn what_is_asked_can_be_answered()
+    ensures { (c : Content) (s : State) → Represents c s → (t left : ℕ) (m : Frames) → slice_get c.threads t ≡ Some (record { standing = Live m; steps_left = left }) →
+        (a : Answer) → IsDone c.tree t m c.objects c.statics c.printed a → IsAnswerable c t left a a.4 }
+{}
+
+/// Each step of a machine has the report of the reference machine's, with the same births refused, and represents its state.
+pub fn steps_follow_the_reference_machine()
+    ensures { (c : Content) (s : State) → Represents c s → (t : ℕ) (after : Content × Report) → IsTurn c (Step t) after →
+        (s' : State) × (step c.tree c.limits s t (is_refusal after.1) ≡ Answers after.1 s') × Represents after.0 s' }
+{}

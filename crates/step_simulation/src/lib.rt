@@ -1,0 +1,4 @@
+//! A machine does what the reference machine does, step by step. It has no code but its laws, in src/laws.rt.
+#![tactic(auto)]
+
+pub mod laws;
