@@ -1,29 +1,29 @@
 -- Built-in members do the same on both machines.
 use Rattle.std.proofs.Common.{◌≡◌, ◌+◌, ℕ, true, List, [], ◌∷◌, ◌++◌, length, take, drop, reverse, Option, Some, None, option_map, refl, sym, ap, ◌∙◌, subst}
 use Rattle.std.specs.Prelude.{nat_le}
-use Rattle.cil_model.specs.declared.instructions.Instruction.{Instruction}
-use Rattle.cil_model.specs.Mentions.{literals_of}
-use Rattle.reference_machine.specs.Values.{Value as StateValue}
-use Rattle.reference_machine.specs.States.{Frame as StateFrame, State}
-use Rattle.reference_machine.specs.Effects.{Setting, Effect as StateEffect, given as given_there, onward as onward_frame}
-use Rattle.reference_machine.specs.BuiltIn.{Action, Construct, Write, Enter, Exit, Start, Join, act, line_of as state_line_of}
-use Rattle.type_soundness.proofs.Running.{IsTypedEffect}
-use Rattle.resolved_code.specs.declared.operations.Operation.{Operation}
-use Rattle.object_memory.specs.declared.addresses.Addr.{Addr}
-use Rattle.object_memory.specs.declared.values.Value.{Value}
-use Rattle.object_memory.specs.declared.values.Value.TheVariants.{Ref}
-use Rattle.object_memory.specs.Cells.{null}
-use Rattle.object_memory.specs.Objects.{Objects}
-use Rattle.threads_monitors.specs.Frames.{Frames, with_place, with_stack}
-use Rattle.threads_monitors.specs.declared.effects.Effect.{Effect}
-use Rattle.threads_monitors.specs.declared.effects.Effect.TheVariants.{GoesOn}
-use Rattle.instructions.specs.Frames.{given, top_of, onward}
-use Rattle.instructions.specs.ObjectTurns.{beside}
-use Rattle.instructions.specs.BuiltInTurns.{line_of, printed as printed_line}
-use Rattle.interpreter.specs.Calls.{CallTurn, act_turn, asks, beside_console, top_reference}
-use Rattle.interpreter.specs.Instructions.{of_calls}
-use Rattle.interpreter.specs.declared.outcomes.Outcome.{Outcome}
-use Rattle.interpreter.specs.declared.outcomes.Outcome.TheVariants.{Comes, Starts, Joins}
+use Rattle.simulation.specs.cil_model.declared.instructions.Instruction.{Instruction}
+use Rattle.simulation.specs.cil_model.Mentions.{literals_of}
+use Rattle.simulation.specs.reference_machine.Values.{Value as StateValue}
+use Rattle.simulation.specs.reference_machine.States.{Frame as StateFrame, State}
+use Rattle.simulation.specs.reference_machine.Effects.{Setting, Effect as StateEffect, given as given_there, onward as onward_frame}
+use Rattle.simulation.specs.reference_machine.BuiltIn.{Action, Construct, Write, Enter, Exit, Start, Join, act, line_of as state_line_of}
+use Rattle.simulation.proofs.type_soundness.Running.{IsTypedEffect}
+use Rattle.simulation.specs.resolved_code.declared.operations.Operation.{Operation}
+use Rattle.simulation.specs.object_memory.declared.addresses.Addr.{Addr}
+use Rattle.simulation.specs.object_memory.declared.values.Value.{Value}
+use Rattle.simulation.specs.object_memory.declared.values.Value.TheVariants.{Ref}
+use Rattle.simulation.specs.object_memory.Cells.{null}
+use Rattle.simulation.specs.object_memory.Objects.{Objects}
+use Rattle.simulation.specs.threads_monitors.Frames.{Frames, with_place, with_stack}
+use Rattle.simulation.specs.threads_monitors.declared.effects.Effect.{Effect}
+use Rattle.simulation.specs.threads_monitors.declared.effects.Effect.TheVariants.{GoesOn}
+use Rattle.simulation.specs.instructions.Frames.{given, top_of, onward}
+use Rattle.simulation.specs.instructions.ObjectTurns.{beside}
+use Rattle.simulation.specs.instructions.BuiltInTurns.{line_of, printed as printed_line}
+use Rattle.simulation.specs.interpreter.Calls.{CallTurn, act_turn, asks, beside_console, top_reference}
+use Rattle.simulation.specs.interpreter.Instructions.{of_calls}
+use Rattle.simulation.specs.interpreter.declared.outcomes.Outcome.{Outcome}
+use Rattle.simulation.specs.interpreter.declared.outcomes.Outcome.TheVariants.{Comes, Starts, Joins}
 use Rattle.simulation.specs.Agreement.{Agree}
 use Rattle.simulation.specs.StandsFor.{Names, IsValue, int32, int64, native, null_reference, reference}
 use Rattle.simulation.proofs.Statements.{CellsMayChange, LiteralsMayChange}

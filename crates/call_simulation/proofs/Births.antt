@@ -1,16 +1,16 @@
 -- What a birth gives, and what it leaves as it was.
 use Rattle.std.proofs.Common.{◌≡◌, ℕ, ◌+◌, Bool, true, false, nat_le, if◌then◌else◌, List, ◌∷◌, [], ◌++◌, Option, Some, None, refl, ap}
-use Rattle.cil_model.specs.Fields.{FieldKey}
-use Rattle.cil_model.specs.declared.reports.Fault.TheVariants.{OutOfMemory}
-use Rattle.reference_machine.specs.Values.{ObjectName, Value as StateValue}
-use Rattle.reference_machine.specs.States.{Contents, Frame as StateFrame, State, next_name, with_birth as with_state_birth}
-use Rattle.reference_machine.specs.Effects.{Setting, Effect as StateEffect, Raises as StateRaises}
-use Rattle.reference_machine.specs.Steps.{birth as state_birth}
-use Rattle.object_memory.specs.declared.addresses.Addr.{Addr}
-use Rattle.object_memory.specs.declared.kinds.Kind.{Kind}
-use Rattle.object_memory.specs.declared.values.Value.{Value}
-use Rattle.object_memory.specs.Cells.{Cells, new_cell, next_address, free_words}
-use Rattle.object_memory.specs.Objects.{Objects, with_birth}
+use Rattle.simulation.specs.cil_model.Fields.{FieldKey}
+use Rattle.simulation.specs.cil_model.declared.reports.Fault.TheVariants.{OutOfMemory}
+use Rattle.simulation.specs.reference_machine.Values.{ObjectName, Value as StateValue}
+use Rattle.simulation.specs.reference_machine.States.{Contents, Frame as StateFrame, State, next_name, with_birth as with_state_birth}
+use Rattle.simulation.specs.reference_machine.Effects.{Setting, Effect as StateEffect, Raises as StateRaises}
+use Rattle.simulation.specs.reference_machine.Steps.{birth as state_birth}
+use Rattle.simulation.specs.object_memory.declared.addresses.Addr.{Addr}
+use Rattle.simulation.specs.object_memory.declared.kinds.Kind.{Kind}
+use Rattle.simulation.specs.object_memory.declared.values.Value.{Value}
+use Rattle.simulation.specs.object_memory.Cells.{Cells, new_cell, next_address, free_words}
+use Rattle.simulation.specs.object_memory.Objects.{Objects, with_birth}
 use Rattle.simulation.specs.StandsFor.{Names, IsValue, IsMemory}
 use Rattle.simulation.proofs.AgreeLaws.{agree_weaken}
 use Rattle.simulation.proofs.Extending.{value_extends}

@@ -1,30 +1,30 @@
 -- A call does the same on both machines.
 use Rattle.std.proofs.Common.{◌≡◌, ℕ, Bool, true, false, not, List, ◌∷◌, length, take, drop, reverse, Some, refl, sym, ap, subst}
 use Rattle.std.specs.Prelude.{nat_le, if◌then◌else◌}
-use Rattle.cil_model.specs.declared.instructions.Instruction.TheVariants as Named
-use Rattle.cil_model.specs.declared.instructions.MethodReference.{MethodReference}
-use Rattle.cil_model.specs.declared.types.ClassName.{ClassName}
-use Rattle.cil_model.specs.declared.types.Signature.{Signature}
-use Rattle.cil_model.specs.declared.types.DeclaredType.{DeclaredType}
-use Rattle.cil_model.specs.declared.trees.Method.{Method}
-use Rattle.cil_model.specs.Assignable.{type_of_class}
-use Rattle.cil_model.specs.Bodies.{argument_types, reference_operands}
-use Rattle.reference_machine.specs.Values.{Value as StateValue}
-use Rattle.reference_machine.specs.States.{Frame as StateFrame, State}
-use Rattle.reference_machine.specs.Effects.{Setting, Effect as StateEffect, Sticks, given as given_there, are_of_kinds}
-use Rattle.reference_machine.specs.Steps.{run_method, operands, execute}
-use Rattle.type_soundness.proofs.FoundMethods.{IsFound, found}
-use Rattle.type_soundness.proofs.Running.{IsTypedEffect}
-use Rattle.name_tables.specs.declared.lookups.MemberNumber.{MemberNumber}
-use Rattle.resolved_code.specs.Numbered.{class_name}
-use Rattle.resolved_code.specs.Resolved.{IsMethod}
-use Rattle.resolved_code.specs.declared.operations.Operation.TheVariants as Resolved
-use Rattle.object_memory.specs.declared.values.Value.{Value}
-use Rattle.object_memory.specs.Objects.{Objects}
-use Rattle.threads_monitors.specs.Frames.{Frames}
-use Rattle.instructions.specs.Frames.{given}
-use Rattle.interpreter.specs.Calls.{run_turn}
-use Rattle.interpreter.specs.Instructions.{MachineTurn, of_calls, operation_turn}
+use Rattle.simulation.specs.cil_model.declared.instructions.Instruction.TheVariants as Named
+use Rattle.simulation.specs.cil_model.declared.instructions.MethodReference.{MethodReference}
+use Rattle.simulation.specs.cil_model.declared.types.ClassName.{ClassName}
+use Rattle.simulation.specs.cil_model.declared.types.Signature.{Signature}
+use Rattle.simulation.specs.cil_model.declared.types.DeclaredType.{DeclaredType}
+use Rattle.simulation.specs.cil_model.declared.trees.Method.{Method}
+use Rattle.simulation.specs.cil_model.Assignable.{type_of_class}
+use Rattle.simulation.specs.cil_model.Bodies.{argument_types, reference_operands}
+use Rattle.simulation.specs.reference_machine.Values.{Value as StateValue}
+use Rattle.simulation.specs.reference_machine.States.{Frame as StateFrame, State}
+use Rattle.simulation.specs.reference_machine.Effects.{Setting, Effect as StateEffect, Sticks, given as given_there, are_of_kinds}
+use Rattle.simulation.specs.reference_machine.Steps.{run_method, operands, execute}
+use Rattle.simulation.proofs.type_soundness.FoundMethods.{IsFound, found}
+use Rattle.simulation.proofs.type_soundness.Running.{IsTypedEffect}
+use Rattle.simulation.specs.name_tables.declared.lookups.MemberNumber.{MemberNumber}
+use Rattle.simulation.specs.resolved_code.Numbered.{class_name}
+use Rattle.simulation.specs.resolved_code.Resolved.{IsMethod}
+use Rattle.simulation.specs.resolved_code.declared.operations.Operation.TheVariants as Resolved
+use Rattle.simulation.specs.object_memory.declared.values.Value.{Value}
+use Rattle.simulation.specs.object_memory.Objects.{Objects}
+use Rattle.simulation.specs.threads_monitors.Frames.{Frames}
+use Rattle.simulation.specs.instructions.Frames.{given}
+use Rattle.simulation.specs.interpreter.Calls.{run_turn}
+use Rattle.simulation.specs.interpreter.Instructions.{MachineTurn, of_calls, operation_turn}
 use Rattle.simulation.specs.StandsFor.{Names}
 use Rattle.simulation.proofs.Statements.{CellsMayChange, LiteralsMayChange}
 use Rattle.simulation.proofs.Instructions.{IsSetting, DoesAlike}

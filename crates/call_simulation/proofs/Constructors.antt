@@ -2,35 +2,35 @@
 use Rattle.std.proofs.Common.{◌≡◌, ◌≤◌, ◌^◌, ℕ, suc, true, if◌then◌else◌, List, ◌∷◌, length, find, Option, Some, None, option_map, option_and_then, slice_get, sym, ap, ◌∙◌, arith}
 use Rattle.std.specs.Prelude.{not, ◌&&◌, nat_lt}
 use Rattle.std.specs.Option.{option_map_or}
-use Rattle.cil_model.specs.declared.types.ClassName.{ClassName}
-use Rattle.cil_model.specs.declared.types.DeclaredType.{DeclaredType}
-use Rattle.cil_model.specs.declared.types.Signature.{Signature}
-use Rattle.cil_model.specs.declared.instructions.MethodName.TheVariants.{Constructor}
-use Rattle.cil_model.specs.declared.limits.TheConstants.{MOST_ARGUMENTS, MOST_LOCALS}
-use Rattle.cil_model.specs.declared.trees.Tree.{Tree}
-use Rattle.cil_model.specs.declared.trees.Method.{Method}
-use Rattle.cil_model.specs.Same.{same_flag, same_method_name, same_signature}
-use Rattle.cil_model.specs.Declarations.{Declaration}
-use Rattle.cil_model.specs.Assignable.{type_of_class}
-use Rattle.cil_model.specs.Bodies.{argument_types, constructor_reference}
-use Rattle.cil_model.specs.Chains.{is_static, methods_in, find_method}
-use Rattle.cil_model.specs.Fields.{slot_types}
-use Rattle.cil_model.specs.Legality.{IsLegal}
-use Rattle.cil_model.proofs.BelowLaws.{none_is_some, same_some}
-use Rattle.reference_machine.specs.BuiltIn.{Action, action_of}
-use Rattle.type_soundness.proofs.BuiltInMembers.{IsMember, acts_as_member}
-use Rattle.type_soundness.proofs.FoundMethods.{IsFound, found}
-use Rattle.name_tables.specs.declared.lookups.MemberNumber.{MemberNumber}
-use Rattle.name_tables.specs.Numbers.{declarations, method_at}
-use Rattle.resolved_code.specs.Numbered.{class_name}
-use Rattle.resolved_code.specs.Resolved.{IsMethod}
-use Rattle.size_bounds.proofs.FieldSizes.{class_number_small, slots_few}
-use Rattle.size_bounds.proofs.MethodSizes.{arguments_few, locals_few}
-use Rattle.method_table.specs.AllMethods.{all_methods}
-use Rattle.method_table.specs.MethodNumbers.{number_of}
-use Rattle.method_table.specs.Prepared.{local_kinds}
-use Rattle.method_table.proofs.NumberLaws.{declared_is_numbered}
-use Rattle.interpreter.specs.Calls.{class_in, slots_at}
+use Rattle.simulation.specs.cil_model.declared.types.ClassName.{ClassName}
+use Rattle.simulation.specs.cil_model.declared.types.DeclaredType.{DeclaredType}
+use Rattle.simulation.specs.cil_model.declared.types.Signature.{Signature}
+use Rattle.simulation.specs.cil_model.declared.instructions.MethodName.TheVariants.{Constructor}
+use Rattle.simulation.specs.cil_model.declared.limits.TheConstants.{MOST_ARGUMENTS, MOST_LOCALS}
+use Rattle.simulation.specs.cil_model.declared.trees.Tree.{Tree}
+use Rattle.simulation.specs.cil_model.declared.trees.Method.{Method}
+use Rattle.simulation.specs.cil_model.Same.{same_flag, same_method_name, same_signature}
+use Rattle.simulation.specs.cil_model.Declarations.{Declaration}
+use Rattle.simulation.specs.cil_model.Assignable.{type_of_class}
+use Rattle.simulation.specs.cil_model.Bodies.{argument_types, constructor_reference}
+use Rattle.simulation.specs.cil_model.Chains.{is_static, methods_in, find_method}
+use Rattle.simulation.specs.cil_model.Fields.{slot_types}
+use Rattle.simulation.specs.cil_model.Legality.{IsLegal}
+use Rattle.simulation.proofs.cil_model.BelowLaws.{none_is_some, same_some}
+use Rattle.simulation.specs.reference_machine.BuiltIn.{Action, action_of}
+use Rattle.simulation.proofs.type_soundness.BuiltInMembers.{IsMember, acts_as_member}
+use Rattle.simulation.proofs.type_soundness.FoundMethods.{IsFound, found}
+use Rattle.simulation.specs.name_tables.declared.lookups.MemberNumber.{MemberNumber}
+use Rattle.simulation.specs.name_tables.Numbers.{declarations, method_at}
+use Rattle.simulation.specs.resolved_code.Numbered.{class_name}
+use Rattle.simulation.specs.resolved_code.Resolved.{IsMethod}
+use Rattle.simulation.proofs.size_bounds.FieldSizes.{class_number_small, slots_few}
+use Rattle.simulation.proofs.size_bounds.MethodSizes.{arguments_few, locals_few}
+use Rattle.simulation.specs.method_table.AllMethods.{all_methods}
+use Rattle.simulation.specs.method_table.MethodNumbers.{number_of}
+use Rattle.simulation.specs.method_table.Prepared.{local_kinds}
+use Rattle.simulation.proofs.method_table.NumberLaws.{declared_is_numbered}
+use Rattle.simulation.specs.interpreter.Calls.{class_in, slots_at}
 use Rattle.simulation.proofs.Zeros.{locals_low}
 use Rattle.simulation.proofs.Going.{below_test}
 

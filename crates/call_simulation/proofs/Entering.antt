@@ -2,32 +2,32 @@
 use Rattle.std.proofs.Common.{◌≡◌, ◌≤◌, ◌+◌, ℕ, suc, Bool, true, false, ◌&&◌, List, ◌∷◌, length, take, drop, reverse, Option, Some, None, refl, ap, ◌∙◌, arith}
 use Rattle.std.specs.Prelude.{nat_lt, nat_le, if◌then◌else◌, ◌==◌}
 use Rattle.std.proofs.lemmas.Bool.Decides.{nat_tests}
-use Rattle.cil_model.specs.declared.instructions.Instruction.{Instruction}
-use Rattle.cil_model.specs.declared.limits.TheConstants.{MOST_ARGUMENTS, MOST_LOCALS}
-use Rattle.cil_model.specs.declared.reports.Fault.TheVariants.{StackOverflow}
-use Rattle.cil_model.specs.declared.types.ClassName.{ClassName}
-use Rattle.cil_model.specs.declared.trees.Method.{Method}
-use Rattle.cil_model.specs.declared.trees.Code.{Code}
-use Rattle.cil_model.specs.Bodies.{argument_types, code_of}
-use Rattle.reference_machine.specs.States.{Frame as StateFrame, State}
-use Rattle.reference_machine.specs.Effects.{Setting, Effect as StateEffect, Goes, Raises as StateRaises, given as given_there, new_frame as new_state_frame, after}
-use Rattle.reference_machine.specs.Steps.{is_too_deep, frame_for}
-use Rattle.type_soundness.specs.TypedStates.{IsTypedFrame}
-use Rattle.type_soundness.proofs.Running.{IsTypedEffect}
-use Rattle.resolved_code.specs.declared.operations.Operation.{Operation}
-use Rattle.object_memory.specs.declared.values.Value.{Value}
-use Rattle.object_memory.specs.Objects.{Objects}
-use Rattle.method_table.specs.MethodNumbers.{number_of}
-use Rattle.method_table.specs.Prepared.{local_kinds}
-use Rattle.threads_monitors.specs.Frames.{Frames, with_place, with_call}
-use Rattle.threads_monitors.specs.declared.effects.Effect.TheVariants.{GoesOn, Raises}
-use Rattle.instructions.specs.Frames.{given}
-use Rattle.instructions.specs.ObjectTurns.{beside}
-use Rattle.instructions.specs.Calls.{is_full, behind, entered, call_turn}
-use Rattle.interpreter.specs.Calls.{called_as, beside_console}
-use Rattle.interpreter.specs.Instructions.{of_calls}
-use Rattle.interpreter.specs.declared.outcomes.Outcome.TheVariants.{Comes}
-use Rattle.size_bounds.proofs.MethodSizes.{arguments_few, locals_few}
+use Rattle.simulation.specs.cil_model.declared.instructions.Instruction.{Instruction}
+use Rattle.simulation.specs.cil_model.declared.limits.TheConstants.{MOST_ARGUMENTS, MOST_LOCALS}
+use Rattle.simulation.specs.cil_model.declared.reports.Fault.TheVariants.{StackOverflow}
+use Rattle.simulation.specs.cil_model.declared.types.ClassName.{ClassName}
+use Rattle.simulation.specs.cil_model.declared.trees.Method.{Method}
+use Rattle.simulation.specs.cil_model.declared.trees.Code.{Code}
+use Rattle.simulation.specs.cil_model.Bodies.{argument_types, code_of}
+use Rattle.simulation.specs.reference_machine.States.{Frame as StateFrame, State}
+use Rattle.simulation.specs.reference_machine.Effects.{Setting, Effect as StateEffect, Goes, Raises as StateRaises, given as given_there, new_frame as new_state_frame, after}
+use Rattle.simulation.specs.reference_machine.Steps.{is_too_deep, frame_for}
+use Rattle.simulation.specs.type_soundness.TypedStates.{IsTypedFrame}
+use Rattle.simulation.proofs.type_soundness.Running.{IsTypedEffect}
+use Rattle.simulation.specs.resolved_code.declared.operations.Operation.{Operation}
+use Rattle.simulation.specs.object_memory.declared.values.Value.{Value}
+use Rattle.simulation.specs.object_memory.Objects.{Objects}
+use Rattle.simulation.specs.method_table.MethodNumbers.{number_of}
+use Rattle.simulation.specs.method_table.Prepared.{local_kinds}
+use Rattle.simulation.specs.threads_monitors.Frames.{Frames, with_place, with_call}
+use Rattle.simulation.specs.threads_monitors.declared.effects.Effect.TheVariants.{GoesOn, Raises}
+use Rattle.simulation.specs.instructions.Frames.{given}
+use Rattle.simulation.specs.instructions.ObjectTurns.{beside}
+use Rattle.simulation.specs.instructions.Calls.{is_full, behind, entered, call_turn}
+use Rattle.simulation.specs.interpreter.Calls.{called_as, beside_console}
+use Rattle.simulation.specs.interpreter.Instructions.{of_calls}
+use Rattle.simulation.specs.interpreter.declared.outcomes.Outcome.TheVariants.{Comes}
+use Rattle.simulation.proofs.size_bounds.MethodSizes.{arguments_few, locals_few}
 use Rattle.simulation.specs.MachineContents.{frame_room}
 use Rattle.simulation.specs.StandsFor.{Names, IsValue, IsFrame, AreFrames}
 use Rattle.simulation.proofs.AgreeLaws.{agree_length, agree_take, agree_drop, agree_reverse}

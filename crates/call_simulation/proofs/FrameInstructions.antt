@@ -3,30 +3,30 @@ use Rattle.std.proofs.Common.{◌≡◌, ◌<◌, ◌+◌, ℕ, ℤ, not, List, 
 use Rattle.std.specs.Prelude.{if◌then◌else◌}
 use Rattle.std.specs.Int.{w32, cast_unsigned}
 use Rattle.std.proofs.lemmas.Option.{slice_get-map}
-use Rattle.cil_model.specs.declared.instructions.Instruction.{Instruction}
-use Rattle.cil_model.specs.declared.instructions.Instruction.TheVariants as Named
-use Rattle.cil_model.specs.declared.instructions.BinaryOperation.{BinaryOperation}
-use Rattle.cil_model.specs.declared.instructions.UnaryOperation.{UnaryOperation}
-use Rattle.cil_model.specs.declared.instructions.ShiftOperation.{ShiftOperation}
-use Rattle.cil_model.specs.declared.instructions.Comparison.{Comparison}
-use Rattle.cil_model.specs.declared.instructions.BranchComparison.{BranchComparison}
-use Rattle.cil_model.specs.Bodies.{lines_of, place_of}
-use Rattle.cil_model.specs.Mentions.{literals_of}
-use Rattle.reference_machine.specs.Values.{Literal, Reference, Value as StateValue}
-use Rattle.reference_machine.specs.Arithmetic.{binary_value, unary_value, shift_value, compare_values, branch_values, is_set as is_set_value, not_option, convert_32, convert_64, one_or_zero as one_or_zero_value}
-use Rattle.reference_machine.specs.States.{Frame as StateFrame, State}
-use Rattle.reference_machine.specs.Effects.{Setting, Goes, given as given_value, unless_fault, after}
-use Rattle.reference_machine.specs.Steps.{next, branch_if as branch_to, stored as stored_value, switch_on as switch_labels, execute}
-use Rattle.resolved_code.specs.declared.operations.Operation.{Operation}
-use Rattle.resolved_code.specs.declared.operations.Operation.TheVariants as Resolved
-use Rattle.object_memory.specs.declared.addresses.TheConstants.{ADDRESSES, FIRST_LITERAL}
-use Rattle.object_memory.specs.declared.values.Value.{Value}
-use Rattle.object_memory.specs.declared.values.Value.TheVariants.{Ref}
-use Rattle.object_memory.specs.Cells.{literal}
-use Rattle.object_memory.specs.Objects.{Objects}
-use Rattle.threads_monitors.specs.Frames.{Frames, with_stack, with_argument, with_local}
-use Rattle.instructions.specs.Frames.{leaves, onward, stored, leaves_result, binary_result, unary_result, shift_result, comparison, branch_test, one_or_zero, is_set, in_32_bits, in_64_bits, branch_if, switch_on}
-use Rattle.interpreter.specs.Instructions.{of_frames, operation_turn}
+use Rattle.simulation.specs.cil_model.declared.instructions.Instruction.{Instruction}
+use Rattle.simulation.specs.cil_model.declared.instructions.Instruction.TheVariants as Named
+use Rattle.simulation.specs.cil_model.declared.instructions.BinaryOperation.{BinaryOperation}
+use Rattle.simulation.specs.cil_model.declared.instructions.UnaryOperation.{UnaryOperation}
+use Rattle.simulation.specs.cil_model.declared.instructions.ShiftOperation.{ShiftOperation}
+use Rattle.simulation.specs.cil_model.declared.instructions.Comparison.{Comparison}
+use Rattle.simulation.specs.cil_model.declared.instructions.BranchComparison.{BranchComparison}
+use Rattle.simulation.specs.cil_model.Bodies.{lines_of, place_of}
+use Rattle.simulation.specs.cil_model.Mentions.{literals_of}
+use Rattle.simulation.specs.reference_machine.Values.{Literal, Reference, Value as StateValue}
+use Rattle.simulation.specs.reference_machine.Arithmetic.{binary_value, unary_value, shift_value, compare_values, branch_values, is_set as is_set_value, not_option, convert_32, convert_64, one_or_zero as one_or_zero_value}
+use Rattle.simulation.specs.reference_machine.States.{Frame as StateFrame, State}
+use Rattle.simulation.specs.reference_machine.Effects.{Setting, Goes, given as given_value, unless_fault, after}
+use Rattle.simulation.specs.reference_machine.Steps.{next, branch_if as branch_to, stored as stored_value, switch_on as switch_labels, execute}
+use Rattle.simulation.specs.resolved_code.declared.operations.Operation.{Operation}
+use Rattle.simulation.specs.resolved_code.declared.operations.Operation.TheVariants as Resolved
+use Rattle.simulation.specs.object_memory.declared.addresses.TheConstants.{ADDRESSES, FIRST_LITERAL}
+use Rattle.simulation.specs.object_memory.declared.values.Value.{Value}
+use Rattle.simulation.specs.object_memory.declared.values.Value.TheVariants.{Ref}
+use Rattle.simulation.specs.object_memory.Cells.{literal}
+use Rattle.simulation.specs.object_memory.Objects.{Objects}
+use Rattle.simulation.specs.threads_monitors.Frames.{Frames, with_stack, with_argument, with_local}
+use Rattle.simulation.specs.instructions.Frames.{leaves, onward, stored, leaves_result, binary_result, unary_result, shift_result, comparison, branch_test, one_or_zero, is_set, in_32_bits, in_64_bits, branch_if, switch_on}
+use Rattle.simulation.specs.interpreter.Instructions.{of_frames, operation_turn}
 use Rattle.simulation.specs.Agreement.{Agree}
 use Rattle.simulation.specs.StandsFor.{Names, IsValue, int32, int64, null_reference, reference}
 use Rattle.simulation.proofs.AgreeLaws.{agree_set}

@@ -3,29 +3,29 @@ use Rattle.std.proofs.Common.{◌≡◌, ◌≤◌, ◌<◌, ◌+◌, ◌-◌, �
 use Rattle.std.specs.Prelude.{nat_lt, ◌==◌}
 use Rattle.std.proofs.lemmas.Bool.{and_from}
 use Rattle.std.proofs.lemmas.Bool.Decides.{nat_tests}
-use Rattle.cil_model.specs.declared.types.ClassName.{ClassName}
-use Rattle.cil_model.specs.declared.types.DeclaredType.{DeclaredType}
-use Rattle.cil_model.specs.declared.instructions.Instruction.TheVariants as Named
-use Rattle.cil_model.specs.declared.trees.Method.{Method}
-use Rattle.cil_model.specs.declared.trees.Code.{Code}
-use Rattle.cil_model.specs.Bodies.{argument_types, code_of, constructor_reference}
-use Rattle.cil_model.specs.Legality.{IsLegal}
-use Rattle.reference_machine.specs.Values.{Value as StateValue, Reference}
-use Rattle.reference_machine.specs.States.{Contents, Frame as StateFrame, State, next_name}
-use Rattle.reference_machine.specs.Effects.{Setting, after, new_frame}
-use Rattle.reference_machine.specs.Steps.{is_too_deep}
-use Rattle.name_tables.specs.declared.lookups.MemberNumber.{MemberNumber}
-use Rattle.resolved_code.specs.Resolved.{IsMethod}
-use Rattle.resolved_code.specs.declared.operations.Operation.TheVariants as Resolved
-use Rattle.object_memory.specs.declared.addresses.Addr.{Addr}
-use Rattle.object_memory.specs.declared.values.Value.{Value}
-use Rattle.object_memory.specs.declared.values.Value.TheVariants.{Ref}
-use Rattle.object_memory.specs.Objects.{Objects}
-use Rattle.method_table.specs.Prepared.{local_kinds}
-use Rattle.threads_monitors.specs.Frames.{Frames, size, with_place, with_inserted, with_call}
-use Rattle.threads_monitors.specs.declared.effects.Effect.TheVariants.{GoesOn}
-use Rattle.instructions.specs.Calls.{Called, behind, is_full, entered, construct_turn}
-use Rattle.interpreter.specs.Calls.{called_as}
+use Rattle.simulation.specs.cil_model.declared.types.ClassName.{ClassName}
+use Rattle.simulation.specs.cil_model.declared.types.DeclaredType.{DeclaredType}
+use Rattle.simulation.specs.cil_model.declared.instructions.Instruction.TheVariants as Named
+use Rattle.simulation.specs.cil_model.declared.trees.Method.{Method}
+use Rattle.simulation.specs.cil_model.declared.trees.Code.{Code}
+use Rattle.simulation.specs.cil_model.Bodies.{argument_types, code_of, constructor_reference}
+use Rattle.simulation.specs.cil_model.Legality.{IsLegal}
+use Rattle.simulation.specs.reference_machine.Values.{Value as StateValue, Reference}
+use Rattle.simulation.specs.reference_machine.States.{Contents, Frame as StateFrame, State, next_name}
+use Rattle.simulation.specs.reference_machine.Effects.{Setting, after, new_frame}
+use Rattle.simulation.specs.reference_machine.Steps.{is_too_deep}
+use Rattle.simulation.specs.name_tables.declared.lookups.MemberNumber.{MemberNumber}
+use Rattle.simulation.specs.resolved_code.Resolved.{IsMethod}
+use Rattle.simulation.specs.resolved_code.declared.operations.Operation.TheVariants as Resolved
+use Rattle.simulation.specs.object_memory.declared.addresses.Addr.{Addr}
+use Rattle.simulation.specs.object_memory.declared.values.Value.{Value}
+use Rattle.simulation.specs.object_memory.declared.values.Value.TheVariants.{Ref}
+use Rattle.simulation.specs.object_memory.Objects.{Objects}
+use Rattle.simulation.specs.method_table.Prepared.{local_kinds}
+use Rattle.simulation.specs.threads_monitors.Frames.{Frames, size, with_place, with_inserted, with_call}
+use Rattle.simulation.specs.threads_monitors.declared.effects.Effect.TheVariants.{GoesOn}
+use Rattle.simulation.specs.instructions.Calls.{Called, behind, is_full, entered, construct_turn}
+use Rattle.simulation.specs.interpreter.Calls.{called_as}
 use Rattle.simulation.specs.Agreement.{Agree}
 use Rattle.simulation.specs.MachineContents.{frame_room}
 use Rattle.simulation.specs.StandsFor.{Names, IsValue, reference, IsFrame, AreFrames}

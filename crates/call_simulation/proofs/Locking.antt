@@ -2,34 +2,34 @@
 use Rattle.std.proofs.Common.{◌≡◌, ◌≤◌, ◌+◌, ◌-◌, ◌^◌, ℕ, Bool, true, false, ◌||◌, List, [], ◌∷◌, Some, None, option_and_then, refl, sym, ap, ◌∙◌, subst, arith}
 use Rattle.std.specs.Prelude.{nat_lt, nat_le, ◌==◌, if◌then◌else◌, is_some}
 use Rattle.std.proofs.lemmas.Bool.Decides.{nat_tests}
-use Rattle.cil_model.specs.declared.instructions.Instruction.{Instruction}
-use Rattle.cil_model.specs.declared.limits.Limits.{Limits}
-use Rattle.cil_model.specs.declared.limits.TheConstants.{MOST_BUDGET}
-use Rattle.cil_model.specs.declared.reports.Fault.{Fault}
-use Rattle.cil_model.specs.declared.reports.Fault.TheVariants.{ArgumentNull, SynchronizationLock}
-use Rattle.reference_machine.specs.Values.{ObjectName, Value as StateValue, Reference}
-use Rattle.reference_machine.specs.States.{Monitor as StateMonitor, Free as IsFree, Held as IsHeld, Frame as StateFrame, State, with_monitor as with_state_monitor}
-use Rattle.reference_machine.specs.Effects.{Setting, Effect as StateEffect, Blocks as StateBlocks, Raises as StateRaises, given as given_there, onward as onward_frame}
-use Rattle.reference_machine.specs.BuiltIn.{Enter, Exit, act, enter, exit}
-use Rattle.type_soundness.proofs.Running.{IsTypedEffect}
-use Rattle.size_bounds.specs.Counts.{IsCountedMonitor}
-use Rattle.resolved_code.specs.declared.operations.Operation.{Operation}
-use Rattle.object_memory.specs.declared.addresses.Addr.{Addr}
-use Rattle.object_memory.specs.declared.monitors.Monitor.{Monitor}
-use Rattle.object_memory.specs.declared.monitors.Monitor.TheVariants.{Free, Held}
-use Rattle.object_memory.specs.declared.values.Value.{Value}
-use Rattle.object_memory.specs.declared.values.Value.TheVariants.{Ref}
-use Rattle.object_memory.specs.Cells.{null}
-use Rattle.object_memory.specs.Objects.{Objects, monitor_at, with_monitor}
-use Rattle.threads_monitors.specs.Frames.{Frames, with_place, with_stack}
-use Rattle.threads_monitors.specs.Monitors.{entered, left, with_monitor_or, with_entry, with_exit}
-use Rattle.threads_monitors.specs.declared.effects.Effect.{Effect}
-use Rattle.threads_monitors.specs.declared.effects.Effect.TheVariants.{GoesOn, Blocks, Raises}
-use Rattle.instructions.specs.ObjectTurns.{beside}
-use Rattle.instructions.specs.BuiltInTurns.{reference_from, carried, is_countable}
-use Rattle.interpreter.specs.Calls.{CallTurn, act_turn, beside_console}
-use Rattle.interpreter.specs.Instructions.{of_calls}
-use Rattle.interpreter.specs.declared.outcomes.Outcome.TheVariants.{Comes}
+use Rattle.simulation.specs.cil_model.declared.instructions.Instruction.{Instruction}
+use Rattle.simulation.specs.cil_model.declared.limits.Limits.{Limits}
+use Rattle.simulation.specs.cil_model.declared.limits.TheConstants.{MOST_BUDGET}
+use Rattle.simulation.specs.cil_model.declared.reports.Fault.{Fault}
+use Rattle.simulation.specs.cil_model.declared.reports.Fault.TheVariants.{ArgumentNull, SynchronizationLock}
+use Rattle.simulation.specs.reference_machine.Values.{ObjectName, Value as StateValue, Reference}
+use Rattle.simulation.specs.reference_machine.States.{Monitor as StateMonitor, Free as IsFree, Held as IsHeld, Frame as StateFrame, State, with_monitor as with_state_monitor}
+use Rattle.simulation.specs.reference_machine.Effects.{Setting, Effect as StateEffect, Blocks as StateBlocks, Raises as StateRaises, given as given_there, onward as onward_frame}
+use Rattle.simulation.specs.reference_machine.BuiltIn.{Enter, Exit, act, enter, exit}
+use Rattle.simulation.proofs.type_soundness.Running.{IsTypedEffect}
+use Rattle.simulation.specs.size_bounds.Counts.{IsCountedMonitor}
+use Rattle.simulation.specs.resolved_code.declared.operations.Operation.{Operation}
+use Rattle.simulation.specs.object_memory.declared.addresses.Addr.{Addr}
+use Rattle.simulation.specs.object_memory.declared.monitors.Monitor.{Monitor}
+use Rattle.simulation.specs.object_memory.declared.monitors.Monitor.TheVariants.{Free, Held}
+use Rattle.simulation.specs.object_memory.declared.values.Value.{Value}
+use Rattle.simulation.specs.object_memory.declared.values.Value.TheVariants.{Ref}
+use Rattle.simulation.specs.object_memory.Cells.{null}
+use Rattle.simulation.specs.object_memory.Objects.{Objects, monitor_at, with_monitor}
+use Rattle.simulation.specs.threads_monitors.Frames.{Frames, with_place, with_stack}
+use Rattle.simulation.specs.threads_monitors.Monitors.{entered, left, with_monitor_or, with_entry, with_exit}
+use Rattle.simulation.specs.threads_monitors.declared.effects.Effect.{Effect}
+use Rattle.simulation.specs.threads_monitors.declared.effects.Effect.TheVariants.{GoesOn, Blocks, Raises}
+use Rattle.simulation.specs.instructions.ObjectTurns.{beside}
+use Rattle.simulation.specs.instructions.BuiltInTurns.{reference_from, carried, is_countable}
+use Rattle.simulation.specs.interpreter.Calls.{CallTurn, act_turn, beside_console}
+use Rattle.simulation.specs.interpreter.Instructions.{of_calls}
+use Rattle.simulation.specs.interpreter.declared.outcomes.Outcome.TheVariants.{Comes}
 use Rattle.simulation.specs.Agreement.{Agree}
 use Rattle.simulation.specs.StandsFor.{Names, IsValue, int32, int64, native, null_reference, reference, IsMonitor}
 use Rattle.simulation.proofs.Statements.{CellsMayChange, LiteralsMayChange}

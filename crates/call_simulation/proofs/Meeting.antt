@@ -1,9 +1,9 @@
 -- Answers of the machine that stand for those of the reference machine, wherever the reference machine has one.
 use Rattle.std.proofs.Common.{◌≡◌, ℕ, zero, suc, Bool, not, List, [], ◌∷◌, Option, Some, None, Result, Ok, Err, slice_get, refl, ap}
-use Rattle.cil_model.specs.declared.reports.Fault.{Fault}
-use Rattle.reference_machine.specs.Values.{Value as StateValue}
-use Rattle.reference_machine.specs.Arithmetic.{not_option}
-use Rattle.object_memory.specs.declared.values.Value.{Value}
+use Rattle.simulation.specs.cil_model.declared.reports.Fault.{Fault}
+use Rattle.simulation.specs.reference_machine.Values.{Value as StateValue}
+use Rattle.simulation.specs.reference_machine.Arithmetic.{not_option}
+use Rattle.simulation.specs.object_memory.declared.values.Value.{Value}
 use Rattle.simulation.specs.Agreement.{Agree}
 use Rattle.simulation.specs.StandsFor.{Names, IsValue}
 

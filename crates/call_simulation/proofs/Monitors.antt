@@ -2,16 +2,16 @@
 use Rattle.std.proofs.Common.{◌≡◌, ℕ, List, Some, option_map, slice_get, refl, sym, ap, ◌∙◌, subst}
 use Rattle.std.specs.Prelude.{unwrap_or}
 use Rattle.std.specs.Option.{option_map_or}
-use Rattle.cil_model.specs.declared.trees.Tree.{Tree}
-use Rattle.cil_model.specs.declared.limits.Limits.{Limits}
-use Rattle.reference_machine.specs.Values.{ObjectName, Born, Literal}
-use Rattle.reference_machine.specs.States.{Monitor as StateMonitor, HeapObject, State, with_object, monitor_of, with_monitor as with_state_monitor}
-use Rattle.size_bounds.specs.Counts.{IsCountedMonitor, IsCounted}
-use Rattle.object_memory.specs.declared.addresses.Addr.{Addr}
-use Rattle.object_memory.specs.declared.monitors.Monitor.{Monitor}
-use Rattle.object_memory.specs.declared.values.Value.{Value}
-use Rattle.object_memory.specs.Cells.{Cell, cell_at, store_monitor}
-use Rattle.object_memory.specs.Objects.{Objects, monitor_at, with_monitor, with_literal_monitor, with_cell}
+use Rattle.simulation.specs.cil_model.declared.trees.Tree.{Tree}
+use Rattle.simulation.specs.cil_model.declared.limits.Limits.{Limits}
+use Rattle.simulation.specs.reference_machine.Values.{ObjectName, Born, Literal}
+use Rattle.simulation.specs.reference_machine.States.{Monitor as StateMonitor, HeapObject, State, with_object, monitor_of, with_monitor as with_state_monitor}
+use Rattle.simulation.specs.size_bounds.Counts.{IsCountedMonitor, IsCounted}
+use Rattle.simulation.specs.object_memory.declared.addresses.Addr.{Addr}
+use Rattle.simulation.specs.object_memory.declared.monitors.Monitor.{Monitor}
+use Rattle.simulation.specs.object_memory.declared.values.Value.{Value}
+use Rattle.simulation.specs.object_memory.Cells.{Cell, cell_at, store_monitor}
+use Rattle.simulation.specs.object_memory.Objects.{Objects, monitor_at, with_monitor, with_literal_monitor, with_cell}
 use Rattle.simulation.specs.StandsFor.{Names, IsMonitor, IsBornAt, IsLiteralAt, IsMemory}
 use Rattle.simulation.proofs.Statements.{CellsMayChange, LiteralsMayChange}
 

@@ -1,39 +1,39 @@
 -- newobj does the same on a machine as on the reference machine (III.4.21).
 use Rattle.std.proofs.Common.{◌≡◌, ◌+◌, ℕ, Bool, true, false, nat_le, if◌then◌else◌, List, ◌∷◌, length, take, drop, reverse, Option, Some, None, is_some, refl, sym, ap, ◌∙◌, subst, arith}
 use Rattle.std.specs.Option.{option_map_or}
-use Rattle.cil_model.specs.declared.types.ClassName.{ClassName}
-use Rattle.cil_model.specs.declared.types.DeclaredType.{DeclaredType}
-use Rattle.cil_model.specs.declared.instructions.Instruction.TheVariants as Named
-use Rattle.cil_model.specs.declared.reports.Fault.TheVariants.{OutOfMemory, StackOverflow}
-use Rattle.cil_model.specs.declared.trees.Method.{Method}
-use Rattle.cil_model.specs.declared.trees.Code.{Code}
-use Rattle.cil_model.specs.Bodies.{code_of, constructor_reference}
-use Rattle.cil_model.specs.Fields.{slot_types}
-use Rattle.cil_model.specs.Legality.{IsLegal}
-use Rattle.reference_machine.specs.Values.{ObjectName, Value as StateValue, Reference}
-use Rattle.reference_machine.specs.States.{Contents, Frame as StateFrame, State, next_name, with_birth as with_state_birth, new_instance}
-use Rattle.reference_machine.specs.Effects.{Setting, Effect as StateEffect, Goes, Sticks, Raises as StateRaises, given as state_given, are_of_kinds, after, new_frame, onward as state_onward}
-use Rattle.reference_machine.specs.BuiltIn.{Action, action_of}
-use Rattle.reference_machine.specs.Steps.{birth as state_birth, frame_for, is_too_deep, operands, construct, execute}
-use Rattle.type_soundness.proofs.Running.{IsTypedEffect}
-use Rattle.name_tables.specs.declared.lookups.MemberNumber.{MemberNumber}
-use Rattle.name_tables.specs.Numbers.{method_at}
-use Rattle.resolved_code.specs.Resolved.{IsMethod}
-use Rattle.resolved_code.specs.declared.operations.Operation.TheVariants as Resolved
-use Rattle.object_memory.specs.declared.addresses.Addr.{Addr}
-use Rattle.object_memory.specs.declared.kinds.Kind.TheVariants.{Instance}
-use Rattle.object_memory.specs.declared.values.Value.{Value}
-use Rattle.object_memory.specs.declared.values.Value.TheVariants.{Ref}
-use Rattle.object_memory.specs.Objects.{Objects, with_birth}
-use Rattle.method_table.specs.MethodNumbers.{number_of}
-use Rattle.threads_monitors.specs.Frames.{Frames, with_place, with_stack}
-use Rattle.threads_monitors.specs.declared.effects.Effect.TheVariants.{GoesOn, Raises}
-use Rattle.instructions.specs.Frames.{given}
-use Rattle.instructions.specs.ObjectTurns.{ObjectTurn, beside, born as born_turn}
-use Rattle.instructions.specs.Calls.{constructs, is_full, new_object_turn, new_plain_object_turn}
-use Rattle.interpreter.specs.declared.outcomes.Outcome.TheVariants.{Comes}
-use Rattle.interpreter.specs.Instructions.{MachineTurn, of_calls, operation_turn}
-use Rattle.interpreter.specs.Calls.{beside_console, called_as, slots_at, made, new_at}
+use Rattle.simulation.specs.cil_model.declared.types.ClassName.{ClassName}
+use Rattle.simulation.specs.cil_model.declared.types.DeclaredType.{DeclaredType}
+use Rattle.simulation.specs.cil_model.declared.instructions.Instruction.TheVariants as Named
+use Rattle.simulation.specs.cil_model.declared.reports.Fault.TheVariants.{OutOfMemory, StackOverflow}
+use Rattle.simulation.specs.cil_model.declared.trees.Method.{Method}
+use Rattle.simulation.specs.cil_model.declared.trees.Code.{Code}
+use Rattle.simulation.specs.cil_model.Bodies.{code_of, constructor_reference}
+use Rattle.simulation.specs.cil_model.Fields.{slot_types}
+use Rattle.simulation.specs.cil_model.Legality.{IsLegal}
+use Rattle.simulation.specs.reference_machine.Values.{ObjectName, Value as StateValue, Reference}
+use Rattle.simulation.specs.reference_machine.States.{Contents, Frame as StateFrame, State, next_name, with_birth as with_state_birth, new_instance}
+use Rattle.simulation.specs.reference_machine.Effects.{Setting, Effect as StateEffect, Goes, Sticks, Raises as StateRaises, given as state_given, are_of_kinds, after, new_frame, onward as state_onward}
+use Rattle.simulation.specs.reference_machine.BuiltIn.{Action, action_of}
+use Rattle.simulation.specs.reference_machine.Steps.{birth as state_birth, frame_for, is_too_deep, operands, construct, execute}
+use Rattle.simulation.proofs.type_soundness.Running.{IsTypedEffect}
+use Rattle.simulation.specs.name_tables.declared.lookups.MemberNumber.{MemberNumber}
+use Rattle.simulation.specs.name_tables.Numbers.{method_at}
+use Rattle.simulation.specs.resolved_code.Resolved.{IsMethod}
+use Rattle.simulation.specs.resolved_code.declared.operations.Operation.TheVariants as Resolved
+use Rattle.simulation.specs.object_memory.declared.addresses.Addr.{Addr}
+use Rattle.simulation.specs.object_memory.declared.kinds.Kind.TheVariants.{Instance}
+use Rattle.simulation.specs.object_memory.declared.values.Value.{Value}
+use Rattle.simulation.specs.object_memory.declared.values.Value.TheVariants.{Ref}
+use Rattle.simulation.specs.object_memory.Objects.{Objects, with_birth}
+use Rattle.simulation.specs.method_table.MethodNumbers.{number_of}
+use Rattle.simulation.specs.threads_monitors.Frames.{Frames, with_place, with_stack}
+use Rattle.simulation.specs.threads_monitors.declared.effects.Effect.TheVariants.{GoesOn, Raises}
+use Rattle.simulation.specs.instructions.Frames.{given}
+use Rattle.simulation.specs.instructions.ObjectTurns.{ObjectTurn, beside, born as born_turn}
+use Rattle.simulation.specs.instructions.Calls.{constructs, is_full, new_object_turn, new_plain_object_turn}
+use Rattle.simulation.specs.interpreter.declared.outcomes.Outcome.TheVariants.{Comes}
+use Rattle.simulation.specs.interpreter.Instructions.{MachineTurn, of_calls, operation_turn}
+use Rattle.simulation.specs.interpreter.Calls.{beside_console, called_as, slots_at, made, new_at}
 use Rattle.simulation.specs.StandsFor.{Names, reference}
 use Rattle.simulation.specs.Turns.{Answer}
 use Rattle.simulation.proofs.Extending.{values_extend}

@@ -1,14 +1,14 @@
 -- A method at a place of a legal program has its number, and stands there.
 use Rattle.std.proofs.Common.{◌≡◌, ◌+◌, ℕ, Option, Some, None, slice_get, refl}
-use Rattle.cil_model.specs.declared.types.ClassName.{ClassName}
-use Rattle.cil_model.specs.declared.trees.Tree.{Tree}
-use Rattle.cil_model.specs.declared.trees.Method.{Method}
-use Rattle.cil_model.specs.Legality.{IsLegal}
-use Rattle.name_tables.specs.Numbers.{declarations, method_at}
-use Rattle.method_table.specs.AllMethods.{all_methods, first_numbers}
-use Rattle.method_table.specs.MethodNumbers.{number_of}
-use Rattle.method_table.proofs.FlatLaws.{first_is_there, number_behind}
-use Rattle.method_table.proofs.NumberLaws.{number_of_place}
+use Rattle.simulation.specs.cil_model.declared.types.ClassName.{ClassName}
+use Rattle.simulation.specs.cil_model.declared.trees.Tree.{Tree}
+use Rattle.simulation.specs.cil_model.declared.trees.Method.{Method}
+use Rattle.simulation.specs.cil_model.Legality.{IsLegal}
+use Rattle.simulation.specs.name_tables.Numbers.{declarations, method_at}
+use Rattle.simulation.specs.method_table.AllMethods.{all_methods, first_numbers}
+use Rattle.simulation.specs.method_table.MethodNumbers.{number_of}
+use Rattle.simulation.proofs.method_table.FlatLaws.{first_is_there, number_behind}
+use Rattle.simulation.proofs.method_table.NumberLaws.{number_of_place}
 
 -- a method's number, at which it stands
 pub record IsNumbered (tree : Tree) (found : ClassName × Method) : Type 0 where

@@ -3,11 +3,11 @@ use Rattle.std.proofs.Common.{◌≡◌, ℕ, zero, suc, true, List, [], ◌∷�
 use Rattle.std.specs.Prelude.{nat_le}
 use Rattle.std.proofs.lemmas.Bool.Decides.{nat_tests}
 use Rattle.std.proofs.lemmas.List.{length-reverse}
-use Rattle.reference_machine.specs.Values.{Value as StateValue}
-use Rattle.reference_machine.specs.States.{Frame as StateFrame, State}
-use Rattle.reference_machine.specs.Effects.{Setting}
-use Rattle.reference_machine.specs.BuiltIn.{Action, Construct, Write, Enter, Exit, Start, Join, act}
-use Rattle.type_soundness.proofs.Running.{IsTypedEffect}
+use Rattle.simulation.specs.reference_machine.Values.{Value as StateValue}
+use Rattle.simulation.specs.reference_machine.States.{Frame as StateFrame, State}
+use Rattle.simulation.specs.reference_machine.Effects.{Setting}
+use Rattle.simulation.specs.reference_machine.BuiltIn.{Action, Construct, Write, Enter, Exit, Start, Join, act}
+use Rattle.simulation.proofs.type_soundness.Running.{IsTypedEffect}
 
 -- where the uppermost values are one, it is the topmost
 pub one_taken : {X : Type 0} (n : ℕ) (xs : List X) (x : X) → nat_le n (length xs) ≡ true → reverse (take n xs) ≡ x ∷ [] → xs ≡ x ∷ drop n xs

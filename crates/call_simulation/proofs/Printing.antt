@@ -2,16 +2,16 @@
 use Rattle.std.proofs.Common.{◌≡◌, ℕ, List, [], ◌∷◌, ◌++◌, Some, None, option_map, slice_get, refl, ap, ◌∙◌}
 use Rattle.std.specs.Prelude.{if◌then◌else◌}
 use Rattle.std.specs.Option.{option_map_or}
-use Rattle.cil_model.specs.declared.trees.Tree.{Tree}
-use Rattle.cil_model.specs.Mentions.{literals_of}
-use Rattle.cil_model.proofs.BelowLaws.{none_is_some}
-use Rattle.reference_machine.specs.Values.{Born, Literal, Value as StateValue}
-use Rattle.reference_machine.specs.States.{State}
-use Rattle.reference_machine.specs.BuiltIn.{line_of as state_line_of}
-use Rattle.object_memory.specs.declared.values.Value.{Value}
-use Rattle.object_memory.specs.Cells.{literal_number}
-use Rattle.object_memory.specs.Objects.{Objects}
-use Rattle.instructions.specs.BuiltInTurns.{line_of}
+use Rattle.simulation.specs.cil_model.declared.trees.Tree.{Tree}
+use Rattle.simulation.specs.cil_model.Mentions.{literals_of}
+use Rattle.simulation.proofs.cil_model.BelowLaws.{none_is_some}
+use Rattle.simulation.specs.reference_machine.Values.{Born, Literal, Value as StateValue}
+use Rattle.simulation.specs.reference_machine.States.{State}
+use Rattle.simulation.specs.reference_machine.BuiltIn.{line_of as state_line_of}
+use Rattle.simulation.specs.object_memory.declared.values.Value.{Value}
+use Rattle.simulation.specs.object_memory.Cells.{literal_number}
+use Rattle.simulation.specs.object_memory.Objects.{Objects}
+use Rattle.simulation.specs.instructions.BuiltInTurns.{line_of}
 use Rattle.simulation.specs.StandsFor.{Names, IsValue, int32, int64, native, null_reference, reference, IsLiteralAt, IsHeap, IsMemory}
 use Rattle.simulation.proofs.Memories.{named_is_not_null, heap_beside}
 

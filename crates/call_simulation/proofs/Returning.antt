@@ -3,29 +3,29 @@ use Rattle.std.proofs.Common.{◌≡◌, ◌≤◌, ◌<◌, ℕ, suc, Bool, tru
 use Rattle.std.specs.Prelude.{nat_lt, ◌==◌, if◌then◌else◌, is_some}
 use Rattle.std.specs.Option.{option_map_or}
 use Rattle.std.proofs.lemmas.Bool.Decides.{nat_tests}
-use Rattle.cil_model.specs.declared.instructions.Instruction.TheVariants as Named
-use Rattle.cil_model.specs.declared.types.ClassName.{ClassName}
-use Rattle.cil_model.specs.declared.types.DeclaredType.{DeclaredType}
-use Rattle.cil_model.specs.declared.trees.Method.{Method}
-use Rattle.reference_machine.specs.Values.{ObjectName, Value as StateValue, Reference, is_of_kind}
-use Rattle.reference_machine.specs.States.{Frame as StateFrame, State}
-use Rattle.reference_machine.specs.Effects.{Setting, Effect as StateEffect, Goes, Sticks, returned as returned_frames}
-use Rattle.reference_machine.specs.Steps.{leave, leave_value, execute}
-use Rattle.type_soundness.specs.TypedStates.{AreWaiting, gives as type_gives}
-use Rattle.type_soundness.proofs.Running.{IsTypedEffect}
-use Rattle.resolved_code.specs.declared.operations.Operation.TheVariants as Resolved
-use Rattle.object_memory.specs.declared.addresses.Addr.{Addr}
-use Rattle.object_memory.specs.declared.values.Value.{Value}
-use Rattle.object_memory.specs.declared.values.Value.TheVariants.{Ref}
-use Rattle.object_memory.specs.Objects.{Objects}
-use Rattle.threads_monitors.specs.Frames.{Frame, Frames, size, with_running, returned, returned_to}
-use Rattle.threads_monitors.specs.declared.effects.Effect.TheVariants.{GoesOn, Returns}
-use Rattle.instructions.specs.Frames.{Turn, given}
-use Rattle.instructions.specs.ObjectTurns.{beside}
-use Rattle.instructions.specs.Calls.{gives, return_by, return_turn}
-use Rattle.interpreter.specs.Calls.{beside_console, return_rule}
-use Rattle.interpreter.specs.Instructions.{MachineTurn, of_calls, operation_turn}
-use Rattle.interpreter.specs.declared.outcomes.Outcome.TheVariants.{Comes}
+use Rattle.simulation.specs.cil_model.declared.instructions.Instruction.TheVariants as Named
+use Rattle.simulation.specs.cil_model.declared.types.ClassName.{ClassName}
+use Rattle.simulation.specs.cil_model.declared.types.DeclaredType.{DeclaredType}
+use Rattle.simulation.specs.cil_model.declared.trees.Method.{Method}
+use Rattle.simulation.specs.reference_machine.Values.{ObjectName, Value as StateValue, Reference, is_of_kind}
+use Rattle.simulation.specs.reference_machine.States.{Frame as StateFrame, State}
+use Rattle.simulation.specs.reference_machine.Effects.{Setting, Effect as StateEffect, Goes, Sticks, returned as returned_frames}
+use Rattle.simulation.specs.reference_machine.Steps.{leave, leave_value, execute}
+use Rattle.simulation.specs.type_soundness.TypedStates.{AreWaiting, gives as type_gives}
+use Rattle.simulation.proofs.type_soundness.Running.{IsTypedEffect}
+use Rattle.simulation.specs.resolved_code.declared.operations.Operation.TheVariants as Resolved
+use Rattle.simulation.specs.object_memory.declared.addresses.Addr.{Addr}
+use Rattle.simulation.specs.object_memory.declared.values.Value.{Value}
+use Rattle.simulation.specs.object_memory.declared.values.Value.TheVariants.{Ref}
+use Rattle.simulation.specs.object_memory.Objects.{Objects}
+use Rattle.simulation.specs.threads_monitors.Frames.{Frame, Frames, size, with_running, returned, returned_to}
+use Rattle.simulation.specs.threads_monitors.declared.effects.Effect.TheVariants.{GoesOn, Returns}
+use Rattle.simulation.specs.instructions.Frames.{Turn, given}
+use Rattle.simulation.specs.instructions.ObjectTurns.{beside}
+use Rattle.simulation.specs.instructions.Calls.{gives, return_by, return_turn}
+use Rattle.simulation.specs.interpreter.Calls.{beside_console, return_rule}
+use Rattle.simulation.specs.interpreter.Instructions.{MachineTurn, of_calls, operation_turn}
+use Rattle.simulation.specs.interpreter.declared.outcomes.Outcome.TheVariants.{Comes}
 use Rattle.simulation.specs.Agreement.{Agree}
 use Rattle.simulation.specs.MachineContents.{frame_room}
 use Rattle.simulation.specs.StandsFor.{Names, IsValue, reference, IsObject, IsFrame}

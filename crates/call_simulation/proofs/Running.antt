@@ -2,19 +2,19 @@
 use Rattle.std.proofs.Common.{List, length, take, drop, reverse, Option, Some, None}
 use Rattle.std.specs.Prelude.{if◌then◌else◌}
 use Rattle.std.specs.Option.{option_map_or}
-use Rattle.cil_model.specs.declared.reports.Fault.TheVariants.{StackOverflow}
-use Rattle.cil_model.specs.Bodies.{argument_types}
-use Rattle.reference_machine.specs.Values.{Value as StateValue}
-use Rattle.reference_machine.specs.Effects.{Effect as StateEffect, Raises as StateRaises}
-use Rattle.reference_machine.specs.BuiltIn.{Action, action_of, act}
-use Rattle.reference_machine.specs.Steps.{is_too_deep, frame_for}
-use Rattle.type_soundness.proofs.Running.{IsTypedEffect}
-use Rattle.method_table.specs.MethodNumbers.{number_of}
-use Rattle.instructions.specs.Frames.{given}
-use Rattle.instructions.specs.ObjectTurns.{beside}
-use Rattle.instructions.specs.Calls.{call_turn}
-use Rattle.interpreter.specs.Calls.{CallTurn, act_turn, called_as, beside_console}
-use Rattle.interpreter.specs.Instructions.{of_calls}
+use Rattle.simulation.specs.cil_model.declared.reports.Fault.TheVariants.{StackOverflow}
+use Rattle.simulation.specs.cil_model.Bodies.{argument_types}
+use Rattle.simulation.specs.reference_machine.Values.{Value as StateValue}
+use Rattle.simulation.specs.reference_machine.Effects.{Effect as StateEffect, Raises as StateRaises}
+use Rattle.simulation.specs.reference_machine.BuiltIn.{Action, action_of, act}
+use Rattle.simulation.specs.reference_machine.Steps.{is_too_deep, frame_for}
+use Rattle.simulation.proofs.type_soundness.Running.{IsTypedEffect}
+use Rattle.simulation.specs.method_table.MethodNumbers.{number_of}
+use Rattle.simulation.specs.instructions.Frames.{given}
+use Rattle.simulation.specs.instructions.ObjectTurns.{beside}
+use Rattle.simulation.specs.instructions.Calls.{call_turn}
+use Rattle.simulation.specs.interpreter.Calls.{CallTurn, act_turn, called_as, beside_console}
+use Rattle.simulation.specs.interpreter.Instructions.{of_calls}
 use Rattle.simulation.proofs.Statements.{CellsMayChange, LiteralsMayChange, MethodsRunAlike}
 use Rattle.simulation.proofs.Instructions.{DoesAlike}
 use Rattle.call_simulation.proofs.Numbering.{method_numbered}

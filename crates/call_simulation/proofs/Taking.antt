@@ -3,29 +3,29 @@ use Rattle.std.proofs.Common.{◌≡◌, ◌≤◌, ◌<◌, ◌+◌, ℕ, ℤ, 
 use Rattle.std.specs.Prelude.{if◌then◌else◌, nat_lt}
 use Rattle.std.specs.Option.{option_map_or}
 use Rattle.std.proofs.lemmas.Option.{slice_get_within}
-use Rattle.cil_model.specs.declared.instructions.Instruction.{Instruction}
-use Rattle.cil_model.specs.declared.limits.TheConstants.{MOST_INSTRUCTIONS}
-use Rattle.cil_model.specs.declared.reports.Fault.{Fault}
-use Rattle.cil_model.specs.declared.trees.Code.{Code}
-use Rattle.cil_model.specs.declared.trees.Line.{Line}
-use Rattle.cil_model.specs.Bodies.{lines_of, place_of, at_place}
-use Rattle.cil_model.specs.Stacks.{take_one, take_two}
-use Rattle.cil_model.proofs.BelowLaws.{none_is_some, same_some}
-use Rattle.reference_machine.specs.Values.{Value as StateValue, same_kind}
-use Rattle.reference_machine.specs.States.{Frame as StateFrame, State, same_kind_or_none}
-use Rattle.reference_machine.specs.Effects.{Setting, Effect as StateEffect, Goes, Raises as StateRaises, Sticks, given as given_value, unless_fault, after}
-use Rattle.reference_machine.specs.Steps.{next, jump as jump_to, branch_if as branch_to, stored as stored_value, to_label}
-use Rattle.type_soundness.proofs.Running.{IsTypedEffect}
-use Rattle.resolved_code.specs.declared.operations.Operation.{Operation}
-use Rattle.object_memory.specs.declared.values.Value.{Value}
-use Rattle.object_memory.specs.Objects.{Objects}
-use Rattle.threads_monitors.specs.Frames.{Frames, with_place, with_stack}
-use Rattle.threads_monitors.specs.declared.effects.Effect.TheVariants.{GoesOn, Raises}
-use Rattle.instructions.specs.Frames.{Turn, jump, onward, branch_if, leaves, with_top, given, leaves_result, stored, to_place}
-use Rattle.interpreter.specs.declared.outcomes.Outcome.TheVariants.{Comes}
-use Rattle.interpreter.specs.Instructions.{of_frames}
-use Rattle.size_bounds.proofs.MethodSizes.{instructions_few}
-use Rattle.size_bounds.proofs.Lists.{found_within}
+use Rattle.simulation.specs.cil_model.declared.instructions.Instruction.{Instruction}
+use Rattle.simulation.specs.cil_model.declared.limits.TheConstants.{MOST_INSTRUCTIONS}
+use Rattle.simulation.specs.cil_model.declared.reports.Fault.{Fault}
+use Rattle.simulation.specs.cil_model.declared.trees.Code.{Code}
+use Rattle.simulation.specs.cil_model.declared.trees.Line.{Line}
+use Rattle.simulation.specs.cil_model.Bodies.{lines_of, place_of, at_place}
+use Rattle.simulation.specs.cil_model.Stacks.{take_one, take_two}
+use Rattle.simulation.proofs.cil_model.BelowLaws.{none_is_some, same_some}
+use Rattle.simulation.specs.reference_machine.Values.{Value as StateValue, same_kind}
+use Rattle.simulation.specs.reference_machine.States.{Frame as StateFrame, State, same_kind_or_none}
+use Rattle.simulation.specs.reference_machine.Effects.{Setting, Effect as StateEffect, Goes, Raises as StateRaises, Sticks, given as given_value, unless_fault, after}
+use Rattle.simulation.specs.reference_machine.Steps.{next, jump as jump_to, branch_if as branch_to, stored as stored_value, to_label}
+use Rattle.simulation.proofs.type_soundness.Running.{IsTypedEffect}
+use Rattle.simulation.specs.resolved_code.declared.operations.Operation.{Operation}
+use Rattle.simulation.specs.object_memory.declared.values.Value.{Value}
+use Rattle.simulation.specs.object_memory.Objects.{Objects}
+use Rattle.simulation.specs.threads_monitors.Frames.{Frames, with_place, with_stack}
+use Rattle.simulation.specs.threads_monitors.declared.effects.Effect.TheVariants.{GoesOn, Raises}
+use Rattle.simulation.specs.instructions.Frames.{Turn, jump, onward, branch_if, leaves, with_top, given, leaves_result, stored, to_place}
+use Rattle.simulation.specs.interpreter.declared.outcomes.Outcome.TheVariants.{Comes}
+use Rattle.simulation.specs.interpreter.Instructions.{of_frames}
+use Rattle.simulation.proofs.size_bounds.MethodSizes.{instructions_few}
+use Rattle.simulation.proofs.size_bounds.Lists.{found_within}
 use Rattle.simulation.specs.Agreement.{Agree}
 use Rattle.simulation.specs.StandsFor.{Names, IsValue, IsFrame, AreFrames}
 use Rattle.simulation.proofs.AgreeLaws.{agree_length}

@@ -2,25 +2,25 @@
 use Rattle.std.proofs.Common.{◌≡◌, ◌==◌, ℤ, pos, Bool, true, false, not, Some, Result, Ok, Err, refl, sym, ap, ◌∙◌, subst, true≢false, lit<}
 use Rattle.std.specs.Int.{w32, w64}
 use Rattle.std.proofs.lemmas.Bool.{eqb-true, eq-eqb}
-use Rattle.cil_model.specs.declared.instructions.BinaryOperation.{BinaryOperation}
-use Rattle.cil_model.specs.declared.instructions.UnaryOperation.{UnaryOperation}
-use Rattle.cil_model.specs.declared.instructions.ShiftOperation.{ShiftOperation}
-use Rattle.cil_model.specs.declared.instructions.Comparison.{Comparison}
-use Rattle.cil_model.specs.declared.instructions.Comparison.TheVariants.{Equal, Greater, Less}
-use Rattle.cil_model.specs.declared.instructions.BranchComparison.{BranchComparison}
-use Rattle.cil_model.specs.declared.instructions.BranchComparison.TheVariants.{Equal as BranchEqual, NotEqual}
-use Rattle.cil_model.specs.declared.reports.Fault.{Fault}
-use Rattle.cil_model.specs.declared.trees.Tree.{Tree}
-use Rattle.cil_model.proofs.BelowLaws.{same_some}
-use Rattle.cil_model.proofs.SameLaws.{same_text_equal, same_text_itself}
-use Rattle.reference_machine.specs.Values.{ObjectName, Born, Literal, Value as StateValue, Int32 as Int32Value, Int64 as Int64Value, same_object}
-use Rattle.reference_machine.specs.Arithmetic.{binary, binary_value, unary_value, shift_value, compare_values, branch_values, is_set as is_set_value, convert_32, convert_64, one_or_zero as one_or_zero_value, result_as}
-use Rattle.reference_machine.specs.States.{State}
-use Rattle.object_memory.specs.declared.addresses.Addr.{Addr}
-use Rattle.object_memory.specs.declared.values.Value.{Value}
-use Rattle.object_memory.specs.declared.values.Value.TheVariants.{Int32, Int64}
-use Rattle.object_memory.specs.Objects.{Objects}
-use Rattle.instructions.specs.Frames.{held_as, binary_result, unary_result, shift_result, comparison, branch_test, one_or_zero, is_set, in_32_bits, in_64_bits}
+use Rattle.simulation.specs.cil_model.declared.instructions.BinaryOperation.{BinaryOperation}
+use Rattle.simulation.specs.cil_model.declared.instructions.UnaryOperation.{UnaryOperation}
+use Rattle.simulation.specs.cil_model.declared.instructions.ShiftOperation.{ShiftOperation}
+use Rattle.simulation.specs.cil_model.declared.instructions.Comparison.{Comparison}
+use Rattle.simulation.specs.cil_model.declared.instructions.Comparison.TheVariants.{Equal, Greater, Less}
+use Rattle.simulation.specs.cil_model.declared.instructions.BranchComparison.{BranchComparison}
+use Rattle.simulation.specs.cil_model.declared.instructions.BranchComparison.TheVariants.{Equal as BranchEqual, NotEqual}
+use Rattle.simulation.specs.cil_model.declared.reports.Fault.{Fault}
+use Rattle.simulation.specs.cil_model.declared.trees.Tree.{Tree}
+use Rattle.simulation.proofs.cil_model.BelowLaws.{same_some}
+use Rattle.simulation.proofs.cil_model.SameLaws.{same_text_equal, same_text_itself}
+use Rattle.simulation.specs.reference_machine.Values.{ObjectName, Born, Literal, Value as StateValue, Int32 as Int32Value, Int64 as Int64Value, same_object}
+use Rattle.simulation.specs.reference_machine.Arithmetic.{binary, binary_value, unary_value, shift_value, compare_values, branch_values, is_set as is_set_value, convert_32, convert_64, one_or_zero as one_or_zero_value, result_as}
+use Rattle.simulation.specs.reference_machine.States.{State}
+use Rattle.simulation.specs.object_memory.declared.addresses.Addr.{Addr}
+use Rattle.simulation.specs.object_memory.declared.values.Value.{Value}
+use Rattle.simulation.specs.object_memory.declared.values.Value.TheVariants.{Int32, Int64}
+use Rattle.simulation.specs.object_memory.Objects.{Objects}
+use Rattle.simulation.specs.instructions.Frames.{held_as, binary_result, unary_result, shift_result, comparison, branch_test, one_or_zero, is_set, in_32_bits, in_64_bits}
 use Rattle.simulation.specs.StandsFor.{Names, IsValue, int32, int64, native, null_reference, reference, IsHeap}
 use Rattle.call_simulation.proofs.Fitting.{FitsResult, binary_fits, unary_fits, shift_fits, cast_fits, widened_fits}
 use Rattle.call_simulation.proofs.Meeting.{Meets, IsResult, Same, meets_itself}

@@ -1,14 +1,14 @@
 -- Zeros are what new objects hold at first.
 use Rattle.std.proofs.Common.{◌≡◌, ℕ, Bool, true, false, if◌then◌else◌, List, [], ◌∷◌, ◌++◌, map, length, replicate, Option, Some, None, ap}
 use Rattle.std.proofs.lemmas.List.{length-map}
-use Rattle.cil_model.specs.declared.types.ClassName.{ClassName}
-use Rattle.cil_model.specs.declared.types.DeclaredType.{DeclaredType}
-use Rattle.cil_model.specs.declared.trees.Tree.{Tree}
-use Rattle.cil_model.specs.Chains.{is_thread_class}
-use Rattle.cil_model.specs.Fields.{FieldKey, instance_fields, slot_types}
-use Rattle.reference_machine.specs.States.{new_instance}
-use Rattle.resolved_code.specs.Numbered.{class_name}
-use Rattle.object_memory.specs.declared.kinds.Kind.TheVariants.{Instance}
+use Rattle.simulation.specs.cil_model.declared.types.ClassName.{ClassName}
+use Rattle.simulation.specs.cil_model.declared.types.DeclaredType.{DeclaredType}
+use Rattle.simulation.specs.cil_model.declared.trees.Tree.{Tree}
+use Rattle.simulation.specs.cil_model.Chains.{is_thread_class}
+use Rattle.simulation.specs.cil_model.Fields.{FieldKey, instance_fields, slot_types}
+use Rattle.simulation.specs.reference_machine.States.{new_instance}
+use Rattle.simulation.specs.resolved_code.Numbered.{class_name}
+use Rattle.simulation.specs.object_memory.declared.kinds.Kind.TheVariants.{Instance}
 use Rattle.simulation.specs.StandsFor.{Names, hidden_words, IsOfContents}
 use Rattle.simulation.proofs.Zeros.{words_stand}
 

@@ -3,11 +3,11 @@ use Rattle.std.proofs.Common.{◌≡◌, ◌↔◌, ◌<◌, nat_le, ℕ, Bool, 
 use Rattle.std.proofs.lemmas.Bool.{and_parts}
 use Rattle.std.proofs.lemmas.Bool.Decides.{nat_tests}
 use Rattle.std.specs.Prelude.{IfErr, IfOk, IsErrAnd}
-use Rattle.simulation.proofs.StandsLaws.{ends_stand, printed_stands, stands_after}
+use Rattle.shared_machine.proofs.simulation.StandsLaws.{ends_stand, printed_stands, stands_after}
 use Rattle.cil_model.specs.Legality.{IsLegal}
-use Rattle.simulation.specs.MachineContents.{Content}
-use Rattle.simulation.specs.Runs.{StandsAfter}
-use Rattle.simulation.specs.StandsFor.{Represents}
+use Rattle.shared_machine.specs.simulation.MachineContents.{Content}
+use Rattle.shared_machine.specs.simulation.Runs.{StandsAfter}
+use Rattle.shared_machine.specs.simulation.StandsFor.{Represents}
 use Rattle.shared_machine.specs.Worlds.{HasRun as Ran}
 use Rattle.threads_monitors.specs.Threads.{end_of}
 use Rattle.cil_model.specs.Ranges.{are_in_range}
@@ -18,7 +18,7 @@ use Rattle.cil_model.specs.declared.events.Event.{Event}
 use Rattle.cil_model.specs.declared.limits.Limits.{Limits}
 use Rattle.cil_model.specs.declared.reports.Report.{Report}
 use Rattle.cil_model.specs.declared.trees.Tree.{Tree}
-use Rattle.interleaving_core.specs.declared.machine.Refused.TheVariants.{Limits as BadLimits}
+use Rattle.shared_machine.specs.interleaving_core.declared.machine.Refused.TheVariants.{Limits as BadLimits}
 use Rattle.cil_model.specs.Typings.{IsAccepted}
 use Rattle.verifier.specs.Verdicts.{IsVerdict}
 use Rattle.verifier.specs.declared.refusals.VerifyError.{VerifyError}

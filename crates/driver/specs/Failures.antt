@@ -13,9 +13,9 @@ use Rattle.metadata.specs.declared.program.MetaError.TheVariants.{OutOfMemory as
 use Rattle.verifier.specs.Numbers.{typing_number_of}
 use Rattle.verifier.specs.declared.refusals.VerifyError.{VerifyError}
 use Rattle.verifier.specs.declared.refusals.VerifyError.TheVariants.{OutOfMemory as UnverifiedForMemory}
-use Rattle.interleaving_core.specs.Refusals.{number_of as making_number_of}
-use Rattle.interleaving_core.specs.declared.machine.Refused.{Refused as NotMade}
-use Rattle.interleaving_core.specs.declared.machine.Refused.TheVariants.{OutOfMemory as NotMadeForMemory}
+use Rattle.shared_machine.specs.interleaving_core.Refusals.{number_of as making_number_of}
+use Rattle.shared_machine.specs.interleaving_core.declared.machine.Refused.{Refused as NotMade}
+use Rattle.shared_machine.specs.interleaving_core.declared.machine.Refused.TheVariants.{OutOfMemory as NotMadeForMemory}
 use Rattle.event_trace.specs.declared.errors.TraceError.{TraceError}
 use Rattle.event_trace.specs.declared.errors.TraceError.TheVariants.{Memory as WantsMemory, Device as CantWrite}
 use Rattle.schedule_text.specs.Errors.{number_of as schedule_number_of}

@@ -11,7 +11,7 @@ ghost use Rattle.driver.specs.declared.failure.Failure.TheVariants.{Memory};
 use cil_model::memory::NoMemory;
 use event_trace::TraceError;
 use ilasm_reader::ReadError;
-use interleaving_core::Refused;
+use shared_machine::Refused;
 use metadata::MetaError;
 use schedule_text::ScheduleError;
 use std::alloc::AllocError;

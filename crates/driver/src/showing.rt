@@ -10,7 +10,7 @@ ghost use Rattle.driver.specs.Threads.{is_done, is_live, line_of, lines_from, st
 use crate::failure::Failure;
 use cil_model::reports::End;
 use flip_trial::Outcome;
-use interleaving_core::Machine;
+use shared_machine::Machine;
 use std::alloc::Global;
 use std::io;
 use std::io::Write;

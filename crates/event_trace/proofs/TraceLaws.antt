@@ -4,9 +4,9 @@ use Rattle.std.proofs.lemmas.List.{length-take-le, take_more}
 use Rattle.std.specs.Io.KnownBytes.{Appends}
 use Rattle.cil_model.specs.declared.events.Event.{Event}
 use Rattle.cil_model.specs.declared.reports.Report.{Report}
-use Rattle.simulation.specs.MachineContents.{Content}
-use Rattle.simulation.specs.Runs.{AreTurns}
-use Rattle.simulation.specs.Turns.{IsTurn}
+use Rattle.interleaving_core.specs.simulation.MachineContents.{Content}
+use Rattle.interleaving_core.specs.simulation.Runs.{AreTurns}
+use Rattle.interleaving_core.specs.simulation.Turns.{IsTurn}
 use Rattle.interleaving_core.proofs.Following.{SameProgram, turns_follow, turns_length, turns_more, turns_program}
 use Rattle.event_trace.specs.Columns.{line_of}
 use Rattle.event_trace.specs.Traces.{AreTraced, IsTraced}

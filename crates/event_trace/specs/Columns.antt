@@ -13,7 +13,7 @@ use Rattle.cil_model.specs.Bodies.{lines_of}
 use Rattle.cil_model.specs.ExceptionNames.{name_of as fault_text}
 use Rattle.object_memory.specs.Cells.{used_words}
 use Rattle.method_table.specs.AllMethods.{all_methods}
-use Rattle.simulation.specs.MachineContents.{Content}
+use Rattle.interleaving_core.specs.simulation.MachineContents.{Content}
 use Rattle.interleaving_core.specs.Positions.{position_at}
 use Rattle.interleaving_core.specs.declared.positions.Position.{Position}
 use Rattle.schedule_text.specs.Items.{name_of as event_text}

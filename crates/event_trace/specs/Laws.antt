@@ -3,7 +3,7 @@ use Rattle.std.specs.Prelude.{◌≡◌, ◌++◌, ℕ, All, List, [], ◌∷◌
 use Rattle.std.specs.List.{join_with_byte}
 use Rattle.cil_model.specs.declared.events.Event.{Event}
 use Rattle.cil_model.specs.declared.reports.Report.{Report}
-use Rattle.simulation.specs.MachineContents.{Content}
+use Rattle.interleaving_core.specs.simulation.MachineContents.{Content}
 use Rattle.instruction_text.specs.Characters.{IsPrintable}
 use Rattle.event_trace.specs.Columns.{line_of}
 

@@ -4,9 +4,9 @@ use Rattle.std.specs.Io.KnownBytes.{Appends}
 use Rattle.std.specs.List.{zip}
 use Rattle.cil_model.specs.declared.events.Event.{Event}
 use Rattle.cil_model.specs.declared.reports.Report.{Report}
-use Rattle.simulation.specs.MachineContents.{Content}
-use Rattle.simulation.specs.Runs.{AreTurns, FollowsReference}
-use Rattle.simulation.specs.Turns.{IsTurn}
+use Rattle.interleaving_core.specs.simulation.MachineContents.{Content}
+use Rattle.interleaving_core.specs.simulation.Runs.{AreTurns, FollowsReference}
+use Rattle.interleaving_core.specs.simulation.Turns.{IsTurn}
 use Rattle.event_trace.specs.Columns.{line_of}
 
 -- one event after another, each with its report and its line; the numbers of the lines begin with this one

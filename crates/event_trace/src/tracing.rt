@@ -3,8 +3,8 @@
 ghost use Rattle.std.specs.Prelude.{◌≡◌, ◌≤◌, ◌⊎◌, ℕ, IfOk, OnErr, OnOk, List, length, option_and_then, option_map, take};
 ghost use Rattle.std.specs.Io.KnownBytes.{Appends};
 ghost use Rattle.cil_model.specs.declared.reports.Report.{Report as AnyReport};
-ghost use Rattle.simulation.specs.Runs.{AreTurns};
-ghost use Rattle.simulation.specs.Turns.{IsTurn};
+ghost use Rattle.interleaving_core.specs.simulation.Runs.{AreTurns};
+ghost use Rattle.interleaving_core.specs.simulation.Turns.{IsTurn};
 ghost use Rattle.event_trace.specs.Columns.{found_at, line_of, position_for};
 ghost use Rattle.event_trace.specs.Lines.{seen};
 ghost use Rattle.event_trace.specs.Places.{ArePlacesOf};

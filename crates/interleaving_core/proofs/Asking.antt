@@ -30,7 +30,7 @@ use Rattle.interpreter.specs.Instructions.{IsDone, MachineTurn, of_frames, of_ob
 use Rattle.interpreter.specs.Calls.{CallTurn, act_turn, beside_console, called_as, call_rule, chosen_at, new_at, receiver, return_rule, run_chosen, run_turn, top_reference, virtual_at}
 use Rattle.interpreter.specs.declared.outcomes.Outcome.{Outcome}
 use Rattle.interpreter.specs.declared.outcomes.Outcome.TheVariants.{Comes, Starts, Joins}
-use Rattle.simulation.specs.Turns.{Answer}
+use Rattle.step_simulation.specs.simulation.Turns.{Answer}
 
 -- an outcome for the thread itself, or a wait, is no start
 comes_not : {A : Type 0} (e : Effect) (object : Addr) → Comes e ≡ Starts object → A

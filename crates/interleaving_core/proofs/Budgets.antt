@@ -19,9 +19,9 @@ use Rattle.threads_monitors.specs.declared.threads.Standing.{Standing}
 use Rattle.threads_monitors.specs.declared.threads.Standing.TheVariants.{Live, Ended}
 use Rattle.threads_monitors.specs.declared.threads.Thread.{Thread}
 use Rattle.interpreter.specs.declared.outcomes.Outcome.{Outcome}
-use Rattle.simulation.specs.Budgets.{KeepsBudgets, made_step, steps_left_of, steps_made}
-use Rattle.simulation.specs.MachineContents.{Content}
-use Rattle.simulation.specs.Turns.{Answer, IsStandingTurn, IsThreadTurn, IsTurn, counted, finished, left_by}
+use Rattle.step_simulation.specs.simulation.Budgets.{KeepsBudgets, made_step, steps_left_of, steps_made}
+use Rattle.step_simulation.specs.simulation.MachineContents.{Content}
+use Rattle.step_simulation.specs.simulation.Turns.{Answer, IsStandingTurn, IsThreadTurn, IsTurn, counted, finished, left_by}
 use Rattle.interleaving_core.specs.Finishing.{live_thread}
 use Rattle.interleaving_core.proofs.Finished.{HasBegun, finished_by}
 

@@ -14,7 +14,7 @@ use Rattle.name_tables.proofs.NumberLaws.{declared_at_number}
 use Rattle.class_layout.proofs.ClassNumbers.{number_of_place}
 use Rattle.method_table.specs.Prepared.{local_kinds}
 use Rattle.size_bounds.proofs.MethodSizes.{locals_few}
-use Rattle.simulation.proofs.Zeros.{locals_low}
+use Rattle.step_simulation.proofs.simulation.Zeros.{locals_low}
 
 module _ (tree : Tree) (legal : IsLegal tree) (class place : ℕ) where
   -- where its class declares it

@@ -27,8 +27,8 @@ use Rattle.interpreter.specs.Calls.{chosen_at}
 use Rattle.interpreter.specs.Instructions.{IsDone}
 use Rattle.interpreter.specs.declared.outcomes.Outcome.{Outcome}
 use Rattle.interpreter.specs.declared.outcomes.Outcome.TheVariants.{Comes, Starts, Joins}
-use Rattle.simulation.specs.MachineContents.{Content}
-use Rattle.simulation.specs.Turns.{Answer, IsStandingTurn, IsThreadTurn, IsTurn, after_request, counted, finished, left_by, run_member, started, thread_at, thread_for}
+use Rattle.step_simulation.specs.simulation.MachineContents.{Content}
+use Rattle.step_simulation.specs.simulation.Turns.{Answer, IsStandingTurn, IsThreadTurn, IsTurn, after_request, counted, finished, left_by, run_member, started, thread_at, thread_for}
 use Rattle.interleaving_core.proofs.Words.{instruction_keeps_words}
 
 pub set_length : {X : Type 0} (xs : List X) (n : ℕ) (x : X) → length (slice_set xs n x) ≡ length xs

@@ -9,12 +9,12 @@ use Rattle.cil_model.specs.declared.events.Event.TheVariants.{Step, Ack, Gc}
 use Rattle.cil_model.specs.declared.reports.Report.{Report}
 use Rattle.reference_machine.specs.Runs.{RunsTo, run, request_of, report_of_step, followed_by, thread_part, step_reports}
 use Rattle.reference_machine.proofs.RunLaws.{runs_on}
-use Rattle.simulation.specs.MachineContents.{Content}
-use Rattle.simulation.specs.Budgets.{KeepsBudgets, steps_left_of}
-use Rattle.simulation.specs.StandsFor.{Represents}
-use Rattle.simulation.specs.Turns.{IsTurn}
+use Rattle.step_simulation.specs.simulation.MachineContents.{Content}
+use Rattle.step_simulation.specs.simulation.Budgets.{KeepsBudgets, steps_left_of}
+use Rattle.step_simulation.specs.simulation.StandsFor.{Represents}
+use Rattle.step_simulation.specs.simulation.Turns.{IsTurn}
 use Rattle.step_simulation.proofs.Whole.{step_is_followed}
-use Rattle.simulation.specs.Runs.{AreTurns, RunsAlike, FollowsReference}
+use Rattle.step_simulation.specs.simulation.Runs.{AreTurns, RunsAlike, FollowsReference}
 use Rattle.interleaving_core.proofs.Finished.{same_program}
 use Rattle.interleaving_core.proofs.Budgets.{keeps_behind, turn_keeps}
 use Rattle.interleaving_core.proofs.LiveThreads.{some_budget, live_have_steps}

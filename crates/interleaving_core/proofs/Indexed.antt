@@ -19,8 +19,8 @@ use Rattle.threads_monitors.specs.declared.threads.Standing.TheVariants.{Live}
 use Rattle.threads_monitors.specs.declared.threads.Thread.{Thread}
 use Rattle.interpreter.specs.Instructions.{IsDone}
 use Rattle.interpreter.specs.declared.outcomes.Outcome.{Outcome}
-use Rattle.simulation.specs.MachineContents.{Content}
-use Rattle.simulation.specs.Turns.{after_request, counted, started, thread_for}
+use Rattle.step_simulation.specs.simulation.MachineContents.{Content}
+use Rattle.step_simulation.specs.simulation.Turns.{after_request, counted, started, thread_for}
 use Rattle.interleaving_core.specs.Finishing.{IsInstructed, answered, live_thread}
 use Rattle.interleaving_core.proofs.Stepping.{live_there, thread_is}
 

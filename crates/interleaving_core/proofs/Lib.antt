@@ -1,3 +1,4 @@
+pub use Rattle.step_simulation.proofs.simulation as simulation
 pub mod Declared
 pub mod OpeningLaws
 pub mod Finished

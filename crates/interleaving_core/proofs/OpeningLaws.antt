@@ -36,7 +36,7 @@ use Rattle.method_table.proofs.NumberLaws.{number_of_place}
 use Rattle.threads_monitors.specs.Frames.{zero_value}
 use Rattle.threads_monitors.specs.declared.threads.Thread.{Thread}
 use Rattle.interpreter.specs.Calls.{chosen_at}
-use Rattle.simulation.specs.Turns.{content_at, opening_content, run_member, thread_at, thread_for}
+use Rattle.step_simulation.specs.simulation.Turns.{content_at, opening_content, run_member, thread_at, thread_for}
 use Rattle.interleaving_core.specs.Statics.{declared_fields, zeros_of}
 
 -- the zero of a field by its type

@@ -16,9 +16,9 @@ use Rattle.threads_monitors.specs.declared.threads.Thread.{Thread}
 use Rattle.interpreter.specs.Instructions.{IsDone, Prints}
 use Rattle.interpreter.specs.declared.outcomes.Outcome.{Outcome}
 use Rattle.interpreter.specs.declared.outcomes.Outcome.TheVariants.{Comes, Starts, Joins}
-use Rattle.simulation.specs.MachineContents.{Content}
-use Rattle.simulation.specs.Turns.{Answer, IsThreadTurn, IsTurn, PrintsOrStarts, after_request, counted, finished, left_by, started, thread_for}
-use Rattle.simulation.specs.Ready.{IsAnswerable}
+use Rattle.step_simulation.specs.simulation.MachineContents.{Content}
+use Rattle.step_simulation.specs.simulation.Turns.{Answer, IsThreadTurn, IsTurn, PrintsOrStarts, after_request, counted, finished, left_by, started, thread_for}
+use Rattle.step_simulation.specs.simulation.Ready.{IsAnswerable}
 use Rattle.interleaving_core.specs.Finishing.{IsInstructed, live_thread}
 use Rattle.interleaving_core.proofs.Finished.{finished_printed, set_length}
 

@@ -17,9 +17,9 @@ use Rattle.reference_machine.specs.Runs.{opening}
 use Rattle.reference_machine.specs.States.{State}
 use Rattle.method_table.specs.MethodNumbers.{number_of}
 use Rattle.method_table.specs.Prepared.{IsMethodTable}
-use Rattle.simulation.specs.MachineContents.{Content}
-use Rattle.simulation.specs.StandsFor.{Represents}
-use Rattle.simulation.specs.Turns.{IsTurn, content_at, opening_content}
+use Rattle.step_simulation.specs.simulation.MachineContents.{Content}
+use Rattle.step_simulation.specs.simulation.StandsFor.{Represents}
+use Rattle.step_simulation.specs.simulation.Turns.{IsTurn, content_at, opening_content}
 use Rattle.step_simulation.proofs.Whole.{asked_is_answerable, opening_is_represented, thread_is_ready}
 use Rattle.interleaving_core.specs.Views.{CanGoOn, IsSound, content_of}
 use Rattle.interleaving_core.specs.declared.engine.Engine.{Engine}

@@ -39,7 +39,7 @@ use Rattle.interpreter.specs.Operations.{array_held, array_rule, arithmetic_rule
 use Rattle.interpreter.specs.Instructions.{IsDone, MachineTurn, of_calls, of_frames, of_objects, of_statics, operation_turn}
 use Rattle.interpreter.specs.Calls.{CallTurn, act_turn, beside_console, call_rule, called_as, chosen_at, class_in, made, new_at, receiver, return_rule, run_chosen, run_turn, slots_at, top_reference, virtual_at}
 use Rattle.interpreter.specs.declared.outcomes.Outcome.{Outcome}
-use Rattle.simulation.specs.Turns.{Answer}
+use Rattle.step_simulation.specs.simulation.Turns.{Answer}
 
 -- ---- what rules are put together from
 

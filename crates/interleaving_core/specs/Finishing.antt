@@ -13,8 +13,8 @@ use Rattle.threads_monitors.specs.declared.threads.Thread.{Thread}
 use Rattle.interpreter.specs.Instructions.{IsDone}
 use Rattle.interpreter.specs.declared.outcomes.Outcome.{Outcome}
 use Rattle.interpreter.specs.declared.outcomes.Outcome.TheVariants.{Comes, Starts, Joins}
-use Rattle.simulation.specs.MachineContents.{Content}
-use Rattle.simulation.specs.Turns.{Answer, after_request, counted, left_by, started, thread_for}
+use Rattle.step_simulation.specs.simulation.MachineContents.{Content}
+use Rattle.step_simulation.specs.simulation.Turns.{Answer, after_request, counted, left_by, started, thread_for}
 
 -- a live thread of so many steps
 abbrev pub live_thread : ℕ → Frames → Thread

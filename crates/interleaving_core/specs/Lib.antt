@@ -1,3 +1,4 @@
+pub use Rattle.step_simulation.specs.simulation as simulation
 pub mod Views
 pub mod Finishing
 pub mod Refusals

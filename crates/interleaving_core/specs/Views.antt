@@ -10,10 +10,10 @@ use Rattle.threads_monitors.specs.Threads.{end_of}
 use Rattle.threads_monitors.specs.declared.threads.Standing.TheVariants.{Live}
 use Rattle.threads_monitors.specs.declared.threads.Thread.{Thread}
 use Rattle.interpreter.specs.Instructions.{IsDone}
-use Rattle.simulation.specs.MachineContents.{Content}
-use Rattle.simulation.specs.StandsFor.{Represents}
-use Rattle.simulation.specs.Turns.{Answer}
-use Rattle.simulation.specs.Ready.{IsReady, IsAnswerable}
+use Rattle.step_simulation.specs.simulation.MachineContents.{Content}
+use Rattle.step_simulation.specs.simulation.StandsFor.{Represents}
+use Rattle.step_simulation.specs.simulation.Turns.{Answer}
+use Rattle.step_simulation.specs.simulation.Ready.{IsReady, IsAnswerable}
 use Rattle.interleaving_core.specs.declared.engine.Engine.{Engine}
 
 -- the content of an engine, without the tables that it runs by

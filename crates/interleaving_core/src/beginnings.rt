@@ -10,8 +10,8 @@ ghost use Rattle.method_table.specs.AllMethods.{all_methods};
 ghost use Rattle.method_table.specs.Prepared.{IsMethodTable, local_kinds};
 ghost use Rattle.object_memory.specs.declared.values.Value.{Value as AnyValue};
 ghost use Rattle.object_memory.specs.declared.values.Value.TheVariants.{Ref};
-ghost use Rattle.simulation.specs.MachineContents.{frame_room};
-ghost use Rattle.simulation.specs.Turns.{run_member, thread_at, thread_for};
+ghost use Rattle.step_simulation.specs.simulation.MachineContents.{frame_room};
+ghost use Rattle.step_simulation.specs.simulation.Turns.{run_member, thread_at, thread_for};
 ghost use Rattle.interpreter.specs.Calls.{chosen_at};
 ghost use Rattle.threads_monitors.specs.Threads.{new_thread};
 

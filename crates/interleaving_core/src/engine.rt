@@ -12,7 +12,7 @@ ghost use Rattle.threads_monitors.specs.Threads.{is_live, is_live_at, start_faul
 ghost use Rattle.interpreter.specs.declared.outcomes.Outcome.TheVariants.{Starts as StartsOn, Joins as JoinsOn};
 ghost use Rattle.method_table.specs.Prepared.{IsMethodTable};
 ghost use Rattle.interpreter.specs.Instructions.{Prints};
-ghost use Rattle.simulation.specs.Turns.{IsTurn, PrintsOrStarts, counted, started, thread_for};
+ghost use Rattle.step_simulation.specs.simulation.Turns.{IsTurn, PrintsOrStarts, counted, started, thread_for};
 ghost use Rattle.interleaving_core.specs.Views.{CanGoOn, content_of, end_at};
 ghost use Rattle.interleaving_core.specs.Positions.{position_at};
 ghost use Rattle.interleaving_core.specs.Finishing.{CanFinish, IsInstructed, answered, finish, live_thread};

@@ -10,10 +10,10 @@ ghost use Rattle.object_memory.specs.Cells.{used_words};
 ghost use Rattle.threads_monitors.specs.Threads.{end_of, is_live, is_live_at};
 ghost use Rattle.interleaving_core.specs.Views.{end_at};
 ghost use Rattle.interleaving_core.specs.Positions.{position_at};
-ghost use Rattle.simulation.specs.StandsFor.{Represents};
-ghost use Rattle.simulation.specs.Turns.{IsTurn, PrintsOrStarts};
+ghost use Rattle.step_simulation.specs.simulation.StandsFor.{Represents};
+ghost use Rattle.step_simulation.specs.simulation.Turns.{IsTurn, PrintsOrStarts};
 ghost use Rattle.interleaving_core.specs.Refusals.{number_of};
-ghost use Rattle.simulation.specs.Runs.{AreTurns, FollowsReference};
+ghost use Rattle.step_simulation.specs.simulation.Runs.{AreTurns, FollowsReference};
 ghost use Rattle.interleaving_core.specs.declared.machine.Refused.TheVariants.{Limits as BadLimits, OutOfMemory};
 
 use crate::engine::Engine;
@@ -66,7 +66,7 @@ pub struct Machine {
 }
 
 impl Model for Machine {
-    ghost use Rattle.simulation.specs.MachineContents.{Content};
+    ghost use Rattle.step_simulation.specs.simulation.MachineContents.{Content};
     ghost use Rattle.interleaving_core.specs.Views.{IsSound, content_of};
 
     ghost Value = { Content };

@@ -7,7 +7,7 @@ ghost use Rattle.cil_model.specs.Typings.{IsAccepted};
 ghost use Rattle.cil_model.specs.Fields.{static_fields};
 ghost use Rattle.method_table.specs.Prepared.{IsMethodTable, kind_of_type};
 ghost use Rattle.object_memory.specs.Objects.{no_objects};
-ghost use Rattle.simulation.specs.Turns.{opening_content};
+ghost use Rattle.step_simulation.specs.simulation.Turns.{opening_content};
 ghost use Rattle.interleaving_core.specs.Views.{content_of};
 ghost use Rattle.interleaving_core.specs.Statics.{declared_fields, zeros_of};
 

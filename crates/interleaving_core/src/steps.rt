@@ -9,7 +9,7 @@ ghost use Rattle.threads_monitors.specs.Frames.{Frames};
 ghost use Rattle.threads_monitors.specs.Threads.{is_live, settled};
 ghost use Rattle.threads_monitors.specs.declared.threads.Standing.TheVariants.{Live};
 ghost use Rattle.interpreter.specs.Instructions.{HasSmallConstant, IsAt, IsDone, Prints, line_at, operation_turn};
-ghost use Rattle.simulation.specs.Turns.{after_request};
+ghost use Rattle.step_simulation.specs.simulation.Turns.{after_request};
 
 use cil_model::memory::NoMemory;
 use cil_model::reports::Report;

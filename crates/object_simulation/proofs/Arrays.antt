@@ -1,35 +1,35 @@
 -- Loads and stores of elements, and lengths.
 use Rattle.std.proofs.Common.{◌≡◌, ◌≤◌, ℕ, zero, suc, Bool, true, false, IsTrue, if◌then◌else◌, List, ◌∷◌, length, Option, Some, None, option_map, option_and_then, slice_get, slice_set, refl, sym, ap, ◌∙◌, subst, arith}
-use Rattle.cil_model.specs.declared.instructions.Instruction.{Instruction}
-use Rattle.cil_model.specs.declared.instructions.Instruction.TheVariants as Named
-use Rattle.cil_model.specs.declared.types.Element.TheVariants.{Int32 as Int32Element, Int64 as Int64Element, Object, String, Class}
-use Rattle.cil_model.specs.declared.types.DeclaredType.{DeclaredType}
-use Rattle.cil_model.specs.declared.types.Element.{Element}
-use Rattle.cil_model.specs.Same.{same_type}
-use Rattle.cil_model.specs.Declarations.{plain}
-use Rattle.cil_model.specs.Assignable.{is_reference, is_reference_element}
-use Rattle.cil_model.proofs.SameLaws.{same_type_equal}
-use Rattle.cil_model.proofs.BelowLaws.{none_is_some, same_some}
-use Rattle.reference_machine.specs.Values.{ObjectName, Born, Value as StateValue, same_kind}
-use Rattle.reference_machine.specs.States.{Array as IsArray, HeapObject, Frame as StateFrame, State, same_kind_or_none, replaced_at, elements_of_contents, array_at, with_object, with_element}
-use Rattle.reference_machine.specs.Effects.{Setting, given as state_given, onward as onward_frame}
-use Rattle.reference_machine.specs.Steps.{execute, next, element, load_element, store_element}
-use Rattle.type_soundness.proofs.Running.{IsTypedEffect}
-use Rattle.type_soundness.proofs.StateChanges.{element_typed, array_typed}
-use Rattle.resolved_code.specs.declared.operations.Operation.{Operation}
-use Rattle.resolved_code.specs.declared.operations.Operation.TheVariants as Resolved
-use Rattle.object_memory.specs.declared.addresses.Addr.{Addr}
-use Rattle.object_memory.specs.declared.values.Value.{Value}
-use Rattle.object_memory.specs.declared.values.ValueKind.{ValueKind}
-use Rattle.object_memory.specs.declared.values.ValueKind.TheVariants as Kind
-use Rattle.object_memory.specs.Cells.{Cell, store_slot as with_cell_slot}
-use Rattle.object_memory.specs.Objects.{Objects}
-use Rattle.object_memory.specs.Values.{value_word}
-use Rattle.threads_monitors.specs.Frames.{Frames, with_stack}
-use Rattle.instructions.specs.Frames.{given}
-use Rattle.method_table.specs.Prepared.{kind_at, kind_of_type}
-use Rattle.instructions.specs.ObjectTurns.{object_of, index_of, slots_of, place_in, in_range, load_slot, store_slot, load_element_turn, store_element_turn}
-use Rattle.interpreter.specs.Instructions.{operation_turn, of_objects}
+use Rattle.simulation.specs.cil_model.declared.instructions.Instruction.{Instruction}
+use Rattle.simulation.specs.cil_model.declared.instructions.Instruction.TheVariants as Named
+use Rattle.simulation.specs.cil_model.declared.types.Element.TheVariants.{Int32 as Int32Element, Int64 as Int64Element, Object, String, Class}
+use Rattle.simulation.specs.cil_model.declared.types.DeclaredType.{DeclaredType}
+use Rattle.simulation.specs.cil_model.declared.types.Element.{Element}
+use Rattle.simulation.specs.cil_model.Same.{same_type}
+use Rattle.simulation.specs.cil_model.Declarations.{plain}
+use Rattle.simulation.specs.cil_model.Assignable.{is_reference, is_reference_element}
+use Rattle.simulation.proofs.cil_model.SameLaws.{same_type_equal}
+use Rattle.simulation.proofs.cil_model.BelowLaws.{none_is_some, same_some}
+use Rattle.simulation.specs.reference_machine.Values.{ObjectName, Born, Value as StateValue, same_kind}
+use Rattle.simulation.specs.reference_machine.States.{Array as IsArray, HeapObject, Frame as StateFrame, State, same_kind_or_none, replaced_at, elements_of_contents, array_at, with_object, with_element}
+use Rattle.simulation.specs.reference_machine.Effects.{Setting, given as state_given, onward as onward_frame}
+use Rattle.simulation.specs.reference_machine.Steps.{execute, next, element, load_element, store_element}
+use Rattle.simulation.proofs.type_soundness.Running.{IsTypedEffect}
+use Rattle.simulation.proofs.type_soundness.StateChanges.{element_typed, array_typed}
+use Rattle.simulation.specs.resolved_code.declared.operations.Operation.{Operation}
+use Rattle.simulation.specs.resolved_code.declared.operations.Operation.TheVariants as Resolved
+use Rattle.simulation.specs.object_memory.declared.addresses.Addr.{Addr}
+use Rattle.simulation.specs.object_memory.declared.values.Value.{Value}
+use Rattle.simulation.specs.object_memory.declared.values.ValueKind.{ValueKind}
+use Rattle.simulation.specs.object_memory.declared.values.ValueKind.TheVariants as Kind
+use Rattle.simulation.specs.object_memory.Cells.{Cell, store_slot as with_cell_slot}
+use Rattle.simulation.specs.object_memory.Objects.{Objects}
+use Rattle.simulation.specs.object_memory.Values.{value_word}
+use Rattle.simulation.specs.threads_monitors.Frames.{Frames, with_stack}
+use Rattle.simulation.specs.instructions.Frames.{given}
+use Rattle.simulation.specs.method_table.Prepared.{kind_at, kind_of_type}
+use Rattle.simulation.specs.instructions.ObjectTurns.{object_of, index_of, slots_of, place_in, in_range, load_slot, store_slot, load_element_turn, store_element_turn}
+use Rattle.simulation.specs.interpreter.Instructions.{operation_turn, of_objects}
 use Rattle.simulation.specs.Agreement.{Agree}
 use Rattle.simulation.specs.StandsFor.{Names, IsValue, IsWord, IsOfContents, IsCell}
 use Rattle.simulation.proofs.AgreeLaws.{agree_get, agree_set}

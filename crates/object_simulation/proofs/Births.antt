@@ -5,18 +5,18 @@ use Rattle.std.proofs.lemmas.Bool.Decides.{nat_tests}
 use Rattle.std.proofs.lemmas.List.{length-replicate}
 use Rattle.std.proofs.lemmas.List.Sums.{sum_by-cons}
 use Rattle.std.proofs.lemmas.Option.{slice_get_within}
-use Rattle.cil_model.specs.declared.trees.Tree.{Tree}
-use Rattle.cil_model.proofs.SameLaws.{if_true, if_false}
-use Rattle.cil_model.proofs.BelowLaws.{none_is_some, same_some}
-use Rattle.reference_machine.specs.Values.{ObjectName, Born, Literal}
-use Rattle.reference_machine.specs.States.{Contents, HeapObject, State, Free as IsFree, with_birth as with_state_birth}
-use Rattle.type_soundness.proofs.StateChanges.{last_is_there}
-use Rattle.object_memory.specs.declared.addresses.Addr.{Addr}
-use Rattle.object_memory.specs.declared.addresses.TheConstants.{ADDRESSES, FIRST_LITERAL}
-use Rattle.object_memory.specs.declared.kinds.Kind.{Kind}
-use Rattle.object_memory.specs.Cells.{Cell, Cells, size, used_words, free_words, cell_from, cell_at, literal, literal_number, new_cell, next_address}
-use Rattle.object_memory.specs.Objects.{Objects, with_birth}
-use Rattle.object_memory.proofs.Addressed.{birth_at, birth_keeps}
+use Rattle.simulation.specs.cil_model.declared.trees.Tree.{Tree}
+use Rattle.simulation.proofs.cil_model.SameLaws.{if_true, if_false}
+use Rattle.simulation.proofs.cil_model.BelowLaws.{none_is_some, same_some}
+use Rattle.simulation.specs.reference_machine.Values.{ObjectName, Born, Literal}
+use Rattle.simulation.specs.reference_machine.States.{Contents, HeapObject, State, Free as IsFree, with_birth as with_state_birth}
+use Rattle.simulation.proofs.type_soundness.StateChanges.{last_is_there}
+use Rattle.simulation.specs.object_memory.declared.addresses.Addr.{Addr}
+use Rattle.simulation.specs.object_memory.declared.addresses.TheConstants.{ADDRESSES, FIRST_LITERAL}
+use Rattle.simulation.specs.object_memory.declared.kinds.Kind.{Kind}
+use Rattle.simulation.specs.object_memory.Cells.{Cell, Cells, size, used_words, free_words, cell_from, cell_at, literal, literal_number, new_cell, next_address}
+use Rattle.simulation.specs.object_memory.Objects.{Objects, with_birth}
+use Rattle.simulation.proofs.object_memory.Addressed.{birth_at, birth_keeps}
 use Rattle.simulation.specs.StandsFor.{Names, Extends, IsOfContents, IsBornAt, IsLiteralAt, IsHeap}
 use Rattle.simulation.proofs.Extending.{cell_extends}
 use Rattle.simulation.proofs.Statements.{IsBirth, BirthsStand}

@@ -1,29 +1,29 @@
 -- Casts do the same on a machine as on the reference machine (III.4.3, III.4.6).
 use Rattle.std.proofs.Common.{◌≡◌, ◌≤◌, ◌+◌, ℕ, Bool, true, false, if◌then◌else◌, List, ◌∷◌, length, Option, Some, None, refl, sym, ap, subst}
-use Rattle.cil_model.specs.declared.instructions.Instruction.{Instruction}
-use Rattle.cil_model.specs.declared.instructions.Instruction.TheVariants as Named
-use Rattle.cil_model.specs.declared.reports.Fault.TheVariants.{InvalidCast}
-use Rattle.cil_model.specs.declared.types.DeclaredType.{DeclaredType}
-use Rattle.reference_machine.specs.Values.{Value as StateValue, Null}
-use Rattle.reference_machine.specs.States.{Frame as StateFrame, State}
-use Rattle.reference_machine.specs.Effects.{Setting, Effect as StateEffect, Raises as StateRaises, given as given_state}
-use Rattle.reference_machine.specs.Steps.{execute, next, cast, may_hold}
-use Rattle.type_soundness.proofs.Running.{IsTypedEffect}
-use Rattle.resolved_code.specs.Numbered.{type_at}
-use Rattle.resolved_code.specs.declared.types.NumberedType.{NumberedType}
-use Rattle.resolved_code.specs.declared.operations.Operation.{Operation}
-use Rattle.resolved_code.specs.declared.operations.Operation.TheVariants as Resolved
-use Rattle.object_memory.specs.declared.values.Value.{Value}
-use Rattle.object_memory.specs.declared.values.Value.TheVariants.{Ref}
-use Rattle.object_memory.specs.Cells.{null}
-use Rattle.object_memory.specs.Objects.{Objects}
-use Rattle.threads_monitors.specs.Frames.{Frames, with_place, with_stack}
-use Rattle.threads_monitors.specs.declared.effects.Effect.TheVariants.{GoesOn, Raises}
-use Rattle.instructions.specs.Frames.{given, leaves}
-use Rattle.instructions.specs.ObjectTurns.{ObjectTurn, beside}
-use Rattle.instructions.specs.TypeTurns.{may_stand_as, cast_turn}
-use Rattle.interpreter.specs.declared.outcomes.Outcome.TheVariants.{Comes}
-use Rattle.interpreter.specs.Instructions.{MachineTurn, of_objects, operation_turn}
+use Rattle.simulation.specs.cil_model.declared.instructions.Instruction.{Instruction}
+use Rattle.simulation.specs.cil_model.declared.instructions.Instruction.TheVariants as Named
+use Rattle.simulation.specs.cil_model.declared.reports.Fault.TheVariants.{InvalidCast}
+use Rattle.simulation.specs.cil_model.declared.types.DeclaredType.{DeclaredType}
+use Rattle.simulation.specs.reference_machine.Values.{Value as StateValue, Null}
+use Rattle.simulation.specs.reference_machine.States.{Frame as StateFrame, State}
+use Rattle.simulation.specs.reference_machine.Effects.{Setting, Effect as StateEffect, Raises as StateRaises, given as given_state}
+use Rattle.simulation.specs.reference_machine.Steps.{execute, next, cast, may_hold}
+use Rattle.simulation.proofs.type_soundness.Running.{IsTypedEffect}
+use Rattle.simulation.specs.resolved_code.Numbered.{type_at}
+use Rattle.simulation.specs.resolved_code.declared.types.NumberedType.{NumberedType}
+use Rattle.simulation.specs.resolved_code.declared.operations.Operation.{Operation}
+use Rattle.simulation.specs.resolved_code.declared.operations.Operation.TheVariants as Resolved
+use Rattle.simulation.specs.object_memory.declared.values.Value.{Value}
+use Rattle.simulation.specs.object_memory.declared.values.Value.TheVariants.{Ref}
+use Rattle.simulation.specs.object_memory.Cells.{null}
+use Rattle.simulation.specs.object_memory.Objects.{Objects}
+use Rattle.simulation.specs.threads_monitors.Frames.{Frames, with_place, with_stack}
+use Rattle.simulation.specs.threads_monitors.declared.effects.Effect.TheVariants.{GoesOn, Raises}
+use Rattle.simulation.specs.instructions.Frames.{given, leaves}
+use Rattle.simulation.specs.instructions.ObjectTurns.{ObjectTurn, beside}
+use Rattle.simulation.specs.instructions.TypeTurns.{may_stand_as, cast_turn}
+use Rattle.simulation.specs.interpreter.declared.outcomes.Outcome.TheVariants.{Comes}
+use Rattle.simulation.specs.interpreter.Instructions.{MachineTurn, of_objects, operation_turn}
 use Rattle.simulation.specs.Agreement.{Agree}
 use Rattle.simulation.specs.StandsFor.{Names, IsValue, null_reference}
 use Rattle.simulation.proofs.Instructions.{IsSetting, DoesAlike}

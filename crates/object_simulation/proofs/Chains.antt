@@ -5,19 +5,19 @@ use Rattle.std.proofs.lemmas.Bool.{or_left, or_right}
 use Rattle.std.proofs.lemmas.List.{reverse-append}
 use Rattle.std.proofs.lemmas.List.Folds.{list_any-append}
 use Rattle.std.proofs.lemmas.Grind.{flat_map-append}
-use Rattle.cil_model.specs.declared.types.ClassName.{ClassName}
-use Rattle.cil_model.specs.declared.types.DeclaredType.{DeclaredType}
-use Rattle.cil_model.specs.declared.trees.Tree.{Tree}
-use Rattle.cil_model.specs.declared.trees.Field.{Field}
-use Rattle.cil_model.specs.Same.{same_class, same_text, same_flag}
-use Rattle.cil_model.specs.Declarations.{object_name, thread_name}
-use Rattle.cil_model.specs.Chains.{base_of, chain_within, longest_chain, chain_of, is_thread_class, fields_in}
-use Rattle.cil_model.specs.Fields.{FieldKey, same_key, own_fields, instance_fields}
-use Rattle.cil_model.specs.Legality.{IsLegal}
-use Rattle.cil_model.proofs.SameLaws.{either, if_false, same_class_equal, same_class_itself, same_text_itself, class_equivalence}
-use Rattle.cil_model.proofs.BelowLaws.{none_is_some, same_some}
-use Rattle.reference_machine.specs.States.{entry_at}
-use Rattle.type_soundness.proofs.Targets.{chain_of_base}
+use Rattle.simulation.specs.cil_model.declared.types.ClassName.{ClassName}
+use Rattle.simulation.specs.cil_model.declared.types.DeclaredType.{DeclaredType}
+use Rattle.simulation.specs.cil_model.declared.trees.Tree.{Tree}
+use Rattle.simulation.specs.cil_model.declared.trees.Field.{Field}
+use Rattle.simulation.specs.cil_model.Same.{same_class, same_text, same_flag}
+use Rattle.simulation.specs.cil_model.Declarations.{object_name, thread_name}
+use Rattle.simulation.specs.cil_model.Chains.{base_of, chain_within, longest_chain, chain_of, is_thread_class, fields_in}
+use Rattle.simulation.specs.cil_model.Fields.{FieldKey, same_key, own_fields, instance_fields}
+use Rattle.simulation.specs.cil_model.Legality.{IsLegal}
+use Rattle.simulation.proofs.cil_model.SameLaws.{either, if_false, same_class_equal, same_class_itself, same_text_itself, class_equivalence}
+use Rattle.simulation.proofs.cil_model.BelowLaws.{none_is_some, same_some}
+use Rattle.simulation.specs.reference_machine.States.{entry_at}
+use Rattle.simulation.proofs.type_soundness.Targets.{chain_of_base}
 use Rattle.object_simulation.proofs.Words.{lost}
 
 -- ---- lists

@@ -2,19 +2,19 @@
 use Rattle.std.proofs.Common.{◌≡◌, ◌≢◌, ◌⊎◌, ◌+◌, ◌≤◌, ◌==◌, ℕ, Bool, true, false, if◌then◌else◌, List, [], ◌∷◌, length, Option, Some, slice_get, slice_set, refl, inl, inr, sym, ap, ◌∙◌, subst, arith}
 use Rattle.std.proofs.lemmas.Bool.Decides.{nat_tests}
 use Rattle.std.proofs.lemmas.List.Sums.{sum_by-cons}
-use Rattle.cil_model.specs.declared.trees.Tree.{Tree}
-use Rattle.cil_model.specs.Same.{same_text}
-use Rattle.cil_model.specs.Mentions.{literals_of}
-use Rattle.cil_model.proofs.SameLaws.{same_text_equal, same_text_itself, if_true, if_false}
-use Rattle.cil_model.proofs.BelowLaws.{none_is_some, same_some}
-use Rattle.reference_machine.specs.Values.{ObjectName, Born, Literal}
-use Rattle.reference_machine.specs.States.{Monitor as StateMonitor, HeapObject, State, entry_at, with_entry, with_object, with_monitor as with_state_monitor}
-use Rattle.size_bounds.proofs.ChangedEntries.{set_or_stays, set_is_there}
-use Rattle.object_memory.specs.declared.addresses.Addr.{Addr}
-use Rattle.object_memory.specs.declared.monitors.Monitor.{Monitor}
-use Rattle.object_memory.specs.Cells.{Cell, size, used_words, change_from, cell_at, store_monitor}
-use Rattle.object_memory.specs.Objects.{Objects, with_cell, with_monitor, with_literal_monitor}
-use Rattle.object_memory.proofs.Addressed.{change_at_own, change_at_other}
+use Rattle.simulation.specs.cil_model.declared.trees.Tree.{Tree}
+use Rattle.simulation.specs.cil_model.Same.{same_text}
+use Rattle.simulation.specs.cil_model.Mentions.{literals_of}
+use Rattle.simulation.proofs.cil_model.SameLaws.{same_text_equal, same_text_itself, if_true, if_false}
+use Rattle.simulation.proofs.cil_model.BelowLaws.{none_is_some, same_some}
+use Rattle.simulation.specs.reference_machine.Values.{ObjectName, Born, Literal}
+use Rattle.simulation.specs.reference_machine.States.{Monitor as StateMonitor, HeapObject, State, entry_at, with_entry, with_object, with_monitor as with_state_monitor}
+use Rattle.simulation.proofs.size_bounds.ChangedEntries.{set_or_stays, set_is_there}
+use Rattle.simulation.specs.object_memory.declared.addresses.Addr.{Addr}
+use Rattle.simulation.specs.object_memory.declared.monitors.Monitor.{Monitor}
+use Rattle.simulation.specs.object_memory.Cells.{Cell, size, used_words, change_from, cell_at, store_monitor}
+use Rattle.simulation.specs.object_memory.Objects.{Objects, with_cell, with_monitor, with_literal_monitor}
+use Rattle.simulation.proofs.object_memory.Addressed.{change_at_own, change_at_other}
 use Rattle.std.specs.Option.{option_map_or}
 use Rattle.simulation.specs.StandsFor.{Names, IsMonitor, IsCell, IsBornAt, IsLiteralAt, IsHeap}
 use Rattle.simulation.proofs.Statements.{CellsMayChange, LiteralsMayChange}

@@ -2,26 +2,26 @@
 use Rattle.std.proofs.Common.{◌≡◌, ℕ, suc, Bool, true, false, if◌then◌else◌, ◌&&◌, IsTrue, List, [], ◌∷◌, length, Option, Some, None, option_and_then, slice_get, unwrap_or, refl, sym, ap, ◌∙◌, subst}
 use Rattle.std.specs.Option.{option_map_or}
 use Rattle.std.proofs.lemmas.Option.{option_and_then_some}
-use Rattle.cil_model.specs.declared.trees.Tree.{Tree}
-use Rattle.cil_model.specs.declared.trees.Method.{Method}
-use Rattle.cil_model.specs.declared.trees.MethodKind.{MethodKind}
-use Rattle.cil_model.specs.declared.trees.MethodKind.TheVariants.{Static, Instance, Virtual, Abstract}
-use Rattle.cil_model.specs.declared.types.ClassName.{ClassName}
-use Rattle.cil_model.specs.declared.types.Signature.{Signature}
-use Rattle.cil_model.specs.declared.instructions.MethodName.{MethodName}
-use Rattle.cil_model.specs.Assignable.{type_of_class}
-use Rattle.cil_model.specs.Bodies.{argument_types}
-use Rattle.cil_model.specs.Chains.{chain_of, listed_by, methods_in, method_in, nearest, is_static, is_virtual, is_new_slot_method, is_interface}
-use Rattle.cil_model.specs.Declarations.{Declaration}
-use Rattle.cil_model.specs.Same.{same_class, same_options, same_signature, same_method_name}
-use Rattle.cil_model.specs.Slots.{slot_filled, slot_along, filler_along, class_target, virtual_in, lister_along, interface_target, target}
-use Rattle.cil_model.proofs.SameLaws.{never, both_second, same_signature_equal}
-use Rattle.cil_model.proofs.BelowLaws.{none_is_some, same_some}
-use Rattle.reference_machine.proofs.MethodLaws.{IsDeclared, target_is_declared}
-use Rattle.type_soundness.proofs.DeclaredClasses.{found_itself}
-use Rattle.name_tables.specs.Numbers.{class_number, method_at}
-use Rattle.name_tables.proofs.NumberLaws.{IsNumbered, numbered}
-use Rattle.method_table.proofs.FlatLaws.{numbered_at}
+use Rattle.simulation.specs.cil_model.declared.trees.Tree.{Tree}
+use Rattle.simulation.specs.cil_model.declared.trees.Method.{Method}
+use Rattle.simulation.specs.cil_model.declared.trees.MethodKind.{MethodKind}
+use Rattle.simulation.specs.cil_model.declared.trees.MethodKind.TheVariants.{Static, Instance, Virtual, Abstract}
+use Rattle.simulation.specs.cil_model.declared.types.ClassName.{ClassName}
+use Rattle.simulation.specs.cil_model.declared.types.Signature.{Signature}
+use Rattle.simulation.specs.cil_model.declared.instructions.MethodName.{MethodName}
+use Rattle.simulation.specs.cil_model.Assignable.{type_of_class}
+use Rattle.simulation.specs.cil_model.Bodies.{argument_types}
+use Rattle.simulation.specs.cil_model.Chains.{chain_of, listed_by, methods_in, method_in, nearest, is_static, is_virtual, is_new_slot_method, is_interface}
+use Rattle.simulation.specs.cil_model.Declarations.{Declaration}
+use Rattle.simulation.specs.cil_model.Same.{same_class, same_options, same_signature, same_method_name}
+use Rattle.simulation.specs.cil_model.Slots.{slot_filled, slot_along, filler_along, class_target, virtual_in, lister_along, interface_target, target}
+use Rattle.simulation.proofs.cil_model.SameLaws.{never, both_second, same_signature_equal}
+use Rattle.simulation.proofs.cil_model.BelowLaws.{none_is_some, same_some}
+use Rattle.simulation.proofs.reference_machine.MethodLaws.{IsDeclared, target_is_declared}
+use Rattle.simulation.proofs.type_soundness.DeclaredClasses.{found_itself}
+use Rattle.simulation.specs.name_tables.Numbers.{class_number, method_at}
+use Rattle.simulation.proofs.name_tables.NumberLaws.{IsNumbered, numbered}
+use Rattle.simulation.proofs.method_table.FlatLaws.{numbered_at}
 use Rattle.object_simulation.proofs.ObjectClasses.{method_by}
 
 -- ---- what fills a slot

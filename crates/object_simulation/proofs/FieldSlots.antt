@@ -1,32 +1,32 @@
 -- The slot of an instance field in the objects of every class that has it.
 use Rattle.std.proofs.Common.{◌≡◌, ◌+◌, ℕ, suc, Bool, true, false, IsTrue, if◌then◌else◌, List, [], ◌∷◌, ◌++◌, find, length, Option, Some, None, option_map, option_and_then, slice_get, slice_set, refl, sym, ap, ◌∙◌, subst, arith}
 use Rattle.std.specs.List.{list_any, position_from}
-use Rattle.cil_model.specs.declared.instructions.FieldReference.{FieldReference}
-use Rattle.cil_model.specs.declared.trees.Field.{Field}
-use Rattle.cil_model.specs.declared.trees.Tree.{Tree}
-use Rattle.cil_model.specs.declared.types.ClassName.{ClassName}
-use Rattle.cil_model.specs.declared.types.DeclaredType.{DeclaredType}
-use Rattle.cil_model.specs.Same.{same_class, same_flag}
-use Rattle.cil_model.specs.Assignable.{to_itself, type_of_class}
-use Rattle.cil_model.specs.Declarations.{Declaration, object_name}
-use Rattle.cil_model.specs.Chains.{chain_of, fields_in, is_thread_class}
-use Rattle.cil_model.specs.Fields.{FieldKey, same_key, instance_fields, hidden_slots, instance_slot}
-use Rattle.cil_model.specs.Legality.{IsLegal}
-use Rattle.cil_model.proofs.CompleteLaws.{test_is_complete}
-use Rattle.cil_model.proofs.BelowLaws.{none_is_some, same_some}
-use Rattle.name_tables.specs.Numbers.{declarations, field_at}
-use Rattle.name_tables.specs.declared.lookups.MemberNumber.{MemberNumber}
-use Rattle.reference_machine.specs.Values.{Born, Value as StateValue}
-use Rattle.reference_machine.specs.States.{Free, Instance, HeapObject, State, entry_at, with_entry, class_of_contents}
-use Rattle.reference_machine.specs.Steps.{key_of}
-use Rattle.type_soundness.specs.TypedStates.{HasType, HaveFieldTypes}
-use Rattle.type_soundness.proofs.DeclaredFields.{HasField, field_there, found_type}
-use Rattle.type_soundness.proofs.StateChanges.{entry_typed}
-use Rattle.size_bounds.proofs.FieldSizes.{instance_slot_small}
-use Rattle.resolved_code.specs.Numbered.{class_name}
-use Rattle.resolved_code.specs.Resolved.{IsField}
-use Rattle.method_table.specs.Prepared.{kind_of_type}
-use Rattle.interpreter.specs.Operations.{small, slot_in, slot_at, held_at}
+use Rattle.simulation.specs.cil_model.declared.instructions.FieldReference.{FieldReference}
+use Rattle.simulation.specs.cil_model.declared.trees.Field.{Field}
+use Rattle.simulation.specs.cil_model.declared.trees.Tree.{Tree}
+use Rattle.simulation.specs.cil_model.declared.types.ClassName.{ClassName}
+use Rattle.simulation.specs.cil_model.declared.types.DeclaredType.{DeclaredType}
+use Rattle.simulation.specs.cil_model.Same.{same_class, same_flag}
+use Rattle.simulation.specs.cil_model.Assignable.{to_itself, type_of_class}
+use Rattle.simulation.specs.cil_model.Declarations.{Declaration, object_name}
+use Rattle.simulation.specs.cil_model.Chains.{chain_of, fields_in, is_thread_class}
+use Rattle.simulation.specs.cil_model.Fields.{FieldKey, same_key, instance_fields, hidden_slots, instance_slot}
+use Rattle.simulation.specs.cil_model.Legality.{IsLegal}
+use Rattle.simulation.proofs.cil_model.CompleteLaws.{test_is_complete}
+use Rattle.simulation.proofs.cil_model.BelowLaws.{none_is_some, same_some}
+use Rattle.simulation.specs.name_tables.Numbers.{declarations, field_at}
+use Rattle.simulation.specs.name_tables.declared.lookups.MemberNumber.{MemberNumber}
+use Rattle.simulation.specs.reference_machine.Values.{Born, Value as StateValue}
+use Rattle.simulation.specs.reference_machine.States.{Free, Instance, HeapObject, State, entry_at, with_entry, class_of_contents}
+use Rattle.simulation.specs.reference_machine.Steps.{key_of}
+use Rattle.simulation.specs.type_soundness.TypedStates.{HasType, HaveFieldTypes}
+use Rattle.simulation.proofs.type_soundness.DeclaredFields.{HasField, field_there, found_type}
+use Rattle.simulation.proofs.type_soundness.StateChanges.{entry_typed}
+use Rattle.simulation.proofs.size_bounds.FieldSizes.{instance_slot_small}
+use Rattle.simulation.specs.resolved_code.Numbered.{class_name}
+use Rattle.simulation.specs.resolved_code.Resolved.{IsField}
+use Rattle.simulation.specs.method_table.Prepared.{kind_of_type}
+use Rattle.simulation.specs.interpreter.Operations.{small, slot_in, slot_at, held_at}
 use Rattle.object_simulation.proofs.Chains.{has_key, entry_of_first, chain_of_field, among_own, no_field_of_object, fields_begin, same_thread}
 use Rattle.object_simulation.proofs.Placed.{IsPlaced, placed, position_there, type_there}
 use Rattle.object_simulation.proofs.Statics.{is_small, asked, found_in, found_flag}

@@ -1,36 +1,36 @@
 -- Loads and stores of instance fields.
 use Rattle.std.proofs.Common.{◌≡◌, ◌≤◌, ℕ, Bool, true, false, if◌then◌else◌, List, ◌∷◌, length, Option, Some, None, option_map, option_and_then, slice_get, slice_set, refl, sym, ap, ◌∙◌, subst}
-use Rattle.cil_model.specs.declared.instructions.Instruction.{Instruction}
-use Rattle.cil_model.specs.declared.instructions.Instruction.TheVariants as Named
-use Rattle.cil_model.specs.declared.instructions.FieldReference.{FieldReference}
-use Rattle.cil_model.specs.declared.reports.Fault.TheVariants.{NullReference}
-use Rattle.cil_model.specs.declared.types.ClassName.{ClassName}
-use Rattle.cil_model.specs.Chains.{find_field, is_thread_class}
-use Rattle.cil_model.specs.Fields.{FieldKey, same_key}
-use Rattle.cil_model.proofs.BelowLaws.{none_is_some, same_some}
-use Rattle.name_tables.specs.declared.lookups.MemberNumber.{MemberNumber}
-use Rattle.reference_machine.specs.Values.{ObjectName, Value as StateValue, same_kind}
-use Rattle.reference_machine.specs.States.{Contents, Instance as IsInstance, Array as IsArray, HeapObject, Frame as StateFrame, State, entry_at, with_entry, same_kind_or_none, replaced_entry, object_at, with_object, fields_of_contents, with_fields, field_value, with_field}
-use Rattle.reference_machine.specs.Effects.{Setting, given as state_given, not_null, onward as onward_frame}
-use Rattle.reference_machine.specs.Steps.{execute, key_of, next}
-use Rattle.type_soundness.specs.TypedStates.{IsTypedContents}
-use Rattle.type_soundness.proofs.StateChanges.{contents_typed}
-use Rattle.resolved_code.specs.Numbered.{class_name}
-use Rattle.resolved_code.specs.Resolved.{IsField}
-use Rattle.resolved_code.specs.declared.operations.Operation.{Operation}
-use Rattle.resolved_code.specs.declared.operations.Operation.TheVariants as Resolved
-use Rattle.object_memory.specs.declared.addresses.Addr.{Addr}
-use Rattle.object_memory.specs.declared.values.Value.{Value}
-use Rattle.object_memory.specs.declared.values.ValueKind.{ValueKind}
-use Rattle.object_memory.specs.Cells.{store_slot as with_cell_slot}
-use Rattle.object_memory.specs.Objects.{Objects}
-use Rattle.object_memory.specs.Values.{value_word}
-use Rattle.threads_monitors.specs.Frames.{Frames, with_stack}
-use Rattle.instructions.specs.Frames.{given}
-use Rattle.method_table.specs.Prepared.{kind_of_type}
-use Rattle.instructions.specs.ObjectTurns.{object_of, load_slot, store_slot, load_field_turn, store_field_turn}
-use Rattle.interpreter.specs.Instructions.{operation_turn, of_objects}
-use Rattle.interpreter.specs.Operations.{held_at}
+use Rattle.simulation.specs.cil_model.declared.instructions.Instruction.{Instruction}
+use Rattle.simulation.specs.cil_model.declared.instructions.Instruction.TheVariants as Named
+use Rattle.simulation.specs.cil_model.declared.instructions.FieldReference.{FieldReference}
+use Rattle.simulation.specs.cil_model.declared.reports.Fault.TheVariants.{NullReference}
+use Rattle.simulation.specs.cil_model.declared.types.ClassName.{ClassName}
+use Rattle.simulation.specs.cil_model.Chains.{find_field, is_thread_class}
+use Rattle.simulation.specs.cil_model.Fields.{FieldKey, same_key}
+use Rattle.simulation.proofs.cil_model.BelowLaws.{none_is_some, same_some}
+use Rattle.simulation.specs.name_tables.declared.lookups.MemberNumber.{MemberNumber}
+use Rattle.simulation.specs.reference_machine.Values.{ObjectName, Value as StateValue, same_kind}
+use Rattle.simulation.specs.reference_machine.States.{Contents, Instance as IsInstance, Array as IsArray, HeapObject, Frame as StateFrame, State, entry_at, with_entry, same_kind_or_none, replaced_entry, object_at, with_object, fields_of_contents, with_fields, field_value, with_field}
+use Rattle.simulation.specs.reference_machine.Effects.{Setting, given as state_given, not_null, onward as onward_frame}
+use Rattle.simulation.specs.reference_machine.Steps.{execute, key_of, next}
+use Rattle.simulation.specs.type_soundness.TypedStates.{IsTypedContents}
+use Rattle.simulation.proofs.type_soundness.StateChanges.{contents_typed}
+use Rattle.simulation.specs.resolved_code.Numbered.{class_name}
+use Rattle.simulation.specs.resolved_code.Resolved.{IsField}
+use Rattle.simulation.specs.resolved_code.declared.operations.Operation.{Operation}
+use Rattle.simulation.specs.resolved_code.declared.operations.Operation.TheVariants as Resolved
+use Rattle.simulation.specs.object_memory.declared.addresses.Addr.{Addr}
+use Rattle.simulation.specs.object_memory.declared.values.Value.{Value}
+use Rattle.simulation.specs.object_memory.declared.values.ValueKind.{ValueKind}
+use Rattle.simulation.specs.object_memory.Cells.{store_slot as with_cell_slot}
+use Rattle.simulation.specs.object_memory.Objects.{Objects}
+use Rattle.simulation.specs.object_memory.Values.{value_word}
+use Rattle.simulation.specs.threads_monitors.Frames.{Frames, with_stack}
+use Rattle.simulation.specs.instructions.Frames.{given}
+use Rattle.simulation.specs.method_table.Prepared.{kind_of_type}
+use Rattle.simulation.specs.instructions.ObjectTurns.{object_of, load_slot, store_slot, load_field_turn, store_field_turn}
+use Rattle.simulation.specs.interpreter.Instructions.{operation_turn, of_objects}
+use Rattle.simulation.specs.interpreter.Operations.{held_at}
 use Rattle.simulation.specs.Agreement.{Agree}
 use Rattle.simulation.specs.StandsFor.{Names, IsValue, IsWord, thread_word, IsInstanceCell, IsOfContents, IsCell}
 use Rattle.simulation.proofs.AgreeLaws.{agree_get, agree_set}

@@ -3,47 +3,47 @@ use Rattle.std.proofs.Common.{◌≡◌, ◌≤◌, ◌<◌, ◌+◌, ◌==◌, 
 use Rattle.std.specs.Prelude.{nat_lt}
 use Rattle.std.proofs.lemmas.Bool.Decides.{nat_tests}
 use Rattle.std.proofs.lemmas.List.Sums.{sum_by-cons}
-use Rattle.cil_model.specs.declared.instructions.Instruction.TheVariants as Named
-use Rattle.cil_model.specs.declared.limits.TheConstants.{MOST_WORDS, MOST_BRACKETS}
-use Rattle.cil_model.specs.declared.reports.Fault.TheVariants.{Overflow, OutOfMemory, NullReference}
-use Rattle.cil_model.specs.declared.trees.Tree.{Tree}
-use Rattle.cil_model.specs.declared.types.ClassName.{ClassName}
-use Rattle.cil_model.specs.declared.types.DeclaredType.{DeclaredType}
-use Rattle.cil_model.specs.declared.types.Element.{Element}
-use Rattle.cil_model.specs.declared.types.Element.TheVariants.{Int32 as Int32Element, Int64 as Int64Element, Object as ObjectElement, String as StringElement, Class as ClassElement}
-use Rattle.cil_model.specs.Assignable.{is_reference}
-use Rattle.cil_model.specs.Fields.{FieldKey}
-use Rattle.cil_model.specs.Legality.{IsLegal}
-use Rattle.cil_model.proofs.BelowLaws.{none_is_some, same_some}
-use Rattle.reference_machine.specs.Values.{ObjectName, Value as StateValue, Int32 as Int32Value, Native as NativeValue, Null, Reference, integer_zero, zero_of}
-use Rattle.reference_machine.specs.Arithmetic.{as_index}
-use Rattle.reference_machine.specs.States.{Array as IsArray, Frame as StateFrame, State, array_at, next_name, with_birth as with_state_birth}
-use Rattle.reference_machine.specs.Effects.{Setting, Raises as StateRaises, given as state_given, not_null, onward as onward_frame}
-use Rattle.reference_machine.specs.Steps.{execute, next, new_array}
-use Rattle.resolved_code.specs.Numbered.{class_name, element_at, type_at}
-use Rattle.resolved_code.specs.declared.operations.Operation.TheVariants as Resolved
-use Rattle.resolved_code.specs.declared.types.NumberedElement.{NumberedElement}
-use Rattle.resolved_code.specs.declared.types.NumberedElement.TheVariants.{Int32 as NumberedInt32, Int64 as NumberedInt64, Object as NumberedObject, String as NumberedString, Class as NumberedClass}
-use Rattle.resolved_code.specs.declared.types.NumberedType.{NumberedType}
-use Rattle.size_bounds.proofs.FieldSizes.{class_number_small}
-use Rattle.size_bounds.proofs.MethodSizes.{arrays_shallow}
-use Rattle.object_memory.specs.declared.addresses.Addr.{Addr}
-use Rattle.object_memory.specs.declared.kinds.ArrayElement.{ArrayElement}
-use Rattle.object_memory.specs.declared.kinds.ElementType.{ElementType}
-use Rattle.object_memory.specs.declared.kinds.ElementType.TheVariants.{Int32 as HeldInt32, Int64 as HeldInt64, Object as HeldObject, String as HeldString, Class as HeldClass}
-use Rattle.object_memory.specs.declared.kinds.Kind.TheVariants.{Array}
-use Rattle.object_memory.specs.declared.values.Value.{Value}
-use Rattle.object_memory.specs.declared.values.Value.TheVariants.{Int32, Int64, Native, Ref}
-use Rattle.object_memory.specs.Cells.{Cell, size, used_words, cell_from, null}
-use Rattle.object_memory.specs.Objects.{Objects, with_birth}
-use Rattle.instructions.specs.TypeTurns.{numbered, held_type}
-use Rattle.threads_monitors.specs.Frames.{Frames, with_place, with_stack}
-use Rattle.threads_monitors.specs.declared.effects.Effect.TheVariants.{GoesOn, Raises}
-use Rattle.instructions.specs.Frames.{given, leaves}
-use Rattle.instructions.specs.ObjectTurns.{beside, object_of, index_of, slots_of, leaves_born, new_array_of, new_array_turn}
-use Rattle.interpreter.specs.declared.outcomes.Outcome.TheVariants.{Comes}
-use Rattle.interpreter.specs.Instructions.{operation_turn, of_objects}
-use Rattle.interpreter.specs.Operations.{element_held, array_held}
+use Rattle.simulation.specs.cil_model.declared.instructions.Instruction.TheVariants as Named
+use Rattle.simulation.specs.cil_model.declared.limits.TheConstants.{MOST_WORDS, MOST_BRACKETS}
+use Rattle.simulation.specs.cil_model.declared.reports.Fault.TheVariants.{Overflow, OutOfMemory, NullReference}
+use Rattle.simulation.specs.cil_model.declared.trees.Tree.{Tree}
+use Rattle.simulation.specs.cil_model.declared.types.ClassName.{ClassName}
+use Rattle.simulation.specs.cil_model.declared.types.DeclaredType.{DeclaredType}
+use Rattle.simulation.specs.cil_model.declared.types.Element.{Element}
+use Rattle.simulation.specs.cil_model.declared.types.Element.TheVariants.{Int32 as Int32Element, Int64 as Int64Element, Object as ObjectElement, String as StringElement, Class as ClassElement}
+use Rattle.simulation.specs.cil_model.Assignable.{is_reference}
+use Rattle.simulation.specs.cil_model.Fields.{FieldKey}
+use Rattle.simulation.specs.cil_model.Legality.{IsLegal}
+use Rattle.simulation.proofs.cil_model.BelowLaws.{none_is_some, same_some}
+use Rattle.simulation.specs.reference_machine.Values.{ObjectName, Value as StateValue, Int32 as Int32Value, Native as NativeValue, Null, Reference, integer_zero, zero_of}
+use Rattle.simulation.specs.reference_machine.Arithmetic.{as_index}
+use Rattle.simulation.specs.reference_machine.States.{Array as IsArray, Frame as StateFrame, State, array_at, next_name, with_birth as with_state_birth}
+use Rattle.simulation.specs.reference_machine.Effects.{Setting, Raises as StateRaises, given as state_given, not_null, onward as onward_frame}
+use Rattle.simulation.specs.reference_machine.Steps.{execute, next, new_array}
+use Rattle.simulation.specs.resolved_code.Numbered.{class_name, element_at, type_at}
+use Rattle.simulation.specs.resolved_code.declared.operations.Operation.TheVariants as Resolved
+use Rattle.simulation.specs.resolved_code.declared.types.NumberedElement.{NumberedElement}
+use Rattle.simulation.specs.resolved_code.declared.types.NumberedElement.TheVariants.{Int32 as NumberedInt32, Int64 as NumberedInt64, Object as NumberedObject, String as NumberedString, Class as NumberedClass}
+use Rattle.simulation.specs.resolved_code.declared.types.NumberedType.{NumberedType}
+use Rattle.simulation.proofs.size_bounds.FieldSizes.{class_number_small}
+use Rattle.simulation.proofs.size_bounds.MethodSizes.{arrays_shallow}
+use Rattle.simulation.specs.object_memory.declared.addresses.Addr.{Addr}
+use Rattle.simulation.specs.object_memory.declared.kinds.ArrayElement.{ArrayElement}
+use Rattle.simulation.specs.object_memory.declared.kinds.ElementType.{ElementType}
+use Rattle.simulation.specs.object_memory.declared.kinds.ElementType.TheVariants.{Int32 as HeldInt32, Int64 as HeldInt64, Object as HeldObject, String as HeldString, Class as HeldClass}
+use Rattle.simulation.specs.object_memory.declared.kinds.Kind.TheVariants.{Array}
+use Rattle.simulation.specs.object_memory.declared.values.Value.{Value}
+use Rattle.simulation.specs.object_memory.declared.values.Value.TheVariants.{Int32, Int64, Native, Ref}
+use Rattle.simulation.specs.object_memory.Cells.{Cell, size, used_words, cell_from, null}
+use Rattle.simulation.specs.object_memory.Objects.{Objects, with_birth}
+use Rattle.simulation.specs.instructions.TypeTurns.{numbered, held_type}
+use Rattle.simulation.specs.threads_monitors.Frames.{Frames, with_place, with_stack}
+use Rattle.simulation.specs.threads_monitors.declared.effects.Effect.TheVariants.{GoesOn, Raises}
+use Rattle.simulation.specs.instructions.Frames.{given, leaves}
+use Rattle.simulation.specs.instructions.ObjectTurns.{beside, object_of, index_of, slots_of, leaves_born, new_array_of, new_array_turn}
+use Rattle.simulation.specs.interpreter.declared.outcomes.Outcome.TheVariants.{Comes}
+use Rattle.simulation.specs.interpreter.Instructions.{operation_turn, of_objects}
+use Rattle.simulation.specs.interpreter.Operations.{element_held, array_held}
 use Rattle.simulation.specs.Agreement.{Agree}
 use Rattle.simulation.specs.StandsFor.{Names, IsValue, native, int32, int64, null_reference, reference, IsWord, IsMemory}
 use Rattle.simulation.proofs.AgreeLaws.{agree_length, agree_weaken}

@@ -1,21 +1,21 @@
 -- What lies at an address is of the class of the object that has that address, so the same method is chosen for it.
 use Rattle.std.proofs.Common.{◌≡◌, ℕ, Bool, true, false, if◌then◌else◌, List, Option, Some, None, option_map, option_and_then, refl, sym, ap, ◌∙◌, subst}
 use Rattle.std.specs.Option.{option_map_or}
-use Rattle.cil_model.specs.declared.trees.Tree.{Tree}
-use Rattle.cil_model.specs.declared.trees.Method.{Method}
-use Rattle.cil_model.specs.declared.types.ClassName.{ClassName}
-use Rattle.cil_model.specs.Chains.{is_virtual}
-use Rattle.cil_model.specs.Slots.{target}
-use Rattle.cil_model.proofs.SameLaws.{if_false}
-use Rattle.reference_machine.specs.Values.{ObjectName, Born, Literal}
-use Rattle.reference_machine.specs.States.{Contents, Instance as IsInstance, Array as IsArray, HeapObject, State, class_of, class_of_contents}
-use Rattle.resolved_code.specs.Numbered.{class_name}
-use Rattle.object_memory.specs.declared.addresses.Addr.{Addr}
-use Rattle.object_memory.specs.declared.kinds.Kind.{Kind}
-use Rattle.object_memory.specs.declared.kinds.Kind.TheVariants.{Instance, Array}
-use Rattle.object_memory.specs.Cells.{Cell, cell_at}
-use Rattle.object_memory.specs.Objects.{Objects}
-use Rattle.interpreter.specs.Calls.{class_of_kind, class_at, chosen_by, chosen}
+use Rattle.simulation.specs.cil_model.declared.trees.Tree.{Tree}
+use Rattle.simulation.specs.cil_model.declared.trees.Method.{Method}
+use Rattle.simulation.specs.cil_model.declared.types.ClassName.{ClassName}
+use Rattle.simulation.specs.cil_model.Chains.{is_virtual}
+use Rattle.simulation.specs.cil_model.Slots.{target}
+use Rattle.simulation.proofs.cil_model.SameLaws.{if_false}
+use Rattle.simulation.specs.reference_machine.Values.{ObjectName, Born, Literal}
+use Rattle.simulation.specs.reference_machine.States.{Contents, Instance as IsInstance, Array as IsArray, HeapObject, State, class_of, class_of_contents}
+use Rattle.simulation.specs.resolved_code.Numbered.{class_name}
+use Rattle.simulation.specs.object_memory.declared.addresses.Addr.{Addr}
+use Rattle.simulation.specs.object_memory.declared.kinds.Kind.{Kind}
+use Rattle.simulation.specs.object_memory.declared.kinds.Kind.TheVariants.{Instance, Array}
+use Rattle.simulation.specs.object_memory.Cells.{Cell, cell_at}
+use Rattle.simulation.specs.object_memory.Objects.{Objects}
+use Rattle.simulation.specs.interpreter.Calls.{class_of_kind, class_at, chosen_by, chosen}
 use Rattle.simulation.specs.StandsFor.{Names, IsOfContents, IsBornAt, IsLiteralAt, IsHeap}
 
 -- ---- the class of an object

@@ -1,26 +1,26 @@
 -- What lies at an address is of the type of the object that has that address.
 use Rattle.std.proofs.Common.{◌≡◌, ℕ, true, if◌then◌else◌, List, Option, Some, option_map, option_and_then, slice_get, refl, sym, ap, ◌∙◌, subst}
 use Rattle.std.specs.Option.{option_map_or}
-use Rattle.cil_model.specs.declared.trees.Tree.{Tree}
-use Rattle.cil_model.specs.declared.types.DeclaredType.{DeclaredType}
-use Rattle.cil_model.specs.declared.types.Element.TheVariants.{String}
-use Rattle.cil_model.specs.Assignable.{array_of, type_of_class, is_assignable}
-use Rattle.cil_model.specs.Declarations.{plain}
-use Rattle.cil_model.proofs.BelowLaws.{none_is_some, same_some}
-use Rattle.reference_machine.specs.Values.{ObjectName, Born, Literal, Value as StateValue}
-use Rattle.reference_machine.specs.States.{Contents, Instance as IsInstance, Array as IsArray, HeapObject, Frame as StateFrame, State, array_at, elements_of_contents, type_of, type_of_contents}
-use Rattle.reference_machine.specs.Effects.{Setting}
-use Rattle.reference_machine.specs.Steps.{may_hold}
-use Rattle.resolved_code.specs.Numbered.{type_at}
-use Rattle.resolved_code.specs.declared.types.NumberedType.{NumberedType}
-use Rattle.object_memory.specs.declared.addresses.Addr.{Addr}
-use Rattle.object_memory.specs.declared.kinds.ArrayElement.{ArrayElement}
-use Rattle.object_memory.specs.declared.kinds.Kind.{Kind}
-use Rattle.object_memory.specs.declared.kinds.Kind.TheVariants.{Instance, Array}
-use Rattle.object_memory.specs.declared.values.Value.{Value}
-use Rattle.object_memory.specs.Cells.{Cell, cell_at}
-use Rattle.object_memory.specs.Objects.{Objects}
-use Rattle.instructions.specs.TypeTurns.{held_type, type_of_kind, type_of_address, may_stand, may_stand_as}
+use Rattle.simulation.specs.cil_model.declared.trees.Tree.{Tree}
+use Rattle.simulation.specs.cil_model.declared.types.DeclaredType.{DeclaredType}
+use Rattle.simulation.specs.cil_model.declared.types.Element.TheVariants.{String}
+use Rattle.simulation.specs.cil_model.Assignable.{array_of, type_of_class, is_assignable}
+use Rattle.simulation.specs.cil_model.Declarations.{plain}
+use Rattle.simulation.proofs.cil_model.BelowLaws.{none_is_some, same_some}
+use Rattle.simulation.specs.reference_machine.Values.{ObjectName, Born, Literal, Value as StateValue}
+use Rattle.simulation.specs.reference_machine.States.{Contents, Instance as IsInstance, Array as IsArray, HeapObject, Frame as StateFrame, State, array_at, elements_of_contents, type_of, type_of_contents}
+use Rattle.simulation.specs.reference_machine.Effects.{Setting}
+use Rattle.simulation.specs.reference_machine.Steps.{may_hold}
+use Rattle.simulation.specs.resolved_code.Numbered.{type_at}
+use Rattle.simulation.specs.resolved_code.declared.types.NumberedType.{NumberedType}
+use Rattle.simulation.specs.object_memory.declared.addresses.Addr.{Addr}
+use Rattle.simulation.specs.object_memory.declared.kinds.ArrayElement.{ArrayElement}
+use Rattle.simulation.specs.object_memory.declared.kinds.Kind.{Kind}
+use Rattle.simulation.specs.object_memory.declared.kinds.Kind.TheVariants.{Instance, Array}
+use Rattle.simulation.specs.object_memory.declared.values.Value.{Value}
+use Rattle.simulation.specs.object_memory.Cells.{Cell, cell_at}
+use Rattle.simulation.specs.object_memory.Objects.{Objects}
+use Rattle.simulation.specs.instructions.TypeTurns.{held_type, type_of_kind, type_of_address, may_stand, may_stand_as}
 use Rattle.simulation.specs.Agreement.{Agree}
 use Rattle.simulation.specs.StandsFor.{Names, IsValue, int32, int64, native, null_reference, reference, IsWord, IsOfContents, IsMonitor, IsBornAt, IsLiteralAt, IsHeap}
 use Rattle.simulation.proofs.Memories.{named_is_not_null}

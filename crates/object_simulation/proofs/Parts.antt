@@ -5,30 +5,30 @@ use Rattle.std.proofs.Math.ListN.{length-set}
 use Rattle.std.specs.Option.{option_map_or}
 use Rattle.std.proofs.lemmas.Bool.Decides.{nat_tests}
 use Rattle.std.proofs.lemmas.Option.{slice_get_within, slice_get_cases}
-use Rattle.cil_model.specs.declared.instructions.Instruction.{Instruction}
-use Rattle.cil_model.specs.declared.reports.Fault.{Fault}
-use Rattle.cil_model.specs.declared.reports.Fault.TheVariants.{NullReference, IndexOutOfRange}
-use Rattle.cil_model.specs.declared.types.DeclaredType.{DeclaredType}
-use Rattle.cil_model.proofs.BelowLaws.{none_is_some}
-use Rattle.reference_machine.specs.Values.{ObjectName, Born, Value as StateValue}
-use Rattle.reference_machine.specs.States.{HeapObject, Frame as StateFrame, State, array_at, with_object}
-use Rattle.reference_machine.specs.Arithmetic.{as_index}
-use Rattle.reference_machine.specs.Effects.{Setting, Effect as StateEffect, Raises as StateRaises, Sticks, given as state_given, not_null, onward as onward_frame}
-use Rattle.reference_machine.specs.Steps.{element, in_range as state_in_range}
-use Rattle.type_soundness.proofs.Running.{IsTypedEffect}
-use Rattle.resolved_code.specs.declared.operations.Operation.{Operation}
-use Rattle.object_memory.specs.declared.addresses.Addr.{Addr}
-use Rattle.object_memory.specs.declared.values.Value.{Value}
-use Rattle.object_memory.specs.declared.values.ValueKind.{ValueKind}
-use Rattle.object_memory.specs.Cells.{Cell, cell_at, store_slot as with_cell_slot}
-use Rattle.object_memory.specs.Values.{value_word, value_in}
-use Rattle.object_memory.specs.Objects.{Objects, with_cell, with_slot}
-use Rattle.threads_monitors.specs.Frames.{Frames, with_place, with_stack}
-use Rattle.threads_monitors.specs.declared.effects.Effect.TheVariants.{GoesOn, Raises}
-use Rattle.instructions.specs.Frames.{given, onward, leaves}
-use Rattle.instructions.specs.ObjectTurns.{ObjectTurn, beside, object_of, index_in, index_of, slots_of, load_slot, store_slot, place_in, in_range}
-use Rattle.interpreter.specs.declared.outcomes.Outcome.TheVariants.{Comes}
-use Rattle.interpreter.specs.Instructions.{MachineTurn, of_objects}
+use Rattle.simulation.specs.cil_model.declared.instructions.Instruction.{Instruction}
+use Rattle.simulation.specs.cil_model.declared.reports.Fault.{Fault}
+use Rattle.simulation.specs.cil_model.declared.reports.Fault.TheVariants.{NullReference, IndexOutOfRange}
+use Rattle.simulation.specs.cil_model.declared.types.DeclaredType.{DeclaredType}
+use Rattle.simulation.proofs.cil_model.BelowLaws.{none_is_some}
+use Rattle.simulation.specs.reference_machine.Values.{ObjectName, Born, Value as StateValue}
+use Rattle.simulation.specs.reference_machine.States.{HeapObject, Frame as StateFrame, State, array_at, with_object}
+use Rattle.simulation.specs.reference_machine.Arithmetic.{as_index}
+use Rattle.simulation.specs.reference_machine.Effects.{Setting, Effect as StateEffect, Raises as StateRaises, Sticks, given as state_given, not_null, onward as onward_frame}
+use Rattle.simulation.specs.reference_machine.Steps.{element, in_range as state_in_range}
+use Rattle.simulation.proofs.type_soundness.Running.{IsTypedEffect}
+use Rattle.simulation.specs.resolved_code.declared.operations.Operation.{Operation}
+use Rattle.simulation.specs.object_memory.declared.addresses.Addr.{Addr}
+use Rattle.simulation.specs.object_memory.declared.values.Value.{Value}
+use Rattle.simulation.specs.object_memory.declared.values.ValueKind.{ValueKind}
+use Rattle.simulation.specs.object_memory.Cells.{Cell, cell_at, store_slot as with_cell_slot}
+use Rattle.simulation.specs.object_memory.Values.{value_word, value_in}
+use Rattle.simulation.specs.object_memory.Objects.{Objects, with_cell, with_slot}
+use Rattle.simulation.specs.threads_monitors.Frames.{Frames, with_place, with_stack}
+use Rattle.simulation.specs.threads_monitors.declared.effects.Effect.TheVariants.{GoesOn, Raises}
+use Rattle.simulation.specs.instructions.Frames.{given, onward, leaves}
+use Rattle.simulation.specs.instructions.ObjectTurns.{ObjectTurn, beside, object_of, index_in, index_of, slots_of, load_slot, store_slot, place_in, in_range}
+use Rattle.simulation.specs.interpreter.declared.outcomes.Outcome.TheVariants.{Comes}
+use Rattle.simulation.specs.interpreter.Instructions.{MachineTurn, of_objects}
 use Rattle.simulation.specs.Agreement.{Agree}
 use Rattle.simulation.specs.StandsFor.{Names, IsValue, int32, int64, native, null_reference, reference, IsWord, IsCell, IsMemory}
 use Rattle.simulation.proofs.AgreeLaws.{agree_length}

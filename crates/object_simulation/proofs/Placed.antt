@@ -1,14 +1,14 @@
 -- Where an entry stands under its key.
 use Rattle.std.proofs.Common.{◌≡◌, ◌+◌, ℕ, suc, Bool, true, false, cond, ◌||◌, if◌then◌else◌, IsTrue, List, [], ◌∷◌, ◌++◌, Option, Some, None, slice_get, slice_set, refl, sym, ap, ◌∙◌, arith}
 use Rattle.std.specs.List.{list_any, position_from}
-use Rattle.cil_model.specs.declared.types.DeclaredType.{DeclaredType}
-use Rattle.cil_model.specs.declared.trees.Tree.{Tree}
-use Rattle.cil_model.specs.Fields.{FieldKey, same_key}
-use Rattle.cil_model.proofs.SameLaws.{if_true, if_false}
-use Rattle.cil_model.proofs.BelowLaws.{none_is_some, same_some}
-use Rattle.reference_machine.specs.Values.{Value as StateValue, same_kind}
-use Rattle.reference_machine.specs.States.{State, entry_at, with_entry, same_kind_or_none, replaced_entry}
-use Rattle.type_soundness.specs.TypedStates.{HaveFieldTypes}
+use Rattle.simulation.specs.cil_model.declared.types.DeclaredType.{DeclaredType}
+use Rattle.simulation.specs.cil_model.declared.trees.Tree.{Tree}
+use Rattle.simulation.specs.cil_model.Fields.{FieldKey, same_key}
+use Rattle.simulation.proofs.cil_model.SameLaws.{if_true, if_false}
+use Rattle.simulation.proofs.cil_model.BelowLaws.{none_is_some, same_some}
+use Rattle.simulation.specs.reference_machine.Values.{Value as StateValue, same_kind}
+use Rattle.simulation.specs.reference_machine.States.{State, entry_at, with_entry, same_kind_or_none, replaced_entry}
+use Rattle.simulation.specs.type_soundness.TypedStates.{HaveFieldTypes}
 use Rattle.object_simulation.proofs.Words.{lost}
 use Rattle.object_simulation.proofs.Chains.{has_key}
 

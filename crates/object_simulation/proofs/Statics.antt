@@ -5,39 +5,39 @@ use Rattle.std.specs.List.{list_any}
 use Rattle.std.proofs.lemmas.Bool.Decides.{nat_tests}
 use Rattle.std.proofs.lemmas.List.{append-nil}
 use Rattle.std.proofs.lemmas.Option.{slice_get_within}
-use Rattle.cil_model.specs.declared.instructions.Instruction.{Instruction}
-use Rattle.cil_model.specs.declared.instructions.Instruction.TheVariants as Named
-use Rattle.cil_model.specs.declared.instructions.FieldReference.{FieldReference}
-use Rattle.cil_model.specs.declared.trees.Field.{Field}
-use Rattle.cil_model.specs.declared.trees.Tree.{Tree}
-use Rattle.cil_model.specs.declared.types.ClassName.{ClassName}
-use Rattle.cil_model.specs.Same.{same_class, same_text, same_type, same_flag}
-use Rattle.cil_model.specs.Chains.{chain_of, fields_in, find_field}
-use Rattle.cil_model.specs.Fields.{FieldKey, same_key, static_fields, static_slot}
-use Rattle.cil_model.proofs.SameLaws.{both_second, same_flag_equal}
-use Rattle.name_tables.specs.declared.lookups.MemberNumber.{MemberNumber}
-use Rattle.reference_machine.specs.Values.{Value as StateValue}
-use Rattle.reference_machine.specs.States.{Frame as StateFrame, State, entry_at, replaced_entry}
-use Rattle.reference_machine.specs.Effects.{Setting, given as state_given, onward as onward_frame}
-use Rattle.reference_machine.specs.Steps.{execute, key_of, next}
-use Rattle.type_soundness.specs.TypedStates.{HaveFieldTypes}
-use Rattle.type_soundness.proofs.DeclaredClasses.{found_itself}
-use Rattle.type_soundness.proofs.DeclaredFields.{static_field_there}
-use Rattle.type_soundness.proofs.Targets.{nearest_at}
-use Rattle.size_bounds.proofs.FieldSizes.{static_slot_small}
-use Rattle.resolved_code.specs.Resolved.{IsField}
-use Rattle.resolved_code.specs.declared.operations.Operation.{Operation}
-use Rattle.resolved_code.specs.declared.operations.Operation.TheVariants as Resolved
-use Rattle.object_memory.specs.declared.values.Value.{Value}
-use Rattle.object_memory.specs.Objects.{Objects}
-use Rattle.threads_monitors.specs.Frames.{Frames, with_place, with_stack}
-use Rattle.threads_monitors.specs.declared.effects.Effect.{Effect}
-use Rattle.threads_monitors.specs.declared.effects.Effect.TheVariants.{GoesOn}
-use Rattle.instructions.specs.Frames.{given, leaves, onward}
-use Rattle.instructions.specs.ObjectTurns.{load_static_turn, store_static_turn}
-use Rattle.interpreter.specs.declared.outcomes.Outcome.TheVariants.{Comes}
-use Rattle.interpreter.specs.Instructions.{operation_turn, of_statics}
-use Rattle.interpreter.specs.Operations.{small, static_in, static_at}
+use Rattle.simulation.specs.cil_model.declared.instructions.Instruction.{Instruction}
+use Rattle.simulation.specs.cil_model.declared.instructions.Instruction.TheVariants as Named
+use Rattle.simulation.specs.cil_model.declared.instructions.FieldReference.{FieldReference}
+use Rattle.simulation.specs.cil_model.declared.trees.Field.{Field}
+use Rattle.simulation.specs.cil_model.declared.trees.Tree.{Tree}
+use Rattle.simulation.specs.cil_model.declared.types.ClassName.{ClassName}
+use Rattle.simulation.specs.cil_model.Same.{same_class, same_text, same_type, same_flag}
+use Rattle.simulation.specs.cil_model.Chains.{chain_of, fields_in, find_field}
+use Rattle.simulation.specs.cil_model.Fields.{FieldKey, same_key, static_fields, static_slot}
+use Rattle.simulation.proofs.cil_model.SameLaws.{both_second, same_flag_equal}
+use Rattle.simulation.specs.name_tables.declared.lookups.MemberNumber.{MemberNumber}
+use Rattle.simulation.specs.reference_machine.Values.{Value as StateValue}
+use Rattle.simulation.specs.reference_machine.States.{Frame as StateFrame, State, entry_at, replaced_entry}
+use Rattle.simulation.specs.reference_machine.Effects.{Setting, given as state_given, onward as onward_frame}
+use Rattle.simulation.specs.reference_machine.Steps.{execute, key_of, next}
+use Rattle.simulation.specs.type_soundness.TypedStates.{HaveFieldTypes}
+use Rattle.simulation.proofs.type_soundness.DeclaredClasses.{found_itself}
+use Rattle.simulation.proofs.type_soundness.DeclaredFields.{static_field_there}
+use Rattle.simulation.proofs.type_soundness.Targets.{nearest_at}
+use Rattle.simulation.proofs.size_bounds.FieldSizes.{static_slot_small}
+use Rattle.simulation.specs.resolved_code.Resolved.{IsField}
+use Rattle.simulation.specs.resolved_code.declared.operations.Operation.{Operation}
+use Rattle.simulation.specs.resolved_code.declared.operations.Operation.TheVariants as Resolved
+use Rattle.simulation.specs.object_memory.declared.values.Value.{Value}
+use Rattle.simulation.specs.object_memory.Objects.{Objects}
+use Rattle.simulation.specs.threads_monitors.Frames.{Frames, with_place, with_stack}
+use Rattle.simulation.specs.threads_monitors.declared.effects.Effect.{Effect}
+use Rattle.simulation.specs.threads_monitors.declared.effects.Effect.TheVariants.{GoesOn}
+use Rattle.simulation.specs.instructions.Frames.{given, leaves, onward}
+use Rattle.simulation.specs.instructions.ObjectTurns.{load_static_turn, store_static_turn}
+use Rattle.simulation.specs.interpreter.declared.outcomes.Outcome.TheVariants.{Comes}
+use Rattle.simulation.specs.interpreter.Instructions.{operation_turn, of_statics}
+use Rattle.simulation.specs.interpreter.Operations.{small, static_in, static_at}
 use Rattle.simulation.specs.Agreement.{Agree}
 use Rattle.simulation.specs.StandsFor.{Names, IsValue, IsMemory}
 use Rattle.simulation.proofs.AgreeLaws.{agree_get, agree_set}

@@ -5,34 +5,34 @@ use Rattle.std.specs.Option.{option_map_or}
 use Rattle.std.proofs.lemmas.Bool.Decides.{nat_tests}
 use Rattle.std.proofs.lemmas.List.{length-set}
 use Rattle.std.proofs.lemmas.Option.{slice_get_within}
-use Rattle.cil_model.specs.declared.instructions.Instruction.TheVariants as Named
-use Rattle.cil_model.specs.declared.reports.Fault.{Fault}
-use Rattle.cil_model.specs.declared.reports.Fault.TheVariants.{NullReference, IndexOutOfRange, ArrayTypeMismatch}
-use Rattle.cil_model.specs.declared.trees.Tree.{Tree}
-use Rattle.cil_model.specs.declared.types.DeclaredType.{DeclaredType}
-use Rattle.cil_model.specs.Assignable.{is_reference}
-use Rattle.cil_model.proofs.BelowLaws.{none_is_some}
-use Rattle.reference_machine.specs.Values.{ObjectName, Born, Literal, Value as StateValue, same_kind}
-use Rattle.reference_machine.specs.Arithmetic.{as_index}
-use Rattle.reference_machine.specs.States.{Array as IsArray, HeapObject, Frame as StateFrame, State, array_at, elements_of_contents, replaced_at, same_kind_or_none, with_element, with_object}
-use Rattle.reference_machine.specs.Effects.{Setting, Effect as StateEffect, Raises as StateRaises, Sticks, given as given_state, onward as onward_frame}
-use Rattle.reference_machine.specs.Steps.{execute, in_range as in_range_state, element, may_hold}
-use Rattle.type_soundness.proofs.Running.{IsTypedEffect}
-use Rattle.resolved_code.specs.declared.operations.Operation.TheVariants as Resolved
-use Rattle.object_memory.specs.declared.addresses.Addr.{Addr}
-use Rattle.object_memory.specs.declared.kinds.Kind.{Kind}
-use Rattle.object_memory.specs.declared.kinds.Kind.TheVariants.{Instance, Array}
-use Rattle.object_memory.specs.declared.values.Value.{Value}
-use Rattle.object_memory.specs.Cells.{Cell, store_slot as stored_slot}
-use Rattle.object_memory.specs.Objects.{Objects, with_slot}
-use Rattle.object_memory.specs.Values.{value_word}
-use Rattle.threads_monitors.specs.Frames.{Frames, with_place, with_stack}
-use Rattle.threads_monitors.specs.declared.effects.Effect.TheVariants.{GoesOn, Raises}
-use Rattle.instructions.specs.Frames.{given, onward}
-use Rattle.instructions.specs.ObjectTurns.{ObjectTurn, beside, object_of, index_in, index_of, slots_of, place_in, in_range, store_slot}
-use Rattle.instructions.specs.TypeTurns.{held_type, may_stand_as, element_in, store_admitted}
-use Rattle.interpreter.specs.declared.outcomes.Outcome.TheVariants.{Comes}
-use Rattle.interpreter.specs.Instructions.{of_objects, operation_turn}
+use Rattle.simulation.specs.cil_model.declared.instructions.Instruction.TheVariants as Named
+use Rattle.simulation.specs.cil_model.declared.reports.Fault.{Fault}
+use Rattle.simulation.specs.cil_model.declared.reports.Fault.TheVariants.{NullReference, IndexOutOfRange, ArrayTypeMismatch}
+use Rattle.simulation.specs.cil_model.declared.trees.Tree.{Tree}
+use Rattle.simulation.specs.cil_model.declared.types.DeclaredType.{DeclaredType}
+use Rattle.simulation.specs.cil_model.Assignable.{is_reference}
+use Rattle.simulation.proofs.cil_model.BelowLaws.{none_is_some}
+use Rattle.simulation.specs.reference_machine.Values.{ObjectName, Born, Literal, Value as StateValue, same_kind}
+use Rattle.simulation.specs.reference_machine.Arithmetic.{as_index}
+use Rattle.simulation.specs.reference_machine.States.{Array as IsArray, HeapObject, Frame as StateFrame, State, array_at, elements_of_contents, replaced_at, same_kind_or_none, with_element, with_object}
+use Rattle.simulation.specs.reference_machine.Effects.{Setting, Effect as StateEffect, Raises as StateRaises, Sticks, given as given_state, onward as onward_frame}
+use Rattle.simulation.specs.reference_machine.Steps.{execute, in_range as in_range_state, element, may_hold}
+use Rattle.simulation.proofs.type_soundness.Running.{IsTypedEffect}
+use Rattle.simulation.specs.resolved_code.declared.operations.Operation.TheVariants as Resolved
+use Rattle.simulation.specs.object_memory.declared.addresses.Addr.{Addr}
+use Rattle.simulation.specs.object_memory.declared.kinds.Kind.{Kind}
+use Rattle.simulation.specs.object_memory.declared.kinds.Kind.TheVariants.{Instance, Array}
+use Rattle.simulation.specs.object_memory.declared.values.Value.{Value}
+use Rattle.simulation.specs.object_memory.Cells.{Cell, store_slot as stored_slot}
+use Rattle.simulation.specs.object_memory.Objects.{Objects, with_slot}
+use Rattle.simulation.specs.object_memory.Values.{value_word}
+use Rattle.simulation.specs.threads_monitors.Frames.{Frames, with_place, with_stack}
+use Rattle.simulation.specs.threads_monitors.declared.effects.Effect.TheVariants.{GoesOn, Raises}
+use Rattle.simulation.specs.instructions.Frames.{given, onward}
+use Rattle.simulation.specs.instructions.ObjectTurns.{ObjectTurn, beside, object_of, index_in, index_of, slots_of, place_in, in_range, store_slot}
+use Rattle.simulation.specs.instructions.TypeTurns.{held_type, may_stand_as, element_in, store_admitted}
+use Rattle.simulation.specs.interpreter.declared.outcomes.Outcome.TheVariants.{Comes}
+use Rattle.simulation.specs.interpreter.Instructions.{of_objects, operation_turn}
 use Rattle.simulation.specs.Agreement.{Agree}
 use Rattle.simulation.specs.StandsFor.{Names, IsValue, int32, int64, native, null_reference, reference, IsWord, IsOfContents, IsCell, IsHeap, IsMemory}
 use Rattle.simulation.proofs.AgreeLaws.{agree_get, agree_beyond, agree_set}

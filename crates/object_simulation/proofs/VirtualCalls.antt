@@ -2,32 +2,32 @@
 use Rattle.std.proofs.Common.{◌≡◌, ◌≤◌, ◌++◌, ℕ, zero, suc, ◌==◌, Bool, true, false, if◌then◌else◌, nat_le, List, [], ◌∷◌, length, take, drop, reverse, Option, Some, None, option_and_then, slice_get, refl, sym, ap, ◌∙◌, subst, arith}
 use Rattle.std.proofs.lemmas.Bool.Decides.{nat_tests}
 use Rattle.std.proofs.lemmas.List.{reverse-append, length-reverse}
-use Rattle.cil_model.specs.declared.instructions.Instruction.TheVariants as Named
-use Rattle.cil_model.specs.declared.reports.Fault.TheVariants.{NullReference}
-use Rattle.cil_model.specs.declared.trees.Method.{Method}
-use Rattle.cil_model.specs.declared.types.ClassName.{ClassName}
-use Rattle.cil_model.specs.declared.types.DeclaredType.{DeclaredType}
-use Rattle.cil_model.specs.declared.types.Signature.{Signature}
-use Rattle.cil_model.specs.Bodies.{argument_types, reference_operands, virtual_reference}
-use Rattle.reference_machine.specs.Values.{ObjectName, Value as StateValue, Reference}
-use Rattle.reference_machine.specs.States.{Frame as StateFrame, State, class_of}
-use Rattle.reference_machine.specs.Effects.{Setting, Effect as StateEffect, Sticks, given as given_state, are_of_kinds}
-use Rattle.reference_machine.specs.Steps.{execute, run_method, run_virtual, operands}
-use Rattle.type_soundness.proofs.FoundMethods.{IsFound, found}
-use Rattle.type_soundness.proofs.Running.{IsTypedEffect}
-use Rattle.name_tables.specs.declared.lookups.MemberNumber.{MemberNumber}
-use Rattle.resolved_code.specs.Numbered.{class_name}
-use Rattle.resolved_code.specs.Resolved.{IsMethod}
-use Rattle.resolved_code.specs.declared.operations.Operation.TheVariants as Resolved
-use Rattle.object_memory.specs.declared.addresses.Addr.{Addr}
-use Rattle.object_memory.specs.declared.values.Value.{Value}
-use Rattle.object_memory.specs.Objects.{Objects}
-use Rattle.threads_monitors.specs.Frames.{Frames}
-use Rattle.threads_monitors.specs.declared.effects.Effect.TheVariants.{Raises}
-use Rattle.instructions.specs.Frames.{given}
-use Rattle.interpreter.specs.declared.outcomes.Outcome.TheVariants.{Comes}
-use Rattle.interpreter.specs.Calls.{CallTurn, chosen, receiver, receiver_in, run_chosen, run_turn}
-use Rattle.interpreter.specs.Instructions.{of_calls, operation_turn}
+use Rattle.simulation.specs.cil_model.declared.instructions.Instruction.TheVariants as Named
+use Rattle.simulation.specs.cil_model.declared.reports.Fault.TheVariants.{NullReference}
+use Rattle.simulation.specs.cil_model.declared.trees.Method.{Method}
+use Rattle.simulation.specs.cil_model.declared.types.ClassName.{ClassName}
+use Rattle.simulation.specs.cil_model.declared.types.DeclaredType.{DeclaredType}
+use Rattle.simulation.specs.cil_model.declared.types.Signature.{Signature}
+use Rattle.simulation.specs.cil_model.Bodies.{argument_types, reference_operands, virtual_reference}
+use Rattle.simulation.specs.reference_machine.Values.{ObjectName, Value as StateValue, Reference}
+use Rattle.simulation.specs.reference_machine.States.{Frame as StateFrame, State, class_of}
+use Rattle.simulation.specs.reference_machine.Effects.{Setting, Effect as StateEffect, Sticks, given as given_state, are_of_kinds}
+use Rattle.simulation.specs.reference_machine.Steps.{execute, run_method, run_virtual, operands}
+use Rattle.simulation.proofs.type_soundness.FoundMethods.{IsFound, found}
+use Rattle.simulation.proofs.type_soundness.Running.{IsTypedEffect}
+use Rattle.simulation.specs.name_tables.declared.lookups.MemberNumber.{MemberNumber}
+use Rattle.simulation.specs.resolved_code.Numbered.{class_name}
+use Rattle.simulation.specs.resolved_code.Resolved.{IsMethod}
+use Rattle.simulation.specs.resolved_code.declared.operations.Operation.TheVariants as Resolved
+use Rattle.simulation.specs.object_memory.declared.addresses.Addr.{Addr}
+use Rattle.simulation.specs.object_memory.declared.values.Value.{Value}
+use Rattle.simulation.specs.object_memory.Objects.{Objects}
+use Rattle.simulation.specs.threads_monitors.Frames.{Frames}
+use Rattle.simulation.specs.threads_monitors.declared.effects.Effect.TheVariants.{Raises}
+use Rattle.simulation.specs.instructions.Frames.{given}
+use Rattle.simulation.specs.interpreter.declared.outcomes.Outcome.TheVariants.{Comes}
+use Rattle.simulation.specs.interpreter.Calls.{CallTurn, chosen, receiver, receiver_in, run_chosen, run_turn}
+use Rattle.simulation.specs.interpreter.Instructions.{of_calls, operation_turn}
 use Rattle.simulation.specs.Agreement.{Agree}
 use Rattle.simulation.specs.StandsFor.{Names, IsValue, int32, int64, native, null_reference, reference}
 use Rattle.simulation.proofs.AgreeLaws.{agree_get}

@@ -3,24 +3,24 @@ use Rattle.std.proofs.Common.{◌≡◌, ◌<◌, ◌%◌, ℕ, zero, suc, ℤ, 
 use Rattle.std.specs.Prelude.{FitsSigned}
 use Rattle.std.specs.Int.{w32, w64, cast_unsigned, cast_signed}
 use Rattle.std.proofs.lemmas.Int.{to_z-of_z}
-use Rattle.cil_model.specs.declared.types.Element.{Element}
-use Rattle.cil_model.specs.declared.types.Element.TheVariants.{Int32 as Int32Element, Int64 as Int64Element, Object, String, Class}
-use Rattle.cil_model.specs.declared.types.DeclaredType.{DeclaredType}
-use Rattle.cil_model.specs.declared.trees.Tree.{Tree}
-use Rattle.cil_model.specs.Assignable.{is_reference_element}
-use Rattle.cil_model.specs.Legality.{IsLegal}
-use Rattle.reference_machine.specs.Values.{Value as StateValue, Int32 as Int32Value, Int64 as Int64Value, Native as NativeValue, Null, Reference, ObjectName, integer_zero, zero_of, same_kind}
-use Rattle.reference_machine.specs.States.{State}
-use Rattle.type_soundness.specs.TypedStates.{HasType}
-use Rattle.type_soundness.proofs.Operands.{kinds_agree}
-use Rattle.type_soundness.proofs.Openings.{zero_typed}
-use Rattle.object_memory.specs.declared.addresses.TheConstants.{ADDRESSES}
-use Rattle.object_memory.specs.declared.values.Value.{Value}
-use Rattle.object_memory.specs.declared.values.Value.TheVariants.{Int32, Int64, Native, Ref}
-use Rattle.object_memory.specs.declared.values.ValueKind.{ValueKind}
-use Rattle.object_memory.specs.declared.values.ValueKind.TheVariants as Kind
-use Rattle.object_memory.specs.Values.{value_word, value_in}
-use Rattle.method_table.specs.Prepared.{kind_at, kind_of_type}
+use Rattle.simulation.specs.cil_model.declared.types.Element.{Element}
+use Rattle.simulation.specs.cil_model.declared.types.Element.TheVariants.{Int32 as Int32Element, Int64 as Int64Element, Object, String, Class}
+use Rattle.simulation.specs.cil_model.declared.types.DeclaredType.{DeclaredType}
+use Rattle.simulation.specs.cil_model.declared.trees.Tree.{Tree}
+use Rattle.simulation.specs.cil_model.Assignable.{is_reference_element}
+use Rattle.simulation.specs.cil_model.Legality.{IsLegal}
+use Rattle.simulation.specs.reference_machine.Values.{Value as StateValue, Int32 as Int32Value, Int64 as Int64Value, Native as NativeValue, Null, Reference, ObjectName, integer_zero, zero_of, same_kind}
+use Rattle.simulation.specs.reference_machine.States.{State}
+use Rattle.simulation.specs.type_soundness.TypedStates.{HasType}
+use Rattle.simulation.proofs.type_soundness.Operands.{kinds_agree}
+use Rattle.simulation.proofs.type_soundness.Openings.{zero_typed}
+use Rattle.simulation.specs.object_memory.declared.addresses.TheConstants.{ADDRESSES}
+use Rattle.simulation.specs.object_memory.declared.values.Value.{Value}
+use Rattle.simulation.specs.object_memory.declared.values.Value.TheVariants.{Int32, Int64, Native, Ref}
+use Rattle.simulation.specs.object_memory.declared.values.ValueKind.{ValueKind}
+use Rattle.simulation.specs.object_memory.declared.values.ValueKind.TheVariants as Kind
+use Rattle.simulation.specs.object_memory.Values.{value_word, value_in}
+use Rattle.simulation.specs.method_table.Prepared.{kind_at, kind_of_type}
 use Rattle.simulation.specs.StandsFor.{Names, IsValue, int32, int64, native, null_reference, reference, IsWord}
 
 -- the kind of a value of the reference machine

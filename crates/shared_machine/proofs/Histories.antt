@@ -10,9 +10,9 @@ use Rattle.worker_counts.proofs.Moves.{get_same, get_other}
 use Rattle.worker_counts.specs.Counts.{Count}
 use Rattle.cil_model.specs.declared.events.Event.{Event}
 use Rattle.cil_model.specs.declared.reports.Report.{Report}
-use Rattle.simulation.specs.MachineContents.{Content}
-use Rattle.simulation.specs.Runs.{AreTurns}
-use Rattle.simulation.specs.Turns.{IsTurn}
+use Rattle.interleaving_core.specs.simulation.MachineContents.{Content}
+use Rattle.interleaving_core.specs.simulation.Runs.{AreTurns}
+use Rattle.interleaving_core.specs.simulation.Turns.{IsTurn}
 use Rattle.interleaving_core.proofs.Following.{turns_follow, turns_length, turns_more, turns_program}
 use Rattle.shared_machine.specs.Codes.{add}
 use Rattle.shared_machine.specs.Histories.{IsSmall, plain, entry, events_of, reports_of, add_if, counted, count_of}

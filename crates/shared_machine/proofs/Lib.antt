@@ -1,3 +1,5 @@
+pub use Rattle.interleaving_core.proofs.simulation as simulation
+pub use Rattle.interleaving_core.proofs as interleaving_core
 pub mod Histories
 pub mod Codes
 pub mod OneWorker

@@ -4,9 +4,9 @@ use Rattle.std.specs.List.{zip}
 use Rattle.cil_model.specs.declared.events.Event.{Event}
 use Rattle.cil_model.specs.declared.reports.Report.{Report}
 use Rattle.object_memory.specs.Objects.{no_objects}
-use Rattle.simulation.specs.MachineContents.{Content}
-use Rattle.simulation.specs.Runs.{AreTurns, FollowsReference}
-use Rattle.simulation.specs.Turns.{IsTurn}
+use Rattle.interleaving_core.specs.simulation.MachineContents.{Content}
+use Rattle.interleaving_core.specs.simulation.Runs.{AreTurns, FollowsReference}
+use Rattle.interleaving_core.specs.simulation.Turns.{IsTurn}
 use Rattle.worker_counts.specs.Counts.{Count}
 use Rattle.shared_machine.specs.Codes.{add}
 use Rattle.shared_machine.specs.Histories.{AreOf, entry, events_of, reports_of, count_of}

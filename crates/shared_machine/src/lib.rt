@@ -12,7 +12,7 @@ mod world;
 pub use alone::run_alone;
 pub use answer::Answer;
 pub use history::{Entry, History, Run, counts_fix_events};
-pub use interleaving_core::Machine;
+pub use interleaving_core::{Machine, Refused};
 pub use outcome::Outcome;
 pub use shared::{MOST_WORKERS, Shared, Unfinished};
 pub use world::{Opening, World, perform, stop};

@@ -18,7 +18,7 @@ use worker_counts::{Book, Naming, Next, Ticket};
 /// three, at `Brand`.
 pub trait Opening: Naming {
     ghost use Rattle.std.specs.Prelude.{ℕ};
-    ghost use Rattle.simulation.specs.MachineContents.{Content};
+    ghost use Rattle.interleaving_core.specs.simulation.MachineContents.{Content};
 
     ghost opening: { Content };
 

@@ -1,15 +1,15 @@
 -- A thread at the beginning of a method stands for one of the reference machine.
 use Rattle.std.proofs.Common.{◌≡◌, ◌≤◌, ℕ, List, [], ◌∷◌, Some, None, slice_get, refl}
-use Rattle.cil_model.specs.declared.limits.Limits.{Limits}
-use Rattle.cil_model.specs.declared.trees.Tree.{Tree}
-use Rattle.cil_model.specs.declared.trees.Method.{Method}
-use Rattle.cil_model.specs.declared.trees.Code.{Code}
-use Rattle.cil_model.specs.declared.types.ClassName.{ClassName}
-use Rattle.cil_model.specs.Bodies.{code_of}
-use Rattle.reference_machine.specs.Values.{Value as StateValue}
-use Rattle.reference_machine.specs.Effects.{new_frame}
-use Rattle.method_table.specs.AllMethods.{all_methods}
-use Rattle.object_memory.specs.declared.values.Value.{Value}
+use Rattle.simulation.specs.cil_model.declared.limits.Limits.{Limits}
+use Rattle.simulation.specs.cil_model.declared.trees.Tree.{Tree}
+use Rattle.simulation.specs.cil_model.declared.trees.Method.{Method}
+use Rattle.simulation.specs.cil_model.declared.trees.Code.{Code}
+use Rattle.simulation.specs.cil_model.declared.types.ClassName.{ClassName}
+use Rattle.simulation.specs.cil_model.Bodies.{code_of}
+use Rattle.simulation.specs.reference_machine.Values.{Value as StateValue}
+use Rattle.simulation.specs.reference_machine.Effects.{new_frame}
+use Rattle.simulation.specs.method_table.AllMethods.{all_methods}
+use Rattle.simulation.specs.object_memory.declared.values.Value.{Value}
 use Rattle.simulation.specs.Agreement.{Agree}
 use Rattle.simulation.specs.StandsFor.{Names, IsValue, IsThread}
 use Rattle.simulation.specs.Turns.{thread_at}

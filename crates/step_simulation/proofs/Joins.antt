@@ -1,23 +1,23 @@
 -- A thread waits for another alike on both machines.
 use Rattle.std.proofs.Common.{◌≡◌, if◌then◌else◌, ℕ, Bool, true, false, is_none, List, ◌∷◌, drop, Option, Some, None, option_map, unwrap_or, slice_get, refl, inl, inr, sym, ap, ◌∙◌, subst}
 use Rattle.std.specs.Option.{option_map_or}
-use Rattle.cil_model.specs.declared.reports.End.{End}
-use Rattle.cil_model.specs.declared.reports.Fault.TheVariants.{NullReference, ThreadState}
-use Rattle.reference_machine.specs.Values.{Value as StateValue}
-use Rattle.reference_machine.specs.States.{Frame as StateFrame, Thread as StateThread, State, is_live, is_live_thread}
-use Rattle.reference_machine.specs.Effects.{Blocks as StateBlocks, Raises as StateRaises, onward}
-use Rattle.reference_machine.specs.BuiltIn.{Join, join}
-use Rattle.resolved_code.specs.declared.operations.Operation.{Operation}
-use Rattle.object_memory.specs.declared.addresses.Addr.{Addr}
-use Rattle.threads_monitors.specs.Frames.{Frames}
-use Rattle.threads_monitors.specs.Threads.{end_in, is_live as is_live_machine, is_live_at, thread_on, wait_for, join_effect}
-use Rattle.threads_monitors.specs.declared.effects.Effect.{Effect}
-use Rattle.threads_monitors.specs.declared.effects.Effect.TheVariants.{GoesOn, Blocks, Raises}
-use Rattle.threads_monitors.specs.declared.threads.Standing.{Standing}
-use Rattle.threads_monitors.specs.declared.threads.Standing.TheVariants.{Live, Ended}
-use Rattle.threads_monitors.specs.declared.threads.Thread.{Thread}
-use Rattle.interpreter.specs.declared.outcomes.Outcome.TheVariants.{Comes, Joins}
-use Rattle.interpreter.specs.Instructions.{HasSmallConstant, IsAt}
+use Rattle.simulation.specs.cil_model.declared.reports.End.{End}
+use Rattle.simulation.specs.cil_model.declared.reports.Fault.TheVariants.{NullReference, ThreadState}
+use Rattle.simulation.specs.reference_machine.Values.{Value as StateValue}
+use Rattle.simulation.specs.reference_machine.States.{Frame as StateFrame, Thread as StateThread, State, is_live, is_live_thread}
+use Rattle.simulation.specs.reference_machine.Effects.{Blocks as StateBlocks, Raises as StateRaises, onward}
+use Rattle.simulation.specs.reference_machine.BuiltIn.{Join, join}
+use Rattle.simulation.specs.resolved_code.declared.operations.Operation.{Operation}
+use Rattle.simulation.specs.object_memory.declared.addresses.Addr.{Addr}
+use Rattle.simulation.specs.threads_monitors.Frames.{Frames}
+use Rattle.simulation.specs.threads_monitors.Threads.{end_in, is_live as is_live_machine, is_live_at, thread_on, wait_for, join_effect}
+use Rattle.simulation.specs.threads_monitors.declared.effects.Effect.{Effect}
+use Rattle.simulation.specs.threads_monitors.declared.effects.Effect.TheVariants.{GoesOn, Blocks, Raises}
+use Rattle.simulation.specs.threads_monitors.declared.threads.Standing.{Standing}
+use Rattle.simulation.specs.threads_monitors.declared.threads.Standing.TheVariants.{Live, Ended}
+use Rattle.simulation.specs.threads_monitors.declared.threads.Thread.{Thread}
+use Rattle.simulation.specs.interpreter.declared.outcomes.Outcome.TheVariants.{Comes, Joins}
+use Rattle.simulation.specs.interpreter.Instructions.{HasSmallConstant, IsAt}
 use Rattle.simulation.specs.MachineContents.{Content}
 use Rattle.simulation.specs.StandsFor.{IsThread, StandsAlike, Represents}
 use Rattle.simulation.specs.Turns.{after_request, counted}

@@ -1,3 +1,4 @@
+pub use Rattle.simulation.proofs as simulation
 pub mod Settings
 pub mod Settling
 pub mod ThreadObjects

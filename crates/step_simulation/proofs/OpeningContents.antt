@@ -1,28 +1,28 @@
 -- What a machine holds at first stands for the opening state.
 use Rattle.std.proofs.Common.{◌≡◌, ℕ, IsTrue, [], ◌∷◌, length, Option, Some, None, option_map, option_and_then, slice_get, refl, sym, ap, ◌∙◌, arith}
-use Rattle.cil_model.specs.declared.limits.Limits.{Limits}
-use Rattle.cil_model.specs.declared.trees.Code.{Code}
-use Rattle.cil_model.specs.declared.trees.Method.{Method}
-use Rattle.cil_model.specs.declared.trees.Tree.{Tree}
-use Rattle.cil_model.specs.declared.types.ClassName.{ClassName}
-use Rattle.cil_model.specs.Bodies.{code_of, entry_points, is_entry_point, source_methods}
-use Rattle.cil_model.specs.Chains.{methods_in}
-use Rattle.cil_model.specs.Fields.{static_fields}
-use Rattle.cil_model.specs.Mentions.{literals_of}
-use Rattle.cil_model.specs.Ranges.{are_in_range}
-use Rattle.cil_model.specs.Typings.{IsAccepted}
-use Rattle.cil_model.proofs.BelowLaws.{none_is_some}
-use Rattle.cil_model.proofs.Legal.{entry_alone}
-use Rattle.reference_machine.specs.States.{Free as IsFree, State}
-use Rattle.reference_machine.specs.Runs.{opening, opening_at}
-use Rattle.type_soundness.proofs.Openings.{opens, opening_typed}
-use Rattle.type_soundness.proofs.SourceLaws.{kept_from, source_is_declared}
-use Rattle.size_bounds.proofs.CountedOpenings.{opening_counted}
-use Rattle.method_table.specs.AllMethods.{all_methods}
-use Rattle.method_table.specs.MethodNumbers.{number_of}
-use Rattle.method_table.proofs.NumberLaws.{declared_is_numbered}
-use Rattle.object_memory.specs.declared.monitors.Monitor.TheVariants.{Free}
-use Rattle.object_memory.specs.Objects.{no_objects}
+use Rattle.simulation.specs.cil_model.declared.limits.Limits.{Limits}
+use Rattle.simulation.specs.cil_model.declared.trees.Code.{Code}
+use Rattle.simulation.specs.cil_model.declared.trees.Method.{Method}
+use Rattle.simulation.specs.cil_model.declared.trees.Tree.{Tree}
+use Rattle.simulation.specs.cil_model.declared.types.ClassName.{ClassName}
+use Rattle.simulation.specs.cil_model.Bodies.{code_of, entry_points, is_entry_point, source_methods}
+use Rattle.simulation.specs.cil_model.Chains.{methods_in}
+use Rattle.simulation.specs.cil_model.Fields.{static_fields}
+use Rattle.simulation.specs.cil_model.Mentions.{literals_of}
+use Rattle.simulation.specs.cil_model.Ranges.{are_in_range}
+use Rattle.simulation.specs.cil_model.Typings.{IsAccepted}
+use Rattle.simulation.proofs.cil_model.BelowLaws.{none_is_some}
+use Rattle.simulation.proofs.cil_model.Legal.{entry_alone}
+use Rattle.simulation.specs.reference_machine.States.{Free as IsFree, State}
+use Rattle.simulation.specs.reference_machine.Runs.{opening, opening_at}
+use Rattle.simulation.proofs.type_soundness.Openings.{opens, opening_typed}
+use Rattle.simulation.proofs.type_soundness.SourceLaws.{kept_from, source_is_declared}
+use Rattle.simulation.proofs.size_bounds.CountedOpenings.{opening_counted}
+use Rattle.simulation.specs.method_table.AllMethods.{all_methods}
+use Rattle.simulation.specs.method_table.MethodNumbers.{number_of}
+use Rattle.simulation.proofs.method_table.NumberLaws.{declared_is_numbered}
+use Rattle.simulation.specs.object_memory.declared.monitors.Monitor.TheVariants.{Free}
+use Rattle.simulation.specs.object_memory.Objects.{no_objects}
 use Rattle.simulation.specs.MachineContents.{Content}
 use Rattle.simulation.specs.StandsFor.{IsHeap, StandsBy, Represents}
 use Rattle.simulation.specs.Turns.{content_at, opening_content}

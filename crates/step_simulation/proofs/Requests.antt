@@ -2,23 +2,23 @@
 use Rattle.std.proofs.Common.{◌≡◌, ◌≢◌, ◌<◌, ◌+◌, ◌⊎◌, ◌==◌, ℕ, suc, true, false, List, [], ◌∷◌, length, drop, Some, option_map, unwrap_or, slice_get, refl, inl, inr, sym, ap, ◌∙◌, subst, arith}
 use Rattle.std.specs.Prelude.{nat_lt}
 use Rattle.std.proofs.lemmas.Bool.Decides.{nat_tests}
-use Rattle.cil_model.specs.declared.instructions.Instruction.{Instruction}
-use Rattle.cil_model.specs.declared.limits.TheConstants.{MOST_INSTRUCTIONS}
-use Rattle.cil_model.specs.declared.reports.Fault.TheVariants.{NullReference}
-use Rattle.reference_machine.specs.Values.{ObjectName, Born, Value as StateValue, Null, Reference}
-use Rattle.reference_machine.specs.States.{HeapObject, Frame as StateFrame, State}
-use Rattle.reference_machine.specs.Effects.{Setting, Effect as StateEffect, Raises as StateRaises, after, not_null}
-use Rattle.reference_machine.specs.BuiltIn.{Action, act, thread_object}
-use Rattle.type_soundness.proofs.Running.{IsTypedEffect}
-use Rattle.type_soundness.proofs.AllSteps.{instruction_typed}
-use Rattle.resolved_code.specs.declared.operations.Operation.{Operation}
-use Rattle.object_memory.specs.declared.addresses.Addr.{Addr}
-use Rattle.object_memory.specs.declared.values.Value.TheVariants.{Ref}
-use Rattle.object_memory.specs.Cells.{Cell, null, slots_at}
-use Rattle.threads_monitors.specs.Frames.{Frames, with_place, with_stack}
-use Rattle.threads_monitors.specs.declared.effects.Effect.TheVariants.{GoesOn}
-use Rattle.threads_monitors.specs.declared.threads.Standing.TheVariants.{Live}
-use Rattle.interpreter.specs.Instructions.{HasSmallConstant, IsAt}
+use Rattle.simulation.specs.cil_model.declared.instructions.Instruction.{Instruction}
+use Rattle.simulation.specs.cil_model.declared.limits.TheConstants.{MOST_INSTRUCTIONS}
+use Rattle.simulation.specs.cil_model.declared.reports.Fault.TheVariants.{NullReference}
+use Rattle.simulation.specs.reference_machine.Values.{ObjectName, Born, Value as StateValue, Null, Reference}
+use Rattle.simulation.specs.reference_machine.States.{HeapObject, Frame as StateFrame, State}
+use Rattle.simulation.specs.reference_machine.Effects.{Setting, Effect as StateEffect, Raises as StateRaises, after, not_null}
+use Rattle.simulation.specs.reference_machine.BuiltIn.{Action, act, thread_object}
+use Rattle.simulation.proofs.type_soundness.Running.{IsTypedEffect}
+use Rattle.simulation.proofs.type_soundness.AllSteps.{instruction_typed}
+use Rattle.simulation.specs.resolved_code.declared.operations.Operation.{Operation}
+use Rattle.simulation.specs.object_memory.declared.addresses.Addr.{Addr}
+use Rattle.simulation.specs.object_memory.declared.values.Value.TheVariants.{Ref}
+use Rattle.simulation.specs.object_memory.Cells.{Cell, null, slots_at}
+use Rattle.simulation.specs.threads_monitors.Frames.{Frames, with_place, with_stack}
+use Rattle.simulation.specs.threads_monitors.declared.effects.Effect.TheVariants.{GoesOn}
+use Rattle.simulation.specs.threads_monitors.declared.threads.Standing.TheVariants.{Live}
+use Rattle.simulation.specs.interpreter.Instructions.{HasSmallConstant, IsAt}
 use Rattle.simulation.specs.Agreement.{Agree}
 use Rattle.simulation.specs.MachineContents.{Content}
 use Rattle.simulation.specs.StandsFor.{IsValue, IsFrame, AreFrames, Represents}

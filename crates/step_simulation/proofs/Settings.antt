@@ -1,23 +1,23 @@
 -- Where a live thread is: at an instruction of the reference machine, in a setting in which both do alike.
 use Rattle.std.proofs.Common.{◌≡◌, ℕ, Bool, false, List, [], ◌∷◌, Option, Some, None, option_map, option_and_then, slice_get, refl, sym, ap, ◌∙◌, subst}
 use Rattle.std.specs.Prelude.{IsSome}
-use Rattle.cil_model.specs.declared.instructions.Instruction.{Instruction}
-use Rattle.cil_model.specs.declared.reports.End.{End}
-use Rattle.cil_model.specs.declared.trees.Line.{Line}
-use Rattle.cil_model.specs.declared.trees.Method.{Method}
-use Rattle.cil_model.specs.declared.types.ClassName.{ClassName}
-use Rattle.cil_model.specs.Bodies.{lines_of}
-use Rattle.cil_model.proofs.BelowLaws.{none_is_some, same_some}
-use Rattle.reference_machine.specs.States.{Frame as StateFrame, Thread as StateThread, State}
-use Rattle.reference_machine.specs.Effects.{Setting}
-use Rattle.reference_machine.specs.Steps.{instruction_at, execute}
-use Rattle.type_soundness.proofs.Running.{IsRunning, runs_at}
-use Rattle.type_soundness.specs.TypedStates.{AreTypedFrames}
-use Rattle.resolved_code.specs.Resolved.{IsOperation}
-use Rattle.resolved_code.specs.declared.operations.Operation.{Operation}
-use Rattle.threads_monitors.specs.Frames.{Frames}
-use Rattle.threads_monitors.specs.declared.threads.Standing.TheVariants.{Live}
-use Rattle.interpreter.specs.Instructions.{HasSmallConstant, IsAt, line_at, operation_turn}
+use Rattle.simulation.specs.cil_model.declared.instructions.Instruction.{Instruction}
+use Rattle.simulation.specs.cil_model.declared.reports.End.{End}
+use Rattle.simulation.specs.cil_model.declared.trees.Line.{Line}
+use Rattle.simulation.specs.cil_model.declared.trees.Method.{Method}
+use Rattle.simulation.specs.cil_model.declared.types.ClassName.{ClassName}
+use Rattle.simulation.specs.cil_model.Bodies.{lines_of}
+use Rattle.simulation.proofs.cil_model.BelowLaws.{none_is_some, same_some}
+use Rattle.simulation.specs.reference_machine.States.{Frame as StateFrame, Thread as StateThread, State}
+use Rattle.simulation.specs.reference_machine.Effects.{Setting}
+use Rattle.simulation.specs.reference_machine.Steps.{instruction_at, execute}
+use Rattle.simulation.proofs.type_soundness.Running.{IsRunning, runs_at}
+use Rattle.simulation.specs.type_soundness.TypedStates.{AreTypedFrames}
+use Rattle.simulation.specs.resolved_code.Resolved.{IsOperation}
+use Rattle.simulation.specs.resolved_code.declared.operations.Operation.{Operation}
+use Rattle.simulation.specs.threads_monitors.Frames.{Frames}
+use Rattle.simulation.specs.threads_monitors.declared.threads.Standing.TheVariants.{Live}
+use Rattle.simulation.specs.interpreter.Instructions.{HasSmallConstant, IsAt, line_at, operation_turn}
 use Rattle.simulation.specs.MachineContents.{Content}
 use Rattle.simulation.specs.Ready.{IsReady}
 use Rattle.simulation.specs.StandsFor.{Names, IsFrame, AreFrames, IsThread, StandsAlike, Represents}

@@ -2,28 +2,28 @@
 use Rattle.std.proofs.Common.{◌≡◌, ◌-◌, ◌==◌, if◌then◌else◌, is_none, ℕ, zero, suc, Bool, false, List, [], ◌∷◌, Some, None, slice_get, slice_set, refl, sym, ap, ◌∙◌, subst, arith}
 use Rattle.std.proofs.lemmas.Bool.Decides.{nat_tests}
 use Rattle.std.specs.Option.{option_map_or}
-use Rattle.cil_model.specs.declared.reports.End.{End}
-use Rattle.cil_model.specs.declared.reports.End.TheVariants.{Done, Budget, Fault as ByFault}
-use Rattle.cil_model.specs.declared.reports.Fault.{Fault}
-use Rattle.cil_model.specs.declared.reports.Fault.TheVariants as Faults
-use Rattle.cil_model.specs.declared.reports.Report.{Report}
-use Rattle.cil_model.specs.declared.reports.Report.TheVariants.{Blocked, Ended as HasEnded, Absent}
-use Rattle.reference_machine.specs.States.{Frame as StateFrame, Thread as StateThread, State}
-use Rattle.reference_machine.specs.Effects.{Effect as StateEffect, Goes, Blocks as StateBlocks, Raises as StateRaises, given}
-use Rattle.reference_machine.specs.Steps.{Outcome, Answers, execute, effect_of, with_thread_at, ended_as, goes_on, settled as state_settled, step_of, step}
-use Rattle.reference_machine.specs.Runs.{is_refusal}
-use Rattle.type_soundness.specs.TypedStates.{IsTyped}
-use Rattle.type_soundness.proofs.WholeSteps.{step_typed}
-use Rattle.type_soundness.proofs.AllSteps.{instruction_typed}
-use Rattle.size_bounds.proofs.CountedSteps.{step_counted}
-use Rattle.object_memory.specs.declared.values.Value.{Value}
-use Rattle.object_memory.specs.Objects.{Objects}
-use Rattle.threads_monitors.specs.Frames.{Frames}
-use Rattle.threads_monitors.specs.Threads.{end_after, report_of, standing_after}
-use Rattle.threads_monitors.specs.declared.effects.Effect.{Effect}
-use Rattle.threads_monitors.specs.declared.effects.Effect.TheVariants.{GoesOn, Returns, Blocks, Raises}
-use Rattle.threads_monitors.specs.declared.threads.Standing.TheVariants.{Live, Ended}
-use Rattle.threads_monitors.specs.declared.threads.Thread.{Thread}
+use Rattle.simulation.specs.cil_model.declared.reports.End.{End}
+use Rattle.simulation.specs.cil_model.declared.reports.End.TheVariants.{Done, Budget, Fault as ByFault}
+use Rattle.simulation.specs.cil_model.declared.reports.Fault.{Fault}
+use Rattle.simulation.specs.cil_model.declared.reports.Fault.TheVariants as Faults
+use Rattle.simulation.specs.cil_model.declared.reports.Report.{Report}
+use Rattle.simulation.specs.cil_model.declared.reports.Report.TheVariants.{Blocked, Ended as HasEnded, Absent}
+use Rattle.simulation.specs.reference_machine.States.{Frame as StateFrame, Thread as StateThread, State}
+use Rattle.simulation.specs.reference_machine.Effects.{Effect as StateEffect, Goes, Blocks as StateBlocks, Raises as StateRaises, given}
+use Rattle.simulation.specs.reference_machine.Steps.{Outcome, Answers, execute, effect_of, with_thread_at, ended_as, goes_on, settled as state_settled, step_of, step}
+use Rattle.simulation.specs.reference_machine.Runs.{is_refusal}
+use Rattle.simulation.specs.type_soundness.TypedStates.{IsTyped}
+use Rattle.simulation.proofs.type_soundness.WholeSteps.{step_typed}
+use Rattle.simulation.proofs.type_soundness.AllSteps.{instruction_typed}
+use Rattle.simulation.proofs.size_bounds.CountedSteps.{step_counted}
+use Rattle.simulation.specs.object_memory.declared.values.Value.{Value}
+use Rattle.simulation.specs.object_memory.Objects.{Objects}
+use Rattle.simulation.specs.threads_monitors.Frames.{Frames}
+use Rattle.simulation.specs.threads_monitors.Threads.{end_after, report_of, standing_after}
+use Rattle.simulation.specs.threads_monitors.declared.effects.Effect.{Effect}
+use Rattle.simulation.specs.threads_monitors.declared.effects.Effect.TheVariants.{GoesOn, Returns, Blocks, Raises}
+use Rattle.simulation.specs.threads_monitors.declared.threads.Standing.TheVariants.{Live, Ended}
+use Rattle.simulation.specs.threads_monitors.declared.threads.Thread.{Thread}
 use Rattle.simulation.specs.Agreement.{Agree}
 use Rattle.simulation.specs.MachineContents.{Content}
 use Rattle.simulation.specs.StandsFor.{Names, AreFrames, IsThread, IsMemory, StandsBy, StandsFor, Represents}
@@ -31,7 +31,7 @@ use Rattle.simulation.specs.Turns.{Answer, counted}
 use Rattle.simulation.proofs.AgreeLaws.{agree_set, agree_weaken}
 use Rattle.simulation.proofs.Extending.{thread_extends}
 use Rattle.simulation.proofs.Memories.{memory_beside}
-use Rattle.interpreter.specs.declared.outcomes.Outcome.TheVariants.{Comes}
+use Rattle.simulation.specs.interpreter.declared.outcomes.Outcome.TheVariants.{Comes}
 use Rattle.simulation.proofs.Instructions.{LeavesMemory, ComesAlike, is_refused_fault, is_refused_effect}
 use Rattle.simulation.proofs.LimitRanges.{budget_is_some}
 use Rattle.step_simulation.proofs.Settings.{setting_of, is_alive, is_running}

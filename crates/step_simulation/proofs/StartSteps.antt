@@ -3,29 +3,29 @@ use Rattle.std.proofs.Common.{◌≡◌, ◌+◌, if◌then◌else◌, ℕ, suc,
 use Rattle.std.specs.Prelude.{IsSome}
 use Rattle.std.specs.Option.{option_map_or}
 use Rattle.std.proofs.lemmas.List.{length-set}
-use Rattle.cil_model.specs.declared.reports.Fault.{Fault}
-use Rattle.cil_model.specs.declared.reports.Fault.TheVariants.{NullReference}
-use Rattle.cil_model.specs.declared.reports.Report.{Report}
-use Rattle.cil_model.proofs.BelowLaws.{none_is_some, same_some}
-use Rattle.reference_machine.specs.Values.{Born, Value as StateValue}
-use Rattle.reference_machine.specs.States.{HeapObject, State, with_object}
-use Rattle.reference_machine.specs.Effects.{Raises as StateRaises, new_frame, after}
-use Rattle.reference_machine.specs.BuiltIn.{Start, start}
-use Rattle.reference_machine.specs.Values.{Reference}
-use Rattle.resolved_code.specs.declared.operations.Operation.{Operation}
-use Rattle.object_memory.specs.declared.addresses.Addr.{Addr}
-use Rattle.object_memory.specs.declared.kinds.Kind.TheVariants.{Instance}
-use Rattle.object_memory.specs.declared.values.Value.TheVariants.{Ref}
-use Rattle.object_memory.specs.Cells.{store_slot}
-use Rattle.object_memory.specs.Objects.{Objects, with_slot}
-use Rattle.threads_monitors.specs.Frames.{Frames}
-use Rattle.threads_monitors.specs.Threads.{start_fault, with_start}
-use Rattle.threads_monitors.specs.declared.effects.Effect.{Effect}
-use Rattle.threads_monitors.specs.declared.effects.Effect.TheVariants.{GoesOn, Raises}
-use Rattle.threads_monitors.specs.declared.threads.Standing.TheVariants.{Live}
-use Rattle.threads_monitors.specs.declared.threads.Thread.{Thread}
-use Rattle.interpreter.specs.Instructions.{HasSmallConstant, IsAt}
-use Rattle.interpreter.specs.declared.outcomes.Outcome.TheVariants.{Comes, Starts}
+use Rattle.simulation.specs.cil_model.declared.reports.Fault.{Fault}
+use Rattle.simulation.specs.cil_model.declared.reports.Fault.TheVariants.{NullReference}
+use Rattle.simulation.specs.cil_model.declared.reports.Report.{Report}
+use Rattle.simulation.proofs.cil_model.BelowLaws.{none_is_some, same_some}
+use Rattle.simulation.specs.reference_machine.Values.{Born, Value as StateValue}
+use Rattle.simulation.specs.reference_machine.States.{HeapObject, State, with_object}
+use Rattle.simulation.specs.reference_machine.Effects.{Raises as StateRaises, new_frame, after}
+use Rattle.simulation.specs.reference_machine.BuiltIn.{Start, start}
+use Rattle.simulation.specs.reference_machine.Values.{Reference}
+use Rattle.simulation.specs.resolved_code.declared.operations.Operation.{Operation}
+use Rattle.simulation.specs.object_memory.declared.addresses.Addr.{Addr}
+use Rattle.simulation.specs.object_memory.declared.kinds.Kind.TheVariants.{Instance}
+use Rattle.simulation.specs.object_memory.declared.values.Value.TheVariants.{Ref}
+use Rattle.simulation.specs.object_memory.Cells.{store_slot}
+use Rattle.simulation.specs.object_memory.Objects.{Objects, with_slot}
+use Rattle.simulation.specs.threads_monitors.Frames.{Frames}
+use Rattle.simulation.specs.threads_monitors.Threads.{start_fault, with_start}
+use Rattle.simulation.specs.threads_monitors.declared.effects.Effect.{Effect}
+use Rattle.simulation.specs.threads_monitors.declared.effects.Effect.TheVariants.{GoesOn, Raises}
+use Rattle.simulation.specs.threads_monitors.declared.threads.Standing.TheVariants.{Live}
+use Rattle.simulation.specs.threads_monitors.declared.threads.Thread.{Thread}
+use Rattle.simulation.specs.interpreter.Instructions.{HasSmallConstant, IsAt}
+use Rattle.simulation.specs.interpreter.declared.outcomes.Outcome.TheVariants.{Comes, Starts}
 use Rattle.simulation.specs.MachineContents.{Content}
 use Rattle.simulation.specs.StandsFor.{reference, thread_word, IsCell, IsOfContents, IsHeap, IsThread, StandsBy, Represents}
 use Rattle.simulation.specs.Turns.{Answer, after_request, counted, started, thread_at, thread_for}

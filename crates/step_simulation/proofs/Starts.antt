@@ -1,32 +1,32 @@
 -- A thread starts another alike on both machines.
 use Rattle.std.proofs.Common.{◌≡◌, ◌==◌, if◌then◌else◌, ℕ, Bool, true, false, is_some, List, [], ◌∷◌, ◌++◌, length, Option, Some, None, option_map, option_and_then, slice_get, refl, ap, ◌∙◌, subst}
 use Rattle.std.specs.Prelude.{nat_le}
-use Rattle.cil_model.specs.declared.limits.TheConstants.{MOST_THREADS}
-use Rattle.cil_model.specs.declared.reports.Fault.{Fault}
-use Rattle.cil_model.specs.declared.reports.Fault.TheVariants.{NullReference, ThreadState, TooManyThreads}
-use Rattle.cil_model.specs.declared.trees.Method.{Method}
-use Rattle.cil_model.specs.declared.trees.Code.{Code}
-use Rattle.cil_model.specs.declared.types.ClassName.{ClassName}
-use Rattle.cil_model.specs.Bodies.{code_of}
-use Rattle.cil_model.specs.Chains.{methods_in}
-use Rattle.cil_model.specs.Declarations.{thread_name, run_method}
-use Rattle.cil_model.specs.Slots.{target}
-use Rattle.name_tables.specs.Numbers.{method_at}
-use Rattle.reference_machine.specs.Values.{Born, Value as StateValue, Reference}
-use Rattle.reference_machine.specs.States.{Thread as StateThread, State, class_of}
-use Rattle.reference_machine.specs.Effects.{Effect as StateEffect, Raises as StateRaises, Sticks, given, new_frame, onward}
-use Rattle.reference_machine.specs.BuiltIn.{with_thread, begin, start}
-use Rattle.type_soundness.specs.TypedStates.{AreTypedFrames}
-use Rattle.type_soundness.proofs.Running.{IsTypedEffect}
-use Rattle.method_table.specs.AllMethods.{all_methods}
-use Rattle.method_table.specs.MethodNumbers.{number_of}
-use Rattle.method_table.proofs.NumberLaws.{declared_is_numbered}
-use Rattle.object_memory.specs.declared.addresses.Addr.{Addr}
-use Rattle.object_memory.specs.declared.values.Value.TheVariants.{Ref}
-use Rattle.threads_monitors.specs.Frames.{Frames}
-use Rattle.threads_monitors.specs.Threads.{start_fault, thread_on}
-use Rattle.threads_monitors.specs.declared.threads.Standing.TheVariants.{Live}
-use Rattle.interpreter.specs.Calls.{chosen, chosen_at, chosen_by}
+use Rattle.simulation.specs.cil_model.declared.limits.TheConstants.{MOST_THREADS}
+use Rattle.simulation.specs.cil_model.declared.reports.Fault.{Fault}
+use Rattle.simulation.specs.cil_model.declared.reports.Fault.TheVariants.{NullReference, ThreadState, TooManyThreads}
+use Rattle.simulation.specs.cil_model.declared.trees.Method.{Method}
+use Rattle.simulation.specs.cil_model.declared.trees.Code.{Code}
+use Rattle.simulation.specs.cil_model.declared.types.ClassName.{ClassName}
+use Rattle.simulation.specs.cil_model.Bodies.{code_of}
+use Rattle.simulation.specs.cil_model.Chains.{methods_in}
+use Rattle.simulation.specs.cil_model.Declarations.{thread_name, run_method}
+use Rattle.simulation.specs.cil_model.Slots.{target}
+use Rattle.simulation.specs.name_tables.Numbers.{method_at}
+use Rattle.simulation.specs.reference_machine.Values.{Born, Value as StateValue, Reference}
+use Rattle.simulation.specs.reference_machine.States.{Thread as StateThread, State, class_of}
+use Rattle.simulation.specs.reference_machine.Effects.{Effect as StateEffect, Raises as StateRaises, Sticks, given, new_frame, onward}
+use Rattle.simulation.specs.reference_machine.BuiltIn.{with_thread, begin, start}
+use Rattle.simulation.specs.type_soundness.TypedStates.{AreTypedFrames}
+use Rattle.simulation.proofs.type_soundness.Running.{IsTypedEffect}
+use Rattle.simulation.specs.method_table.AllMethods.{all_methods}
+use Rattle.simulation.specs.method_table.MethodNumbers.{number_of}
+use Rattle.simulation.proofs.method_table.NumberLaws.{declared_is_numbered}
+use Rattle.simulation.specs.object_memory.declared.addresses.Addr.{Addr}
+use Rattle.simulation.specs.object_memory.declared.values.Value.TheVariants.{Ref}
+use Rattle.simulation.specs.threads_monitors.Frames.{Frames}
+use Rattle.simulation.specs.threads_monitors.Threads.{start_fault, thread_on}
+use Rattle.simulation.specs.threads_monitors.declared.threads.Standing.TheVariants.{Live}
+use Rattle.simulation.specs.interpreter.Calls.{chosen, chosen_at, chosen_by}
 use Rattle.simulation.specs.MachineContents.{Content}
 use Rattle.simulation.specs.StandsFor.{IsThread, Represents}
 use Rattle.simulation.specs.Turns.{run_member, thread_at, thread_for}

@@ -1,23 +1,23 @@
 -- Each step of a thread comes to the same on both machines.
 use Rattle.std.proofs.Common.{◌≡◌, ◌-◌, if◌then◌else◌, is_none, ℕ, zero, suc, Bool, false, List, [], ◌∷◌, Option, Some, None, slice_get, slice_set, refl, sym, ap, ◌∙◌, subst}
 use Rattle.std.specs.Option.{option_map_or}
-use Rattle.cil_model.specs.declared.events.Event.TheVariants.{Step}
-use Rattle.cil_model.specs.declared.reports.End.{End}
-use Rattle.cil_model.specs.declared.reports.Report.{Report}
-use Rattle.cil_model.specs.declared.reports.Report.TheVariants.{Absent}
-use Rattle.cil_model.proofs.BelowLaws.{none_is_some, same_some}
-use Rattle.reference_machine.specs.States.{Frame as StateFrame, Thread as StateThread, State}
-use Rattle.reference_machine.specs.Steps.{Answers, effect_of, settled, step, step_of}
-use Rattle.reference_machine.specs.Runs.{is_refusal}
-use Rattle.object_memory.specs.declared.addresses.Addr.{Addr}
-use Rattle.threads_monitors.specs.Frames.{Frames}
-use Rattle.threads_monitors.specs.declared.threads.Standing.{Standing}
-use Rattle.threads_monitors.specs.declared.threads.Standing.TheVariants.{Live, Ended}
-use Rattle.threads_monitors.specs.declared.threads.Thread.{Thread}
-use Rattle.interpreter.specs.Instructions.{IsDone}
-use Rattle.interpreter.specs.declared.outcomes.Outcome.{Outcome}
-use Rattle.interpreter.specs.declared.outcomes.Outcome.TheVariants.{Comes, Starts, Joins}
-use Rattle.reference_machine.specs.BuiltIn.{Action, Start, Join, start, join}
+use Rattle.simulation.specs.cil_model.declared.events.Event.TheVariants.{Step}
+use Rattle.simulation.specs.cil_model.declared.reports.End.{End}
+use Rattle.simulation.specs.cil_model.declared.reports.Report.{Report}
+use Rattle.simulation.specs.cil_model.declared.reports.Report.TheVariants.{Absent}
+use Rattle.simulation.proofs.cil_model.BelowLaws.{none_is_some, same_some}
+use Rattle.simulation.specs.reference_machine.States.{Frame as StateFrame, Thread as StateThread, State}
+use Rattle.simulation.specs.reference_machine.Steps.{Answers, effect_of, settled, step, step_of}
+use Rattle.simulation.specs.reference_machine.Runs.{is_refusal}
+use Rattle.simulation.specs.object_memory.declared.addresses.Addr.{Addr}
+use Rattle.simulation.specs.threads_monitors.Frames.{Frames}
+use Rattle.simulation.specs.threads_monitors.declared.threads.Standing.{Standing}
+use Rattle.simulation.specs.threads_monitors.declared.threads.Standing.TheVariants.{Live, Ended}
+use Rattle.simulation.specs.threads_monitors.declared.threads.Thread.{Thread}
+use Rattle.simulation.specs.interpreter.Instructions.{IsDone}
+use Rattle.simulation.specs.interpreter.declared.outcomes.Outcome.{Outcome}
+use Rattle.simulation.specs.interpreter.declared.outcomes.Outcome.TheVariants.{Comes, Starts, Joins}
+use Rattle.simulation.specs.reference_machine.BuiltIn.{Action, Start, Join, start, join}
 use Rattle.simulation.specs.MachineContents.{Content}
 use Rattle.simulation.specs.StandsFor.{IsThread, StandsAlike, Represents}
 use Rattle.simulation.specs.Turns.{Answer, IsStandingTurn, IsThreadTurn, IsTurn, finished}

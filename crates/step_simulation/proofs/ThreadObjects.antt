@@ -2,26 +2,26 @@
 use Rattle.std.proofs.Common.{◌≡◌, ◌⊎◌, ℕ, Bool, true, false, if◌then◌else◌, List, [], ◌∷◌, ◌++◌, Option, Some, None, option_map, option_and_then, unwrap_or, slice_get, refl, inl, inr, ap, ◌∙◌, subst}
 use Rattle.std.specs.Prelude.{slice_index}
 use Rattle.std.specs.Option.{option_map_or}
-use Rattle.cil_model.specs.declared.trees.Tree.{Tree}
-use Rattle.cil_model.specs.declared.types.ClassName.{ClassName}
-use Rattle.cil_model.specs.Chains.{is_thread_class}
-use Rattle.cil_model.specs.Declarations.{string_name}
-use Rattle.cil_model.specs.Fields.{FieldKey}
-use Rattle.reference_machine.specs.Values.{ObjectName, Born, Literal, Value as StateValue, Null, Reference}
-use Rattle.reference_machine.specs.States.{Contents, Instance as IsInstance, Array as IsArray, HeapObject, Frame as StateFrame, State, object_at, class_of, class_of_contents}
-use Rattle.reference_machine.specs.Effects.{Setting, Effect as StateEffect, Sticks, given}
-use Rattle.reference_machine.specs.BuiltIn.{thread_object}
-use Rattle.type_soundness.proofs.Running.{IsTypedEffect}
-use Rattle.resolved_code.specs.Numbered.{class_name}
-use Rattle.object_memory.specs.declared.addresses.Addr.{Addr}
-use Rattle.object_memory.specs.declared.kinds.Kind.{Kind}
-use Rattle.object_memory.specs.declared.kinds.Kind.TheVariants.{Instance, Array}
-use Rattle.object_memory.specs.declared.values.Value.{Value}
-use Rattle.object_memory.specs.declared.values.Value.TheVariants.{Ref}
-use Rattle.object_memory.specs.Cells.{Cell, cell_at, literal_number, null}
-use Rattle.object_memory.specs.Objects.{Objects}
-use Rattle.threads_monitors.specs.Threads.{thread_told, thread_on}
-use Rattle.interpreter.specs.Calls.{class_at, class_of_kind}
+use Rattle.simulation.specs.cil_model.declared.trees.Tree.{Tree}
+use Rattle.simulation.specs.cil_model.declared.types.ClassName.{ClassName}
+use Rattle.simulation.specs.cil_model.Chains.{is_thread_class}
+use Rattle.simulation.specs.cil_model.Declarations.{string_name}
+use Rattle.simulation.specs.cil_model.Fields.{FieldKey}
+use Rattle.simulation.specs.reference_machine.Values.{ObjectName, Born, Literal, Value as StateValue, Null, Reference}
+use Rattle.simulation.specs.reference_machine.States.{Contents, Instance as IsInstance, Array as IsArray, HeapObject, Frame as StateFrame, State, object_at, class_of, class_of_contents}
+use Rattle.simulation.specs.reference_machine.Effects.{Setting, Effect as StateEffect, Sticks, given}
+use Rattle.simulation.specs.reference_machine.BuiltIn.{thread_object}
+use Rattle.simulation.proofs.type_soundness.Running.{IsTypedEffect}
+use Rattle.simulation.specs.resolved_code.Numbered.{class_name}
+use Rattle.simulation.specs.object_memory.declared.addresses.Addr.{Addr}
+use Rattle.simulation.specs.object_memory.declared.kinds.Kind.{Kind}
+use Rattle.simulation.specs.object_memory.declared.kinds.Kind.TheVariants.{Instance, Array}
+use Rattle.simulation.specs.object_memory.declared.values.Value.{Value}
+use Rattle.simulation.specs.object_memory.declared.values.Value.TheVariants.{Ref}
+use Rattle.simulation.specs.object_memory.Cells.{Cell, cell_at, literal_number, null}
+use Rattle.simulation.specs.object_memory.Objects.{Objects}
+use Rattle.simulation.specs.threads_monitors.Threads.{thread_told, thread_on}
+use Rattle.simulation.specs.interpreter.Calls.{class_at, class_of_kind}
 use Rattle.simulation.specs.Agreement.{Agree}
 use Rattle.simulation.specs.StandsFor.{Names, IsValue, int32, int64, native, null_reference, reference, IsWord, IsMonitor, thread_word, IsOfContents, IsBornAt, IsHeap}
 

@@ -1,24 +1,24 @@
 -- Each instruction does the same on a machine as on the reference machine; so does each step, from the opening on.
 use Rattle.std.proofs.Common.{◌≡◌, ℕ, IsTrue, List, [], ◌∷◌, Option, Some, None, slice_get, refl}
-use Rattle.cil_model.specs.declared.instructions.Instruction.{Instruction}
-use Rattle.cil_model.specs.declared.limits.Limits.{Limits}
-use Rattle.cil_model.specs.declared.trees.Tree.{Tree}
-use Rattle.cil_model.specs.Bodies.{lines_of}
-use Rattle.cil_model.specs.Ranges.{are_in_range}
-use Rattle.cil_model.specs.Typings.{IsAccepted}
-use Rattle.reference_machine.specs.States.{Frame as StateFrame, State}
-use Rattle.reference_machine.specs.Effects.{Setting}
-use Rattle.reference_machine.specs.Steps.{Answers, execute, step}
-use Rattle.reference_machine.specs.Runs.{is_refusal, opening}
-use Rattle.cil_model.specs.declared.events.Event.TheVariants.{Step}
-use Rattle.cil_model.specs.declared.reports.Report.{Report}
-use Rattle.resolved_code.specs.Resolved.{IsOperation, no_operation, load_int32, load_int64, load_null, load_string, load_argument, store_argument, load_local, store_local, duplicate, pop, binary, unary, shift, compare, convert_int32, convert_int64, branch, branch_true, branch_false, branch_compare, switch, load_field, store_field, load_static_field, store_static_field, new_array, load_length, load_element_int32, load_element_int64, load_element_reference, store_element_int32, store_element_int64, store_element_reference, cast_class, is_instance, call, call_virtual, new_object, return}
-use Rattle.resolved_code.specs.declared.operations.Operation.{Operation}
-use Rattle.object_memory.specs.declared.values.Value.{Value}
-use Rattle.object_memory.specs.Objects.{Objects}
-use Rattle.threads_monitors.specs.Frames.{Frames}
-use Rattle.threads_monitors.specs.declared.threads.Standing.TheVariants.{Live}
-use Rattle.interpreter.specs.Instructions.{IsDone, operation_turn}
+use Rattle.simulation.specs.cil_model.declared.instructions.Instruction.{Instruction}
+use Rattle.simulation.specs.cil_model.declared.limits.Limits.{Limits}
+use Rattle.simulation.specs.cil_model.declared.trees.Tree.{Tree}
+use Rattle.simulation.specs.cil_model.Bodies.{lines_of}
+use Rattle.simulation.specs.cil_model.Ranges.{are_in_range}
+use Rattle.simulation.specs.cil_model.Typings.{IsAccepted}
+use Rattle.simulation.specs.reference_machine.States.{Frame as StateFrame, State}
+use Rattle.simulation.specs.reference_machine.Effects.{Setting}
+use Rattle.simulation.specs.reference_machine.Steps.{Answers, execute, step}
+use Rattle.simulation.specs.reference_machine.Runs.{is_refusal, opening}
+use Rattle.simulation.specs.cil_model.declared.events.Event.TheVariants.{Step}
+use Rattle.simulation.specs.cil_model.declared.reports.Report.{Report}
+use Rattle.simulation.specs.resolved_code.Resolved.{IsOperation, no_operation, load_int32, load_int64, load_null, load_string, load_argument, store_argument, load_local, store_local, duplicate, pop, binary, unary, shift, compare, convert_int32, convert_int64, branch, branch_true, branch_false, branch_compare, switch, load_field, store_field, load_static_field, store_static_field, new_array, load_length, load_element_int32, load_element_int64, load_element_reference, store_element_int32, store_element_int64, store_element_reference, cast_class, is_instance, call, call_virtual, new_object, return}
+use Rattle.simulation.specs.resolved_code.declared.operations.Operation.{Operation}
+use Rattle.simulation.specs.object_memory.declared.values.Value.{Value}
+use Rattle.simulation.specs.object_memory.Objects.{Objects}
+use Rattle.simulation.specs.threads_monitors.Frames.{Frames}
+use Rattle.simulation.specs.threads_monitors.declared.threads.Standing.TheVariants.{Live}
+use Rattle.simulation.specs.interpreter.Instructions.{IsDone, operation_turn}
 use Rattle.simulation.specs.MachineContents.{Content}
 use Rattle.simulation.specs.StandsFor.{Names, Represents}
 use Rattle.simulation.specs.Turns.{Answer, IsTurn, opening_content}

@@ -1,18 +1,18 @@
 // Laws of machines. Each function has an empty body, and its contract is the law.
 
 ghost use Rattle.std.specs.Prelude.{◌≡◌, ℕ, IsTrue, Some, slice_get};
-ghost use Rattle.cil_model.specs.declared.trees.Tree.{Tree};
-ghost use Rattle.cil_model.specs.declared.limits.Limits.{Limits};
-ghost use Rattle.cil_model.specs.declared.events.Event.TheVariants.{Step};
-ghost use Rattle.cil_model.specs.declared.reports.Report.{Report};
-ghost use Rattle.cil_model.specs.Ranges.{are_in_range};
-ghost use Rattle.cil_model.specs.Typings.{IsAccepted};
-ghost use Rattle.reference_machine.specs.States.{State};
-ghost use Rattle.reference_machine.specs.Steps.{step, Answers};
-ghost use Rattle.reference_machine.specs.Runs.{is_refusal, opening};
-ghost use Rattle.threads_monitors.specs.Frames.{Frames};
-ghost use Rattle.threads_monitors.specs.declared.threads.Standing.TheVariants.{Live};
-ghost use Rattle.interpreter.specs.Instructions.{IsDone};
+ghost use Rattle.simulation.specs.cil_model.declared.trees.Tree.{Tree};
+ghost use Rattle.simulation.specs.cil_model.declared.limits.Limits.{Limits};
+ghost use Rattle.simulation.specs.cil_model.declared.events.Event.TheVariants.{Step};
+ghost use Rattle.simulation.specs.cil_model.declared.reports.Report.{Report};
+ghost use Rattle.simulation.specs.cil_model.Ranges.{are_in_range};
+ghost use Rattle.simulation.specs.cil_model.Typings.{IsAccepted};
+ghost use Rattle.simulation.specs.reference_machine.States.{State};
+ghost use Rattle.simulation.specs.reference_machine.Steps.{step, Answers};
+ghost use Rattle.simulation.specs.reference_machine.Runs.{is_refusal, opening};
+ghost use Rattle.simulation.specs.threads_monitors.Frames.{Frames};
+ghost use Rattle.simulation.specs.threads_monitors.declared.threads.Standing.TheVariants.{Live};
+ghost use Rattle.simulation.specs.interpreter.Instructions.{IsDone};
 ghost use Rattle.simulation.specs.MachineContents.{Content};
 ghost use Rattle.simulation.specs.StandsFor.{Represents};
 ghost use Rattle.simulation.specs.Turns.{Answer, IsTurn, opening_content};

@@ -9,7 +9,7 @@ use Rattle.method_table.specs.Prepared.{IsTableMethod, local_kinds}
 use Rattle.threads_monitors.specs.Frames.{new_frame}
 use Rattle.threads_monitors.specs.declared.threads.Standing.TheVariants.{Live}
 use Rattle.threads_monitors.specs.declared.threads.Thread.{Thread}
-use Rattle.simulation.specs.MachineContents.{frame_room}
+use Rattle.step_simulation.specs.simulation.MachineContents.{frame_room}
 use Rattle.interpreter.proofs.Running.{alike_both, alike_none, there_is}
 use Rattle.interleaving_core.proofs.Declared.{locals_fit}
 use Rattle.interleaving_core.proofs.beginnings.beginning.Goals as goal

@@ -9,7 +9,7 @@ use Rattle.object_memory.specs.Objects.{no_objects}
 use Rattle.method_table.specs.AllMethods.{all_methods}
 use Rattle.method_table.specs.Prepared.{IsMethodTable}
 use Rattle.threads_monitors.specs.declared.threads.Thread.{Thread}
-use Rattle.simulation.specs.Turns.{thread_at}
+use Rattle.step_simulation.specs.simulation.Turns.{thread_at}
 use Rattle.interleaving_core.specs.Statics.{declared_fields, zeros_of}
 use Rattle.interleaving_core.proofs.OpeningLaws.{entry_there, opened_as}
 use Rattle.interleaving_core.proofs.openings.opened.Goals as goal

@@ -7,7 +7,7 @@ use Rattle.method_table.specs.Prepared.{IsMethodTable}
 use Rattle.object_memory.specs.declared.values.Value.TheVariants.{Ref}
 use Rattle.threads_monitors.specs.Threads.{new_thread, start_fault}
 use Rattle.threads_monitors.specs.declared.threads.Thread.{Thread}
-use Rattle.simulation.specs.Turns.{thread_for}
+use Rattle.step_simulation.specs.simulation.Turns.{thread_for}
 use Rattle.interleaving_core.proofs.Indexed.{started_is}
 use Rattle.interleaving_core.proofs.engine.Engine.start.Goals as goal
 

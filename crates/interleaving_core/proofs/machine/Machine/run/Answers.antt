@@ -1,6 +1,6 @@
 use Rattle.std.proofs.Common.{◌≡◌, ◌+◌, ◌++◌, ◌∷◌, ◌∙◌, [], arith, ap, drop, length, subst, sym, take}
 use Rattle.std.proofs.lemmas.List.{append-nil, take_all}
-use Rattle.simulation.specs.Runs.{AreTurns}
+use Rattle.step_simulation.specs.simulation.Runs.{AreTurns}
 use Rattle.interleaving_core.proofs.Following.{RunSoFar, SameProgram, all_reported, run_begun, run_follows, run_program, run_step, run_turns}
 use Rattle.interleaving_core.proofs.Refusing.{on_err}
 use Rattle.interleaving_core.proofs.machine.Machine.run.Goals as goal

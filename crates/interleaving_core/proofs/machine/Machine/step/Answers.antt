@@ -1,7 +1,7 @@
 use Rattle.std.proofs.Common.{[], ◌∷◌, subst}
 use Rattle.std.specs.Prelude.{IfOk}
 use Rattle.std.proofs.lemmas.Result.{IfOk-weaker}
-use Rattle.simulation.specs.Runs.{FollowsReference}
+use Rattle.step_simulation.specs.simulation.Runs.{FollowsReference}
 use Rattle.interleaving_core.specs.Views.{content_of}
 use Rattle.interleaving_core.proofs.Following.{SameProgram, turn_follows}
 use Rattle.interleaving_core.proofs.Sound.{can_go_on, same_after, sound_after}
