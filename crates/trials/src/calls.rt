@@ -245,16 +245,16 @@ fn machine(alloc: Global) -> Result<Machine, Failure> {
 
 /// Whether two threads that act once each leave two entries.
 fn acts_once(threads: &(impl Threads + Wait + Sync), alloc: Global) -> Result<bool, Failure> {
-    let core = machine(alloc)?;
     let blank = Blank::new(alloc)?;
+    let core = machine(alloc)?;
     let end = run_both::<Brand, _>(threads, alloc, blank, core, Event::Step(0), Event::Gc)?;
     Ok(end.is_some_and(|(_, _, outcome)| times(&outcome) == 2 && !outcome.stopped))
 }
 
 /// Whether two threads that act often leave an entry for each event, and what the sum prints.
 fn acts_often(threads: &(impl Threads + Wait + Sync), alloc: Global) -> Result<bool, Failure> {
-    let core = machine(alloc)?;
     let blank = Blank::new(alloc)?;
+    let core = machine(alloc)?;
     let events = (Event::Step(0), Event::Ack(0));
     let end = act_many::<Brand, _>(threads, alloc, blank, core, events, 20_000)?;
     Ok(end.is_some_and(|outcome| is_done(&outcome)))
@@ -276,6 +276,11 @@ fn is_loaded_by_another(alloc: Global) -> Result<bool, NoMemory> {
     Ok(loaded == Some(1) && nothing.is_none())
 }
 
+const STEP: StepRequest = StepRequest {
+    thread: 0,
+    is_refused: false,
+};
+
 /// Whether the reference machine as a plain program runs the sum, and shows where it stands.
 fn runs_plainly(alloc: Global) -> Result<bool, NoMemory> {
     let Ok(tree) = read(alloc, SUM.as_bytes()) else {
@@ -294,12 +299,8 @@ fn runs_plainly(alloc: Global) -> Result<bool, NoMemory> {
 }
 
 fn is_plain_run(alloc: Global, mut machine: PlainMachine<'_>) -> Result<bool, NoMemory> {
-    let step = StepRequest {
-        thread: 0,
-        is_refused: false,
-    };
     let shown = format!(in alloc; "{machine}")?;
-    let run = machine.run(&[step; 5])?;
+    let run = machine.run(&[STEP, STEP, STEP, STEP, STEP])?;
     Ok(
         shown.as_str() == "thread 0: 10 steps left [0: LoadInt32(2) []]\n"
             && !run.is_stuck

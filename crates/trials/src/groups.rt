@@ -2,12 +2,16 @@
 
 use crate::cases::{Case, case_of};
 use crate::outcomes::outcome;
+use std::io::ErrorKind;
 use std::sync::Wait;
 use std::thread::Threads;
 use std::{fs, io, str};
 
 /// What begins a case, with its name behind it. What stands before the first is passed over.
 const HEAD: &str = "\n=== ";
+
+/// What comes of a case for which memory is wanting.
+const MEMORY: &[u8] = b"--- err\nmemory\n--- status 5\n";
 
 /// Does all cases of a group, says how many are as expected, and answers how many are not.
 pub fn try_group(
@@ -55,10 +59,13 @@ fn try_case(
     }
 }
 
-/// Whether what came is what is wanted. Where it is not, both are printed.
+/// Whether what came is what is wanted. Where it is not, both are printed; want of memory, told alone, is an error instead.
 fn compare(rt: &HostRuntime, name: &str, came: &[u8], wanted: &str) -> io::Result<bool> {
     if came == wanted.as_bytes() {
         return Ok(true);
+    }
+    if came == MEMORY {
+        return Err(io::Error::from(ErrorKind::OutOfMemory));
     }
     println!(rt; "{name}: differs. It came to")?;
     println!(rt; "{}", str::from_utf8(came).unwrap_or("no text"))?;
