@@ -2,17 +2,12 @@
 #![tactic(auto)]
 
 mod comparison;
-mod failure;
-mod generated;
-mod grammar;
-mod random;
 mod rows;
-mod schedules;
-mod sources;
 mod table;
 mod telling;
 
-use failure::Failure;
+use comparison::failure::Failure;
+use comparison::{try_programs, try_schedules};
 use std::process::ExitCode;
 
 fn main(rt: HostRuntime) -> ExitCode {
@@ -27,8 +22,8 @@ fn main(rt: HostRuntime) -> ExitCode {
 /// Does all trials, and answers how many of them differ.
 fn trials(rt: &HostRuntime) -> Result<usize, Failure> {
     let rows = rows::try_rows(rt)?;
-    let schedules = schedules::try_schedules(rt)?;
-    let programs = generated::try_programs(rt)?;
+    let schedules = try_schedules(rt)?;
+    let programs = try_programs(rt)?;
     Ok(rows.saturating_add(schedules).saturating_add(programs))
 }
 

@@ -1,7 +1,7 @@
 //! The rows of a table: worked programs with their reports, their output and the words in use.
 
-use crate::comparison::{Difference, Trial, compare};
-use crate::failure::Failure;
+use crate::comparison::failure::Failure;
+use crate::comparison::{Trial, compare};
 use crate::table::{Row, is_passed_over, row_of};
 use crate::telling::{tell_printed, tell_reports};
 use schedule_text::read_schedule;
@@ -14,7 +14,7 @@ struct Outcome {
     reports: String,
     printed: String,
     used: String,
-    difference: Option<Difference>,
+    difference: Option<String>,
 }
 
 impl Outcome {
@@ -60,7 +60,7 @@ fn try_line(rt: &HostRuntime, line: &str) -> Result<bool, Failure> {
 
 fn outcome_of(alloc: Global, source: &[u8], row: &Row<'_>) -> Result<Outcome, Failure> {
     match trial_of(alloc, source, row) {
-        Ok(trial) => told(alloc, &trial),
+        Ok(trial) => told(alloc, trial),
         Err(Failure::Refused(number)) => Ok(Outcome {
             reports: format!(in alloc; "error {number}")?,
             printed: String::new(alloc),
@@ -77,7 +77,7 @@ fn trial_of(alloc: Global, source: &[u8], row: &Row<'_>) -> Result<Trial, Failur
 }
 
 /// The texts of a trial.
-fn told(alloc: Global, trial: &Trial) -> Result<Outcome, Failure> {
+fn told(alloc: Global, trial: Trial) -> Result<Outcome, Failure> {
     let used = trial.used;
     Ok(Outcome {
         reports: tell_reports(alloc, trial.reports.as_slice())?,
@@ -93,7 +93,7 @@ fn tell_differences(rt: &HostRuntime, row: &Row<'_>, outcome: &Outcome) -> io::R
     tell_difference(rt, "reports", outcome.reports.as_str(), row.reports)?;
     tell_difference(rt, "output", outcome.printed.as_str(), row.printed)?;
     tell_difference(rt, "used", outcome.used.as_str(), row.used)?;
-    if let Some(difference) = outcome.difference {
+    if let Some(difference) = &outcome.difference {
         println!(rt; "  {difference}")?;
     }
     Ok(())
