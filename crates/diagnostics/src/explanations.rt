@@ -6,13 +6,13 @@ ghost use Rattle.diagnostics.specs.Verdicts.{IsAcceptedSource, is_acceptance};
 use crate::messages::Named;
 use crate::readings::explain_reading;
 use crate::rules::explain_rule;
+use crate::typing_refusals::{Untyped, told_typing};
 use crate::verdicts::{Verdict, verdict_of};
 use cil_model::memory::NoMemory;
 use cil_model::trees::Tree;
 use ilasm_reader::{ReadError, read};
 use metadata::{MetaError, Program, Rule, resolve};
 use std::alloc::Global;
-use crate::typing_refusals::{Untyped, told_typing};
 
 /// The tree of a source that was read before; None where it has none.
 fn tree_of(alloc: Global, source: &[u8]) -> Result<Option<Tree>, NoMemory> {

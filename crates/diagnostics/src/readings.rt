@@ -2,11 +2,11 @@
 
 use crate::hints::{Hint, hint_behind};
 use crate::messages::Named;
+use crate::source_map::token_at;
 use cil_model::limits::MOST_SOURCE_BYTES;
 use cil_model::memory::NoMemory;
 use ilasm_reader::ReadError;
 use ilasm_tokens::words::{WordUse, use_of};
-use crate::source_map::token_at;
 use std::alloc::Global;
 use std::fmt;
 

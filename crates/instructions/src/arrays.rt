@@ -6,8 +6,8 @@ ghost use Rattle.object_memory.specs.Objects.{with_birth};
 ghost use Rattle.object_memory.specs.declared.kinds.Kind.TheVariants.{Array};
 
 use crate::fields::{load_slot, store_slot};
-use cil_model::reports::Fault;
 use crate::places::leave;
+use cil_model::reports::Fault;
 use object_memory::{Addr, ArrayElement, Heap, Kind, Value, ValueKind};
 use threads_monitors::{Effect, FrameMemory};
 

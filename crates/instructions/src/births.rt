@@ -3,9 +3,9 @@
 ghost use Rattle.std.specs.Prelude.{◌≡◌, IsSome, Some};
 ghost use Rattle.instructions.specs.Calls.{called, new_object_turn, new_plain_object_turn};
 
+use crate::arrays::leave_born;
 use crate::calls::{Callee, construct};
 use cil_model::reports::Fault;
-use crate::arrays::leave_born;
 use object_memory::{Heap, Kind};
 use threads_monitors::{Effect, FrameMemory};
 

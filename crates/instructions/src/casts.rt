@@ -4,13 +4,13 @@ ghost use Rattle.std.specs.Prelude.{◌≡◌, IsSome, Some};
 ghost use Rattle.class_layout.specs.Laid.{IsLayout};
 ghost use Rattle.instructions.specs.TypeTurns.{cast_class_turn, is_instance_turn, store_reference_turn, store_admitted, element_at, held_type};
 
+use crate::arrays::{index, place_in};
+use crate::fields::store_slot;
+use crate::places::leave;
 use crate::types::{may_stand, numbered};
 use cil_model::reports::Fault;
 use class_layout::Layout;
-use crate::places::leave;
 use metadata::Program;
-use crate::arrays::{index, place_in};
-use crate::fields::store_slot;
 use object_memory::{Addr, ArrayElement, Heap, Kind, Value};
 use resolved_code::types::NumberedType;
 use threads_monitors::{Effect, FrameMemory};

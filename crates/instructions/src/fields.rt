@@ -3,8 +3,8 @@
 ghost use Rattle.std.specs.Prelude.{◌≡◌, IsSome, Some};
 ghost use Rattle.instructions.specs.ObjectTurns.{load_field_turn, store_field_turn, load_slot, store_slot};
 
-use cil_model::reports::Fault;
 use crate::places::{go_on, leave};
+use cil_model::reports::Fault;
 use object_memory::{Addr, Heap, Value, ValueKind};
 use threads_monitors::{Effect, FrameMemory};
 

@@ -4,9 +4,9 @@ ghost use Rattle.std.specs.Prelude.{◌≡◌, ◌++◌, ◌∷◌, [], if◌the
 ghost use Rattle.std.specs.Fmt.{signed_decimal};
 ghost use Rattle.instructions.specs.BuiltInTurns.{write_turn, line_of, text_at};
 
+use crate::places::go_on;
 use cil_model::memory::NoMemory;
 use cil_model::texts::Text;
-use crate::places::go_on;
 use itoa::Buffer;
 use object_memory::{Addr, Value};
 use threads_monitors::{Effect, FrameMemory};

@@ -6,9 +6,9 @@ ghost use Rattle.method_table.specs.Prepared.{IsMethodTable};
 ghost use Rattle.interpreter.specs.Calls.{class_in, slots_at, new_at};
 
 use crate::calls::entry;
+use class_layout::Layout;
 use instructions::Callee;
 use instructions::births::{new_object, new_plain_object};
-use class_layout::Layout;
 use metadata::Program;
 use method_table::MethodTable;
 use name_tables::lookups::MemberNumber;

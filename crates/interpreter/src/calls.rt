@@ -11,14 +11,12 @@ ghost use Rattle.interpreter.specs.Calls.{act_turn, call_rule, prints, receiver,
 use crate::births::new_operation;
 use crate::outcomes::Outcome;
 use crate::targets::chosen;
-use instructions::{locks, printing};
-use instructions::Callee;
-use instructions::calls::call;
-use instructions::returns::return_from;
 use cil_model::memory::NoMemory;
 use cil_model::reports::Fault;
 use class_layout::Layout;
-use instructions::stack;
+use instructions::calls::call;
+use instructions::returns::return_from;
+use instructions::{Callee, locks, printing, stack};
 use metadata::Program;
 use method_table::{Action, MethodTable, TableMethod};
 use name_tables::lookups::MemberNumber;

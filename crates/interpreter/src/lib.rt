@@ -3,8 +3,8 @@
 
 pub mod births;
 pub mod calls;
+pub mod dispatch;
 pub mod frame_operations;
-pub mod instructions;
 pub mod object_operations;
 pub mod operands;
 pub mod outcomes;

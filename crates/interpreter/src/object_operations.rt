@@ -6,13 +6,12 @@ ghost use Rattle.interpreter.specs.Operations.{field_rule, array_rule, type_rule
 
 use crate::operands::{held, slot, static_number};
 use class_layout::Layout;
+use instructions::{arrays, casts, fields, statics};
 use metadata::Program;
-use instructions::{arrays, fields, statics};
 use object_memory::{ArrayElement, ElementType, Heap, Value, ValueKind};
 use resolved_code::operations::Operation;
 use resolved_code::types::{NumberedElement, NumberedType};
 use threads_monitors::{Effect, FrameMemory};
-use instructions::casts;
 
 /// `ldfld` and `stfld` (ECMA-335 III.4.10, III.4.28).
 pub fn field_operation(

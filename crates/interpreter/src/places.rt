@@ -12,7 +12,7 @@ ghost use Rattle.class_layout.specs.Laid.{IsLayout};
 ghost use Rattle.method_table.specs.Prepared.{IsMethodTable};
 ghost use Rattle.interpreter.specs.Instructions.{HasSmallConstant, IsAt, IsDone, Prints, line_at, operation_turn};
 
-use crate::instructions::operation_done;
+use crate::dispatch::operation_done;
 use crate::outcomes::Outcome;
 use cil_model::memory::NoMemory;
 use class_layout::Layout;

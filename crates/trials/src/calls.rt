@@ -8,13 +8,13 @@ use cil_model::memory::NoMemory;
 use cil_model::reports::{End, Report};
 use cil_model::texts::Text;
 use cil_model::types::ClassName;
-use cil_plain::machine::{PlainMachine, StepRequest};
+use cil_plain::PlainMachine;
 use driver::{Failure, accept, drive, run_events};
 use ilasm_reader::{ReadError, read};
 use instruction_text::CharactersText;
+use name_tables::built_in::BuiltInClass;
+use name_tables::lookups::NameTables;
 use orders::{Order, read_source, read_text};
-use plain_lookups::built_ins::BuiltIns;
-use plain_lookups::declarations::Program;
 use schedule_text::write_schedule;
 use shared_machine::{Machine, Outcome};
 use std::alloc::Global;
@@ -276,36 +276,26 @@ fn is_loaded_by_another(alloc: Global) -> Result<bool, NoMemory> {
     Ok(loaded == Some(1) && nothing.is_none())
 }
 
-const STEP: StepRequest = StepRequest {
-    thread: 0,
-    is_refused: false,
-};
-
-/// Whether the reference machine as a plain program runs the sum, and shows where it stands.
-fn runs_plainly(alloc: Global) -> Result<bool, NoMemory> {
-    let Ok(tree) = read(alloc, SUM.as_bytes()) else {
-        return Ok(false);
-    };
-    let built_ins = BuiltIns::new(alloc)?;
-    let program = Program {
-        alloc,
-        tree: &tree,
-        built_ins: &built_ins,
-    };
-    match PlainMachine::new(&program, LIMITS)? {
+/// Whether the plain machine runs the sum, and shows where it stands.
+fn runs_plainly(alloc: Global) -> Result<bool, Failure> {
+    let tree = read(alloc, SUM.as_bytes())?;
+    let built_ins = BuiltInClass::all(alloc)?;
+    let names = NameTables::new(alloc, &tree, built_ins.as_slice())?;
+    match PlainMachine::new(alloc, &names, LIMITS)? {
         None => Ok(false),
-        Some(machine) => is_plain_run(alloc, machine),
+        Some(machine) => Ok(is_plain_run(alloc, machine)?),
     }
 }
 
 fn is_plain_run(alloc: Global, mut machine: PlainMachine<'_>) -> Result<bool, NoMemory> {
     let shown = format!(in alloc; "{machine}")?;
-    let run = machine.run(&[STEP, STEP, STEP, STEP, STEP])?;
+    let mut last = None;
+    for _ in 0..5 {
+        last = machine.step(0, false)?;
+    }
     Ok(
-        shown.as_str() == "thread 0: 10 steps left [0: LoadInt32(2) []]\n"
-            && !run.is_stuck
-            && run.reports.len() == 5
-            && run.reports.last() == Some(&Report::Ended(End::Done))
+        shown.as_str() == "thread 0: 10 steps left, 0: LoadInt32(2) []\n"
+            && last == Some(Report::Ended(End::Done))
             && machine.console() == b"5\n".as_slice(),
     )
 }

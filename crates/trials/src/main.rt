@@ -1,10 +1,12 @@
-//! Runs cases: commands of `cilvm` with the texts of their files and what has to come of them, from the groups in `data`, and
-//! then a few calls that no command makes.
+//! Runs cases: commands of `cilvm` with the texts of their files and what has to come of them, from the groups in `data`; what they
+//! run is compared with the plain machine. Then it makes a few calls that no command makes, and compares both machines on all short
+//! schedules of one program and on programs that are made up.
 #![tactic(auto)]
 
 mod answers;
 mod calls;
 mod cases;
+mod comparison;
 mod epochs;
 mod groups;
 mod outcomes;
@@ -12,6 +14,8 @@ mod reports;
 mod texts;
 mod workers;
 
+use comparison::{try_programs, try_schedules};
+use driver::{Failure, report};
 use std::io;
 use std::process::ExitCode;
 use std::sync::Wait;
@@ -29,25 +33,28 @@ const GROUPS: [&str; 8] = [
     "examples",
 ];
 
-/// The status is 0 where all is as expected, 1 where something differs, and 2 where a file is not read or memory is wanted.
+/// The status is 0 where all is as expected, 1 where something differs, and 5 where a file is not read or memory is wanted.
 fn main(rt: HostRuntime) -> ExitCode {
     let status = match trials(&rt, &rt) {
         Ok(0) => 0,
         Ok(_) => 1,
-        Err(error) => match eprintln!(rt; "{error}") {
-            Ok(()) => 2,
-            Err(_) => 3,
-        },
+        Err(failure) => {
+            let errors = rt.stderr();
+            report(failure, &mut io::writer(&errors))
+        }
     };
     ExitCode::from(status)
 }
 
-/// Does all groups and all calls, and answers how many cases and calls differ from what is expected.
-fn trials(rt: &HostRuntime, threads: &(impl Threads + Wait + Sync)) -> io::Result<usize> {
+/// Does all trials, and answers how many come to something else than what is expected.
+fn trials(rt: &HostRuntime, threads: &(impl Threads + Wait + Sync)) -> Result<usize, Failure> {
     let mut differing = 0usize;
     for group in GROUPS {
         differing = differing.saturating_add(groups::try_group(rt, threads, group)?);
     }
     let calls = calls::try_calls(rt, threads)?;
-    Ok(differing.saturating_add(calls))
+    let schedules = try_schedules(rt)?;
+    let programs = try_programs(rt)?;
+    let made_up = schedules.saturating_add(programs);
+    Ok(differing.saturating_add(calls).saturating_add(made_up))
 }

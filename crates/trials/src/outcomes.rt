@@ -2,7 +2,7 @@
 
 use crate::answers::answer;
 use crate::cases::Case;
-use crate::reports::add_run;
+use crate::reports::{add_difference, add_run};
 use crate::texts::{expanded, limits_of, words_of};
 use command_line::{LineFault, order};
 use driver::{Failure, drive, report};
@@ -109,7 +109,7 @@ fn carry_out(
     if case.wanted.contains("\n--- reports") {
         add_run(threads, rt.alloc(), order, &files, out)?;
     }
-    Ok(())
+    add_difference(rt.alloc(), order, &files, out)
 }
 
 /// The files of an order: the texts of the case, and else the files that the order names.

@@ -1,6 +1,8 @@
-//! The reports of a run, and the words that objects take after it.
+//! The reports of a run, the words that objects take after it, and what the plain machine tells else.
 
+use crate::comparison::difference;
 use crate::outcomes::Files;
+use cil_model::limits::Limits;
 use cil_model::reports::{End, Report};
 use driver::{Failure, report, run_events};
 use orders::Order;
@@ -25,6 +27,41 @@ pub fn add_run(
     Ok(())
 }
 
+/// The limits and the text of the schedule of an order; none where it has no schedule.
+fn run_of<'a>(order: &Order<'a>, files: &'a Files) -> Option<(Limits, &'a [u8])> {
+    match *order {
+        Order::Run {
+            limits,
+            schedule,
+            ..
+        } => Some((limits, schedule.as_bytes())),
+        Order::Replay { limits, .. } | Order::Trace { limits, .. } => {
+            Some((limits, files.schedule.as_slice()))
+        }
+        _ => None,
+    }
+}
+
+/// Adds what the plain machine tells else of the events of an order; nothing where both machines agree, or nothing runs.
+pub fn add_difference(
+    alloc: Global,
+    order: &Order<'_>,
+    files: &Files,
+    out: &mut Vec<u8>,
+) -> io::Result<()> {
+    let Some((limits, text)) = run_of(order, files) else {
+        return Ok(());
+    };
+    match difference(alloc, files.source.as_slice(), limits, text) {
+        Ok(None) => Ok(()),
+        Ok(Some(told)) => writeln!(out, "--- the plain machine differs at {told}"),
+        Err(failure) => {
+            report(failure, out);
+            Ok(())
+        }
+    }
+}
+
 fn add_events(
     waits: &impl Wait,
     alloc: Global,
@@ -32,14 +69,8 @@ fn add_events(
     files: &Files,
     out: &mut Vec<u8>,
 ) -> Result<(), Failure> {
-    let (limits, text) = match *order {
-        Order::Run {
-            limits,
-            schedule,
-            ..
-        } => (limits, schedule.as_bytes()),
-        Order::Replay { limits, .. } => (limits, files.schedule.as_slice()),
-        _ => return Ok(()),
+    let Some((limits, text)) = run_of(order, files) else {
+        return Ok(());
     };
     let events = read_schedule(alloc, text)?;
     let outcome = run_events(

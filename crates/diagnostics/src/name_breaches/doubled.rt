@@ -2,13 +2,13 @@
 
 use crate::name_breaches::shown::{ClassText, MethodText};
 use crate::name_breaches::sites::{MemberSpot, Sites, class_name, key_of};
+use crate::source_map::{ClassPart, LinePart, Place};
 use cil_model::memory::NoMemory;
 use cil_model::texts::Text;
 use cil_model::trees::{Class, ClassKind, Member, Method, Tree};
 use name_tables::bodies::lines_of;
 use name_tables::keys::{ClassKey, MethodKey, TextKey};
 use name_tables::places::Places;
-use crate::source_map::{ClassPart, LinePart, Place};
 use std::alloc::Global;
 use std::cmp::Eq;
 use std::fmt;

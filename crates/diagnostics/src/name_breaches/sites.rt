@@ -1,9 +1,9 @@
 //! Where rules are broken.
 
+use crate::source_map::{ClassPart, LinePart, MemberPart, Place};
 use cil_model::trees::{Class, Member, Method};
 use name_tables::keys::MethodKey;
 use name_tables::lookups::NameTables;
-use crate::source_map::{ClassPart, LinePart, MemberPart, Place};
 
 /// Where a rule is broken.
 #[derive(Clone, Copy, PartialEq, Eq, Debug)]

@@ -1,8 +1,11 @@
 //! Names that stand for nothing of the kind needed (number 202).
 
-use crate::name_breaches::references::{MemberKey, TypesNamed, class_of, is_found, labels_of, member_of};
+use crate::name_breaches::references::{
+    MemberKey, TypesNamed, class_of, is_found, labels_of, member_of,
+};
 use crate::name_breaches::shown::{ClassText, MethodText, TypeText};
 use crate::name_breaches::sites::{MemberSpot, Sites, key_of};
+use crate::source_map::{ClassPart, LinePart, MemberPart, Place};
 use cil_model::instructions::Instruction;
 use cil_model::memory::NoMemory;
 use cil_model::texts::Text;
@@ -13,7 +16,6 @@ use name_tables::keys::{ClassKey, FieldKey, MethodKey, TextKey};
 use name_tables::kinds::is_static;
 use name_tables::lookups::NameTables;
 use name_tables::places::Places;
-use crate::source_map::{ClassPart, LinePart, MemberPart, Place};
 use std::alloc::Global;
 use std::fmt;
 

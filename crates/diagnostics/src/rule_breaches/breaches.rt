@@ -1,5 +1,6 @@
 //! The breaches of all rules.
 
+use crate::name_breaches::{Doubled, Sites, Unknown, first_doubled, first_unknown};
 use crate::rule_breaches::cycles::{OwnBase, first_own_base};
 use crate::rule_breaches::entry::{BadEntry, wrong_entry};
 use crate::rule_breaches::implemented::{NotImplemented, first_not_implemented};
@@ -7,7 +8,6 @@ use crate::rule_breaches::kinds::{Misfit, first_misfit};
 use crate::rule_breaches::limits::{Passed, first_passed};
 use cil_model::memory::NoMemory;
 use metadata::Rule;
-use crate::name_breaches::{Doubled, Sites, Unknown, first_doubled, first_unknown};
 use name_tables::lookups::NameTables;
 use std::alloc::Global;
 use std::fmt;

@@ -1,11 +1,11 @@
 //! Classes that stand in the chain of their own base (number 203).
 
+use crate::name_breaches::{ClassText, Sites};
+use crate::source_map::{ClassPart, Place};
 use cil_model::memory::NoMemory;
 use cil_model::trees::Class;
-use crate::name_breaches::{ClassText, Sites};
 use name_tables::keys::ClassKey;
 use name_tables::lookups::NameTables;
-use crate::source_map::{ClassPart, Place};
 use std::alloc::Global;
 use std::fmt;
 

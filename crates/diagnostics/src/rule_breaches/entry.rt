@@ -1,12 +1,12 @@
 //! The entry point (number 206).
 
+use crate::name_breaches::{MemberSpot, MethodText, Sites, TypeText, key_of};
+use crate::source_map::MemberPart;
 use cil_model::trees::{Member, Method, Tree};
 use cil_model::types::DeclaredType;
-use crate::name_breaches::{MemberSpot, MethodText, Sites, TypeText, key_of};
 use name_tables::bodies::code_of;
 use name_tables::keys::MethodKey;
 use name_tables::kinds::is_static;
-use crate::source_map::MemberPart;
 use std::fmt;
 
 /// Why a source has not one entry point, in a static method without parameters that returns nothing.

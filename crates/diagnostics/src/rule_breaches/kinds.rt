@@ -1,8 +1,10 @@
 //! Methods whose kinds do not fit (number 205).
 
+use crate::name_breaches::{
+    ClassText, MemberSpot, MethodText, Sites, class_name, key_of, method_place,
+};
 use cil_model::texts::Text;
 use cil_model::trees::{Class, ClassKind, Member, Method};
-use crate::name_breaches::{ClassText, MemberSpot, MethodText, Sites, class_name, key_of, method_place};
 use name_tables::keys::{ClassKey, MethodKey};
 use name_tables::kinds::{is_abstract_method, is_new_slot_method, is_virtual};
 use name_tables::lookups::NameTables;

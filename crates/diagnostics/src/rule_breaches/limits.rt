@@ -1,5 +1,7 @@
 //! Limits that are passed (number 207), all of which are this profile's.
 
+use crate::name_breaches::{MemberSpot, Sites, TypesNamed, class_name};
+use crate::source_map::{LinePart, MemberPart, Place};
 use cil_model::instructions::Instruction;
 use cil_model::limits::{
     MOST_ARGUMENTS, MOST_BRACKETS, MOST_CLASSES, MOST_INSTANCE_FIELDS, MOST_INSTRUCTIONS,
@@ -8,12 +10,10 @@ use cil_model::limits::{
 use cil_model::texts::Text;
 use cil_model::trees::{Class, Code, Member, Method};
 use cil_model::types::DeclaredType;
-use crate::name_breaches::{MemberSpot, Sites, TypesNamed, class_name};
 use name_tables::bodies::{code_of, lines_of};
 use name_tables::keys::ClassKey;
 use name_tables::kinds::is_static;
 use name_tables::lookups::NameTables;
-use crate::source_map::{LinePart, MemberPart, Place};
 use std::fmt;
 
 /// A limit that is passed, with the number that passes it.

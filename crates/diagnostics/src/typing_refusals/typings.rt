@@ -1,5 +1,6 @@
 //! Where a method has no typing (number 301).
 
+use crate::source_map::{LinePart, MemberPart, Outline, Place, token_at};
 use crate::typing_refusals::numbered::{StackOf, class_keys};
 use crate::typing_refusals::refusals::Refusal;
 use crate::typing_refusals::replays::{Halt, first_halt};
@@ -16,7 +17,6 @@ use name_tables::lookups::MemberNumber;
 use resolved_code::classes::{Body, ResolvedKind, ResolvedMethod};
 use resolved_code::operations::Operation;
 use resolved_code::types::NumberedType;
-use crate::source_map::{LinePart, MemberPart, Outline, Place, token_at};
 use std::alloc::Global;
 use typing_search::refusals::Reason;
 

@@ -1,0 +1,249 @@
+// What the classes of a program are to one another (ECMA-335 I.8.7, II.10.3 and II.12.2), by the tables of their names.
+
+use crate::effects::Halt;
+use crate::values::{PlainElement, PlainType};
+use cil_model::instructions::{FieldReference, MethodName};
+use cil_model::trees::Method;
+use cil_model::types::{ClassName, DeclaredType, Element};
+use name_tables::classes::DeclaredClass;
+use name_tables::keys::{ClassKey, MethodKey};
+use name_tables::kinds::{is_new_slot_method, is_virtual};
+use name_tables::lookups::{MemberNumber, NameTables};
+
+/// A method, and the number of the class that declares it.
+#[derive(Clone, Copy)]
+pub struct Found<'a> {
+    pub class: usize,
+    pub method: &'a Method,
+}
+
+/// The classes of a program, by number.
+#[derive(Clone, Copy)]
+pub struct Classes<'a> {
+    pub names: &'a NameTables<'a>,
+}
+
+impl<'a> Classes<'a> {
+    /// What the class of a number declares.
+    pub fn declared(&self, class: usize) -> Option<&'a DeclaredClass<'a>> {
+        self.names.classes.class(class)
+    }
+
+    /// The field that a reference finds.
+    pub fn field(&self, is_static: bool, field: &FieldReference) -> Result<MemberNumber, Halt> {
+        self.names.find_field(is_static, field).ok_or(Halt::Sticks)
+    }
+
+    /// The method of the number that a look-up found.
+    pub fn method_at(&self, found: Option<MemberNumber>) -> Result<Found<'a>, Halt> {
+        let MemberNumber { class, place } = found.ok_or(Halt::Sticks)?;
+        let declared = self.declared(class).ok_or(Halt::Sticks)?;
+        match declared.methods.get(place) {
+            None => Err(Halt::Sticks),
+            Some(method) => Ok(Found { class, method }),
+        }
+    }
+
+    /// The class, its base, and so on (ECMA-335 I.8.9.9).
+    pub fn chain(&self, class: usize) -> &'a [usize] {
+        match self.declared(class) {
+            None => &[],
+            Some(declared) => self.names.chain(declared.name),
+        }
+    }
+
+    /// The name of a built-in class; none where it is a class of the source.
+    pub fn built_in_name(&self, class: usize) -> Option<&'a str> {
+        let key = self.declared(class)?.name;
+        match key.assembly {
+            None => None,
+            Some(_) => Some(key.name.as_str()),
+        }
+    }
+
+    /// The method that a thread of the class runs: its own for the `Run` of `Cilvm.Thread` (this profile).
+    pub fn run_method(&self, class: usize) -> Result<Found<'a>, Halt> {
+        for base in self.chain(class) {
+            if self.built_in_name(*base) == Some("Cilvm.Thread") {
+                return self.target(class, self.method_named("Run", *base)?);
+            }
+        }
+        Err(Halt::Sticks)
+    }
+
+    /// The first method of a class with that name.
+    fn method_named(&self, name: &str, class: usize) -> Result<Found<'a>, Halt> {
+        let declared = self.declared(class).ok_or(Halt::Sticks)?;
+        for method in declared.methods.as_slice() {
+            if name_of(method) == name {
+                return Ok(Found { class, method });
+            }
+        }
+        Err(Halt::Sticks)
+    }
+}
+
+/// The name of a method.
+pub fn name_of(method: &Method) -> &str {
+    match &method.name {
+        MethodName::Constructor => ".ctor",
+        MethodName::Named(name) => name.as_str(),
+    }
+}
+
+/// Types.
+impl<'a> Classes<'a> {
+    /// A type that stands in the tree.
+    pub fn type_named(&self, t: &DeclaredType) -> Result<PlainType, Halt> {
+        let element = match &t.element {
+            Element::Int32 => PlainElement::Int32,
+            Element::Int64 => PlainElement::Int64,
+            Element::Object => PlainElement::Object,
+            Element::String => PlainElement::String,
+            Element::Class(name) => {
+                let class = self.names.classes.number(ClassKey::of(name));
+                PlainElement::Class(class.ok_or(Halt::Sticks)?)
+            }
+        };
+        Ok(PlainType {
+            element,
+            brackets: t.brackets,
+        })
+    }
+
+    /// The type of a class's objects: `object` and `string` have names of their own (ECMA-335 II.7.2).
+    pub fn type_of_class(&self, class: usize) -> PlainType {
+        PlainType::plain(match self.built_in_name(class) {
+            Some("System.Object") => PlainElement::Object,
+            Some("System.String") => PlainElement::String,
+            _ => PlainElement::Class(class),
+        })
+    }
+
+    /// Whether a class lists the interface itself.
+    fn lists(&self, class: usize, interface: usize) -> bool {
+        match self.declared(class) {
+            None => false,
+            Some(declared) => self.is_among(declared.interfaces, interface),
+        }
+    }
+
+    /// Whether one of the names is the class's.
+    fn is_among(&self, names: &[ClassName], class: usize) -> bool {
+        for name in names {
+            if self.names.classes.number(ClassKey::of(name)) == Some(class) {
+                return true;
+            }
+        }
+        false
+    }
+
+    /// Whether the class is the wanted one, is below it, or has it as an interface.
+    fn is_class_assignable(&self, class: usize, wanted: usize) -> bool {
+        for base in self.chain(class) {
+            if *base == wanted || self.lists(*base, wanted) {
+                return true;
+            }
+        }
+        false
+    }
+
+    /// Whether a value of the type may stand where the other is wanted (ECMA-335 I.8.7). Arrays of references may where
+    /// their elements may.
+    pub fn is_assignable(&self, own: PlainType, wanted: PlainType) -> bool {
+        if own == wanted {
+            return true;
+        }
+        let shared = own.brackets.min(wanted.brackets);
+        let (held, place) = (own.without(shared), wanted.without(shared));
+        if shared > 0 && !(held.is_reference() && place.is_reference()) {
+            return false;
+        }
+        if place.brackets > 0 {
+            return false;
+        }
+        match (held.element, place.element) {
+            (_, PlainElement::Object) => held.is_reference(),
+            (PlainElement::Class(class), PlainElement::Class(wanted)) => {
+                held.brackets == 0 && self.is_class_assignable(class, wanted)
+            }
+            _ => held == place,
+        }
+    }
+}
+
+/// Which method a virtual call runs. A slot is known by the class that introduced it.
+impl<'a> Classes<'a> {
+    /// The slot that the nearest method of this name and signature along a chain fills.
+    fn slot_along(&self, key: MethodKey<'a>, chain: &[usize]) -> Option<usize> {
+        let mut slot = None;
+        for class in chain.iter().rev() {
+            slot = match self.names.classes.method(*class, key) {
+                None => slot,
+                Some(method) if !is_virtual(&method.kind) => None,
+                Some(method) if is_new_slot_method(&method.kind) => Some(*class),
+                Some(_) => Some(slot.unwrap_or(*class)),
+            };
+        }
+        slot
+    }
+
+    /// The method that fills, for objects of the class, the slot of the method of that owner.
+    fn class_target(&self, key: MethodKey<'a>, class: usize, owner: usize) -> Option<Found<'a>> {
+        let slot = self.slot_along(key, self.chain(owner))?;
+        let chain = self.chain(class);
+        for start in 0..chain.len() {
+            let Some(method) = self.names.classes.method(chain[start], key) else {
+                continue;
+            };
+            if self.slot_along(key, &chain[start..]) == Some(slot) {
+                return Some(Found {
+                    class: chain[start],
+                    method,
+                });
+            }
+        }
+        None
+    }
+
+    /// The nearest class of a chain with a virtual method of this name and signature.
+    fn nearest_virtual(&self, key: MethodKey<'a>, chain: &[usize]) -> Option<usize> {
+        for class in chain {
+            if let Some(method) = self.names.classes.method(*class, key) {
+                if is_virtual(&method.kind) {
+                    return Some(*class);
+                }
+            }
+        }
+        None
+    }
+
+    /// An interface's method: what is seen from the nearest class that lists the interface.
+    fn interface_target(
+        &self,
+        key: MethodKey<'a>,
+        class: usize,
+        interface: usize,
+    ) -> Option<Found<'a>> {
+        for lister in self.chain(class) {
+            if self.lists(*lister, interface) {
+                let seen = self.nearest_virtual(key, self.chain(*lister))?;
+                return self.class_target(key, class, seen);
+            }
+        }
+        None
+    }
+
+    /// The method that runs where a virtual one is called on an object of the class (ECMA-335 II.10.3 and II.12.2; where an interface
+    /// is listed again, this profile).
+    pub fn target(&self, class: usize, called: Found<'a>) -> Result<Found<'a>, Halt> {
+        let key = MethodKey::new(&called.method.name, &called.method.signature);
+        let owner = self.declared(called.class).ok_or(Halt::Sticks)?;
+        let found = if owner.is_interface {
+            self.interface_target(key, class, called.class)
+        } else {
+            self.class_target(key, class, called.class)
+        };
+        found.ok_or(Halt::Sticks)
+    }
+}

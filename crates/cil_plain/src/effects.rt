@@ -1,0 +1,54 @@
+// What an instruction comes to.
+
+use crate::frames::Frame;
+use crate::values::Value;
+use cil_model::memory::NoMemory;
+use cil_model::reports::Fault;
+use std::alloc::{AllocError, AllocFailed};
+
+/// Where the thread goes on.
+#[derive(Drop)]
+pub enum Effect<'a> {
+    /// At the next instruction.
+    Next,
+    /// At the instruction of this place.
+    Jump(usize),
+    /// At the beginning of a method that is called.
+    Call(Frame<'a>),
+    /// In the caller, with the value that is returned.
+    Return(Option<Value>),
+}
+
+/// Why it does not.
+#[derive(Clone, Copy, Debug, PartialEq, Eq)]
+pub enum Halt {
+    /// The thread waits. Nothing was changed.
+    Blocks,
+    /// The thread ends by a fault.
+    Raises(Fault),
+    /// An operand is missing or of the wrong kind, or a name stands for nothing.
+    Sticks,
+    /// Memory ran out.
+    NoMemory,
+}
+
+/// What an instruction comes to.
+pub type Done<'a> = Result<Effect<'a>, Halt>;
+
+impl From<AllocError> for Halt {
+    fn from(_error: AllocError) -> Halt {
+        Halt::NoMemory
+    }
+}
+
+impl<T: Drop> From<AllocFailed<T>> for Halt {
+    fn from(_error: AllocFailed<T>) -> Halt {
+        Halt::NoMemory
+    }
+}
+
+impl From<NoMemory> for Halt {
+    fn from(_error: NoMemory) -> Halt {
+        Halt::NoMemory
+    }
+}

@@ -1,0 +1,148 @@
+// Method states (ECMA-335 I.12.3.2).
+
+use crate::effects::{Done, Effect, Halt};
+use crate::heap::set_value;
+use crate::values::{ObjectName, Value};
+use cil_model::instructions::Instruction;
+use cil_model::texts::Text;
+use cil_model::trees::{Code, Method};
+use cil_model::types::DeclaredType;
+use name_tables::bodies::lines_of;
+use std::alloc::Global;
+use std::fmt;
+
+/// A method that runs: the place of its next instruction, and its values. Of a constructor that `newobj` runs, the object to
+/// push at its end.
+#[derive(Drop)]
+pub struct Frame<'a> {
+    pub method: &'a Method,
+    pub place: usize,
+    pub arguments: Vec<Value>,
+    pub locals: Vec<Value>,
+    pub stack: Vec<Value>,
+    pub constructed: Option<ObjectName>,
+}
+
+impl<'a> Frame<'a> {
+    /// The frame at the beginning of a method with that code; its locals are zero or null.
+    pub fn new(
+        alloc: Global,
+        method: &'a Method,
+        code: &Code,
+        arguments: Vec<Value>,
+    ) -> Result<Self, Halt> {
+        let mut frame = Frame {
+            method,
+            place: 0,
+            arguments,
+            locals: Vec::new(alloc),
+            stack: Vec::new(alloc),
+            constructed: None,
+        };
+        for local in code.locals.as_slice() {
+            frame.locals.push(Value::zero_of(local))?;
+        }
+        Ok(frame)
+    }
+
+    /// The instruction at which the frame is.
+    pub fn instruction(&self) -> Option<&'a Instruction> {
+        Some(&lines_of(self.method).get(self.place)?.instruction)
+    }
+
+    /// On to the instruction of a label.
+    pub fn jump(&self, label: &Text) -> Done<'a> {
+        let lines = lines_of(self.method);
+        for (place, line) in lines.iter().enumerate() {
+            for other in line.labels.as_slice() {
+                if other.is_same(label) {
+                    return Ok(Effect::Jump(place));
+                }
+            }
+        }
+        Err(Halt::Sticks)
+    }
+
+    /// There where the test holds, else to the next instruction.
+    pub fn jump_if(&self, holds: bool, label: &Text) -> Done<'a> {
+        if holds {
+            self.jump(label)
+        } else {
+            Ok(Effect::Next)
+        }
+    }
+
+    pub fn pop(&mut self) -> Result<Value, Halt> {
+        self.stack.pop().ok_or(Halt::Sticks)
+    }
+
+    /// The value on top of the stack.
+    pub fn top(&self) -> Result<Value, Halt> {
+        self.stack.last().copied().ok_or(Halt::Sticks)
+    }
+
+    /// The value below so many others.
+    pub fn below_top(&self, count: usize) -> Result<Value, Halt> {
+        let above = count.saturating_add(1);
+        match self.stack.len().checked_sub(above) {
+            None => Err(Halt::Sticks),
+            Some(place) => self.stack.get(place).copied().ok_or(Halt::Sticks),
+        }
+    }
+
+    /// The topmost values have to be of the kinds of these types.
+    pub fn check_operands(&self, types: &[DeclaredType]) -> Result<(), Halt> {
+        for (above, t) in types.iter().rev().enumerate() {
+            if !self.below_top(above)?.has_same_kind(Value::zero_of(t)) {
+                return Err(Halt::Sticks);
+            }
+        }
+        Ok(())
+    }
+
+    /// On to the next instruction, with a value on the stack.
+    pub fn next_with(&mut self, value: Value) -> Done<'a> {
+        self.stack.push(value)?;
+        Ok(Effect::Next)
+    }
+
+    /// Takes so many values off the stack, the first pushed first.
+    pub fn take(&mut self, count: usize) -> Result<Vec<Value>, Halt> {
+        let height = self.stack.len();
+        if count > height {
+            return Err(Halt::Sticks);
+        }
+        Ok(self.stack.split_off(height - count)?)
+    }
+}
+
+/// On to the next instruction with another value of its kind at a place.
+pub fn next_stored<'a>(values: &mut [Value], place: i64, value: Value) -> Done<'a> {
+    match usize::try_from(place) {
+        Err(_) => Err(Halt::Sticks),
+        Ok(place) => {
+            set_value(values, place, value)?;
+            Ok(Effect::Next)
+        }
+    }
+}
+
+/// The value at a place.
+pub fn value_at(values: &[Value], place: i64) -> Result<Value, Halt> {
+    match usize::try_from(place) {
+        Err(_) => Err(Halt::Sticks),
+        Ok(place) => values.get(place).copied().ok_or(Halt::Sticks),
+    }
+}
+
+/// `4: Binary(Add) [Int32(2), Int32(3)]`: the place, the instruction there, and the stack up to its top.
+impl fmt::Display for Frame<'_> {
+    fn fmt<W: fmt::Write>(&self, f: &mut fmt::Formatter<W>) -> fmt::Result {
+        let place = self.place;
+        let stack = self.stack.as_slice();
+        match self.instruction() {
+            None => write!(f, "{place}: {stack:?}"),
+            Some(instruction) => write!(f, "{place}: {instruction:?} {stack:?}"),
+        }
+    }
+}

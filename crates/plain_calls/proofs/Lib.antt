@@ -1,2 +1,0 @@
-mod Invoked
-mod Acted

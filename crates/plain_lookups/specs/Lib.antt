@@ -1,4 +1,0 @@
-pub mod Members
-pub mod Elements
-pub mod BuiltInMethods
-pub mod MethodNames

@@ -1,4 +1,0 @@
-use Rattle.plain_members.proofs.operands.+popped.Given as goal
-
-abbrev pub decreases-popped : goal.decreases-popped
-decreases-popped l = l.count

@@ -1,2 +1,0 @@
-mod Lists
-mod Entered

@@ -1,5 +1,0 @@
-use Rattle.std.proofs.Common.{length}
-use Rattle.plain_openings.proofs.openings.+each_once.Given as goal
-
-abbrev pub decreases-each_once : goal.decreases-each_once
-decreases-each_once l = length l.texts.now

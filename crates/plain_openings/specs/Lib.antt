@@ -1,2 +1,0 @@
-pub mod OwnFields
-pub mod Entries

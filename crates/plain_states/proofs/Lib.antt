@@ -1,2 +1,0 @@
-mod Stores
-mod Locked
