@@ -3,9 +3,9 @@
 use crate::classes::{Classes, Found, name_of};
 use crate::effects::{Done, Effect, Halt};
 use crate::frames::Frame;
-use crate::heap::Monitor;
+use crate::heap::{Contents, Monitor};
 use crate::state::State;
-use crate::values::{ObjectName, Value};
+use crate::values::Value;
 use cil_model::limits::MOST_THREADS;
 use cil_model::reports::Fault;
 
@@ -56,20 +56,28 @@ impl<'a> State<'a> {
             Value::Int32(number) => format!(in self.alloc; "{number}\n")?,
             Value::Int64(number) => format!(in self.alloc; "{number}\n")?,
             Value::Null => String::from_str(self.alloc, "\n")?,
-            Value::Reference(name) => {
-                let characters = self.heap.characters(name)?.as_str();
-                format!(in self.alloc; "{characters}\n")?
-            }
+            Value::Reference(name) => self.line_of(name)?,
             Value::Native(_) => return Err(Halt::Sticks),
         };
         self.console.extend_from_slice(line.as_bytes())?;
         Ok(())
     }
 
+    /// The characters of a literal with a line end.
+    fn line_of(&self, name: usize) -> Result<String, Halt> {
+        match self.heap.object(name)?.contents {
+            Contents::Literal(characters) => {
+                let characters = characters.as_str();
+                Ok(format!(in self.alloc; "{characters}\n")?)
+            }
+            _ => Err(Halt::Sticks),
+        }
+    }
+
     /// A monitor that is free or the thread's own is entered once more; another's blocks (ECMA-335 I.12.6.5).
-    fn enter(&mut self, name: ObjectName) -> Result<(), Halt> {
+    fn enter(&mut self, name: usize) -> Result<(), Halt> {
         let own = self.turn.thread;
-        let monitor = self.heap.monitor_mut(name)?;
+        let monitor = &mut self.heap.object_mut(name)?.monitor;
         let count = match *monitor {
             Monitor::Free => 1,
             Monitor::Held { owner, count } if owner == own => count.saturating_add(1),
@@ -80,9 +88,9 @@ impl<'a> State<'a> {
     }
 
     /// The owner leaves a monitor once; nobody else may.
-    fn exit(&mut self, name: ObjectName) -> Result<(), Halt> {
+    fn exit(&mut self, name: usize) -> Result<(), Halt> {
         let own = self.turn.thread;
-        let monitor = self.heap.monitor_mut(name)?;
+        let monitor = &mut self.heap.object_mut(name)?.monitor;
         *monitor = match *monitor {
             Monitor::Held { owner, count } if owner == own && count > 1 => Monitor::Held {
                 owner,
@@ -95,7 +103,7 @@ impl<'a> State<'a> {
     }
 
     /// A new thread, at the beginning of the object's `Run` with its whole budget.
-    fn start(&mut self, name: ObjectName) -> Result<(), Halt> {
+    fn start(&mut self, name: usize) -> Result<(), Halt> {
         let run = self.classes.run_method(self.heap.class_of(name)?)?;
         if self.heap.object(name)?.thread.is_some() {
             return Err(Halt::Raises(Fault::ThreadState));
@@ -112,7 +120,7 @@ impl<'a> State<'a> {
     }
 
     /// Waits while the object's thread is live.
-    fn join(&mut self, name: ObjectName) -> Result<(), Halt> {
+    fn join(&mut self, name: usize) -> Result<(), Halt> {
         match self.heap.object(name)?.thread {
             None => Err(Halt::Raises(Fault::ThreadState)),
             Some(thread) if self.is_live(thread) => Err(Halt::Blocks),

@@ -130,22 +130,14 @@ impl<'a> Classes<'a> {
 
     /// Whether one of the names is the class's.
     fn is_among(&self, names: &[ClassName], class: usize) -> bool {
-        for name in names {
-            if self.names.classes.number(ClassKey::of(name)) == Some(class) {
-                return true;
-            }
-        }
-        false
+        names.iter().any(|name| self.names.classes.number(ClassKey::of(name)) == Some(class))
     }
 
     /// Whether the class is the wanted one, is below it, or has it as an interface.
     fn is_class_assignable(&self, class: usize, wanted: usize) -> bool {
-        for base in self.chain(class) {
-            if *base == wanted || self.lists(*base, wanted) {
-                return true;
-            }
-        }
-        false
+        self.chain(class)
+            .iter()
+            .any(|base| *base == wanted || self.lists(*base, wanted))
     }
 
     /// Whether a value of the type may stand where the other is wanted (ECMA-335 I.8.7). Arrays of references may where

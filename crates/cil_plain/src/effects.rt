@@ -2,7 +2,6 @@
 
 use crate::frames::Frame;
 use crate::values::Value;
-use cil_model::memory::NoMemory;
 use cil_model::reports::Fault;
 use std::alloc::{AllocError, AllocFailed};
 
@@ -43,12 +42,6 @@ impl From<AllocError> for Halt {
 
 impl<T: Drop> From<AllocFailed<T>> for Halt {
     fn from(_error: AllocFailed<T>) -> Halt {
-        Halt::NoMemory
-    }
-}
-
-impl From<NoMemory> for Halt {
-    fn from(_error: NoMemory) -> Halt {
         Halt::NoMemory
     }
 }

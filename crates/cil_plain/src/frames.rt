@@ -2,7 +2,7 @@
 
 use crate::effects::{Done, Effect, Halt};
 use crate::heap::set_value;
-use crate::values::{ObjectName, Value};
+use crate::values::Value;
 use cil_model::instructions::Instruction;
 use cil_model::texts::Text;
 use cil_model::trees::{Code, Method};
@@ -20,7 +20,7 @@ pub struct Frame<'a> {
     pub arguments: Vec<Value>,
     pub locals: Vec<Value>,
     pub stack: Vec<Value>,
-    pub constructed: Option<ObjectName>,
+    pub constructed: Option<usize>,
 }
 
 impl<'a> Frame<'a> {

@@ -2,7 +2,7 @@
 
 use crate::classes::Classes;
 use crate::effects::Halt;
-use crate::values::{ObjectName, PlainElement, PlainType, Value};
+use crate::values::{PlainElement, PlainType, Value};
 use cil_model::reports::Fault;
 use cil_model::texts::Text;
 use name_tables::lookups::MemberNumber;
@@ -58,39 +58,26 @@ pub fn set_value(values: &mut [Value], place: usize, value: Value) -> Result<(),
     }
 }
 
-/// What an object is: of a class, with its fields, or an array.
+/// What an object is: of a class, with its fields; an array; or a string literal.
 #[derive(Drop)]
-pub enum Contents {
-    Instance {
-        class: usize,
-        fields: Vec<FieldValue>,
-    },
-    Array {
-        element: PlainType,
-        elements: Vec<Value>,
-    },
+pub enum Contents<'a> {
+    Instance(usize, Vec<FieldValue>),
+    Array(PlainType, Vec<Value>),
+    Literal(&'a Text),
 }
 
 /// An object, with the number of the thread that was started on it.
 #[derive(Drop)]
-pub struct PlainObject {
-    pub contents: Contents,
+pub struct PlainObject<'a> {
+    pub contents: Contents<'a>,
     pub monitor: Monitor,
     pub thread: Option<usize>,
 }
 
-/// A string literal: equal ones are one object (ECMA-335 III.4.16).
-#[derive(Clone, Copy)]
-pub struct Literal<'a> {
-    pub characters: &'a Text,
-    pub monitor: Monitor,
-}
-
-/// All objects that were born, in order, and all literals that were loaded.
+/// All objects, each named by its number among all births. A literal is born where it is first loaded.
 #[derive(Drop)]
 pub struct Heap<'a> {
-    objects: Vec<PlainObject>,
-    literals: Vec<Literal<'a>>,
+    objects: Vec<PlainObject<'a>>,
 }
 
 impl<'a> Heap<'a> {
@@ -98,92 +85,49 @@ impl<'a> Heap<'a> {
     pub fn new(alloc: Global) -> Self {
         Heap {
             objects: Vec::new(alloc),
-            literals: Vec::new(alloc),
         }
     }
 
     /// A new object.
-    pub fn give_birth(&mut self, contents: Contents) -> Result<ObjectName, Halt> {
-        let number = self.objects.len();
+    pub fn give_birth(&mut self, contents: Contents<'a>) -> Result<usize, Halt> {
+        let name = self.objects.len();
         self.objects.push(PlainObject {
             contents,
             monitor: Monitor::Free,
             thread: None,
         })?;
-        Ok(ObjectName::Born(number))
+        Ok(name)
     }
 
-    /// The object of a literal.
-    pub fn literal(&mut self, characters: &'a Text) -> Result<ObjectName, Halt> {
-        for (number, literal) in self.literals.iter().enumerate() {
-            if literal.characters.is_same(characters) {
-                return Ok(ObjectName::Literal(number));
+    /// The object of a literal: equal ones are one (ECMA-335 III.4.16).
+    pub fn literal(&mut self, characters: &'a Text) -> Result<usize, Halt> {
+        for (name, object) in self.objects.iter().enumerate() {
+            match object.contents {
+                Contents::Literal(others) if others.is_same(characters) => return Ok(name),
+                _ => {}
             }
         }
-        let number = self.literals.len();
-        self.literals.push(Literal {
-            characters,
-            monitor: Monitor::Free,
-        })?;
-        Ok(ObjectName::Literal(number))
+        self.give_birth(Contents::Literal(characters))
     }
 
-    /// The characters of a literal.
-    pub fn characters(&self, name: ObjectName) -> Result<&'a Text, Halt> {
-        match name {
-            ObjectName::Born(_) => Err(Halt::Sticks),
-            ObjectName::Literal(number) => match self.literals.get(number) {
-                None => Err(Halt::Sticks),
-                Some(literal) => Ok(literal.characters),
-            },
-        }
+    pub fn object(&self, name: usize) -> Result<&PlainObject<'a>, Halt> {
+        self.objects.get(name).ok_or(Halt::Sticks)
     }
 
-    /// An object that was born.
-    pub fn object(&self, name: ObjectName) -> Result<&PlainObject, Halt> {
-        match name {
-            ObjectName::Born(number) => self.objects.get(number).ok_or(Halt::Sticks),
-            ObjectName::Literal(_) => Err(Halt::Sticks),
-        }
-    }
-
-    /// The same, to be changed.
-    pub fn object_mut(&mut self, name: ObjectName) -> Result<&mut PlainObject, Halt> {
-        match name {
-            ObjectName::Born(number) => self.objects.get_mut(number).ok_or(Halt::Sticks),
-            ObjectName::Literal(_) => Err(Halt::Sticks),
-        }
-    }
-
-    /// The monitor of an object or a literal, to be changed.
-    pub fn monitor_mut(&mut self, name: ObjectName) -> Result<&mut Monitor, Halt> {
-        match name {
-            ObjectName::Born(_) => Ok(&mut self.object_mut(name)?.monitor),
-            ObjectName::Literal(number) => match self.literals.get_mut(number) {
-                None => Err(Halt::Sticks),
-                Some(literal) => Ok(&mut literal.monitor),
-            },
-        }
+    pub fn object_mut(&mut self, name: usize) -> Result<&mut PlainObject<'a>, Halt> {
+        self.objects.get_mut(name).ok_or(Halt::Sticks)
     }
 
     /// The type of an array's elements, and the elements.
-    pub fn array(&self, name: ObjectName) -> Result<(PlainType, &[Value]), Halt> {
+    pub fn array(&self, name: usize) -> Result<(PlainType, &[Value]), Halt> {
         match &self.object(name)?.contents {
-            Contents::Instance { .. } => Err(Halt::Sticks),
-            Contents::Array { element, elements } => Ok((*element, elements.as_slice())),
-        }
-    }
-
-    /// The class of an object, by which a virtual call finds its method; an array has none.
-    pub fn class_of(&self, name: ObjectName) -> Result<usize, Halt> {
-        match &self.object(name)?.contents {
-            Contents::Instance { class, .. } => Ok(*class),
-            Contents::Array { .. } => Err(Halt::Sticks),
+            Contents::Array(element, elements) => Ok((*element, elements.as_slice())),
+            _ => Err(Halt::Sticks),
         }
     }
 
     /// The place of an array, whose elements are of the kind of a value, at an index.
-    pub fn place(&self, array: ObjectName, index: Value, kind: Value) -> Result<usize, Halt> {
+    pub fn place(&self, array: usize, index: Value, kind: Value) -> Result<usize, Halt> {
         let index = usize::try_from(index.as_index()?);
         let (element, elements) = self.array(array)?;
         match index {
@@ -193,25 +137,25 @@ impl<'a> Heap<'a> {
         }
     }
 
-    /// The type of an object.
-    fn type_of(&self, classes: Classes<'a>, name: ObjectName) -> Result<PlainType, Halt> {
-        if let ObjectName::Literal(_) = name {
-            return Ok(PlainType::plain(PlainElement::String));
-        }
+    /// The class of an object, by which a virtual call finds its method.
+    pub fn class_of(&self, name: usize) -> Result<usize, Halt> {
         match &self.object(name)?.contents {
-            Contents::Instance { class, .. } => Ok(classes.type_of_class(*class)),
-            Contents::Array { element, .. } => Ok(element.array()),
+            Contents::Instance(class, _) => Ok(*class),
+            _ => Err(Halt::Sticks),
         }
     }
 
+    fn type_of(&self, classes: Classes<'a>, name: usize) -> Result<PlainType, Halt> {
+        Ok(match &self.object(name)?.contents {
+            Contents::Instance(class, _) => classes.type_of_class(*class),
+            Contents::Array(element, _) => element.array(),
+            Contents::Literal(_) => PlainType::plain(PlainElement::String),
+        })
+    }
+
     /// Whether the object of a reference is of the type; null is of every type.
-    pub fn fits(
-        &self,
-        classes: Classes<'a>,
-        value: Value,
-        wanted: PlainType,
-    ) -> Result<bool, Halt> {
-        match value {
+    pub fn fits(&self, classes: Classes<'a>, v: Value, wanted: PlainType) -> Result<bool, Halt> {
+        match v {
             Value::Null => Ok(true),
             Value::Reference(name) => {
                 let own = self.type_of(classes, name)?;

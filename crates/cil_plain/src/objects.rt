@@ -4,7 +4,7 @@ use crate::effects::{Done, Effect, Halt};
 use crate::frames::Frame;
 use crate::heap::{Contents, field_in, set_field_in, set_value};
 use crate::state::State;
-use crate::values::{ObjectName, Value};
+use crate::values::Value;
 use cil_model::instructions::FieldReference;
 use cil_model::reports::Fault;
 use cil_model::types::DeclaredType;
@@ -16,10 +16,8 @@ impl<'a> State<'a> {
         let name = frame.pop()?.not_null(Fault::NullReference)?;
         let field = self.classes.field(false, reference)?;
         match &self.heap.object(name)?.contents {
-            Contents::Array { .. } => Err(Halt::Sticks),
-            Contents::Instance { fields, .. } => {
-                frame.next_with(field_in(fields.as_slice(), field)?)
-            }
+            Contents::Instance(_, fields) => frame.next_with(field_in(fields.as_slice(), field)?),
+            _ => Err(Halt::Sticks),
         }
     }
 
@@ -29,11 +27,11 @@ impl<'a> State<'a> {
         let name = frame.pop()?.not_null(Fault::NullReference)?;
         let field = self.classes.field(false, reference)?;
         match &mut self.heap.object_mut(name)?.contents {
-            Contents::Array { .. } => Err(Halt::Sticks),
-            Contents::Instance { fields, .. } => {
+            Contents::Instance(_, fields) => {
                 set_field_in(fields.as_mut_slice(), field, value)?;
                 Ok(Effect::Next)
             }
+            _ => Err(Halt::Sticks),
         }
     }
 
@@ -55,13 +53,13 @@ impl<'a> State<'a> {
 /// Births, which may be refused.
 impl<'a> State<'a> {
     /// A new object of a class (ECMA-335 III.4.21).
-    pub fn new_instance(&mut self, class: usize) -> Result<ObjectName, Halt> {
+    pub fn new_instance(&mut self, class: usize) -> Result<usize, Halt> {
         self.turn.check_birth()?;
         let mut fields = Vec::new(self.alloc);
         for base in self.classes.chain(class) {
             self.add_fields(&mut fields, *base, false)?;
         }
-        self.heap.give_birth(Contents::Instance { class, fields })
+        self.heap.give_birth(Contents::Instance(class, fields))
     }
 
     /// `newarr` (ECMA-335 III.4.20).
@@ -73,7 +71,7 @@ impl<'a> State<'a> {
         };
         self.turn.check_birth()?;
         let elements = vec![in self.alloc; Value::zero_of(t); length]?;
-        let array = Contents::Array { element, elements };
+        let array = Contents::Array(element, elements);
         frame.next_with(Value::Reference(self.heap.give_birth(array)?))
     }
 }
@@ -113,11 +111,11 @@ impl<'a> State<'a> {
             return Err(Halt::Raises(Fault::ArrayTypeMismatch));
         }
         match &mut self.heap.object_mut(name)?.contents {
-            Contents::Instance { .. } => Err(Halt::Sticks),
-            Contents::Array { elements, .. } => {
+            Contents::Array(_, elements) => {
                 set_value(elements.as_mut_slice(), place, value)?;
                 Ok(Effect::Next)
             }
+            _ => Err(Halt::Sticks),
         }
     }
 }

@@ -4,21 +4,14 @@ use crate::effects::Halt;
 use cil_model::reports::Fault;
 use cil_model::types::{DeclaredType, Element};
 
-/// An object: by its number among all births, or among the string literals that were loaded.
-#[derive(Clone, Copy, Debug, PartialEq, Eq)]
-pub enum ObjectName {
-    Born(usize),
-    Literal(usize),
-}
-
-/// A value, without a static type.
+/// A value, without a static type. A reference has the number of its object among all births.
 #[derive(Clone, Copy, Debug, PartialEq, Eq)]
 pub enum Value {
     Int32(i32),
     Int64(i64),
     Native(i64),
     Null,
-    Reference(ObjectName),
+    Reference(usize),
 }
 
 impl Value {
@@ -46,7 +39,7 @@ impl Value {
     }
 
     /// The object of a reference; null ends the thread by the fault.
-    pub fn not_null(self, fault: Fault) -> Result<ObjectName, Halt> {
+    pub fn not_null(self, fault: Fault) -> Result<usize, Halt> {
         match self {
             Value::Reference(name) => Ok(name),
             Value::Null => Err(Halt::Raises(fault)),
