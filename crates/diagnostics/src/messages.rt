@@ -1,7 +1,7 @@
 //! How a message is laid out.
 
-use cil_model::memory::NoMemory;
 use crate::source_map::{Position, excerpt, position_of, token_at};
+use cil_model::memory::NoMemory;
 use std::alloc::Global;
 
 /// A text of which messages speak, and the name of its file.

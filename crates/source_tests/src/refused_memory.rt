@@ -22,7 +22,7 @@ fn is_answered(rt: &impl Abort, alloc: Global, source: &str, expected: Option<Ru
                 assert!(rt; !program.tree().classes.as_slice().is_empty());
                 expected.is_none()
             }
-            Err(MetaError::Broken { rule, .. }) => expected == Some(rule),
+            Err(MetaError::Broken { violation }) => expected == Some(violation.rule()),
             Err(MetaError::OutOfMemory) => true,
         },
     }
