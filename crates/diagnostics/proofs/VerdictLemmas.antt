@@ -36,7 +36,7 @@ its_tree source tree unique read accepted =
 pub told_of_source : (source : List ℕ) (tree : Tree) (v : Verdict) → AreUnique → IsAnswer source (HasTree tree) → Tells v (IsAccepted tree) → Tells v (IsAcceptedSource source)
 told_of_source source tree Accepted unique read told = (tree, read, told)
 told_of_source source tree (Unread error) unique read told = λ accepted. told (its_tree source tree unique read accepted)
-told_of_source source tree (Illegal rule culprit) unique read told = λ accepted. told (its_tree source tree unique read accepted)
+told_of_source source tree (Illegal violation) unique read told = λ accepted. told (its_tree source tree unique read accepted)
 told_of_source source tree (Untyped method place reason explanation) unique read told = λ accepted. told (its_tree source tree unique read accepted)
 
 -- a source with another answer than a tree is not accepted

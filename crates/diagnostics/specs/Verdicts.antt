@@ -19,5 +19,5 @@ is_acceptance _ = false
 abbrev pub Tells : Verdict → Type 0 → Type 0
 Tells Accepted P = P
 Tells (Unread error) P = P → ⊥
-Tells (Illegal rule culprit) P = P → ⊥
+Tells (Illegal violation) P = P → ⊥
 Tells (Untyped method place reason explanation) P = P → ⊥

@@ -5,13 +5,14 @@ ghost use Rattle.diagnostics.specs.Verdicts.{IsAcceptedSource, is_acceptance};
 
 use crate::messages::Named;
 use crate::readings::explain_reading;
-use crate::rules::explain_rule;
+use crate::rules::{broken, explain_rule};
 use crate::typing_refusals::{Untyped, told_typing};
 use crate::verdicts::{Verdict, verdict_of};
 use cil_model::memory::NoMemory;
 use cil_model::trees::Tree;
 use ilasm_reader::{ReadError, read};
-use metadata::{MetaError, Program, Rule, resolve};
+use metadata::violations::Violation;
+use metadata::{MetaError, Program, resolve};
 use std::alloc::Global;
 
 /// The tree of a source that was read before; None where it has none.
@@ -36,10 +37,10 @@ fn program_of(alloc: Global, source: &[u8]) -> Result<Option<Program>, NoMemory>
 }
 
 /// Why a tree is no legal program. The tree is read once more, since a refusal drops it.
-fn illegal(alloc: Global, named: Named, rule: Rule, culprit: &str) -> Result<String, NoMemory> {
+fn illegal(alloc: Global, named: Named, violation: Violation) -> Result<String, NoMemory> {
     match tree_of(alloc, named.text)? {
-        Some(tree) => explain_rule(alloc, named, &tree, rule, culprit),
-        None => named.message(alloc, culprit),
+        Some(tree) => explain_rule(alloc, named, &tree, violation),
+        None => broken(alloc, named, violation),
     }
 }
 
@@ -62,7 +63,7 @@ fn refusal_text(alloc: Global, named: Named, verdict: &Verdict) -> Result<String
     match verdict {
         Verdict::Accepted => named.message(alloc, "accepted"),
         Verdict::Unread(error) => explain_reading(alloc, named, *error),
-        Verdict::Illegal { rule, culprit } => illegal(alloc, named, *rule, culprit.as_str()),
+        Verdict::Illegal(violation) => illegal(alloc, named, *violation),
         Verdict::Untyped {
             method,
             place,
@@ -87,7 +88,7 @@ fn text_of(alloc: Global, named: Named, verdict: &Verdict) -> Result<Option<Stri
 {
     match verdict {
         Verdict::Accepted => Ok(None),
-        Verdict::Unread(_) | Verdict::Illegal { .. } | Verdict::Untyped { .. } => {
+        Verdict::Unread(_) | Verdict::Illegal(_) | Verdict::Untyped { .. } => {
             let text = refusal_text(alloc, named, verdict)?;
             Ok(Some(text))
         }

@@ -1,4 +1,4 @@
-// What of a tree breaks a rule of legality first: which clause of the rule, at which class, member or line, and in words.
+// What of a tree breaks a rule of legality, in words and with its place.
 
 mod breaches;
 mod cycles;
@@ -7,7 +7,7 @@ mod implemented;
 mod kinds;
 mod limits;
 
-pub use breaches::{Breach, first_breach};
+pub use breaches::{Breach, breach_of};
 pub use cycles::OwnBase;
 pub use entry::BadEntry;
 pub use implemented::NotImplemented;

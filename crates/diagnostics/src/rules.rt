@@ -2,11 +2,11 @@
 
 use crate::messages::Named;
 use crate::name_breaches::Sites;
-use crate::rule_breaches::{Breach, first_breach};
+use crate::rule_breaches::{Breach, breach_of};
 use crate::source_map::{Outline, Place};
 use cil_model::memory::NoMemory;
 use cil_model::trees::Tree;
-use metadata::Rule;
+use metadata::violations::Violation;
 use name_tables::built_in::BuiltInClass;
 use name_tables::lookups::NameTables;
 use std::alloc::Global;
@@ -44,22 +44,27 @@ fn told_breach(
     Ok(message)
 }
 
-/// Why a tree breaks a rule: its first breach, or the rule's sentence with the name that the resolver told. Fails for want of memory
-/// alone.
+/// Why a tree breaks a rule, in words; the rule's own sentence where the tree has no such place. Fails for want of memory alone.
 pub(crate) fn explain_rule(
     alloc: Global,
     named: Named,
     tree: &Tree,
-    rule: Rule,
-    culprit: &str,
+    violation: Violation,
 ) -> Result<String, NoMemory> {
     let table = BuiltInClass::all(alloc)?;
     let names = NameTables::new(alloc, tree, table.as_slice())?;
-    match first_breach(alloc, &names, rule)? {
+    match breach_of(alloc, &names, violation)? {
         Some((breach, sites)) => told_breach(alloc, named, &breach, sites),
-        None => {
-            let sentence = format!(in alloc; "{rule}: {culprit}")?;
-            named.message(alloc, sentence.as_str())
-        }
+        None => broken(alloc, named, violation),
     }
+}
+
+/// The sentence of the rule that is broken.
+pub(crate) fn broken(
+    alloc: Global,
+    named: Named,
+    violation: Violation,
+) -> Result<String, NoMemory> {
+    let sentence = violation.to_string(alloc)?;
+    named.message(alloc, sentence.as_str())
 }

@@ -10,7 +10,8 @@ use cil_model::trees::Tree;
 use class_layout::lay_out;
 use ilasm_reader::laws::answers_are_unique;
 use ilasm_reader::{ReadError, read};
-use metadata::{MetaError, Program, Rule, resolve};
+use metadata::violations::Violation;
+use metadata::{MetaError, Program, resolve};
 use std::alloc::Global;
 use typing_search::refusals::Reason;
 use verifier::{VerifyError, verify};
@@ -22,10 +23,7 @@ pub(crate) enum Verdict {
     /// It has no tree.
     Unread(ReadError),
     /// Its tree is no legal program.
-    Illegal {
-        rule: Rule,
-        culprit: String,
-    },
+    Illegal(Violation),
     /// A method of its program has no typing.
     Untyped {
         method: usize,
@@ -65,7 +63,7 @@ fn verdict_of_tree(alloc: Global, tree: Tree) -> Result<Verdict, NoMemory>
 {
     match resolve(alloc, tree) {
         Ok(program) => verdict_of_program(alloc, program),
-        Err(MetaError::Broken { rule, culprit }) => Ok(Verdict::Illegal { rule, culprit }),
+        Err(MetaError::Broken { violation }) => Ok(Verdict::Illegal(violation)),
         Err(MetaError::OutOfMemory) => Err(NoMemory),
     }
 }

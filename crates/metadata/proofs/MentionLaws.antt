@@ -1,12 +1,15 @@
 -- The types that a method names, as they are collected.
 use Rattle.std.proofs.Common.{◌≡◌, List, [], ◌∷◌, ◌++◌, map, refl, sym, ap, ◌∙◌, append_assoc}
 use Rattle.std.specs.Prelude.{flat_map}
+use Rattle.std.proofs.lemmas.Grind.{flat_map-append}
 use Rattle.std.proofs.lemmas.List.Folds.{flat_map-map}
 use Rattle.cil_model.specs.declared.types.DeclaredType.{DeclaredType}
+use Rattle.cil_model.specs.declared.trees.Class.{Class}
 use Rattle.cil_model.specs.declared.trees.Code.{Code}
 use Rattle.cil_model.specs.declared.trees.Line.{Line}
 use Rattle.cil_model.specs.declared.trees.Method.{Method}
 use Rattle.cil_model.specs.Bodies.{lines_of}
+use Rattle.cil_model.specs.Declarations.{methods_of}
 use Rattle.cil_model.specs.Mentions.{codes_of, types_of_signature, types_of_instruction, types_of_method}
 
 pub append_nothing : {X : Type 0} (xs : List X) → xs ++ [] ≡ xs
@@ -22,3 +25,8 @@ method_types m old signature locals all e f g =
     let i : flat_map (λ (l : Line). types_of_instruction l.instruction) (lines_of m) ≡ flat_map types_of_instruction (map (λ (l : Line). l.instruction) (lines_of m)) = sym (flat_map-map types_of_instruction (λ (l : Line). l.instruction) (lines_of m)) in
     g ∙ ap (λ xs. xs ++ flat_map (λ (l : Line). types_of_instruction l.instruction) (lines_of m)) (f ∙ ap (λ xs. signature ++ xs) (append_nothing k) ∙ ap (λ xs. xs ++ k) e ∙ append_assoc old s k) ∙
     append_assoc old (s ++ k) _ ∙ ap (λ xs. old ++ (s ++ k ++ xs)) i
+
+-- the types of all methods, class by class
+pub types_by_class : (cs : List Class) → flat_map (λ (c : Class). flat_map types_of_method (methods_of c)) cs ≡ flat_map types_of_method (flat_map methods_of cs)
+types_by_class [] = refl
+types_by_class (c ∷ cs) = ap (λ ts. flat_map types_of_method (methods_of c) ++ ts) (types_by_class cs) ∙ sym (flat_map-append types_of_method (methods_of c) (flat_map methods_of cs))

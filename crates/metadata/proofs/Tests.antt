@@ -14,6 +14,14 @@ pub and_true : (b : Bool) → b && true ≡ b
 and_true true = refl
 and_true false = refl
 
+pub not_not : (b : Bool) → not (not b) ≡ b
+not_not true = refl
+not_not false = refl
+
+pub and_turned : (a b : Bool) → a && b ≡ b && a
+and_turned true b = sym (and_true b)
+and_turned false b = sym (and_false b)
+
 pub third_decides : (a b c : Bool) → a ≡ true → b ≡ false → a && not b && c ≡ c
 third_decides a b c h k = ap (λ x. x && not b && c) h ∙ ap (λ x. not x && c) k
 
@@ -86,6 +94,9 @@ third_fails a b c d e h = ap (λ x. a && b && x && d && e) h ∙ ap (λ x. x && 
 
 pub fourth_fails : (a b c d e : Bool) → d ≡ false → a && b && c && d && e ≡ false
 fourth_fails a b c d e h = ap (λ x. a && b && c && x && e) h ∙ ap (λ x. x && e) (and_false (a && b && c))
+
+pub last_two_decide : (a b c d e : Bool) → a ≡ true → b ≡ true → c ≡ true → a && b && c && d && e ≡ d && e
+last_two_decide a b c d e h i j = ap (λ x. x && b && c && d && e) h ∙ ap (λ x. x && c && d && e) i ∙ ap (λ x. x && d && e) j
 
 pub last_decides : (a b c d e : Bool) → a ≡ true → b ≡ true → c ≡ true → d ≡ true → a && b && c && d && e ≡ e
 last_decides a b c d e h i j k = ap (λ x. x && b && c && d && e) h ∙ ap (λ x. x && c && d && e) i ∙ ap (λ x. x && d && e) j ∙ ap (λ x. x && e) k

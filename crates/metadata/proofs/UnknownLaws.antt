@@ -14,11 +14,12 @@ use Rattle.cil_model.specs.declared.trees.Method.{Method}
 use Rattle.cil_model.specs.Same.{same_text, same_class}
 use Rattle.cil_model.specs.Declarations.{Declaration, declaration_of, source_class, source_name, declared_as, fields_of, methods_of, is_interface_kind, interfaces_named}
 use Rattle.cil_model.specs.Bodies.{lines_of, labels_of, place_of}
-use Rattle.cil_model.specs.Mentions.{bases_named, class_of_element, owners_of_instruction, types_of_tree, class_types_of_tree, class_names_of_tree, methods_of_tree, instructions_of_tree}
+use Rattle.cil_model.specs.Mentions.{bases_named, class_of_element, owners_of_instruction, instructions_of, types_of_tree, class_types_of_tree, class_names_of_tree, methods_of_tree, instructions_of_tree}
 use Rattle.cil_model.specs.Legality.{labels_before, is_known_extern, is_resolved, is_source_interface, is_possible_base, is_possible_type, class_finds, finds_member, finds_labels, lacks_name}
 use Rattle.name_tables.proofs.Lists.{option_map_of_map}
 use Rattle.name_tables.proofs.FirstPlaces.{is_some-position_from}
-use Rattle.metadata.proofs.Tests.{first_fails, second_fails, third_fails, fourth_fails, last_decides, and_false, list_all_congr, list_all-flat_map, list_any-flat_map, list_all-filter_map, list_all_both}
+use Rattle.metadata.specs.Named.{knows_names}
+use Rattle.metadata.proofs.Tests.{first_fails, second_fails, third_fails, last_two_decide, and_false, and_turned, list_all_congr, list_all-flat_map, list_any-flat_map, list_all-filter_map, list_all_both}
 
 -- ---- classes of the source
 
@@ -136,11 +137,16 @@ module _ (tree : Tree) where
   pub types_fail : types_all ≡ false → true ≡ lacks_name tree
   types_fail h = sym (lacks ∙ ap not (third_fails externs_known (list_all is_class tree.classes) types_all labels_all members_all h))
 
-  pub labels_fail : labels_all ≡ false → true ≡ lacks_name tree
-  labels_fail h = sym (lacks ∙ ap not (fourth_fails externs_known (list_all is_class tree.classes) types_all labels_all members_all h))
+  -- the owners, the members and the labels that methods name
+  code_known : list_all (λ (c : Class). list_all (knows_names tree) (methods_of c)) tree.classes ≡ labels_all && members_all
+  code_known =
+      sym (list_all-flat_map (knows_names tree) methods_of tree.classes) ∙
+      sym (list_all_both (λ m. list_all is_instruction (instructions_of m)) finds_labels (methods_of_tree tree)) ∙
+      ap (λ b. b && labels_all) (sym (list_all-flat_map is_instruction instructions_of (methods_of_tree tree)) ∙ instructions_known (instructions_of_tree tree)) ∙
+      and_turned members_all labels_all
 
-  pub instructions_decide : (b : Bool) → externs_known ≡ true → list_all is_class tree.classes ≡ true → types_all ≡ true → labels_all ≡ true → b ≡ members_all → not b ≡ lacks_name tree
-  instructions_decide b h i j k e = sym (lacks ∙ ap not (last_decides externs_known (list_all is_class tree.classes) types_all labels_all members_all h i j k ∙ sym e))
+  pub code_decides : (b : Bool) → externs_known ≡ true → list_all is_class tree.classes ≡ true → types_all ≡ true → b ≡ list_all (λ (c : Class). list_all (knows_names tree) (methods_of c)) tree.classes → not b ≡ lacks_name tree
+  code_decides b h i j e = sym (lacks ∙ ap not (last_two_decide externs_known (list_all is_class tree.classes) types_all labels_all members_all h i j ∙ sym (e ∙ code_known)))
 
 -- ---- labels
 
@@ -155,3 +161,10 @@ pub labels_found : (m : Method) → list_all (λ (l : Line). are_labels (labels_
 labels_found m =
     list_all_congr (λ (l : Line). are_labels (labels_before m) l.instruction) (λ (l : Line). list_all (λ w. is_some (place_of w (lines_of m))) (labels_of l.instruction)) (λ l. list_all_congr _ _ (placed m) (labels_of l.instruction)) (lines_of m) ∙
     sym (list_all-map (λ i. list_all (λ w. is_some (place_of w (lines_of m))) (labels_of i)) (λ (l : Line). l.instruction) (lines_of m))
+
+-- what the lines of a method name
+pub method_known : (tree : Tree) (m : Method) → list_all (λ (l : Line). is_instruction tree l.instruction && are_labels (labels_before m) l.instruction) (lines_of m) ≡ knows_names tree m
+method_known tree m =
+    sym (list_all_both (λ (l : Line). is_instruction tree l.instruction) (λ (l : Line). are_labels (labels_before m) l.instruction) (lines_of m)) ∙
+    ap (λ b. b && list_all (λ (l : Line). are_labels (labels_before m) l.instruction) (lines_of m)) (sym (list_all-map (is_instruction tree) (λ (l : Line). l.instruction) (lines_of m))) ∙
+    ap (λ b. list_all (is_instruction tree) (instructions_of m) && b) (labels_found m)

@@ -1,12 +1,13 @@
 // Names that stand twice where they must stand once.
 
-ghost use Rattle.std.specs.Prelude.{◌≡◌, IfOk, map};
+ghost use Rattle.std.specs.Prelude.{◌≡◌, IfOk, is_some, map};
 ghost use Rattle.std.specs.List.{list_any};
 ghost use Rattle.cil_model.specs.Same.{same_text, same_class};
 ghost use Rattle.cil_model.specs.Declarations.{fields_of, methods_of, interfaces_named};
 ghost use Rattle.cil_model.specs.Legality.{has_repeat, same_method, labels_before, class_doubles, doubles_name};
 ghost use Rattle.name_tables.specs.Keys.{text_of_key, class_of_key};
 
+use crate::violations::{Doubled, DoubledInClass, Repeat};
 use cil_model::memory::NoMemory;
 use cil_model::texts::Text;
 use cil_model::trees::{Class, ClassKind, Method, Tree};
@@ -17,8 +18,10 @@ use name_tables::classes::{fields_of, methods_of};
 use name_tables::keys::{ClassKey, TextKey};
 use name_tables::places::Places;
 use std::alloc::Global;
+use std::cmp::Eq;
+use std::hash::Hash;
 
-pub(crate) fn text_keys(alloc: Global, texts: &[Text]) -> Result<Vec<TextKey<'_>>, NoMemory>
+fn text_keys(alloc: Global, texts: &[Text]) -> Result<Vec<TextKey<'_>>, NoMemory>
     ensures { IfOk result (λ v. map text_of_key v.items ≡ texts.now) }
 {
     let mut keys = Vec::new(alloc);
@@ -28,7 +31,7 @@ pub(crate) fn text_keys(alloc: Global, texts: &[Text]) -> Result<Vec<TextKey<'_>
     Ok(keys)
 }
 
-pub(crate) fn class_names(alloc: Global, classes: &[Class]) -> Result<Vec<TextKey<'_>>, NoMemory>
+fn class_names(alloc: Global, classes: &[Class]) -> Result<Vec<TextKey<'_>>, NoMemory>
     ensures { IfOk result (λ v. map text_of_key v.items ≡ map (λ c. c.name) classes.now) }
 {
     let mut keys = Vec::new(alloc);
@@ -38,7 +41,7 @@ pub(crate) fn class_names(alloc: Global, classes: &[Class]) -> Result<Vec<TextKe
     Ok(keys)
 }
 
-pub(crate) fn field_names(alloc: Global, class: &Class) -> Result<Vec<TextKey<'_>>, NoMemory>
+fn field_names(alloc: Global, class: &Class) -> Result<Vec<TextKey<'_>>, NoMemory>
     ensures { IfOk result (λ v. map text_of_key v.items ≡ map (λ f. f.name) (fields_of class.now)) }
 {
     let fields = fields_of(alloc, class)?;
@@ -59,18 +62,34 @@ fn class_keys(alloc: Global, names: &[ClassName]) -> Result<Vec<ClassKey<'_>>, N
     Ok(keys)
 }
 
-fn has_repeated_text(alloc: Global, keys: Vec<TextKey>) -> Result<bool, NoMemory>
-    ensures { IfOk result (λ b. b ≡ has_repeat same_text (map text_of_key keys.entry.items)) }
+/// Where the first key that stands again further on does so.
+fn repeat_among<K: Eq + Hash + Copy + Drop>(places: &Places<K>) -> Option<Repeat>
+    ensures { is_some result ≡ has_repeat K.eq places.now }
 {
-    Ok(Places::new(alloc, keys)?.has_repeat())
+    let first = places.repeated()?;
+    let mut again = first;
+    for (place, key) in places.keys().iter().enumerate() {
+        if place > again && again == first && places.first(*key) == Some(first) {
+            again = place;
+        }
+    }
+    Some(Repeat { first, again })
 }
 
-fn has_repeated_method(alloc: Global, class: &Class) -> Result<bool, NoMemory>
-    ensures { IfOk result (λ b. b ≡ has_repeat same_method (methods_of class.now)) }
+fn repeated_text(alloc: Global, keys: Vec<TextKey>) -> Result<Option<Repeat>, NoMemory>
+    ensures { IfOk result (λ r. is_some r ≡ has_repeat same_text (map text_of_key keys.entry.items)) }
+{
+    let places = Places::new(alloc, keys)?;
+    Ok(repeat_among(&places))
+}
+
+fn repeated_method(alloc: Global, class: &Class) -> Result<Option<Repeat>, NoMemory>
+    ensures { IfOk result (λ r. is_some r ≡ has_repeat same_method (methods_of class.now)) }
 {
     let methods = methods_of(alloc, class)?;
     let keys = method_keys(alloc, methods.as_slice())?;
-    Ok(Places::new(alloc, keys)?.has_repeat())
+    let places = Places::new(alloc, keys)?;
+    Ok(repeat_among(&places))
 }
 
 pub fn interfaces_named(kind: &ClassKind) -> &[ClassName]
@@ -82,61 +101,64 @@ pub fn interfaces_named(kind: &ClassKind) -> &[ClassName]
     }
 }
 
-fn has_repeated_interface(alloc: Global, class: &Class) -> Result<bool, NoMemory>
-    ensures { IfOk result (λ b. b ≡ has_repeat same_class (interfaces_named class.now.kind)) }
+fn repeated_interface(alloc: Global, class: &Class) -> Result<Option<Repeat>, NoMemory>
+    ensures { IfOk result (λ r. is_some r ≡ has_repeat same_class (interfaces_named class.now.kind)) }
 {
     let keys = class_keys(alloc, interfaces_named(&class.kind))?;
-    Ok(Places::new(alloc, keys)?.has_repeat())
+    let places = Places::new(alloc, keys)?;
+    Ok(repeat_among(&places))
 }
 
-fn has_repeated_label(alloc: Global, class: &Class) -> Result<bool, NoMemory>
-    ensures { IfOk result (λ b. b ≡ list_any (λ m. has_repeat same_text (labels_before m)) (methods_of class.now)) }
+/// The first method with a label that stands twice, and its places among the labels of the method.
+fn repeated_label(alloc: Global, class: &Class) -> Result<Option<DoubledInClass>, NoMemory>
+    ensures { IfOk result (λ d. is_some d ≡ list_any (λ m. has_repeat same_text (labels_before m)) (methods_of class.now)) }
 {
     let methods = methods_of(alloc, class)?;
-    for method in methods.as_slice() {
-        if has_repeated_text(alloc, label_keys(alloc, method)?)? {
-            return Ok(true);
+    for (method, declared) in methods.as_slice().iter().enumerate() {
+        if let Some(labels) = repeated_text(alloc, label_keys(alloc, declared)?)? {
+            return Ok(Some(DoubledInClass::Labels { method, labels }));
         }
     }
-    Ok(false)
+    Ok(None)
 }
 
-pub(crate) fn class_doubles(alloc: Global, class: &Class) -> Result<bool, NoMemory>
-    ensures { IfOk result (λ b. b ≡ class_doubles class.now) }
+/// What stands twice in a class: a field, a method, an interface that it lists, or a label.
+fn doubled_in_class(alloc: Global, class: &Class) -> Result<Option<DoubledInClass>, NoMemory>
+    ensures { IfOk result (λ d. is_some d ≡ class_doubles class.now) }
 {
-    if has_repeated_text(alloc, field_names(alloc, class)?)? {
-        return Ok(true);
+    if let Some(fields) = repeated_text(alloc, field_names(alloc, class)?)? {
+        return Ok(Some(DoubledInClass::Fields(fields)));
     }
-    if has_repeated_method(alloc, class)? {
-        return Ok(true);
+    if let Some(methods) = repeated_method(alloc, class)? {
+        return Ok(Some(DoubledInClass::Methods(methods)));
     }
-    if has_repeated_interface(alloc, class)? {
-        return Ok(true);
+    if let Some(interfaces) = repeated_interface(alloc, class)? {
+        return Ok(Some(DoubledInClass::Interfaces(interfaces)));
     }
-    has_repeated_label(alloc, class)
+    repeated_label(alloc, class)
 }
 
-fn some_class_doubles(alloc: Global, classes: &[Class]) -> Result<bool, NoMemory>
-    ensures { IfOk result (λ b. b ≡ list_any class_doubles classes.now) }
+fn doubled_in_classes(alloc: Global, classes: &[Class]) -> Result<Option<Doubled>, NoMemory>
+    ensures { IfOk result (λ d. is_some d ≡ list_any class_doubles classes.now) }
 {
-    for class in classes {
-        if class_doubles(alloc, class)? {
-            return Ok(true);
+    for (class, declared) in classes.iter().enumerate() {
+        if let Some(doubled) = doubled_in_class(alloc, declared)? {
+            return Ok(Some(Doubled::InClass { class, doubled }));
         }
     }
-    Ok(false)
+    Ok(None)
 }
 
-/// Whether a name is doubled among the externs, the classes, the fields, the methods with their signatures, the listed
-/// interfaces or the labels (number 201). Fails for want of memory alone.
-pub fn has_doubled_name(alloc: Global, tree: &Tree) -> Result<bool, NoMemory>
-    ensures { IfOk result (λ b. b ≡ doubles_name tree.now) }
+/// The first name that is doubled among the externs, the classes, the fields, the methods with their signatures, the listed
+/// interfaces or the labels; none where there is none (number 201). Fails for want of memory alone.
+pub fn doubled_name(alloc: Global, tree: &Tree) -> Result<Option<Doubled>, NoMemory>
+    ensures { IfOk result (λ d. is_some d ≡ doubles_name tree.now) }
 {
-    if has_repeated_text(alloc, text_keys(alloc, tree.externs.as_slice())?)? {
-        return Ok(true);
+    if let Some(externs) = repeated_text(alloc, text_keys(alloc, tree.externs.as_slice())?)? {
+        return Ok(Some(Doubled::Externs(externs)));
     }
-    if has_repeated_text(alloc, class_names(alloc, tree.classes.as_slice())?)? {
-        return Ok(true);
+    if let Some(classes) = repeated_text(alloc, class_names(alloc, tree.classes.as_slice())?)? {
+        return Ok(Some(Doubled::Classes(classes)));
     }
-    some_class_doubles(alloc, tree.classes.as_slice())
+    doubled_in_classes(alloc, tree.classes.as_slice())
 }

@@ -1,6 +1,6 @@
 // The methods of listed interfaces.
 
-ghost use Rattle.std.specs.Prelude.{◌≡◌, map};
+ghost use Rattle.std.specs.Prelude.{◌≡◌, is_none, is_some, map};
 ghost use Rattle.std.specs.List.{list_any, list_all};
 ghost use Rattle.cil_model.specs.Chains.{methods_in};
 ghost use Rattle.cil_model.specs.Legality.{implements_all, lacks_implementation};
@@ -9,6 +9,7 @@ ghost use Rattle.name_tables.specs.Keys.{method_of_key};
 ghost use Rattle.name_tables.specs.Sameness.{identity_of};
 
 use crate::doubled::interfaces_named;
+use crate::violations::{ListedMethod, NotImplemented};
 use cil_model::trees::{Class, Method};
 use cil_model::types::ClassName;
 use name_tables::keys::{ClassKey, MethodKey};
@@ -37,57 +38,61 @@ fn implements_method(names: &NameTables, chain: &[usize], key: MethodKey) -> boo
     false
 }
 
-fn implement_methods(names: &NameTables, chain: &[usize], methods: &[&Method]) -> bool
-    ensures { result ≡ list_all (λ m. list_any (is_virtual_found names.now.classes.tree.now (identity_of m)) chain.now) (map (λ m. m.now) methods.now) }
+/// The first of the methods for which no class of a chain has a virtual one.
+fn absent_method(names: &NameTables, chain: &[usize], methods: &[&Method]) -> Option<usize>
+    ensures { is_none result ≡ list_all (λ m. list_any (is_virtual_found names.now.classes.tree.now (identity_of m)) chain.now) (map (λ m. m.now) methods.now) }
 {
-    for method in methods {
-        if !implements_method(
-            names,
-            chain,
-            MethodKey::new(&method.name, &method.signature),
-        ) {
-            return false;
+    for (place, method) in methods.iter().enumerate() {
+        let key = MethodKey::new(&method.name, &method.signature);
+        if !implements_method(names, chain, key) {
+            return Some(place);
         }
     }
-    true
+    None
 }
 
-fn implements(names: &NameTables, chain: &[usize], interface: &ClassName) -> bool
-    ensures { result ≡ list_all (λ m. list_any (is_virtual_found names.now.classes.tree.now (identity_of m)) chain.now) (methods_in names.now.classes.tree.now interface.now) }
+/// The first method of an interface for which no class of a chain has a virtual one.
+fn absent_in(names: &NameTables, chain: &[usize], interface: &ClassName) -> Option<usize>
+    ensures { is_none result ≡ list_all (λ m. list_any (is_virtual_found names.now.classes.tree.now (identity_of m)) chain.now) (methods_in names.now.classes.tree.now interface.now) }
 {
     match names.classes.declared(ClassKey::of(interface)) {
-        None => true,
-        Some(declared) => implement_methods(names, chain, declared.methods.as_slice()),
+        None => None,
+        Some(declared) => absent_method(names, chain, declared.methods.as_slice()),
     }
 }
 
-fn implement_interfaces(names: &NameTables, chain: &[usize], interfaces: &[ClassName]) -> bool
-    ensures { result ≡ list_all (λ i. list_all (λ m. list_any (is_virtual_found names.now.classes.tree.now (identity_of m)) chain.now) (methods_in names.now.classes.tree.now i)) interfaces.now }
+/// The first listed interface with a method for which no class of a chain has a virtual one, and that method.
+fn absent_in_list(
+    names: &NameTables,
+    chain: &[usize],
+    interfaces: &[ClassName],
+) -> Option<ListedMethod>
+    ensures { is_none result ≡ list_all (λ i. list_all (λ m. list_any (is_virtual_found names.now.classes.tree.now (identity_of m)) chain.now) (methods_in names.now.classes.tree.now i)) interfaces.now }
 {
-    for interface in interfaces {
-        if !implements(names, chain, interface) {
-            return false;
+    for (interface, name) in interfaces.iter().enumerate() {
+        if let Some(method) = absent_in(names, chain, name) {
+            return Some(ListedMethod { interface, method });
         }
     }
-    true
+    None
 }
 
-/// Whether each method of each interface that a class lists has a virtual method in the class's chain.
-pub fn implements_all(names: &NameTables, class: &Class) -> bool
-    ensures { result ≡ implements_all names.now.classes.tree.now class.now }
+/// The first method of an interface that a class lists for which the class's chain has no virtual one.
+fn absent_in_class(names: &NameTables, class: &Class) -> Option<ListedMethod>
+    ensures { is_none result ≡ implements_all names.now.classes.tree.now class.now }
 {
     let own = ClassKey::of_source(class);
-    implement_interfaces(names, names.chain(own), interfaces_named(&class.kind))
+    absent_in_list(names, names.chain(own), interfaces_named(&class.kind))
 }
 
-/// Whether some class lacks a method of an interface that it lists (number 204).
-pub fn lacks_implementation(names: &NameTables) -> bool
-    ensures { result ≡ lacks_implementation names.now.classes.tree.now }
+/// The first class that lacks a method of an interface that it lists; none where there is none (number 204).
+pub fn not_implemented(names: &NameTables) -> Option<NotImplemented>
+    ensures { is_some result ≡ lacks_implementation names.now.classes.tree.now }
 {
-    for class in names.classes.tree.classes.as_slice() {
-        if !implements_all(names, class) {
-            return true;
+    for (class, declared) in names.classes.tree.classes.as_slice().iter().enumerate() {
+        if let Some(listed) = absent_in_class(names, declared) {
+            return Some(NotImplemented { class, listed });
         }
     }
-    false
+    None
 }

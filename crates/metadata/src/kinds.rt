@@ -1,6 +1,6 @@
 // Methods whose kinds do not fit.
 
-ghost use Rattle.std.specs.Prelude.{◌≡◌, ◌==◌, ◌&&◌, ◌||◌, not, if◌then◌else◌, false, true, IfOk, map, filter_map, slice_get};
+ghost use Rattle.std.specs.Prelude.{◌≡◌, ◌==◌, ◌&&◌, ◌||◌, not, if◌then◌else◌, false, true, IfOk, is_none, is_some, map, filter_map, slice_get};
 ghost use Rattle.std.specs.List.{list_any, list_all};
 ghost use Rattle.std.specs.Option.{option_map_or};
 ghost use Rattle.cil_model.specs.Chains.{base_of, chain_within, longest_chain, is_virtual, is_abstract_method};
@@ -11,12 +11,13 @@ ghost use Rattle.name_tables.specs.Keys.{class_of_key, method_of_key};
 ghost use Rattle.name_tables.specs.Numbers.{class_number, declarations};
 ghost use Rattle.name_tables.specs.Sameness.{identity_of};
 
+use crate::violations::{KindFault, Misfit};
 use cil_model::memory::NoMemory;
 use cil_model::trees::{Class, ClassKind, Method};
 use name_tables::classes::methods_of;
 use name_tables::keys::{ClassKey, MethodKey};
 use name_tables::kinds::{is_abstract_method, is_new_slot_method, is_virtual};
-use name_tables::lookups::NameTables;
+use name_tables::lookups::{MemberNumber, NameTables};
 use std::alloc::Global;
 
 // ---- slots along a chain: each is known by the number of the class that introduced it
@@ -121,29 +122,30 @@ fn method_leaves_open(
     is_left_open(names, key, chain, introduced)
 }
 
-fn methods_leave_open(
+/// The first of a class's methods whose slot is filled by an abstract method along a chain.
+fn method_left_open(
     names: &NameTables,
     chain: &[usize],
     introduced: &[usize],
     methods: &[&Method],
-) -> bool
-    ensures { result ≡ list_any (λ m. is_virtual m.kind && is_left_open names.now.classes.tree.now (identity_of m) chain.now introduced.now) (map (λ m. m.now) methods.now) }
+) -> Option<usize>
+    ensures { is_some result ≡ list_any (λ m. is_virtual m.kind && is_left_open names.now.classes.tree.now (identity_of m) chain.now introduced.now) (map (λ m. m.now) methods.now) }
 {
-    for method in methods {
+    for (place, method) in methods.iter().enumerate() {
         if method_leaves_open(names, chain, introduced, method) {
-            return true;
+            return Some(place);
         }
     }
-    false
+    None
 }
 
-/// Whether a slot that a class's methods fill is filled by an abstract method along a chain.
-fn class_leaves_open(names: &NameTables, chain: &[usize], class: usize) -> bool
-    ensures { result ≡ class_leaves_open names.now.classes.tree.now chain.now class }
+/// The first method of the class of a number whose slot is filled by an abstract method along a chain.
+fn left_open_by(names: &NameTables, chain: &[usize], class: usize) -> Option<usize>
+    ensures { is_some result ≡ class_leaves_open names.now.classes.tree.now chain.now class }
 {
     match names.classes.class(class) {
-        None => false,
-        Some(declared) => methods_leave_open(
+        None => None,
+        Some(declared) => method_left_open(
             names,
             chain,
             names.chain(declared.name),
@@ -152,15 +154,19 @@ fn class_leaves_open(names: &NameTables, chain: &[usize], class: usize) -> bool
     }
 }
 
-fn some_leaves_open(names: &NameTables, chain: &[usize], classes: &[usize]) -> bool
-    ensures { result ≡ list_any (class_leaves_open names.now.classes.tree.now chain.now) classes.now }
+/// The first method of these classes whose slot is filled by an abstract method along a chain.
+fn first_left_open(names: &NameTables, chain: &[usize], classes: &[usize]) -> Option<MemberNumber>
+    ensures { is_some result ≡ list_any (class_leaves_open names.now.classes.tree.now chain.now) classes.now }
 {
     for class in classes {
-        if class_leaves_open(names, chain, *class) {
-            return true;
+        if let Some(place) = left_open_by(names, chain, *class) {
+            return Some(MemberNumber {
+                class: *class,
+                place,
+            });
         }
     }
-    false
+    None
 }
 
 // ---- abstract methods that are not overridden: where there is none along a chain, no slot is open along it
@@ -284,16 +290,17 @@ fn is_settled(names: &NameTables, chain: &[usize]) -> bool
     end == 0
 }
 
-/// Whether an abstract method fills a slot of the class (ECMA-335 II.15.4.2). Where each abstract method of the chain is
-/// overridden, none does, and no slot is looked at: so it is for each class of a legal program that is not abstract.
-fn has_abstract_slot(names: &NameTables, class: ClassKey) -> bool
-    ensures { result ≡ has_abstract_slot names.now.classes.tree.now (class_of_key class.entry) }
+/// The nearest method that fills a slot of the class with nothing, since it is abstract (ECMA-335 II.15.4.2). Where each abstract
+/// method of the chain is overridden, there is none, and no slot is looked at: so it is for each class of a legal program that is
+/// not abstract.
+fn abstract_slot(names: &NameTables, class: ClassKey) -> Option<MemberNumber>
+    ensures { is_some result ≡ has_abstract_slot names.now.classes.tree.now (class_of_key class.entry) }
 {
     let chain = names.chain(class);
     if is_settled(names, chain) {
-        return false;
+        return None;
     }
-    some_leaves_open(names, chain, chain)
+    first_left_open(names, chain, chain)
 }
 
 // ---- methods without newslot
@@ -311,67 +318,79 @@ fn base_chain<'a>(names: &'a NameTables, class: &Class) -> &'a [usize]
     }
 }
 
-/// Whether the nearest method of this name and signature along a chain is not virtual.
-fn is_plain(names: &NameTables, key: MethodKey, chain: &[usize]) -> bool
-    ensures { result ≡ plain_numbered names.now.classes.tree.now (method_of_key key.entry) chain.now }
+/// The class along a chain with the nearest method of this name and signature, where that is not virtual.
+fn plain_base(names: &NameTables, key: MethodKey, chain: &[usize]) -> Option<usize>
+    ensures { is_some result ≡ plain_numbered names.now.classes.tree.now (method_of_key key.entry) chain.now }
 {
     for class in chain {
         if let Some(method) = names.classes.method(*class, key) {
-            return !is_virtual(&method.kind);
+            if is_virtual(&method.kind) {
+                return None;
+            }
+            return Some(*class);
         }
     }
-    false
+    None
 }
 
-/// Whether a method is virtual without newslot over one that is not virtual (ECMA-335 II.10.3.1, this profile).
-fn overrides_no_virtual(names: &NameTables, class: &Class, method: &Method) -> bool
-    ensures { result ≡ overrides_no_virtual names.now.classes.tree.now (source_name class.now) method.now }
+/// The class whose method, which is not virtual, a virtual one without newslot stands over (ECMA-335 II.10.3.1, this profile).
+fn plain_below(names: &NameTables, class: &Class, method: &Method) -> Option<usize>
+    ensures { is_some result ≡ overrides_no_virtual names.now.classes.tree.now (source_name class.now) method.now }
 {
     if !is_virtual(&method.kind) {
-        return false;
+        return None;
     }
     if is_new_slot_method(&method.kind) {
-        return false;
+        return None;
     }
     let key = MethodKey::new(&method.name, &method.signature);
-    is_plain(names, key, base_chain(names, class))
+    plain_base(names, key, base_chain(names, class))
 }
 
-fn some_overrides_no_virtual(names: &NameTables, class: &Class, methods: &[&Method]) -> bool
-    ensures { result ≡ list_any (overrides_no_virtual names.now.classes.tree.now (source_name class.now)) (map (λ m. m.now) methods.now) }
+/// The first virtual method without newslot over one that is not virtual.
+fn over_plain(names: &NameTables, class: &Class, methods: &[&Method]) -> Option<KindFault>
+    ensures { is_some result ≡ list_any (overrides_no_virtual names.now.classes.tree.now (source_name class.now)) (map (λ m. m.now) methods.now) }
 {
-    for method in methods {
-        if overrides_no_virtual(names, class, method) {
-            return true;
+    for (method, declared) in methods.iter().enumerate() {
+        if let Some(base) = plain_below(names, class, declared) {
+            return Some(KindFault::OverPlain { method, base });
         }
     }
-    false
+    None
 }
 
 // ---- whole classes
 
-fn has_abstract_method(methods: &[&Method]) -> bool
-    ensures { result ≡ list_any (λ m. is_abstract_method m.kind) (map (λ m. m.now) methods.now) }
+fn abstract_method(methods: &[&Method]) -> Option<usize>
+    ensures { is_some result ≡ list_any (λ m. is_abstract_method m.kind) (map (λ m. m.now) methods.now) }
 {
-    for method in methods {
-        if is_abstract_method(&method.kind) {
-            return true;
+    for (method, declared) in methods.iter().enumerate() {
+        if is_abstract_method(&declared.kind) {
+            return Some(method);
         }
     }
-    false
+    None
 }
 
-/// Whether a class is abstract, or has no abstract method and no slot that one fills.
-fn is_complete(names: &NameTables, class: &Class, is_abstract: bool, methods: &[&Method]) -> bool
-    ensures { result ≡ (is_abstract || (not (list_any (λ m. is_abstract_method m.kind) (map (λ m. m.now) methods.now)) && not (has_abstract_slot names.now.classes.tree.now (source_name class.now)))) }
+/// What of a class that is not abstract is: a method, or what fills one of its slots.
+fn incomplete(
+    names: &NameTables,
+    class: &Class,
+    is_abstract: bool,
+    methods: &[&Method],
+) -> Option<KindFault>
+    ensures { is_none result ≡ (is_abstract || (not (list_any (λ m. is_abstract_method m.kind) (map (λ m. m.now) methods.now)) && not (has_abstract_slot names.now.classes.tree.now (source_name class.now)))) }
 {
     if is_abstract {
-        return true;
+        return None;
     }
-    if has_abstract_method(methods) {
-        return false;
+    if let Some(method) = abstract_method(methods) {
+        return Some(KindFault::Abstract { method });
     }
-    !has_abstract_slot(names, ClassKey::of_source(class))
+    match abstract_slot(names, ClassKey::of_source(class)) {
+        None => None,
+        Some(open) => Some(KindFault::LeftOpen { open }),
+    }
 }
 
 /// Whether a method is `newslot abstract virtual instance` (ECMA-335 II.12.1, this profile).
@@ -381,47 +400,57 @@ fn is_interface_method(method: &Method) -> bool
     is_abstract_method(&method.kind) && is_new_slot_method(&method.kind)
 }
 
-fn are_interface_methods(methods: &[&Method]) -> bool
-    ensures { result ≡ list_all is_interface_method (map (λ m. m.now) methods.now) }
+fn interface_fault(methods: &[&Method]) -> Option<KindFault>
+    ensures { is_none result ≡ list_all is_interface_method (map (λ m. m.now) methods.now) }
 {
-    for method in methods {
-        if !is_interface_method(method) {
-            return false;
+    for (method, declared) in methods.iter().enumerate() {
+        if !is_interface_method(declared) {
+            return Some(KindFault::InInterface { method });
         }
     }
-    true
+    None
 }
 
-fn class_fits(names: &NameTables, class: &Class, is_abstract: bool, methods: &[&Method]) -> bool
-    ensures { result ≡ ((is_abstract || (not (list_any (λ m. is_abstract_method m.kind) (map (λ m. m.now) methods.now)) && not (has_abstract_slot names.now.classes.tree.now (source_name class.now)))) && not (list_any (overrides_no_virtual names.now.classes.tree.now (source_name class.now)) (map (λ m. m.now) methods.now))) }
+fn class_fault(
+    names: &NameTables,
+    class: &Class,
+    is_abstract: bool,
+    methods: &[&Method],
+) -> Option<KindFault>
+    ensures { is_none result ≡ ((is_abstract || (not (list_any (λ m. is_abstract_method m.kind) (map (λ m. m.now) methods.now)) && not (has_abstract_slot names.now.classes.tree.now (source_name class.now)))) && not (list_any (overrides_no_virtual names.now.classes.tree.now (source_name class.now)) (map (λ m. m.now) methods.now))) }
 {
-    if !is_complete(names, class, is_abstract, methods) {
-        return false;
+    if let Some(fault) = incomplete(names, class, is_abstract, methods) {
+        return Some(fault);
     }
-    !some_overrides_no_virtual(names, class, methods)
+    over_plain(names, class, methods)
 }
 
-/// Whether the kind of each method fits its class and what it inherits (ECMA-335 II.15.4.2). Fails for want of memory alone.
-pub fn kinds_fit(alloc: Global, names: &NameTables, class: &Class) -> Result<bool, NoMemory>
-    ensures { IfOk result (λ b. b ≡ kinds_fit names.now.classes.tree.now class.now) }
+/// The first method whose kind does not fit its class or what that inherits (ECMA-335 II.15.4.2). Fails for want of memory alone.
+fn kind_fault(
+    alloc: Global,
+    names: &NameTables,
+    class: &Class,
+) -> Result<Option<KindFault>, NoMemory>
+    ensures { IfOk result (λ f. is_none f ≡ kinds_fit names.now.classes.tree.now class.now) }
 {
     let methods = methods_of(alloc, class)?;
     match &class.kind {
-        ClassKind::Interface => Ok(are_interface_methods(methods.as_slice())),
+        ClassKind::Interface => Ok(interface_fault(methods.as_slice())),
         ClassKind::Class { is_abstract, .. } => {
-            Ok(class_fits(names, class, *is_abstract, methods.as_slice()))
+            Ok(class_fault(names, class, *is_abstract, methods.as_slice()))
         }
     }
 }
 
-/// Whether a method's kind does not fit its class or what it inherits (number 205). Fails for want of memory alone.
-pub fn misfits_kind(alloc: Global, names: &NameTables) -> Result<bool, NoMemory>
-    ensures { IfOk result (λ b. b ≡ misfits_kind names.now.classes.tree.now) }
+/// The first method whose kind does not fit its class or what that inherits; none where there is none (number 205). Fails for want
+/// of memory alone.
+pub fn misfit(alloc: Global, names: &NameTables) -> Result<Option<Misfit>, NoMemory>
+    ensures { IfOk result (λ m. is_some m ≡ misfits_kind names.now.classes.tree.now) }
 {
-    for class in names.classes.tree.classes.as_slice() {
-        if !kinds_fit(alloc, names, class)? {
-            return Ok(true);
+    for (class, declared) in names.classes.tree.classes.as_slice().iter().enumerate() {
+        if let Some(fault) = kind_fault(alloc, names, declared)? {
+            return Ok(Some(Misfit { class, fault }));
         }
     }
-    Ok(false)
+    Ok(None)
 }

@@ -2,17 +2,17 @@
 #![tactic(auto)]
 
 mod contents;
-mod culprits;
 mod cycles;
 mod doubled;
 mod entry;
 mod implemented;
 mod kinds;
 mod limits;
-mod mentions;
+pub mod mentions;
 mod program;
 mod rules;
 mod unknown;
+pub mod violations;
 
 pub use program::{MetaError, Program, resolve};
 pub use rules::Rule;

@@ -1,6 +1,6 @@
 // Limits that are passed, all of which are this profile's.
 
-ghost use Rattle.std.specs.Prelude.{◌≡◌, ◌≤◌, ◌+◌, ◌&&◌, nat_le, int_le, pos, IfOk, length, map, sum, count_by};
+ghost use Rattle.std.specs.Prelude.{◌≡◌, ◌≤◌, ◌+◌, ◌&&◌, nat_le, int_le, pos, IfOk, is_none, is_some, length, map, sum, count_by};
 ghost use Rattle.std.specs.List.{list_all, sum_by};
 ghost use Rattle.cil_model.specs.declared.limits.TheConstants.{MOST_CLASSES, MOST_METHODS, MOST_INSTANCE_FIELDS, MOST_STATIC_FIELDS, MOST_BRACKETS, MOST_ARGUMENTS};
 ghost use Rattle.cil_model.specs.Same.{same_flag};
@@ -12,7 +12,8 @@ ghost use Rattle.cil_model.specs.Legality.{is_small_instruction, is_small_code, 
 ghost use Rattle.cil_model.specs.declared.types.ClassName.{ClassName};
 ghost use Rattle.metadata.specs.Counts.{instance_count, static_count};
 
-use crate::mentions::types_of_tree;
+use crate::mentions::{SitedType, types_of_tree};
+use crate::violations::{MethodLimit, Passed, SourceMember};
 use cil_model::instructions::Instruction;
 use cil_model::limits::{
     MOST_ARGUMENTS, MOST_BRACKETS, MOST_CLASSES, MOST_INSTANCE_FIELDS, MOST_INSTRUCTIONS,
@@ -20,7 +21,6 @@ use cil_model::limits::{
 };
 use cil_model::memory::NoMemory;
 use cil_model::trees::{Class, Code, Field, Line, Method};
-use cil_model::types::DeclaredType;
 use name_tables::bodies::{code_of, lines_of};
 use name_tables::classes::methods_of;
 use name_tables::keys::ClassKey;
@@ -41,38 +41,42 @@ fn is_small_instruction(instruction: &Instruction) -> bool
     }
 }
 
-fn are_small_instructions(lines: &[Line]) -> bool
-    ensures { result ≡ list_all is_small_instruction (map (λ l. l.instruction) lines.now) }
+/// The first line whose instruction passes a limit.
+fn passed_by_lines(lines: &[Line]) -> Option<MethodLimit>
+    ensures { is_none result ≡ list_all is_small_instruction (map (λ l. l.instruction) lines.now) }
 {
-    for line in lines {
+    for (number, line) in lines.iter().enumerate() {
         if !is_small_instruction(&line.instruction) {
-            return false;
+            return Some(MethodLimit::Line(number));
         }
     }
-    true
+    None
 }
 
-fn is_small_code(code: &Code) -> bool
-    ensures { result ≡ is_small_code code.now }
+fn passed_by_body(code: &Code) -> Option<MethodLimit>
+    ensures { is_none result ≡ is_small_code code.now }
 {
     if code.lines.as_slice().len() > MOST_INSTRUCTIONS {
-        return false;
+        return Some(MethodLimit::Instructions);
     }
     if code.locals.as_slice().len() > MOST_LOCALS {
-        return false;
+        return Some(MethodLimit::Locals);
     }
     if code.max_stack < 0 {
-        return false;
+        return Some(MethodLimit::MaxStack);
     }
-    code.max_stack <= MOST_STACK
+    if code.max_stack > MOST_STACK {
+        return Some(MethodLimit::MaxStack);
+    }
+    None
 }
 
-fn has_small_code(method: &Method) -> bool
-    ensures { result ≡ list_all is_small_code (codes_of method.now) }
+fn passed_by_code(method: &Method) -> Option<MethodLimit>
+    ensures { is_none result ≡ list_all is_small_code (codes_of method.now) }
 {
     match code_of(&method.kind) {
-        None => true,
-        Some(code) => is_small_code(code),
+        None => None,
+        Some(code) => passed_by_body(code),
     }
 }
 
@@ -88,40 +92,43 @@ fn has_few_arguments(method: &Method) -> bool
     }
 }
 
-fn is_small_method(method: &Method) -> bool
-    ensures { (o : ClassName) → result ≡ is_small_method o method.now }
+fn passed_by_method(method: &Method) -> Option<MethodLimit>
+    ensures { (o : ClassName) → is_none result ≡ is_small_method o method.now }
 {
     if !has_few_arguments(method) {
-        return false;
+        return Some(MethodLimit::Arguments);
     }
-    if !has_small_code(method) {
-        return false;
+    if let Some(limit) = passed_by_code(method) {
+        return Some(limit);
     }
-    are_small_instructions(lines_of(method))
+    passed_by_lines(lines_of(method))
 }
 
-fn are_small_methods(methods: &[&Method]) -> bool
-    ensures { (o : ClassName) → result ≡ list_all (is_small_method o) (map (λ m. m.now) methods.now) }
+/// The first method that passes a limit of methods.
+fn passed_by_methods(class: usize, methods: &[&Method]) -> Option<Passed>
+    ensures { (o : ClassName) → is_none result ≡ list_all (is_small_method o) (map (λ m. m.now) methods.now) }
 {
-    for method in methods {
-        if !is_small_method(method) {
-            return false;
+    for (place, declared) in methods.iter().enumerate() {
+        if let Some(limit) = passed_by_method(declared) {
+            let method = SourceMember { class, place };
+            return Some(Passed::Method { method, limit });
         }
     }
-    true
+    None
 }
 
 // ---- types
 
-fn are_small_types(types: &[&DeclaredType]) -> bool
-    ensures { result ≡ list_all (λ t. nat_le t.brackets MOST_BRACKETS) (map (λ t. t.now) types.now) }
+/// The first type with too many brackets.
+fn passed_by_types(types: &[SitedType]) -> Option<Passed>
+    ensures { is_none result ≡ list_all (λ t. nat_le t.brackets MOST_BRACKETS) (map (λ t. t.declared.now) types.now) }
 {
-    for declared in types {
-        if declared.brackets > MOST_BRACKETS {
-            return false;
+    for sited in types {
+        if sited.declared.brackets > MOST_BRACKETS {
+            return Some(Passed::Brackets(sited.site));
         }
     }
-    true
+    None
 }
 
 // ---- fields
@@ -169,43 +176,48 @@ fn has_few_instance_fields(names: &NameTables, chain: &[usize]) -> bool
     true
 }
 
-fn has_few_static_fields(names: &NameTables, classes: &[Class]) -> bool
-    ensures { result ≡ nat_le (sum_by (static_count names.now.classes.tree.now) classes.now) MOST_STATIC_FIELDS }
+/// The first static field of the source that is too many.
+fn static_field_beyond(names: &NameTables, classes: &[Class]) -> Option<Passed>
+    ensures { is_none result ≡ nat_le (sum_by (static_count names.now.classes.tree.now) classes.now) MOST_STATIC_FIELDS }
 {
     let mut left = MOST_STATIC_FIELDS;
-    for class in classes {
-        let own = count_static_fields(names, class);
+    for (class, declared) in classes.iter().enumerate() {
+        let own = count_static_fields(names, declared);
         if own > left {
-            return false;
+            return Some(Passed::StaticFields { class, place: left });
         }
         left -= own;
     }
-    true
+    None
 }
 
 // ---- the whole tree
 
-/// Whether a class's objects have as many fields as they may have, and its methods are within their limits. Fails for want of
-/// memory alone.
-pub fn is_small_class(alloc: Global, names: &NameTables, class: &Class) -> Result<bool, NoMemory>
-    ensures { IfOk result (λ b. b ≡ is_small_class names.now.classes.tree.now class.now) }
+/// What a class passes: the limit of the fields of its objects, or one of a method. Fails for want of memory alone.
+fn passed_by_class(
+    alloc: Global,
+    names: &NameTables,
+    number: usize,
+    class: &Class,
+) -> Result<Option<Passed>, NoMemory>
+    ensures { IfOk result (λ p. is_none p ≡ is_small_class names.now.classes.tree.now class.now) }
 {
     if !has_few_instance_fields(names, names.chain(ClassKey::of_source(class))) {
-        return Ok(false);
+        return Ok(Some(Passed::InstanceFields { class: number }));
     }
     let methods = methods_of(alloc, class)?;
-    Ok(are_small_methods(methods.as_slice()))
+    Ok(passed_by_methods(number, methods.as_slice()))
 }
 
-fn are_small_classes(alloc: Global, names: &NameTables) -> Result<bool, NoMemory>
-    ensures { IfOk result (λ b. b ≡ list_all (is_small_class names.now.classes.tree.now) names.now.classes.tree.now.classes) }
+fn passed_by_classes(alloc: Global, names: &NameTables) -> Result<Option<Passed>, NoMemory>
+    ensures { IfOk result (λ p. is_none p ≡ list_all (is_small_class names.now.classes.tree.now) names.now.classes.tree.now.classes) }
 {
-    for class in names.classes.tree.classes.as_slice() {
-        if !is_small_class(alloc, names, class)? {
-            return Ok(false);
+    for (number, class) in names.classes.tree.classes.as_slice().iter().enumerate() {
+        if let Some(passed) = passed_by_class(alloc, names, number, class)? {
+            return Ok(Some(passed));
         }
     }
-    Ok(true)
+    Ok(None)
 }
 
 fn has_few_methods(alloc: Global, names: &NameTables) -> Result<bool, NoMemory>
@@ -214,29 +226,29 @@ fn has_few_methods(alloc: Global, names: &NameTables) -> Result<bool, NoMemory>
     Ok(methods_of_tree(alloc, names.classes.tree)?.len() <= MOST_METHODS)
 }
 
-fn has_small_types(alloc: Global, names: &NameTables) -> Result<bool, NoMemory>
-    ensures { IfOk result (λ b. b ≡ list_all (λ t. nat_le t.brackets MOST_BRACKETS) (types_of_tree names.now.classes.tree.now)) }
+fn passed_by_all_types(alloc: Global, names: &NameTables) -> Result<Option<Passed>, NoMemory>
+    ensures { IfOk result (λ p. is_none p ≡ list_all (λ t. nat_le t.brackets MOST_BRACKETS) (types_of_tree names.now.classes.tree.now)) }
 {
     let types = types_of_tree(alloc, names.classes.tree)?;
-    Ok(are_small_types(types.as_slice()))
+    Ok(passed_by_types(types.as_slice()))
 }
 
-/// Whether the source passes a limit (number 207). Fails for want of memory alone.
-pub fn passes_limit(alloc: Global, names: &NameTables) -> Result<bool, NoMemory>
-    ensures { IfOk result (λ b. b ≡ passes_limit names.now.classes.tree.now) }
+/// The first limit that the source passes; none where there is none (number 207). Fails for want of memory alone.
+pub fn passed_limit(alloc: Global, names: &NameTables) -> Result<Option<Passed>, NoMemory>
+    ensures { IfOk result (λ p. is_some p ≡ passes_limit names.now.classes.tree.now) }
 {
     let classes = names.classes.tree.classes.as_slice();
     if classes.len() > MOST_CLASSES {
-        return Ok(true);
+        return Ok(Some(Passed::Classes));
     }
     if !has_few_methods(alloc, names)? {
-        return Ok(true);
+        return Ok(Some(Passed::Methods));
     }
-    if !has_few_static_fields(names, classes) {
-        return Ok(true);
+    if let Some(passed) = static_field_beyond(names, classes) {
+        return Ok(Some(passed));
     }
-    if !has_small_types(alloc, names)? {
-        return Ok(true);
+    if let Some(passed) = passed_by_all_types(alloc, names)? {
+        return Ok(Some(passed));
     }
-    Ok(!are_small_classes(alloc, names)?)
+    passed_by_classes(alloc, names)
 }

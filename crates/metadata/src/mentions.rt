@@ -2,19 +2,26 @@
 
 ghost use Rattle.std.specs.Prelude.{◌≡◌, [], ◌∷◌, ◌++◌, IfOk, map, option_map, option_to_list, flat_map};
 ghost use Rattle.cil_model.specs.Bodies.{labels_of};
-ghost use Rattle.cil_model.specs.Declarations.{fields_of};
-ghost use Rattle.cil_model.specs.Mentions.{types_of_signature, types_of_instruction, owners_of_instruction, instructions_of, types_of_method, methods_of_tree, types_of_tree};
+ghost use Rattle.cil_model.specs.Declarations.{fields_of, methods_of};
+ghost use Rattle.cil_model.specs.Mentions.{types_of_signature, types_of_instruction, owners_of_instruction, instructions_of, types_of_method, types_of_tree};
 
+use crate::violations::{SourceMember, TypeSite, TypesPart};
 use cil_model::instructions::Instruction;
 use cil_model::memory::NoMemory;
 use cil_model::texts::Text;
 use cil_model::trees::{Class, Method, Tree};
 use cil_model::types::{ClassName, DeclaredType, Signature};
 use name_tables::bodies::{lines_of, locals_of};
-use name_tables::classes::fields_of;
-use name_tables::trees::methods_of_tree;
+use name_tables::classes::{fields_of, methods_of};
 use std::alloc::Global;
 use std::slice::from_ref;
+
+/// A type, and where it stands.
+#[derive(Clone, Copy)]
+pub struct SitedType<'a> {
+    pub declared: &'a DeclaredType,
+    pub site: TypeSite,
+}
 
 /// Types that stand together in the text: a list of parameters, and one more type behind it.
 #[derive(Clone, Copy)]
@@ -77,14 +84,17 @@ impl<'a> NamedTypes<'a> {
     }
 
     /// Adds them to a list. On want of memory the list may hold some of them.
-    fn add_to(self, types: &mut Vec<&'a DeclaredType>) -> Result<(), NoMemory>
-        ensures { IfOk result (λ _. map (λ t. t.now) types.new.items ≡ map (λ t. t.now) types.old.items ++ types_named self.entry) }
+    fn add_to(self, types: &mut Vec<SitedType<'a>>, part: TypesPart) -> Result<(), NoMemory>
+        ensures { IfOk result (λ _. map (λ t. t.declared.now) types.new.items ≡ map (λ t. t.declared.now) types.old.items ++ types_named self.entry) }
     {
-        for parameter in self.parameters {
-            types.push(parameter)?;
+        for (place, declared) in self.parameters.iter().enumerate() {
+            let site = TypeSite { part, place };
+            types.push(SitedType { declared, site })?;
         }
-        if let Some(last) = self.last {
-            types.push(last)?;
+        if let Some(declared) = self.last {
+            let place = self.parameters.len();
+            let site = TypeSite { part, place };
+            types.push(SitedType { declared, site })?;
         }
         Ok(())
     }
@@ -121,49 +131,72 @@ pub fn labels_of(instruction: &Instruction) -> &[Text]
 }
 
 fn add_types_of_method<'a>(
-    types: &mut Vec<&'a DeclaredType>,
-    method: &'a Method,
+    types: &mut Vec<SitedType<'a>>,
+    method: SourceMember,
+    declared: &'a Method,
 ) -> Result<(), NoMemory>
-    ensures { IfOk result (λ _. map (λ t. t.now) types.new.items ≡ map (λ t. t.now) types.old.items ++ types_of_method method.now) }
+    ensures { IfOk result (λ _. map (λ t. t.declared.now) types.new.items ≡ map (λ t. t.declared.now) types.old.items ++ types_of_method declared.now) }
 {
-    NamedTypes::of_signature(&method.signature).add_to(types)?;
+    let signature = NamedTypes::of_signature(&declared.signature);
+    signature.add_to(types, TypesPart::Signature(method))?;
     let locals = NamedTypes {
-        parameters: locals_of(method),
+        parameters: locals_of(declared),
         last: None,
     };
-    locals.add_to(types)?;
-    for line in lines_of(method) {
-        NamedTypes::of_instruction(&line.instruction).add_to(types)?;
+    locals.add_to(types, TypesPart::Locals(method))?;
+    for (line, code) in lines_of(declared).iter().enumerate() {
+        let named = NamedTypes::of_instruction(&code.instruction);
+        named.add_to(types, TypesPart::Line { method, line })?;
     }
     Ok(())
 }
 
-/// The types of all fields.
+/// The types of the methods of a class.
+fn add_types_of_methods<'a>(
+    alloc: Global,
+    types: &mut Vec<SitedType<'a>>,
+    class: usize,
+    declared: &'a Class,
+) -> Result<(), NoMemory>
+    ensures { IfOk result (λ _. map (λ t. t.declared.now) types.new.items ≡ map (λ t. t.declared.now) types.old.items ++ flat_map types_of_method (methods_of declared.now)) }
+{
+    let methods = methods_of(alloc, declared)?;
+    for (place, method) in methods.as_slice().iter().enumerate() {
+        add_types_of_method(types, SourceMember { class, place }, method)?;
+    }
+    Ok(())
+}
+
+/// The types of the fields of a class.
 fn add_types_of_fields<'a>(
     alloc: Global,
-    types: &mut Vec<&'a DeclaredType>,
-    class: &'a Class,
+    types: &mut Vec<SitedType<'a>>,
+    class: usize,
+    declared: &'a Class,
 ) -> Result<(), NoMemory>
-    ensures { IfOk result (λ _. map (λ t. t.now) types.new.items ≡ map (λ t. t.now) types.old.items ++ map (λ f. f.field_type) (fields_of class.now)) }
+    ensures { IfOk result (λ _. map (λ t. t.declared.now) types.new.items ≡ map (λ t. t.declared.now) types.old.items ++ map (λ f. f.field_type) (fields_of declared.now)) }
 {
-    let fields = fields_of(alloc, class)?;
-    for field in fields.as_slice() {
-        types.push(&field.field_type)?;
+    let fields = fields_of(alloc, declared)?;
+    for (place, field) in fields.as_slice().iter().enumerate() {
+        let part = TypesPart::Field(SourceMember { class, place });
+        types.push(SitedType {
+            declared: &field.field_type,
+            site: TypeSite { part, place: 0 },
+        })?;
     }
     Ok(())
 }
 
 /// Every type that stands in the tree, those of fields first. Fails for want of memory alone.
-pub fn types_of_tree(alloc: Global, tree: &Tree) -> Result<Vec<&DeclaredType>, NoMemory>
-    ensures { IfOk result (λ v. map (λ t. t.now) v.items ≡ types_of_tree tree.now) }
+pub fn types_of_tree(alloc: Global, tree: &Tree) -> Result<Vec<SitedType<'_>>, NoMemory>
+    ensures { IfOk result (λ v. map (λ t. t.declared.now) v.items ≡ types_of_tree tree.now) }
 {
     let mut types = Vec::new(alloc);
-    for class in tree.classes.as_slice() {
-        add_types_of_fields(alloc, &mut types, class)?;
+    for (class, declared) in tree.classes.as_slice().iter().enumerate() {
+        add_types_of_fields(alloc, &mut types, class, declared)?;
     }
-    let methods = methods_of_tree(alloc, tree)?;
-    for method in methods.as_slice() {
-        add_types_of_method(&mut types, method)?;
+    for (class, declared) in tree.classes.as_slice().iter().enumerate() {
+        add_types_of_methods(alloc, &mut types, class, declared)?;
     }
     Ok(types)
 }

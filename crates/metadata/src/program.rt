@@ -9,8 +9,8 @@ ghost use Rattle.metadata.specs.RuleNumbers.{number_of};
 ghost use Rattle.metadata.specs.declared.program.MetaError.TheVariants.{OutOfMemory};
 
 use crate::contents::{Contents, field_at, method_at};
-use crate::culprits::culprit;
-use crate::rules::{Rule, least_broken};
+use crate::rules::least_broken;
+use crate::violations::Violation;
 use cil_model::memory::NoMemory;
 use cil_model::texts::Text;
 use cil_model::trees::Tree;
@@ -22,11 +22,11 @@ use std::marker::Model;
 use thiserror::Error;
 
 /// Why a tree is no legal program.
-#[derive(Debug, Drop, Error)]
+#[derive(Clone, Copy, Debug, Error)]
 pub enum MetaError {
-    /// A rule is broken, first at the class, member or label that is named, where one can be named.
-    #[error("{rule}: {culprit}")]
-    Broken { rule: Rule, culprit: String },
+    /// A rule is broken.
+    #[error("{violation}")]
+    Broken { violation: Violation },
     #[error("out of memory")]
     OutOfMemory,
 }
@@ -37,7 +37,7 @@ impl MetaError {
         ensures { result ≡ number_of self.now }
     {
         match self {
-            MetaError::Broken { rule, .. } => rule.number(),
+            MetaError::Broken { violation } => violation.rule().number(),
             MetaError::OutOfMemory => 208,
         }
     }
@@ -127,7 +127,7 @@ impl Program {
     }
 }
 
-/// What a legal tree is by numbers; of another what it breaks first, with its name.
+/// What a legal tree is by numbers; of another what breaks a rule first.
 fn checked(alloc: Global, tree: &Tree) -> Result<Contents, MetaError>
     ensures legal { IfOk result (λ c. IsLegal tree.now × IsContents tree.now c) }
     ensures broken { IfErr result (λ e. e ≢ OutOfMemory → least_broken tree.now ≡ Some (number_of e)) }
@@ -136,10 +136,7 @@ fn checked(alloc: Global, tree: &Tree) -> Result<Contents, MetaError>
     let names = NameTables::new(alloc, tree, table.as_slice())?;
     match least_broken(alloc, &names)? {
         None => Ok(Contents::of_legal(alloc, &names)?),
-        Some(rule) => Err(MetaError::Broken {
-            rule,
-            culprit: culprit(alloc, &names, rule)?,
-        }),
+        Some(violation) => Err(MetaError::Broken { violation }),
     }
 }
 

@@ -2,15 +2,16 @@
 
 ghost use Rattle.std.specs.Prelude.{◌≡◌, IfOk, option_map};
 ghost use Rattle.cil_model.specs.Legality.{least_broken};
-ghost use Rattle.metadata.specs.RuleNumbers.{rule_number};
+ghost use Rattle.metadata.specs.RuleNumbers.{rule_number, violation_number};
 
-use crate::cycles::has_cycle;
-use crate::doubled::has_doubled_name;
-use crate::entry::lacks_entry;
-use crate::implemented::lacks_implementation;
-use crate::kinds::misfits_kind;
-use crate::limits::passes_limit;
-use crate::unknown::lacks_name;
+use crate::cycles::own_base;
+use crate::doubled::doubled_name;
+use crate::entry::bad_entry;
+use crate::implemented::not_implemented;
+use crate::kinds::misfit;
+use crate::limits::passed_limit;
+use crate::unknown::unknown_name;
+use crate::violations::Violation;
 use cil_model::memory::NoMemory;
 use name_tables::lookups::NameTables;
 use std::alloc::Global;
@@ -69,30 +70,30 @@ impl fmt::Display for Rule {
     }
 }
 
-/// The rule with the least number that the tree breaks; none where the tree is legal. Fails for want of memory alone.
-pub fn least_broken(alloc: Global, names: &NameTables) -> Result<Option<Rule>, NoMemory>
-    ensures { IfOk result (λ r. option_map rule_number r ≡ least_broken names.now.classes.tree.now) }
+/// What breaks the rule with the least number that the tree breaks; none where the tree is legal. Fails for want of memory alone.
+pub fn least_broken(alloc: Global, names: &NameTables) -> Result<Option<Violation>, NoMemory>
+    ensures { IfOk result (λ v. option_map violation_number v ≡ least_broken names.now.classes.tree.now) }
 {
-    if has_doubled_name(alloc, names.classes.tree)? {
-        return Ok(Some(Rule::NamesStandOnce));
+    if let Some(doubled) = doubled_name(alloc, names.classes.tree)? {
+        return Ok(Some(Violation::Doubled(doubled)));
     }
-    if lacks_name(alloc, names)? {
-        return Ok(Some(Rule::NamesAreKnown));
+    if let Some(unknown) = unknown_name(alloc, names)? {
+        return Ok(Some(Violation::Unknown(unknown)));
     }
-    if has_cycle(names) {
-        return Ok(Some(Rule::BasesEnd));
+    if let Some(class) = own_base(names) {
+        return Ok(Some(Violation::OwnBase { class }));
     }
-    if lacks_implementation(names) {
-        return Ok(Some(Rule::InterfacesAreImplemented));
+    if let Some(absent) = not_implemented(names) {
+        return Ok(Some(Violation::NotImplemented(absent)));
     }
-    if misfits_kind(alloc, names)? {
-        return Ok(Some(Rule::KindsFit));
+    if let Some(misfit) = misfit(alloc, names)? {
+        return Ok(Some(Violation::Misfit(misfit)));
     }
-    if lacks_entry(alloc, names.classes.tree)? {
-        return Ok(Some(Rule::OneEntryPoint));
+    if let Some(entry) = bad_entry(alloc, names.classes.tree)? {
+        return Ok(Some(Violation::BadEntry(entry)));
     }
-    if passes_limit(alloc, names)? {
-        return Ok(Some(Rule::LimitsAreKept));
+    if let Some(passed) = passed_limit(alloc, names)? {
+        return Ok(Some(Violation::Passed(passed)));
     }
     Ok(None)
 }

@@ -1,48 +1,51 @@
 // Names that stand for nothing of the kind needed.
 
-ghost use Rattle.std.specs.Prelude.{◌≡◌, ◌&&◌, ◌++◌, IfOk, Some, is_some, map, option_map, flat_map, true};
+ghost use Rattle.std.specs.Prelude.{◌≡◌, ◌&&◌, ◌++◌, IfOk, Some, is_none, is_some, map, option_map, true};
 ghost use Rattle.std.specs.List.{list_any, list_all};
 ghost use Rattle.std.specs.Option.{option_map_or};
 ghost use Rattle.cil_model.specs.Same.{same_text, same_class};
 ghost use Rattle.cil_model.specs.Bodies.{labels_of, virtual_reference, constructor_reference};
 ghost use Rattle.cil_model.specs.Chains.{find_field, find_method};
-ghost use Rattle.cil_model.specs.Declarations.{source_class, is_interface_kind, interfaces_named};
-ghost use Rattle.cil_model.specs.Mentions.{bases_named, class_of_element, owners_of_instruction, class_types_of_tree, methods_of_tree, instructions_of_tree};
-ghost use Rattle.cil_model.specs.Legality.{is_known_extern, is_resolved, is_source_class, is_source_interface, is_possible_base, is_possible_type, class_finds, finds_member, finds_labels, lacks_name};
+ghost use Rattle.cil_model.specs.Declarations.{source_class, is_interface_kind, interfaces_named, methods_of};
+ghost use Rattle.cil_model.specs.Mentions.{bases_named, class_of_element, owners_of_instruction, class_types_of_tree};
+ghost use Rattle.cil_model.specs.Legality.{is_known_extern, is_resolved, is_source_class, is_source_interface, is_possible_base, is_possible_type, class_finds, finds_member, lacks_name};
+ghost use Rattle.metadata.specs.Named.{knows_names};
 ghost use Rattle.name_tables.specs.Keys.{text_of_key};
 
 use crate::doubled::interfaces_named;
-use crate::mentions::{labels_of, owner_of_instruction, types_of_tree};
+use crate::mentions::{SitedType, labels_of, owner_of_instruction, types_of_tree};
+use crate::violations::{ClassFault, HeadingName, SourceMember, Unknown};
 use cil_model::instructions::{FieldReference, Instruction, MethodReference};
 use cil_model::memory::NoMemory;
 use cil_model::texts::Text;
-use cil_model::trees::{Class, ClassKind, Line, Method, Tree};
+use cil_model::trees::{Class, ClassKind, Line, Method};
 use cil_model::types::{ClassName, DeclaredType, Element, Signature};
 use name_tables::bodies::{label_keys, lines_of};
+use name_tables::classes::methods_of;
 use name_tables::keys::{ClassKey, TextKey};
 use name_tables::lookups::NameTables;
 use name_tables::places::Places;
-use name_tables::trees::{instructions_of_tree, methods_of_tree};
 use std::alloc::Global;
 
 // ---- names of assemblies and classes
 
 /// Whether an extern is one of the two libraries of this profile.
-pub(crate) fn is_known_extern(name: &Text) -> bool
+fn is_known_extern(name: &Text) -> bool
     ensures { result ≡ is_known_extern name.now }
 {
     name.as_str() == "mscorlib" || name.as_str() == "cilvm"
 }
 
-fn are_known_externs(externs: &[Text]) -> bool
-    ensures { result ≡ list_all is_known_extern externs.now }
+/// The first extern that is none of the two libraries.
+fn unknown_extern(externs: &[Text]) -> Option<usize>
+    ensures { is_none result ≡ list_all is_known_extern externs.now }
 {
-    for name in externs {
+    for (number, name) in externs.iter().enumerate() {
         if !is_known_extern(name) {
-            return false;
+            return Some(number);
         }
     }
-    true
+    None
 }
 
 /// Whether an extern of this name is declared. There are two at most where each is known and stands once.
@@ -57,17 +60,20 @@ fn is_declared(externs: &[Text], assembly: &Text) -> bool
     false
 }
 
-/// Whether a name has no brackets, or is of a built-in class of a declared extern.
-fn is_resolved(names: &NameTables, name: &ClassName) -> bool
-    ensures { result ≡ is_resolved names.now.classes.tree.now name.now }
+/// Why a name with brackets is not of a built-in class of a declared extern; none where it is, and for a name without brackets.
+fn bracket_fault(names: &NameTables, name: &ClassName) -> Option<ClassFault>
+    ensures { is_none result ≡ is_resolved names.now.classes.tree.now name.now }
 {
     let Some(assembly) = &name.assembly else {
-        return true;
+        return None;
     };
     if !is_declared(names.classes.tree.externs.as_slice(), assembly) {
-        return false;
+        return Some(ClassFault::NoExtern);
     }
-    names.classes.declared(ClassKey::of(name)).is_some()
+    match names.classes.declared(ClassKey::of(name)) {
+        None => Some(ClassFault::Absent),
+        Some(_) => None,
+    }
 }
 
 /// Whether the class of the source with this name is an interface; none where there is no such class.
@@ -137,130 +143,144 @@ fn is_possible_type(names: &NameTables, name: &ClassName) -> bool
 
 // ---- bases and interfaces
 
-fn are_known_interfaces(names: &NameTables, interfaces: &[ClassName]) -> bool
-    ensures { result ≡ list_all (λ i. is_resolved names.now.classes.tree.now i && is_source_interface names.now.classes.tree.now i) interfaces.now }
+/// Why a class may not stand behind `extends`.
+fn base_fault(names: &NameTables, base: &ClassName) -> Option<ClassFault>
+    ensures { is_none result ≡ (is_resolved names.now.classes.tree.now base.now && is_possible_base names.now.classes.tree.now base.now) }
 {
-    for interface in interfaces {
-        if !is_resolved(names, interface) {
-            return false;
-        }
-        if !is_source_interface(names, interface) {
-            return false;
-        }
+    if let Some(fault) = bracket_fault(names, base) {
+        return Some(fault);
     }
-    true
+    if is_possible_base(names, base) {
+        return None;
+    }
+    if base.assembly.is_some() {
+        return Some(ClassFault::IsBuiltIn);
+    }
+    match is_interface_of_source(names, base) {
+        None => Some(ClassFault::Absent),
+        Some(_) => Some(ClassFault::IsInterface),
+    }
 }
 
-fn is_known_heading(names: &NameTables, base: &ClassName, interfaces: &[ClassName]) -> bool
-    ensures { result ≡ (is_resolved names.now.classes.tree.now base.now && is_possible_base names.now.classes.tree.now base.now && list_all (λ i. is_resolved names.now.classes.tree.now i && is_source_interface names.now.classes.tree.now i) interfaces.now) }
+/// Why a class may not stand behind `implements`.
+fn interface_fault(names: &NameTables, interface: &ClassName) -> Option<ClassFault>
+    ensures { is_none result ≡ (is_resolved names.now.classes.tree.now interface.now && is_source_interface names.now.classes.tree.now interface.now) }
 {
-    if !is_resolved(names, base) {
-        return false;
+    if let Some(fault) = bracket_fault(names, interface) {
+        return Some(fault);
     }
-    if !is_possible_base(names, base) {
-        return false;
+    if is_source_interface(names, interface) {
+        return None;
     }
-    are_known_interfaces(names, interfaces)
+    match names.classes.declared(ClassKey::of(interface)) {
+        None => Some(ClassFault::Absent),
+        Some(_) => Some(ClassFault::IsClass),
+    }
 }
 
-/// Whether the base and the interfaces of a class are what they have to be.
-pub(crate) fn is_known_class(names: &NameTables, class: &Class) -> bool
-    ensures { result ≡ (list_all (is_resolved names.now.classes.tree.now) (bases_named class.now.kind ++ interfaces_named class.now.kind) && class_finds names.now.classes.tree.now class.now) }
+fn unknown_interface(names: &NameTables, class: usize, interfaces: &[ClassName]) -> Option<Unknown>
+    ensures { is_none result ≡ list_all (λ i. is_resolved names.now.classes.tree.now i && is_source_interface names.now.classes.tree.now i) interfaces.now }
 {
-    match &class.kind {
-        ClassKind::Interface => true,
+    for (entry, interface) in interfaces.iter().enumerate() {
+        if let Some(fault) = interface_fault(names, interface) {
+            let name = HeadingName::Interface(entry);
+            return Some(Unknown::Heading { class, name, fault });
+        }
+    }
+    None
+}
+
+fn unknown_in_heading(
+    names: &NameTables,
+    class: usize,
+    base: &ClassName,
+    interfaces: &[ClassName],
+) -> Option<Unknown>
+    ensures { is_none result ≡ (is_resolved names.now.classes.tree.now base.now && is_possible_base names.now.classes.tree.now base.now && list_all (λ i. is_resolved names.now.classes.tree.now i && is_source_interface names.now.classes.tree.now i) interfaces.now) }
+{
+    if let Some(fault) = base_fault(names, base) {
+        let name = HeadingName::Base;
+        return Some(Unknown::Heading { class, name, fault });
+    }
+    unknown_interface(names, class, interfaces)
+}
+
+/// The base of a class, or the first interface that it lists, that may not stand there.
+fn unknown_by_class(names: &NameTables, class: usize, declared: &Class) -> Option<Unknown>
+    ensures { is_none result ≡ (list_all (is_resolved names.now.classes.tree.now) (bases_named declared.now.kind ++ interfaces_named declared.now.kind) && class_finds names.now.classes.tree.now declared.now) }
+{
+    match &declared.kind {
+        ClassKind::Interface => None,
         ClassKind::Class {
             base,
             interfaces,
             ..
-        } => is_known_heading(names, base, interfaces.as_slice()),
+        } => unknown_in_heading(names, class, base, interfaces.as_slice()),
     }
 }
 
-fn are_known_classes(names: &NameTables) -> bool
-    ensures { result ≡ list_all (λ c. list_all (is_resolved names.now.classes.tree.now) (bases_named c.kind ++ interfaces_named c.kind) && class_finds names.now.classes.tree.now c) names.now.classes.tree.now.classes }
+fn unknown_in_headings(names: &NameTables) -> Option<Unknown>
+    ensures { is_none result ≡ list_all (λ c. list_all (is_resolved names.now.classes.tree.now) (bases_named c.kind ++ interfaces_named c.kind) && class_finds names.now.classes.tree.now c) names.now.classes.tree.now.classes }
 {
-    for class in names.classes.tree.classes.as_slice() {
-        if !is_known_class(names, class) {
-            return false;
+    for (class, declared) in names.classes.tree.classes.as_slice().iter().enumerate() {
+        if let Some(unknown) = unknown_by_class(names, class, declared) {
+            return Some(unknown);
         }
     }
-    true
+    None
 }
 
 // ---- types
 
-/// Whether the class that a type names, where it names one, may stand there.
-pub(crate) fn is_known_type(names: &NameTables, declared: &DeclaredType) -> bool
-    ensures { result ≡ option_map_or (λ c. is_resolved names.now.classes.tree.now c && is_possible_type names.now.classes.tree.now c) (class_of_element declared.now.element) true }
+/// Why the class that a type names, where it names one, may not stand there.
+fn type_fault(names: &NameTables, declared: &DeclaredType) -> Option<ClassFault>
+    ensures { is_none result ≡ option_map_or (λ c. is_resolved names.now.classes.tree.now c && is_possible_type names.now.classes.tree.now c) (class_of_element declared.now.element) true }
 {
     let Element::Class(class) = &declared.element else {
-        return true;
+        return None;
     };
-    if !is_resolved(names, class) {
-        return false;
+    if let Some(fault) = bracket_fault(names, class) {
+        return Some(fault);
     }
-    is_possible_type(names, class)
+    if is_possible_type(names, class) {
+        return None;
+    }
+    match &class.assembly {
+        None => Some(ClassFault::Absent),
+        Some(_) => Some(ClassFault::IsBuiltIn),
+    }
 }
 
-fn are_known_types(names: &NameTables, types: &[&DeclaredType]) -> bool
-    ensures { result ≡ list_all (λ t. option_map_or (λ c. is_resolved names.now.classes.tree.now c && is_possible_type names.now.classes.tree.now c) (class_of_element t.element) true) (map (λ t. t.now) types.now) }
+fn unknown_among_types(names: &NameTables, types: &[SitedType]) -> Option<Unknown>
+    ensures { is_none result ≡ list_all (λ t. option_map_or (λ c. is_resolved names.now.classes.tree.now c && is_possible_type names.now.classes.tree.now c) (class_of_element t.element) true) (map (λ t. t.declared.now) types.now) }
 {
-    for declared in types {
-        if !is_known_type(names, declared) {
-            return false;
+    for sited in types {
+        if let Some(fault) = type_fault(names, sited.declared) {
+            let site = sited.site;
+            return Some(Unknown::Type { site, fault });
         }
     }
-    true
+    None
 }
 
 // ---- labels
 
-pub(crate) fn is_placed<'a>(labels: &Places<TextKey<'a>>, label: &'a Text) -> bool
+fn is_placed<'a>(labels: &Places<TextKey<'a>>, label: &'a Text) -> bool
     ensures { result ≡ list_any (same_text label.now) (map text_of_key labels.now) }
 {
     labels.first(TextKey { text: label }).is_some()
 }
 
-fn are_placed<'a>(labels: &Places<TextKey<'a>>, wanted: &'a [Text]) -> bool
-    ensures { result ≡ list_all (λ w. list_any (same_text w) (map text_of_key labels.now)) wanted.now }
+/// The first label of these that the method does not have.
+fn missing_label<'a>(labels: &Places<TextKey<'a>>, wanted: &'a [Text]) -> Option<usize>
+    ensures { is_none result ≡ list_all (λ w. list_any (same_text w) (map text_of_key labels.now)) wanted.now }
 {
-    for label in wanted {
+    for (target, label) in wanted.iter().enumerate() {
         if !is_placed(labels, label) {
-            return false;
+            return Some(target);
         }
     }
-    true
-}
-
-fn are_all_placed<'a>(labels: &Places<TextKey<'a>>, lines: &'a [Line]) -> bool
-    ensures { result ≡ list_all (λ x. list_all (λ w. list_any (same_text w) (map text_of_key labels.now)) (labels_of x.instruction)) lines.now }
-{
-    for line in lines {
-        if !are_placed(labels, labels_of(&line.instruction)) {
-            return false;
-        }
-    }
-    true
-}
-
-/// Whether the labels to which a method's instructions may go stand in it. Fails for want of memory alone.
-fn finds_labels(alloc: Global, method: &Method) -> Result<bool, NoMemory>
-    ensures { IfOk result (λ b. b ≡ finds_labels method.now) }
-{
-    let labels = Places::new(alloc, label_keys(alloc, method)?)?;
-    Ok(are_all_placed(&labels, lines_of(method)))
-}
-
-fn find_all_labels(alloc: Global, methods: &[&Method]) -> Result<bool, NoMemory>
-    ensures { IfOk result (λ b. b ≡ list_all finds_labels (map (λ m. m.now) methods.now)) }
-{
-    for method in methods {
-        if !finds_labels(alloc, method)? {
-            return Ok(false);
-        }
-    }
-    Ok(true)
+    None
 }
 
 // ---- members
@@ -316,68 +336,159 @@ fn finds_member(names: &NameTables, instruction: &Instruction) -> bool
     }
 }
 
-/// Whether the owner that an instruction names is a class that may stand there, with the member.
-pub(crate) fn is_known_instruction(names: &NameTables, instruction: &Instruction) -> bool
-    ensures { result ≡ (list_all (is_resolved names.now.classes.tree.now) (owners_of_instruction instruction.now) && finds_member names.now.classes.tree.now instruction.now) }
-{
-    if let Some(owner) = owner_of_instruction(instruction) {
-        if !is_resolved(names, owner) {
-            return false;
-        }
-    }
-    finds_member(names, instruction)
+/// An instruction by its number in a method of the source.
+#[derive(Clone, Copy)]
+struct LineSite {
+    method: SourceMember,
+    line: usize,
 }
 
-fn are_known_instructions(names: &NameTables, instructions: &[&Instruction]) -> bool
-    ensures { result ≡ list_all (λ i. list_all (is_resolved names.now.classes.tree.now) (owners_of_instruction i) && finds_member names.now.classes.tree.now i) (map (λ i. i.now) instructions.now) }
+/// Why the owner that an instruction names, where it names one, is not of a declared extern.
+fn owner_fault(names: &NameTables, instruction: &Instruction) -> Option<ClassFault>
+    ensures { is_none result ≡ list_all (is_resolved names.now.classes.tree.now) (owners_of_instruction instruction.now) }
 {
-    for instruction in instructions {
-        if !is_known_instruction(names, instruction) {
-            return false;
+    match owner_of_instruction(instruction) {
+        None => None,
+        Some(owner) => bracket_fault(names, owner),
+    }
+}
+
+/// A member that is not there, or its owner, where that is not.
+fn absent_member(names: &NameTables, at: LineSite, instruction: &Instruction) -> Unknown {
+    let LineSite { method, line } = at;
+    let owner = owner_of_instruction(instruction).map(|owner| ClassKey::of(owner));
+    match owner {
+        Some(owner) if names.classes.declared(owner).is_none() => Unknown::Owner {
+            method,
+            line,
+            fault: ClassFault::Absent,
+        },
+        _ => Unknown::Member { method, line },
+    }
+}
+
+/// The owner or the member that an instruction names, where it names one, and it is not there.
+fn unknown_member(names: &NameTables, at: LineSite, instruction: &Instruction) -> Option<Unknown>
+    ensures { is_none result ≡ (list_all (is_resolved names.now.classes.tree.now) (owners_of_instruction instruction.now) && finds_member names.now.classes.tree.now instruction.now) }
+{
+    let LineSite { method, line } = at;
+    if let Some(fault) = owner_fault(names, instruction) {
+        return Some(Unknown::Owner {
+            method,
+            line,
+            fault,
+        });
+    }
+    if finds_member(names, instruction) {
+        return None;
+    }
+    Some(absent_member(names, at, instruction))
+}
+
+/// What an instruction names that is not there: the owner of a member, the member, or a label.
+fn unknown_by_line<'a>(
+    names: &NameTables,
+    labels: &Places<TextKey<'a>>,
+    at: LineSite,
+    instruction: &'a Instruction,
+) -> Option<Unknown>
+    ensures { is_none result ≡ ((list_all (is_resolved names.now.classes.tree.now) (owners_of_instruction instruction.now) && finds_member names.now.classes.tree.now instruction.now) && list_all (λ w. list_any (same_text w) (map text_of_key labels.now)) (labels_of instruction.now)) }
+{
+    if let Some(unknown) = unknown_member(names, at, instruction) {
+        return Some(unknown);
+    }
+    let LineSite { method, line } = at;
+    match missing_label(labels, labels_of(instruction)) {
+        None => None,
+        Some(target) => Some(Unknown::Label {
+            method,
+            line,
+            target,
+        }),
+    }
+}
+
+fn unknown_by_lines<'a>(
+    names: &NameTables,
+    labels: &Places<TextKey<'a>>,
+    method: SourceMember,
+    lines: &'a [Line],
+) -> Option<Unknown>
+    ensures { is_none result ≡ list_all (λ x. (list_all (is_resolved names.now.classes.tree.now) (owners_of_instruction x.instruction) && finds_member names.now.classes.tree.now x.instruction) && list_all (λ w. list_any (same_text w) (map text_of_key labels.now)) (labels_of x.instruction)) lines.now }
+{
+    for (line, code) in lines.iter().enumerate() {
+        let at = LineSite { method, line };
+        if let Some(unknown) = unknown_by_line(names, labels, at, &code.instruction) {
+            return Some(unknown);
         }
     }
-    true
+    None
+}
+
+/// What the code of a method names that is not there, types apart. Fails for want of memory alone.
+fn unknown_by_method(
+    alloc: Global,
+    names: &NameTables,
+    method: SourceMember,
+    declared: &Method,
+) -> Result<Option<Unknown>, NoMemory>
+    ensures { IfOk result (λ u. is_none u ≡ knows_names names.now.classes.tree.now declared.now) }
+{
+    let labels = Places::new(alloc, label_keys(alloc, declared)?)?;
+    Ok(unknown_by_lines(names, &labels, method, lines_of(declared)))
+}
+
+fn unknown_by_methods(
+    alloc: Global,
+    names: &NameTables,
+    class: usize,
+    declared: &Class,
+) -> Result<Option<Unknown>, NoMemory>
+    ensures { IfOk result (λ u. is_none u ≡ list_all (knows_names names.now.classes.tree.now) (methods_of declared.now)) }
+{
+    let methods = methods_of(alloc, declared)?;
+    for (place, method) in methods.as_slice().iter().enumerate() {
+        let site = SourceMember { class, place };
+        if let Some(unknown) = unknown_by_method(alloc, names, site, method)? {
+            return Ok(Some(unknown));
+        }
+    }
+    Ok(None)
 }
 
 // ---- the whole tree
 
-fn are_types_known(alloc: Global, names: &NameTables) -> Result<bool, NoMemory>
-    ensures { IfOk result (λ b. b ≡ (list_all (is_resolved names.now.classes.tree.now) (class_types_of_tree names.now.classes.tree.now) && list_all (is_possible_type names.now.classes.tree.now) (class_types_of_tree names.now.classes.tree.now))) }
+fn unknown_in_types(alloc: Global, names: &NameTables) -> Result<Option<Unknown>, NoMemory>
+    ensures { IfOk result (λ u. is_none u ≡ (list_all (is_resolved names.now.classes.tree.now) (class_types_of_tree names.now.classes.tree.now) && list_all (is_possible_type names.now.classes.tree.now) (class_types_of_tree names.now.classes.tree.now))) }
 {
     let types = types_of_tree(alloc, names.classes.tree)?;
-    Ok(are_known_types(names, types.as_slice()))
+    Ok(unknown_among_types(names, types.as_slice()))
 }
 
-fn are_labels_found(alloc: Global, tree: &Tree) -> Result<bool, NoMemory>
-    ensures { IfOk result (λ b. b ≡ list_all finds_labels (methods_of_tree tree.now)) }
+fn unknown_in_code(alloc: Global, names: &NameTables) -> Result<Option<Unknown>, NoMemory>
+    ensures { IfOk result (λ u. is_none u ≡ list_all (λ c. list_all (knows_names names.now.classes.tree.now) (methods_of c)) names.now.classes.tree.now.classes) }
 {
-    let methods = methods_of_tree(alloc, tree)?;
-    find_all_labels(alloc, methods.as_slice())
+    for (class, declared) in names.classes.tree.classes.as_slice().iter().enumerate() {
+        if let Some(unknown) = unknown_by_methods(alloc, names, class, declared)? {
+            return Ok(Some(unknown));
+        }
+    }
+    Ok(None)
 }
 
-fn are_members_found(alloc: Global, names: &NameTables) -> Result<bool, NoMemory>
-    ensures { IfOk result (λ b. b ≡ (list_all (is_resolved names.now.classes.tree.now) (flat_map owners_of_instruction (instructions_of_tree names.now.classes.tree.now)) && list_all (finds_member names.now.classes.tree.now) (instructions_of_tree names.now.classes.tree.now))) }
+/// The first name of the tree that stands for nothing of the kind needed there; none where there is none (number 202). Fails for
+/// want of memory alone.
+pub fn unknown_name(alloc: Global, names: &NameTables) -> Result<Option<Unknown>, NoMemory>
+    ensures { IfOk result (λ u. is_some u ≡ lacks_name names.now.classes.tree.now) }
 {
-    let instructions = instructions_of_tree(alloc, names.classes.tree)?;
-    Ok(are_known_instructions(names, instructions.as_slice()))
-}
-
-/// Whether a name of the tree stands for nothing of the kind needed there (number 202). Fails for want of memory alone.
-pub fn lacks_name(alloc: Global, names: &NameTables) -> Result<bool, NoMemory>
-    ensures { IfOk result (λ b. b ≡ lacks_name names.now.classes.tree.now) }
-{
-    let tree = names.classes.tree;
-    if !are_known_externs(tree.externs.as_slice()) {
-        return Ok(true);
+    if let Some(number) = unknown_extern(names.classes.tree.externs.as_slice()) {
+        return Ok(Some(Unknown::Extern(number)));
     }
-    if !are_known_classes(names) {
-        return Ok(true);
+    if let Some(unknown) = unknown_in_headings(names) {
+        return Ok(Some(unknown));
     }
-    if !are_types_known(alloc, names)? {
-        return Ok(true);
+    if let Some(unknown) = unknown_in_types(alloc, names)? {
+        return Ok(Some(unknown));
     }
-    if !are_labels_found(alloc, tree)? {
-        return Ok(true);
-    }
-    Ok(!are_members_found(alloc, names)?)
+    unknown_in_code(alloc, names)
 }

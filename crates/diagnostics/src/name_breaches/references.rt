@@ -1,82 +1,73 @@
-//! What an instruction names.
+//! What a part of a source names.
 
+use crate::name_breaches::sites::{MemberSpot, field_of, method_of};
+use crate::source_map::{LinePart, MemberPart, Place};
 use cil_model::instructions::Instruction;
 use cil_model::texts::Text;
-use cil_model::trees::Method;
-use cil_model::types::{ClassName, DeclaredType, Element, Signature};
-use name_tables::bodies::locals_of;
+use cil_model::trees::Tree;
+use cil_model::types::{ClassName, DeclaredType, Element};
+use metadata::mentions::NamedTypes;
+use metadata::violations::{SourceMember, TypeSite, TypesPart};
+use name_tables::bodies::{lines_of, locals_of};
 use name_tables::keys::{ClassKey, FieldKey, MethodKey};
-use name_tables::lookups::NameTables;
-use std::slice::from_ref;
 
-/// Types that stand together in the text, in their order.
-#[derive(Clone, Copy)]
-pub struct TypesNamed<'a> {
-    pub first: Option<&'a DeclaredType>,
-    pub others: &'a [DeclaredType],
+// ---- types
+
+/// The types of a part of a source.
+fn types_of(tree: &Tree, part: TypesPart) -> Option<NamedTypes<'_>> {
+    match part {
+        TypesPart::Field(field) => {
+            let (_, declared) = field_of(tree, field)?;
+            Some(NamedTypes {
+                parameters: &[],
+                last: Some(&declared.field_type),
+            })
+        }
+        TypesPart::Signature(method) => {
+            let (_, declared) = method_of(tree, method)?;
+            Some(NamedTypes::of_signature(&declared.signature))
+        }
+        TypesPart::Locals(method) => {
+            let (_, declared) = method_of(tree, method)?;
+            Some(NamedTypes {
+                parameters: locals_of(declared),
+                last: None,
+            })
+        }
+        TypesPart::Line { method, line } => {
+            let (_, instruction) = line_at(tree, method, line)?;
+            Some(NamedTypes::of_instruction(instruction))
+        }
+    }
 }
 
-impl<'a> TypesNamed<'a> {
-    fn none() -> Self {
-        TypesNamed {
-            first: None,
-            others: &[],
-        }
+/// The type that stands at a place of the source.
+pub fn type_at(tree: &Tree, site: TypeSite) -> Option<&DeclaredType> {
+    let types = types_of(tree, site.part)?;
+    match types.parameters.get(site.place) {
+        None => types.last,
+        found => found,
     }
+}
 
-    /// One type.
-    pub fn one(declared: &'a DeclaredType) -> Self {
-        TypesNamed {
-            first: Some(declared),
-            others: &[],
-        }
-    }
+/// The member in which types stand.
+fn spot_of(tree: &Tree, part: TypesPart) -> Option<MemberSpot> {
+    let (spot, _) = match part {
+        TypesPart::Field(field) => return Some(field_of(tree, field)?.0),
+        TypesPart::Signature(method) | TypesPart::Locals(method) | TypesPart::Line { method, .. } =>
+            method_of(tree, method)?,
+    };
+    Some(spot)
+}
 
-    /// The type of the result, and those of the parameters (ECMA-335 II.15.3).
-    pub fn of_signature(signature: &'a Signature) -> Self {
-        TypesNamed {
-            first: signature.return_type.as_ref(),
-            others: signature.parameters.as_slice(),
-        }
-    }
-
-    /// The types of a method's locals.
-    pub fn of_locals(method: &'a Method) -> Self {
-        TypesNamed {
-            first: None,
-            others: locals_of(method),
-        }
-    }
-
-    /// The types that an instruction names.
-    pub fn of_instruction(instruction: &'a Instruction) -> Self {
-        match instruction {
-            Instruction::LoadField(reference)
-            | Instruction::StoreField(reference)
-            | Instruction::LoadStaticField(reference)
-            | Instruction::StoreStaticField(reference) => TypesNamed::one(&reference.field_type),
-            Instruction::NewArray(declared)
-            | Instruction::CastClass(declared)
-            | Instruction::IsInstance(declared) => TypesNamed::one(declared),
-            Instruction::Call { method, .. } => TypesNamed::of_signature(&method.signature),
-            Instruction::CallVirtual { signature, .. } => TypesNamed::of_signature(signature),
-            Instruction::NewObject(_, parameters) => TypesNamed {
-                first: None,
-                others: parameters.as_slice(),
-            },
-            _ => TypesNamed::none(),
-        }
-    }
-
-    /// How many of them name a class.
-    pub(crate) fn count_classes(&self) -> usize {
-        let first = match self.first {
-            None => 0usize,
-            Some(declared) => usize::from(class_of(declared).is_some()),
-        };
-        let others = self.others.iter().filter(|t| class_of(t).is_some()).count();
-        first.saturating_add(others)
-    }
+/// Where a part of a source begins to name its types, without an own word of theirs.
+pub fn place_of(tree: &Tree, part: TypesPart) -> Option<Place> {
+    let spot = spot_of(tree, part)?;
+    Some(match part {
+        TypesPart::Field(_) | TypesPart::Signature(_) => spot.name(),
+        TypesPart::Locals(_) => spot.part(MemberPart::Locals),
+        TypesPart::Line { line, .. } => spot.line(line, LinePart::Name),
+    })
 }
 
 /// The class that a type names.
@@ -87,16 +78,57 @@ pub(crate) fn class_of(declared: &DeclaredType) -> Option<ClassKey<'_>> {
     }
 }
 
-/// The labels to which an instruction may go.
-pub(crate) fn labels_of(instruction: &Instruction) -> &[Text] {
-    match instruction {
-        Instruction::Branch(label)
-        | Instruction::BranchTrue(label)
-        | Instruction::BranchFalse(label)
-        | Instruction::BranchCompare(_, label) => from_ref(label),
-        Instruction::Switch(labels) => labels.as_slice(),
-        _ => &[],
+/// How many of these types name a class.
+fn count_classes(types: NamedTypes) -> usize {
+    let last = match types.last {
+        None => 0usize,
+        Some(declared) => usize::from(class_of(declared).is_some()),
+    };
+    let parameters = types.parameters.iter();
+    let others = parameters.filter(|t| class_of(t).is_some()).count();
+    last.saturating_add(others)
+}
+
+/// How many types that name a class stand in the text of a member or a line before one: a result before its parameters, and locals
+/// behind the signature.
+fn classes_before(tree: &Tree, site: TypeSite) -> Option<usize> {
+    let types = types_of(tree, site.part)?;
+    if site.place >= types.parameters.len() {
+        return Some(0);
     }
+    let before = count_classes(NamedTypes {
+        parameters: types.parameters.get(..site.place)?,
+        last: types.last,
+    });
+    match site.part {
+        TypesPart::Locals(method) => {
+            let signature = types_of(tree, TypesPart::Signature(method))?;
+            Some(before.saturating_add(count_classes(signature)))
+        }
+        _ => Some(before),
+    }
+}
+
+/// The place of the class in a type.
+pub fn class_place(tree: &Tree, site: TypeSite) -> Option<Place> {
+    let spot = spot_of(tree, site.part)?;
+    let before = classes_before(tree, site)?;
+    Some(match site.part {
+        TypesPart::Line { line, .. } => spot.line(line, LinePart::ClassOfType(before)),
+        _ => spot.part(MemberPart::ClassOfType(before)),
+    })
+}
+
+// ---- instructions
+
+/// An instruction, and its method's number among the members of its class.
+pub fn line_at(
+    tree: &Tree,
+    method: SourceMember,
+    line: usize,
+) -> Option<(MemberSpot, &Instruction)> {
+    let (spot, declared) = method_of(tree, method)?;
+    Some((spot, &lines_of(declared).get(line)?.instruction))
 }
 
 /// A member that an instruction names, without its class.
@@ -156,30 +188,5 @@ pub(crate) fn member_of(instruction: &Instruction) -> Option<(&ClassName, Member
             Some((class, member))
         }
         _ => None,
-    }
-}
-
-/// Whether the member that an instruction names, where it names one, is there.
-pub(crate) fn is_found(names: &NameTables, instruction: &Instruction) -> bool {
-    match instruction {
-        Instruction::LoadField(r) | Instruction::StoreField(r) => {
-            names.find_field(false, r).is_some()
-        }
-        Instruction::LoadStaticField(r) | Instruction::StoreStaticField(r) => {
-            names.find_field(true, r).is_some()
-        }
-        Instruction::Call {
-            is_instance,
-            method,
-        } => names.find_method(*is_instance, method).is_some(),
-        Instruction::CallVirtual {
-            owner,
-            name,
-            signature,
-        } => names.find_virtual(owner, name, signature).is_some(),
-        Instruction::NewObject(class, parameters) => names
-            .find_constructor(class, parameters.as_slice())
-            .is_some(),
-        _ => true,
     }
 }

@@ -1,7 +1,8 @@
 //! Where rules are broken.
 
 use crate::source_map::{ClassPart, LinePart, MemberPart, Place};
-use cil_model::trees::{Class, Member, Method};
+use cil_model::trees::{Class, Field, Member, Method, Tree};
+use metadata::violations::SourceMember;
 use name_tables::keys::MethodKey;
 use name_tables::lookups::NameTables;
 
@@ -82,6 +83,40 @@ pub fn class_name(class: usize) -> Place {
 /// The name and signature of a method.
 pub fn key_of(method: &Method) -> MethodKey<'_> {
     MethodKey::new(&method.name, &method.signature)
+}
+
+/// A method of the source, and its number among the members of its class.
+pub fn method_of(tree: &Tree, number: SourceMember) -> Option<(MemberSpot, &Method)> {
+    let class = number.class;
+    let mut left = number.place;
+    let declared = tree.classes.as_slice().get(class)?;
+    for (member, item) in declared.members.as_slice().iter().enumerate() {
+        let Member::Method(method) = item else {
+            continue;
+        };
+        if left == 0 {
+            return Some((MemberSpot { class, member }, method));
+        }
+        left -= 1;
+    }
+    None
+}
+
+/// A field of the source, and its number among the members of its class.
+pub fn field_of(tree: &Tree, number: SourceMember) -> Option<(MemberSpot, &Field)> {
+    let class = number.class;
+    let mut left = number.place;
+    let declared = tree.classes.as_slice().get(class)?;
+    for (member, item) in declared.members.as_slice().iter().enumerate() {
+        let Member::Field(field) = item else {
+            continue;
+        };
+        if left == 0 {
+            return Some((MemberSpot { class, member }, field));
+        }
+        left -= 1;
+    }
+    None
 }
 
 /// The number of a method among the members of its class.

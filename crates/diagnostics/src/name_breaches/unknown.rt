@@ -1,22 +1,20 @@
 //! Names that stand for nothing of the kind needed (number 202).
 
 use crate::name_breaches::references::{
-    MemberKey, TypesNamed, class_of, is_found, labels_of, member_of,
+    MemberKey, class_of, class_place, line_at, member_of, type_at,
 };
 use crate::name_breaches::shown::{ClassText, MethodText, TypeText};
-use crate::name_breaches::sites::{MemberSpot, Sites, key_of};
-use crate::source_map::{ClassPart, LinePart, MemberPart, Place};
+use crate::name_breaches::sites::{Sites, key_of};
+use crate::source_map::{ClassPart, LinePart, Place};
 use cil_model::instructions::Instruction;
-use cil_model::memory::NoMemory;
 use cil_model::texts::Text;
-use cil_model::trees::{Class, ClassKind, Field, Member, Method};
-use cil_model::types::DeclaredType;
-use name_tables::bodies::{label_keys, lines_of};
-use name_tables::keys::{ClassKey, FieldKey, MethodKey, TextKey};
+use cil_model::trees::{Class, ClassKind, Field, Method, Tree};
+use metadata::mentions::labels_of;
+use metadata::violations;
+use metadata::violations::{ClassFault, HeadingName, SourceMember};
+use name_tables::keys::{ClassKey, FieldKey, MethodKey};
 use name_tables::kinds::is_static;
 use name_tables::lookups::NameTables;
-use name_tables::places::Places;
-use std::alloc::Global;
 use std::fmt;
 
 /// What a class is named as.
@@ -30,21 +28,6 @@ pub enum Role {
     Type,
     /// Before `::`.
     Owner,
-}
-
-/// Why a class may not be named so.
-#[derive(Clone, Copy, PartialEq, Eq)]
-pub enum ClassFault {
-    /// The assembly before it is not declared.
-    NoExtern,
-    /// There is no such class.
-    Absent,
-    /// It is an interface, and a class is wanted.
-    IsInterface,
-    /// It is a class, and an interface is wanted.
-    IsClass,
-    /// It is a built-in class that may not stand there.
-    IsBuiltIn,
 }
 
 /// A name that stands for nothing of the kind needed.
@@ -217,88 +200,8 @@ fn tell_near_method<W: fmt::Write>(
 
 // ---- classes
 
-/// Why a class may not be named so; None where it may.
-fn class_fault(names: &NameTables, class: ClassKey, role: Role) -> Option<ClassFault> {
-    if let Some(assembly) = class.assembly {
-        let externs = names.classes.tree.externs.as_slice();
-        if !externs.iter().any(|name| name.is_same(assembly)) {
-            return Some(ClassFault::NoExtern);
-        }
-    }
-    let Some(declared) = names.classes.declared(class) else {
-        return Some(ClassFault::Absent);
-    };
-    match role {
-        Role::Owner => None,
-        Role::Interface if declared.is_interface => None,
-        Role::Interface => Some(ClassFault::IsClass),
-        Role::Base if declared.is_interface => Some(ClassFault::IsInterface),
-        Role::Base | Role::Type => built_in_fault(class, role),
-    }
-}
-
-/// Why a class may not be a base or a type, where the source does not declare it.
-fn built_in_fault(class: ClassKey, role: Role) -> Option<ClassFault> {
-    class.assembly?;
-    match class.name.as_str() {
-        "Cilvm.Thread" => None,
-        "System.Object" if role == Role::Base => None,
-        _ => Some(ClassFault::IsBuiltIn),
-    }
-}
-
-/// A class that may not be named so.
-fn bad_class<'a>(names: &NameTables, class: ClassKey<'a>, role: Role) -> Option<Unknown<'a>> {
-    let fault = class_fault(names, class, role)?;
-    Some(Unknown::Class { class, role, fault })
-}
-
-/// A class that may not stand in a type, and its place among the types with `class`.
-#[derive(Drop)]
-struct BadType<'a> {
-    unknown: Unknown<'a>,
-    place: usize,
-}
-
-fn bad_type_among<'a>(
-    names: &NameTables,
-    types: &'a [DeclaredType],
-    before: usize,
-) -> Option<BadType<'a>> {
-    let mut place = before;
-    for declared in types {
-        if let Some(class) = class_of(declared) {
-            if let Some(unknown) = bad_class(names, class, Role::Type) {
-                return Some(BadType { unknown, place });
-            }
-            place = place.saturating_add(1);
-        }
-    }
-    None
-}
-
-/// The first class that may not stand in one of these types, with so many types with `class` before them.
-fn bad_type<'a>(names: &NameTables, types: TypesNamed<'a>, before: usize) -> Option<BadType<'a>> {
-    let mut others = before;
-    if let Some(class) = types.first.and_then(|declared| class_of(declared)) {
-        if let Some(unknown) = bad_class(names, class, Role::Type) {
-            return Some(BadType {
-                unknown,
-                place: before,
-            });
-        }
-        others = before.saturating_add(1);
-    }
-    bad_type_among(names, types.others, others)
-}
-
-// ---- the first line of a class
-
-fn in_class(class: usize, part: ClassPart) -> Place {
-    Place::InClass { class, part }
-}
-
-fn bad_heading<'a>(names: &NameTables, number: usize, class: &'a Class) -> Option<Found<'a>> {
+/// A class that the first line of a class names.
+fn named_in_heading(class: &Class, name: HeadingName) -> Option<(ClassKey<'_>, Role)> {
     let ClassKind::Class {
         base,
         interfaces,
@@ -307,18 +210,31 @@ fn bad_heading<'a>(names: &NameTables, number: usize, class: &'a Class) -> Optio
     else {
         return None;
     };
-    if let Some(unknown) = bad_class(names, ClassKey::of(base), Role::Base) {
-        return Some((unknown, Sites::at(in_class(number, ClassPart::Base))));
-    }
-    for (entry, interface) in interfaces.as_slice().iter().enumerate() {
-        if let Some(unknown) = bad_class(names, ClassKey::of(interface), Role::Interface) {
-            return Some((
-                unknown,
-                Sites::at(in_class(number, ClassPart::Interface(entry))),
-            ));
+    match name {
+        HeadingName::Base => Some((ClassKey::of(base), Role::Base)),
+        HeadingName::Interface(entry) => {
+            let interface = interfaces.as_slice().get(entry)?;
+            Some((ClassKey::of(interface), Role::Interface))
         }
     }
-    None
+}
+
+fn unknown_in_heading(
+    tree: &Tree,
+    number: usize,
+    name: HeadingName,
+    fault: ClassFault,
+) -> Option<Found<'_>> {
+    let (class, role) = named_in_heading(tree.classes.as_slice().get(number)?, name)?;
+    let part = match name {
+        HeadingName::Base => ClassPart::Base,
+        HeadingName::Interface(entry) => ClassPart::Interface(entry),
+    };
+    let place = Place::InClass {
+        class: number,
+        part,
+    };
+    Some((Unknown::Class { class, role, fault }, Sites::at(place)))
 }
 
 // ---- instructions
@@ -395,144 +311,74 @@ fn absent_member<'a>(
     }
 }
 
-/// What an instruction names that is not there, a label apart: a class in a type, the class of a member, or the member.
-fn bad_reference<'a>(
+/// What an instruction names that is not there.
+fn unknown_in_line<'a>(
     names: &NameTables<'a>,
-    instruction: &'a Instruction,
-) -> Option<(Unknown<'a>, LinePart)> {
-    if let Some(bad) = bad_type(names, TypesNamed::of_instruction(instruction), 0) {
-        return Some((bad.unknown, LinePart::ClassOfType(bad.place)));
-    }
+    method: SourceMember,
+    line: usize,
+    part: LinePart,
+    fault: ClassFault,
+) -> Option<Found<'a>> {
+    let (spot, instruction) = line_at(names.classes.tree, method, line)?;
     let (owner, member) = member_of(instruction)?;
-    let owner = ClassKey::of(owner);
-    if let Some(unknown) = bad_class(names, owner, Role::Owner) {
-        return Some((unknown, LinePart::Owner));
-    }
-    if is_found(names, instruction) {
-        return None;
-    }
-    let absent = absent_member(names, owner, member);
-    Some((absent, LinePart::Member))
+    let class = ClassKey::of(owner);
+    let unknown = match part {
+        LinePart::Owner => Unknown::Class {
+            class,
+            role: Role::Owner,
+            fault,
+        },
+        _ => absent_member(names, class, member),
+    };
+    Some((unknown, Sites::at(spot.line(line, part))))
 }
 
-/// The first label to which an instruction goes that is none of these.
-fn bad_label<'a>(
-    labels: &Places<TextKey<'a>>,
-    instruction: &'a Instruction,
-) -> Option<(Unknown<'a>, LinePart)> {
-    for (place, text) in labels_of(instruction).iter().enumerate() {
-        if labels.first(TextKey { text }).is_none() {
-            let unknown = Unknown::Label(text);
-            return Some((unknown, LinePart::Target(place)));
-        }
-    }
-    None
-}
-
-fn bad_lines<'a>(
-    alloc: Global,
-    names: &NameTables<'a>,
-    spot: MemberSpot,
-    method: &'a Method,
-) -> Result<Option<Found<'a>>, NoMemory> {
-    let labels = Places::new(alloc, label_keys(alloc, method)?)?;
-    for (number, line) in lines_of(method).iter().enumerate() {
-        let bad = match bad_reference(names, &line.instruction) {
-            None => bad_label(&labels, &line.instruction),
-            found => found,
-        };
-        if let Some((unknown, part)) = bad {
-            return Ok(Some((unknown, Sites::at(spot.line(number, part)))));
-        }
-    }
-    Ok(None)
-}
-
-// ---- members
-
-/// A class that may not stand in a type before the first instruction of a method.
-fn bad_types_of_method<'a>(names: &NameTables, method: &'a Method) -> Option<BadType<'a>> {
-    let signature = TypesNamed::of_signature(&method.signature);
-    if let Some(bad) = bad_type(names, signature, 0) {
-        return Some(bad);
-    }
-    bad_type(
-        names,
-        TypesNamed::of_locals(method),
-        signature.count_classes(),
-    )
-}
-
-fn bad_types<'a>(names: &NameTables, member: &'a Member) -> Option<BadType<'a>> {
-    match member {
-        Member::Field(field) => bad_type(names, TypesNamed::one(&field.field_type), 0),
-        Member::Method(method) => bad_types_of_method(names, method),
-    }
-}
-
-fn bad_member<'a>(
-    alloc: Global,
-    names: &NameTables<'a>,
-    spot: MemberSpot,
-    member: &'a Member,
-) -> Result<Option<Found<'a>>, NoMemory> {
-    if let Some(bad) = bad_types(names, member) {
-        let place = spot.part(MemberPart::ClassOfType(bad.place));
-        return Ok(Some((bad.unknown, Sites::at(place))));
-    }
-    match member {
-        Member::Field(_) => Ok(None),
-        Member::Method(method) => bad_lines(alloc, names, spot, method),
-    }
-}
-
-fn bad_in_class<'a>(
-    alloc: Global,
-    names: &NameTables<'a>,
-    number: usize,
-    class: &'a Class,
-) -> Result<Option<Found<'a>>, NoMemory> {
-    if let Some(site) = bad_heading(names, number, class) {
-        return Ok(Some(site));
-    }
-    for (member, item) in class.members.as_slice().iter().enumerate() {
-        let spot = MemberSpot {
-            class: number,
-            member,
-        };
-        if let Some(site) = bad_member(alloc, names, spot, item)? {
-            return Ok(Some(site));
-        }
-    }
-    Ok(None)
+fn unknown_label(
+    tree: &Tree,
+    method: SourceMember,
+    line: usize,
+    target: usize,
+) -> Option<Found<'_>> {
+    let (spot, instruction) = line_at(tree, method, line)?;
+    let label = labels_of(instruction).get(target)?;
+    let place = spot.line(line, LinePart::Target(target));
+    Some((Unknown::Label(label), Sites::at(place)))
 }
 
 // ---- the whole tree
 
-fn bad_extern(externs: &[Text]) -> Option<Found<'_>> {
-    for (number, name) in externs.iter().enumerate() {
-        if !matches!(name.as_str(), "mscorlib" | "cilvm") {
-            let unknown = Unknown::Extern(name);
-            return Some((unknown, Sites::at(Place::Extern(number))));
-        }
-    }
-    None
-}
-
-/// The first name in source order that stands for nothing of the kind needed (number 202), and its place. None where there is none. Fails
-/// for want of memory alone.
-pub fn first_unknown<'a>(
-    alloc: Global,
+/// A name that stands for nothing of the kind needed (number 202), and its place. None where the tree has no such place.
+pub fn unknown_name<'a>(
     names: &NameTables<'a>,
-) -> Result<Option<(Unknown<'a>, Sites)>, NoMemory> {
+    unknown: violations::Unknown,
+) -> Option<(Unknown<'a>, Sites)> {
     let tree = names.classes.tree;
-    if let Some(site) = bad_extern(tree.externs.as_slice()) {
-        return Ok(Some(site));
-    }
-    for (number, class) in tree.classes.as_slice().iter().enumerate() {
-        if let Some(site) = bad_in_class(alloc, names, number, class)? {
-            return Ok(Some(site));
+    match unknown {
+        violations::Unknown::Extern(number) => {
+            let name = tree.externs.as_slice().get(number)?;
+            Some((Unknown::Extern(name), Sites::at(Place::Extern(number))))
         }
+        violations::Unknown::Heading { class, name, fault } => {
+            unknown_in_heading(tree, class, name, fault)
+        }
+        violations::Unknown::Type { site, fault } => {
+            let role = Role::Type;
+            let class = class_of(type_at(tree, site)?)?;
+            let place = class_place(tree, site)?;
+            Some((Unknown::Class { class, role, fault }, Sites::at(place)))
+        }
+        violations::Unknown::Owner {
+            method,
+            line,
+            fault,
+        } => unknown_in_line(names, method, line, LinePart::Owner, fault),
+        violations::Unknown::Member { method, line } => {
+            unknown_in_line(names, method, line, LinePart::Member, ClassFault::Absent)
+        }
+        violations::Unknown::Label {
+            method,
+            line,
+            target,
+        } => unknown_label(tree, method, line, target),
     }
-    Ok(None)
 }

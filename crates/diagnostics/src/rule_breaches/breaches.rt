@@ -1,13 +1,13 @@
 //! The breaches of all rules.
 
-use crate::name_breaches::{Doubled, Sites, Unknown, first_doubled, first_unknown};
-use crate::rule_breaches::cycles::{OwnBase, first_own_base};
-use crate::rule_breaches::entry::{BadEntry, wrong_entry};
-use crate::rule_breaches::implemented::{NotImplemented, first_not_implemented};
-use crate::rule_breaches::kinds::{Misfit, first_misfit};
-use crate::rule_breaches::limits::{Passed, first_passed};
+use crate::name_breaches::{Doubled, Sites, Unknown, doubled_name, unknown_name};
+use crate::rule_breaches::cycles::{OwnBase, own_base};
+use crate::rule_breaches::entry::{BadEntry, bad_entry};
+use crate::rule_breaches::implemented::{NotImplemented, not_implemented};
+use crate::rule_breaches::kinds::{Misfit, misfit_of};
+use crate::rule_breaches::limits::{Passed, passed_limit};
 use cil_model::memory::NoMemory;
-use metadata::Rule;
+use metadata::violations::Violation;
 use name_tables::lookups::NameTables;
 use std::alloc::Global;
 use std::fmt;
@@ -45,27 +45,24 @@ impl fmt::Display for Breach<'_> {
     }
 }
 
-/// The first breach of a rule in a tree, and where it is: in source order by classes, and in each class by its first line and its members.
-/// None where the rule is kept. Rules are looked at where those before them are kept; where they are not, what is answered says nothing.
-/// Fails for want of memory alone.
-pub fn first_breach<'a>(
+/// A breach, and where it is. None where the tree has no such place. Fails for want of memory alone.
+pub fn breach_of<'a>(
     alloc: Global,
     names: &NameTables<'a>,
-    rule: Rule,
+    violation: Violation,
 ) -> Result<Option<(Breach<'a>, Sites)>, NoMemory> {
     let tree = names.classes.tree;
-    Ok(match rule {
-        Rule::NamesStandOnce => first_doubled(alloc, tree)?.map(|(d, at)| (Breach::Doubled(d), at)),
-        Rule::NamesAreKnown => first_unknown(alloc, names)?.map(|(u, at)| (Breach::Unknown(u), at)),
-        Rule::BasesEnd => first_own_base(alloc, names)?.map(|(o, at)| (Breach::OwnBase(o), at)),
-        Rule::InterfacesAreImplemented => {
-            first_not_implemented(names).map(|(n, at)| (Breach::NotImplemented(n), at))
+    Ok(match violation {
+        Violation::Doubled(d) => doubled_name(tree, d).map(|(d, at)| (Breach::Doubled(d), at)),
+        Violation::Unknown(u) => unknown_name(names, u).map(|(u, at)| (Breach::Unknown(u), at)),
+        Violation::OwnBase { class } => {
+            own_base(alloc, names, class)?.map(|(o, at)| (Breach::OwnBase(o), at))
         }
-        Rule::KindsFit => first_misfit(names).map(|(m, at)| (Breach::Misfit(m), at)),
-        Rule::OneEntryPoint => {
-            let (entry, at) = wrong_entry(tree);
-            Some((Breach::BadEntry(entry), at))
+        Violation::NotImplemented(absent) => {
+            not_implemented(names, absent).map(|(n, at)| (Breach::NotImplemented(n), at))
         }
-        Rule::LimitsAreKept => first_passed(names).map(|(p, at)| (Breach::Passed(p), at)),
+        Violation::Misfit(m) => misfit_of(names, m).map(|(m, at)| (Breach::Misfit(m), at)),
+        Violation::BadEntry(e) => bad_entry(tree, e).map(|(e, at)| (Breach::BadEntry(e), at)),
+        Violation::Passed(p) => passed_limit(names, p).map(|(p, at)| (Breach::Passed(p), at)),
     })
 }

@@ -3,7 +3,6 @@
 use crate::name_breaches::{ClassText, Sites};
 use crate::source_map::{ClassPart, Place};
 use cil_model::memory::NoMemory;
-use cil_model::trees::Class;
 use name_tables::keys::ClassKey;
 use name_tables::lookups::NameTables;
 use std::alloc::Global;
@@ -37,17 +36,6 @@ impl fmt::Display for OwnBase<'_> {
     }
 }
 
-/// Whether a class stands in the chain of its base.
-fn is_own_base(names: &NameTables, class: &Class) -> bool {
-    let Some(number) = names.classes.number(ClassKey::of_source(class)) else {
-        return false;
-    };
-    let Some(base) = names.classes.base(number) else {
-        return false;
-    };
-    names.chain(base).contains(&number)
-}
-
 /// The bases of a class until it is met again.
 fn bases_of<'a>(
     alloc: Global,
@@ -77,21 +65,16 @@ fn bases_of<'a>(
     })
 }
 
-/// The first class that is its own base.
-pub(crate) fn first_own_base<'a>(
+/// A class that is its own base.
+pub(crate) fn own_base<'a>(
     alloc: Global,
     names: &NameTables<'a>,
+    class: usize,
 ) -> Result<Option<(OwnBase<'a>, Sites)>, NoMemory> {
-    let tree = names.classes.tree;
-    for (number, class) in tree.classes.as_slice().iter().enumerate() {
-        if is_own_base(names, class) {
-            let own_base = bases_of(alloc, names, ClassKey::of_source(class))?;
-            let place = Place::InClass {
-                class: number,
-                part: ClassPart::Base,
-            };
-            return Ok(Some((own_base, Sites::at(place))));
-        }
-    }
-    Ok(None)
+    let Some(declared) = names.classes.tree.classes.as_slice().get(class) else {
+        return Ok(None);
+    };
+    let own_base = bases_of(alloc, names, ClassKey::of_source(declared))?;
+    let part = ClassPart::Base;
+    Ok(Some((own_base, Sites::at(Place::InClass { class, part }))))
 }

@@ -1,12 +1,12 @@
 //! The entry point (number 206).
 
-use crate::name_breaches::{MemberSpot, MethodText, Sites, TypeText, key_of};
-use crate::source_map::MemberPart;
-use cil_model::trees::{Member, Method, Tree};
+use crate::name_breaches::{MethodText, Sites, TypeText, key_of, method_of};
+use crate::source_map::{MemberPart, Place};
+use cil_model::trees::{Method, Tree};
 use cil_model::types::DeclaredType;
-use name_tables::bodies::code_of;
+use metadata::violations;
+use metadata::violations::SourceMember;
 use name_tables::keys::MethodKey;
-use name_tables::kinds::is_static;
 use std::fmt;
 
 /// Why a source has not one entry point, in a static method without parameters that returns nothing.
@@ -53,55 +53,33 @@ impl fmt::Display for BadEntry<'_> {
     }
 }
 
-fn is_entry_point(method: &Method) -> bool {
-    match code_of(&method.kind) {
-        None => false,
-        Some(code) => code.is_entry_point,
-    }
+/// The place of a method's entry point, and the method.
+fn entry_at(tree: &Tree, method: SourceMember) -> Option<(Place, &Method)> {
+    let (spot, declared) = method_of(tree, method)?;
+    Some((spot.part(MemberPart::EntryPoint), declared))
 }
 
-/// The method with an entry point, of which so many stand before it.
-fn entry(tree: &Tree, others: usize) -> Option<(MemberSpot, &Method)> {
-    let mut left = others;
-    for (class, declared) in tree.classes.as_slice().iter().enumerate() {
-        for (member, item) in declared.members.as_slice().iter().enumerate() {
-            let Member::Method(method) = item else {
-                continue;
-            };
-            if !is_entry_point(method) {
-                continue;
-            }
-            if left == 0 {
-                return Some((MemberSpot { class, member }, method));
-            }
-            left -= 1;
+/// Why a source has not one fit entry point. None where the tree has no such place.
+pub(crate) fn bad_entry(tree: &Tree, entry: violations::BadEntry) -> Option<(BadEntry<'_>, Sites)> {
+    match entry {
+        violations::BadEntry::Absent => Some((BadEntry::Absent, Sites::NONE)),
+        violations::BadEntry::Second { first, second } => {
+            let (first, _) = entry_at(tree, first)?;
+            let (second, _) = entry_at(tree, second)?;
+            Some((BadEntry::Second, Sites::beside(second, Some(first))))
         }
-    }
-    None
-}
-
-/// Why a method may not have an entry point. One without a fault is answered as one with parameters.
-fn fault_of(method: &Method) -> BadEntry<'_> {
-    if !is_static(&method.kind) {
-        return BadEntry::NotStatic(key_of(method));
-    }
-    match &method.signature.return_type {
-        Some(declared) => BadEntry::Returns(declared),
-        None => BadEntry::Takes(key_of(method)),
-    }
-}
-
-/// Why a source, which has not one fit entry point, has none.
-pub(crate) fn wrong_entry(tree: &Tree) -> (BadEntry<'_>, Sites) {
-    let Some((spot, method)) = entry(tree, 0) else {
-        return (BadEntry::Absent, Sites::NONE);
-    };
-    let first = spot.part(MemberPart::EntryPoint);
-    match entry(tree, 1) {
-        Some((again, _)) => {
-            let second = again.part(MemberPart::EntryPoint);
-            (BadEntry::Second, Sites::beside(second, Some(first)))
+        violations::BadEntry::NotStatic(method) => {
+            let (place, declared) = entry_at(tree, method)?;
+            Some((BadEntry::NotStatic(key_of(declared)), Sites::at(place)))
         }
-        None => (fault_of(method), Sites::at(first)),
+        violations::BadEntry::Returns(method) => {
+            let (place, declared) = entry_at(tree, method)?;
+            let returned = declared.signature.return_type.as_ref()?;
+            Some((BadEntry::Returns(returned), Sites::at(place)))
+        }
+        violations::BadEntry::Takes(method) => {
+            let (place, declared) = entry_at(tree, method)?;
+            Some((BadEntry::Takes(key_of(declared)), Sites::at(place)))
+        }
     }
 }

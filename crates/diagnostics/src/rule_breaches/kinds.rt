@@ -1,13 +1,14 @@
 //! Methods whose kinds do not fit (number 205).
 
 use crate::name_breaches::{
-    ClassText, MemberSpot, MethodText, Sites, class_name, key_of, method_place,
+    ClassText, MethodText, Sites, class_name, key_of, method_of, method_place,
 };
 use cil_model::texts::Text;
-use cil_model::trees::{Class, ClassKind, Member, Method};
+use cil_model::trees::Class;
+use metadata::violations;
+use metadata::violations::{KindFault, SourceMember};
 use name_tables::keys::{ClassKey, MethodKey};
-use name_tables::kinds::{is_abstract_method, is_new_slot_method, is_virtual};
-use name_tables::lookups::NameTables;
+use name_tables::lookups::{MemberNumber, NameTables};
 use std::fmt;
 
 /// A method whose kind does not fit its class or what it inherits.
@@ -107,217 +108,114 @@ fn tell_left_open<W: fmt::Write>(
 /// A method whose kind does not fit, and where.
 type Found<'a> = (Misfit<'a>, Sites);
 
-// ---- interfaces
-
-fn misfit_of_interface(number: usize, class: &Class) -> Option<Found<'_>> {
-    for (member, item) in class.members.as_slice().iter().enumerate() {
-        let Member::Method(method) = item else {
-            continue;
-        };
-        if is_abstract_method(&method.kind) && is_new_slot_method(&method.kind) {
-            continue;
-        }
-        let misfit = Misfit::InInterface {
-            interface: &class.name,
-            method: key_of(method),
-        };
-        let spot = MemberSpot {
-            class: number,
-            member,
-        };
-        return Some((misfit, Sites::at(spot.name())));
-    }
-    None
-}
-
-// ---- abstract methods
-
-fn own_abstract_method(number: usize, class: &Class) -> Option<Found<'_>> {
-    for (member, item) in class.members.as_slice().iter().enumerate() {
-        let Member::Method(method) = item else {
-            continue;
-        };
-        if is_abstract_method(&method.kind) {
-            let misfit = Misfit::Abstract {
-                class: &class.name,
-                method: key_of(method),
-            };
-            let spot = MemberSpot {
-                class: number,
-                member,
-            };
-            return Some((misfit, Sites::at(spot.name())));
-        }
-    }
-    None
-}
-
-/// What becomes of a method in the classes below it.
-#[derive(Clone, Copy)]
-enum Below {
-    /// No class has a method of its name and signature.
-    Nothing,
-    /// The next class that has one overrides it.
-    Overridden,
-    /// The next class that has one, by its number, has another method by that.
-    Hidden(usize),
-}
-
-/// What becomes of a method of this name and signature in classes that stand in a chain before its own, the nearest to it last.
-fn what_becomes(names: &NameTables, nearer: &[usize], key: MethodKey) -> Below {
+/// The class next to one along a chain, nearer to its beginning, that has a method of this name and signature.
+fn hiding_class(names: &NameTables, nearer: &[usize], key: MethodKey) -> Option<usize> {
     for class in nearer.iter().rev() {
-        if let Some(method) = names.classes.method(*class, key) {
-            if is_virtual(&method.kind) && !is_new_slot_method(&method.kind) {
-                return Below::Overridden;
-            }
-            return Below::Hidden(*class);
-        }
-    }
-    Below::Nothing
-}
-
-/// An abstract method that is not overridden: the number of its class, and the class whose method hides it.
-#[derive(Clone, Copy)]
-struct Open<'a> {
-    owner: usize,
-    method: MethodKey<'a>,
-    hidden_by: Option<usize>,
-}
-
-/// The first abstract method among those of a class that is not overridden in the classes that stand in a chain before it.
-fn open_method<'a>(
-    names: &NameTables,
-    nearer: &[usize],
-    owner: usize,
-    methods: &[&'a Method],
-) -> Option<Open<'a>> {
-    for method in methods {
-        if !is_abstract_method(&method.kind) {
-            continue;
-        }
-        let method = key_of(*method);
-        let hidden_by = match what_becomes(names, nearer, method) {
-            Below::Overridden => continue,
-            Below::Nothing => None,
-            Below::Hidden(class) => Some(class),
-        };
-        return Some(Open {
-            owner,
-            method,
-            hidden_by,
-        });
-    }
-    None
-}
-
-/// The nearest abstract method that a class inherits and that is not overridden. Bases are looked at up to the first that is not
-/// abstract: what is left open behind that is left open there already.
-fn inherited_open<'a>(names: &NameTables<'a>, chain: &[usize]) -> Option<Open<'a>> {
-    for (place, owner) in chain.iter().enumerate().skip(1) {
-        let declared = names.classes.class(*owner)?;
-        if !declared.is_abstract {
-            return None;
-        }
-        let nearer = chain.get(..place).unwrap_or(&[]);
-        let found = open_method(names, nearer, *owner, declared.methods.as_slice());
-        if found.is_some() {
-            return found;
+        if names.classes.method(*class, key).is_some() {
+            return Some(*class);
         }
     }
     None
 }
 
-fn left_open<'a>(names: &NameTables<'a>, number: usize, class: &'a Class) -> Option<Found<'a>> {
-    let open = inherited_open(names, names.chain(ClassKey::of_source(class)))?;
+/// The last class of these that is not abstract: there first a method behind them is left open.
+fn open_class(names: &NameTables, nearer: &[usize]) -> Option<usize> {
+    for class in nearer.iter().rev() {
+        if !names.classes.class(*class)?.is_abstract {
+            return Some(*class);
+        }
+    }
+    None
+}
+
+/// The number in the source of a class that has a number among all classes. None for a built-in class.
+fn source_number(names: &NameTables, class: usize) -> Option<usize> {
+    let sources = names.classes.tree.classes.as_slice().len();
+    let built_in = names.classes.names().len().checked_sub(sources)?;
+    class.checked_sub(built_in)
+}
+
+fn left_open<'a>(names: &NameTables<'a>, class: &Class, open: MemberNumber) -> Option<Found<'a>> {
+    let chain = names.chain(ClassKey::of_source(class));
+    let owner = chain.iter().position(|number| *number == open.class)?;
+    let nearer = chain.get(..owner)?;
+    let methods = names.classes.class(open.class)?.methods.as_slice();
+    let method = key_of(*methods.get(open.place)?);
     let keys = names.classes.names();
+    let number = source_number(names, open_class(names, nearer)?)?;
     let misfit = Misfit::LeftOpen {
-        class: &class.name,
-        owner: *keys.get(open.owner)?,
-        method: open.method,
-        hidden_by: match open.hidden_by {
+        class: &names.classes.tree.classes.as_slice().get(number)?.name,
+        owner: *keys.get(open.class)?,
+        method,
+        hidden_by: match hiding_class(names, nearer, method) {
             None => None,
             Some(hiding) => keys.get(hiding).copied(),
         },
     };
-    let declared = method_place(names, open.owner, open.method);
+    let declared = method_place(names, open.class, method);
     Some((misfit, Sites::beside(class_name(number), declared)))
 }
 
-// ---- virtual methods without newslot
-
-/// The nearest base in a chain with a method of this name and signature, where that is not virtual.
-fn plain_base(names: &NameTables, chain: &[usize], key: MethodKey) -> Option<usize> {
-    for base in chain.iter().skip(1) {
-        if let Some(method) = names.classes.method(*base, key) {
-            if is_virtual(&method.kind) {
-                return None;
-            }
-            return Some(*base);
-        }
-    }
-    None
-}
-
-fn over_plain<'a>(names: &NameTables<'a>, number: usize, class: &'a Class) -> Option<Found<'a>> {
-    let chain = names.chain(ClassKey::of_source(class));
-    for (member, item) in class.members.as_slice().iter().enumerate() {
-        let Member::Method(method) = item else {
-            continue;
-        };
-        if !is_virtual(&method.kind) || is_new_slot_method(&method.kind) {
-            continue;
-        }
-        let key = key_of(method);
-        let Some(base) = plain_base(names, chain, key) else {
-            continue;
-        };
-        let misfit = Misfit::OverPlain {
-            class: &class.name,
-            method: key,
-            owner: *names.classes.names().get(base)?,
-        };
-        let spot = MemberSpot {
-            class: number,
-            member,
-        };
-        let overridden = method_place(names, base, key);
-        return Some((misfit, Sites::beside(spot.name(), overridden)));
-    }
-    None
-}
-
-// ---- all classes
-
-fn misfit_of_class<'a>(
-    names: &NameTables<'a>,
-    number: usize,
-    class: &'a Class,
-    is_abstract: bool,
-) -> Option<Found<'a>> {
-    if !is_abstract {
-        if let Some(found) = own_abstract_method(number, class) {
-            return Some(found);
-        }
-        if let Some(found) = left_open(names, number, class) {
-            return Some(found);
-        }
-    }
-    over_plain(names, number, class)
-}
-
-/// The first method whose kind does not fit its class or what it inherits.
-pub(crate) fn first_misfit<'a>(names: &NameTables<'a>) -> Option<Found<'a>> {
+fn over_plain<'a>(names: &NameTables<'a>, method: SourceMember, base: usize) -> Option<Found<'a>> {
     let tree = names.classes.tree;
-    for (number, class) in tree.classes.as_slice().iter().enumerate() {
-        let found = match &class.kind {
-            ClassKind::Interface => misfit_of_interface(number, class),
-            ClassKind::Class { is_abstract, .. } => {
-                misfit_of_class(names, number, class, *is_abstract)
-            }
-        };
-        if found.is_some() {
-            return found;
+    let (spot, declared) = method_of(tree, method)?;
+    let key = key_of(declared);
+    let misfit = Misfit::OverPlain {
+        class: &tree.classes.as_slice().get(method.class)?.name,
+        method: key,
+        owner: *names.classes.names().get(base)?,
+    };
+    let overridden = method_place(names, base, key);
+    Some((misfit, Sites::beside(spot.name(), overridden)))
+}
+
+/// A method whose kind does not fit its class or what that inherits. None where the tree has no such place.
+pub(crate) fn misfit_of<'a>(
+    names: &NameTables<'a>,
+    misfit: violations::Misfit,
+) -> Option<Found<'a>> {
+    let tree = names.classes.tree;
+    let violations::Misfit { class, fault } = misfit;
+    let declared = tree.classes.as_slice().get(class)?;
+    match fault {
+        KindFault::InInterface { method } => {
+            let (spot, found) = method_of(
+                tree,
+                SourceMember {
+                    class,
+                    place: method,
+                },
+            )?;
+            let misfit = Misfit::InInterface {
+                interface: &declared.name,
+                method: key_of(found),
+            };
+            Some((misfit, Sites::at(spot.name())))
+        }
+        KindFault::Abstract { method } => {
+            let (spot, found) = method_of(
+                tree,
+                SourceMember {
+                    class,
+                    place: method,
+                },
+            )?;
+            let misfit = Misfit::Abstract {
+                class: &declared.name,
+                method: key_of(found),
+            };
+            Some((misfit, Sites::at(spot.name())))
+        }
+        KindFault::LeftOpen { open } => left_open(names, declared, open),
+        KindFault::OverPlain { method, base } => {
+            over_plain(
+                names,
+                SourceMember {
+                    class,
+                    place: method,
+                },
+                base,
+            )
         }
     }
-    None
 }

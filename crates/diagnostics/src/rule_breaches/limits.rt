@@ -1,6 +1,6 @@
 //! Limits that are passed (number 207), all of which are this profile's.
 
-use crate::name_breaches::{MemberSpot, Sites, TypesNamed, class_name};
+use crate::name_breaches::{MemberSpot, Sites, class_name, method_of, place_of, type_at};
 use crate::source_map::{LinePart, MemberPart, Place};
 use cil_model::instructions::Instruction;
 use cil_model::limits::{
@@ -8,9 +8,10 @@ use cil_model::limits::{
     MOST_LOCALS, MOST_METHODS, MOST_STACK, MOST_STATIC_FIELDS, MOST_TARGETS,
 };
 use cil_model::texts::Text;
-use cil_model::trees::{Class, Code, Member, Method};
-use cil_model::types::DeclaredType;
-use name_tables::bodies::{code_of, lines_of};
+use cil_model::trees::{Class, Member, Method};
+use metadata::violations;
+use metadata::violations::MethodLimit;
+use name_tables::bodies::{code_of, lines_of, locals_of};
 use name_tables::keys::ClassKey;
 use name_tables::kinds::is_static;
 use name_tables::lookups::NameTables;
@@ -92,92 +93,53 @@ impl fmt::Display for Passed<'_> {
 }
 
 /// A passed limit and its place.
-type Found<'a> = (Passed<'a>, Place);
+type Found<'a> = (Passed<'a>, Sites);
+
+fn found(passed: Passed<'_>, place: Place) -> Option<Found<'_>> {
+    Some((passed, Sites::at(place)))
+}
 
 // ---- one method
-
-fn has_many_brackets(declared: &DeclaredType) -> Option<u32> {
-    if declared.brackets > MOST_BRACKETS {
-        return Some(declared.brackets);
-    }
-    None
-}
-
-/// The brackets of the first of these types that has too many.
-fn brackets_among(types: TypesNamed) -> Option<u32> {
-    if let Some(first) = types.first {
-        if let Some(count) = has_many_brackets(first) {
-            return Some(count);
-        }
-    }
-    for declared in types.others {
-        if let Some(count) = has_many_brackets(declared) {
-            return Some(count);
-        }
-    }
-    None
-}
 
 /// The array that `newarr` makes has one more pair of brackets than the type that stands there.
 fn passed_by_instruction(instruction: &Instruction) -> Option<Passed<'_>> {
     match instruction {
-        Instruction::Switch(labels) if labels.as_slice().len() > MOST_TARGETS => {
-            Some(Passed::Targets(labels.as_slice().len()))
-        }
-        Instruction::NewArray(declared) if declared.brackets >= MOST_BRACKETS => {
+        Instruction::Switch(labels) => Some(Passed::Targets(labels.as_slice().len())),
+        Instruction::NewArray(declared) => {
             Some(Passed::Brackets(declared.brackets.saturating_add(1)))
         }
-        _ => {
-            let count = brackets_among(TypesNamed::of_instruction(instruction))?;
-            Some(Passed::Brackets(count))
-        }
+        _ => None,
     }
 }
 
-fn passed_by_code(spot: MemberSpot, code: &Code) -> Option<Found<'_>> {
-    if !(0..=MOST_STACK).contains(&code.max_stack) {
-        let passed = Passed::MaxStack(code.max_stack);
-        return Some((passed, spot.part(MemberPart::MaxStack)));
-    }
-    let locals = code.locals.as_slice().len();
-    if locals > MOST_LOCALS {
-        return Some((Passed::Locals(locals), spot.part(MemberPart::Locals)));
-    }
-    let lines = code.lines.as_slice().len();
-    if lines > MOST_INSTRUCTIONS {
-        let place = spot.line(MOST_INSTRUCTIONS, LinePart::Name);
-        return Some((Passed::Instructions(lines), place));
-    }
-    None
-}
-
-fn passed_by_lines(spot: MemberSpot, method: &Method) -> Option<Found<'_>> {
-    for (number, line) in lines_of(method).iter().enumerate() {
-        if let Some(passed) = passed_by_instruction(&line.instruction) {
-            return Some((passed, spot.line(number, LinePart::Name)));
+fn passed_by_method(spot: MemberSpot, method: &Method, limit: MethodLimit) -> Option<Found<'_>> {
+    match limit {
+        MethodLimit::Arguments => {
+            let this = usize::from(!is_static(&method.kind));
+            let parameters = method.signature.parameters.as_slice().len();
+            found(
+                Passed::Arguments(this.saturating_add(parameters)),
+                spot.name(),
+            )
+        }
+        MethodLimit::Instructions => {
+            let place = spot.line(MOST_INSTRUCTIONS, LinePart::Name);
+            found(Passed::Instructions(lines_of(method).len()), place)
+        }
+        MethodLimit::Locals => {
+            let place = spot.part(MemberPart::Locals);
+            found(Passed::Locals(locals_of(method).len()), place)
+        }
+        MethodLimit::MaxStack => {
+            let place = spot.part(MemberPart::MaxStack);
+            found(Passed::MaxStack(code_of(&method.kind)?.max_stack), place)
+        }
+        MethodLimit::Line(number) => {
+            let line = lines_of(method).get(number)?;
+            let place = spot.line(number, LinePart::Name);
+            found(passed_by_instruction(&line.instruction)?, place)
         }
     }
-    None
-}
-
-fn passed_by_method(spot: MemberSpot, method: &Method) -> Option<Found<'_>> {
-    let this = usize::from(!is_static(&method.kind));
-    let arguments = this.saturating_add(method.signature.parameters.as_slice().len());
-    if arguments > MOST_ARGUMENTS {
-        return Some((Passed::Arguments(arguments), spot.name()));
-    }
-    if let Some(count) = brackets_among(TypesNamed::of_signature(&method.signature)) {
-        return Some((Passed::Brackets(count), spot.name()));
-    }
-    if let Some(code) = code_of(&method.kind) {
-        if let Some(found) = passed_by_code(spot, code) {
-            return Some(found);
-        }
-    }
-    if let Some(count) = brackets_among(TypesNamed::of_locals(method)) {
-        return Some((Passed::Brackets(count), spot.part(MemberPart::Locals)));
-    }
-    passed_by_lines(spot, method)
 }
 
 // ---- the whole tree
@@ -199,26 +161,20 @@ fn method_beyond(classes: &[Class]) -> Option<MemberSpot> {
     None
 }
 
-fn is_static_field(member: &Member) -> bool {
-    match member {
-        Member::Field(field) => field.is_static,
-        Member::Method(_) => false,
-    }
-}
-
-/// The first static field of the source that is too many.
-fn static_field_beyond(classes: &[Class]) -> Option<MemberSpot> {
-    let mut left = MOST_STATIC_FIELDS;
-    for (class, declared) in classes.iter().enumerate() {
-        for (member, item) in declared.members.as_slice().iter().enumerate() {
-            if !is_static_field(item) {
-                continue;
-            }
-            if left == 0 {
-                return Some(MemberSpot { class, member });
-            }
-            left -= 1;
+/// The static field of a class that has this place among them.
+fn static_field_at(class: usize, declared: &Class, place: usize) -> Option<MemberSpot> {
+    let mut left = place;
+    for (member, item) in declared.members.as_slice().iter().enumerate() {
+        let Member::Field(field) = item else {
+            continue;
+        };
+        if !field.is_static {
+            continue;
         }
+        if left == 0 {
+            return Some(MemberSpot { class, member });
+        }
+        left -= 1;
     }
     None
 }
@@ -237,59 +193,35 @@ fn count_fields(names: &NameTables, class: &Class) -> usize {
     count
 }
 
-fn passed_by_member(spot: MemberSpot, member: &Member) -> Option<Found<'_>> {
-    match member {
-        Member::Field(field) => {
-            let count = has_many_brackets(&field.field_type)?;
-            Some((Passed::Brackets(count), spot.name()))
-        }
-        Member::Method(method) => passed_by_method(spot, method),
-    }
-}
-
-fn passed_by_class<'a>(
+/// A limit that is passed. None where the tree has no such place.
+pub(crate) fn passed_limit<'a>(
     names: &NameTables<'a>,
-    number: usize,
-    class: &'a Class,
+    passed: violations::Passed,
 ) -> Option<Found<'a>> {
-    let count = count_fields(names, class);
-    if count > MOST_INSTANCE_FIELDS {
-        let passed = Passed::InstanceFields(&class.name, count);
-        return Some((passed, class_name(number)));
-    }
-    for (member, item) in class.members.as_slice().iter().enumerate() {
-        let spot = MemberSpot {
-            class: number,
-            member,
-        };
-        if let Some(found) = passed_by_member(spot, item) {
-            return Some(found);
+    let tree = names.classes.tree;
+    let classes = tree.classes.as_slice();
+    match passed {
+        violations::Passed::Classes => {
+            found(Passed::Classes(classes.len()), class_name(MOST_CLASSES))
+        }
+        violations::Passed::Methods => found(Passed::Methods, method_beyond(classes)?.name()),
+        violations::Passed::StaticFields { class, place } => {
+            let spot = static_field_at(class, classes.get(class)?, place)?;
+            found(Passed::StaticFields, spot.name())
+        }
+        violations::Passed::Brackets(site) => {
+            let brackets = type_at(tree, site)?.brackets;
+            found(Passed::Brackets(brackets), place_of(tree, site.part)?)
+        }
+        violations::Passed::InstanceFields { class } => {
+            let declared = classes.get(class)?;
+            let count = count_fields(names, declared);
+            let passed = Passed::InstanceFields(&declared.name, count);
+            found(passed, class_name(class))
+        }
+        violations::Passed::Method { method, limit } => {
+            let (spot, declared) = method_of(tree, method)?;
+            passed_by_method(spot, declared, limit)
         }
     }
-    None
-}
-
-fn passed_by_source<'a>(names: &NameTables<'a>) -> Option<Found<'a>> {
-    let classes = names.classes.tree.classes.as_slice();
-    if classes.len() > MOST_CLASSES {
-        return Some((Passed::Classes(classes.len()), class_name(MOST_CLASSES)));
-    }
-    if let Some(spot) = method_beyond(classes) {
-        return Some((Passed::Methods, spot.name()));
-    }
-    if let Some(spot) = static_field_beyond(classes) {
-        return Some((Passed::StaticFields, spot.name()));
-    }
-    for (number, class) in classes.iter().enumerate() {
-        if let Some(found) = passed_by_class(names, number, class) {
-            return Some(found);
-        }
-    }
-    None
-}
-
-/// The first limit that is passed: of the source, and then of a class and its members.
-pub(crate) fn first_passed<'a>(names: &NameTables<'a>) -> Option<(Passed<'a>, Sites)> {
-    let (passed, place) = passed_by_source(names)?;
-    Some((passed, Sites::at(place)))
 }

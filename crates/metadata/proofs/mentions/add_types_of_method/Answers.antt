@@ -9,11 +9,11 @@ use Rattle.metadata.proofs.mentions.add_types_of_method.Goals as goal
 
 pub returns : goal.returns
 returns c =
-    let m = c.args.method.now in
-    let items = c.lines_of-line-items.result.now in
-    let before = map (λ t. t.now) c.add_to-2.new.types.items in
-    let z : c.loop-line.line-index ≡ length items = omega arith in
-    let all : take c.loop-line.line-index items ≡ items = ap (λ n. take n items) z ∙ take-length items in
-    method_types m _ (map (λ t. t.now) c.add_to.new.types.items) before _ (c.in_ok-add_to.ensures ∙ ap (λ (ts : List DeclaredType). map (λ t. t.now) c.args.types.now.items ++ ts) c.of_signature.ensures)
-    (c.in_ok-add_to-2.ensures ∙ ap (λ (ts : List DeclaredType). map (λ t. t.now) c.add_to.new.types.items ++ (ts ++ [])) c.locals_of.ensures)
-    (c.loop-line.invariant ∙ ap (λ (xs : List Line). before ++ flat_map (λ (x : Line). types_of_instruction x.instruction) xs) (all ∙ c.lines_of-line-items.ensures))
+    let m = c.args.declared.now in
+    let items = c.lines_of-code-items.result.now in
+    let before = map (λ t. t.declared.now) c.add_to-2.new.types.items in
+    let z : c.loop-line.line ≡ length items = omega arith in
+    let all : take c.loop-line.line items ≡ items = ap (λ n. take n items) z ∙ take-length items in
+    method_types m _ (map (λ t. t.declared.now) c.add_to.new.types.items) before _ (c.in_ok-add_to.ensures ∙ ap (λ (ts : List DeclaredType). map (λ t. t.declared.now) c.args.types.now.items ++ ts) c.of_signature-signature.ensures)
+    (c.in_ok-add_to-2.ensures ∙ ap (λ (ts : List DeclaredType). map (λ t. t.declared.now) c.add_to.new.types.items ++ (ts ++ [])) c.locals_of.ensures)
+    (c.loop-line.invariant ∙ ap (λ (xs : List Line). before ++ flat_map (λ (x : Line). types_of_instruction x.instruction) xs) (all ∙ c.lines_of-code-items.ensures))

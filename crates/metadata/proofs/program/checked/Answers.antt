@@ -3,7 +3,7 @@ use Rattle.std.specs.Prelude.{IfErr, IsErrAnd}
 use Rattle.cil_model.specs.declared.trees.Tree.{Tree}
 use Rattle.cil_model.specs.Legality.{IsLegal, least_broken}
 use Rattle.metadata.specs.Contents.{IsContents}
-use Rattle.metadata.specs.RuleNumbers.{rule_number, number_of}
+use Rattle.metadata.specs.RuleNumbers.{violation_number, number_of}
 use Rattle.metadata.specs.declared.program.MetaError.{MetaError}
 use Rattle.metadata.specs.declared.program.MetaError.TheVariants.{OutOfMemory}
 use Rattle.metadata.proofs.program.checked.Goals as goal
@@ -14,21 +14,18 @@ of_memory tree (Ok x) h = tt
 of_memory tree (Err e) h = λ other. absurd (other h)
 
 pub of_legal-requires : goal.of_legal-requires
-of_legal-requires c = sym c.in_ok-least_broken.ensures ∙ ap (option_map rule_number) c.in-None.is
+of_legal-requires c = sym c.in_ok-least_broken.ensures ∙ ap (option_map violation_number) c.in-None.is
 
 pub returns-in-None-clause-legal : goal.returns-in-None-clause-legal
 returns-in-None-clause-legal c =
-    let legal : IsLegal c.in_ok-names.names.classes.tree.now = sym c.in_ok-least_broken.ensures ∙ ap (option_map rule_number) c.in-None.is in
+    let legal : IsLegal c.in_ok-names.names.classes.tree.now = sym c.in_ok-least_broken.ensures ∙ ap (option_map violation_number) c.in-None.is in
     subst (λ t. IsLegal t × IsContents t c.in_ok-of_legal-in-None.field-0) c.in_ok-names.ensures (legal, c.in_ok-of_legal-in-None.ensures)
 
 pub returns-clause-broken : goal.returns-clause-broken
-returns-clause-broken c = λ _. sym (ap least_broken c.in_ok-names.ensures) ∙ sym c.in_ok-least_broken.ensures ∙ ap (option_map rule_number) c.in-Some.is
+returns-clause-broken c = λ _. sym (ap least_broken c.in_ok-names.ensures) ∙ sym c.in_ok-least_broken.ensures ∙ ap (option_map violation_number) c.in-Some.is
 
 pub returns-in_err-least_broken-clause-broken : goal.returns-in_err-least_broken-clause-broken
 returns-in_err-least_broken-clause-broken c = of_memory c.args.tree.now c.from_residual-in_err-least_broken.result c.from_residual-in_err-least_broken.ensures.1
 
 pub returns-in_err-of_legal-in-None-clause-broken : goal.returns-in_err-of_legal-in-None-clause-broken
 returns-in_err-of_legal-in-None-clause-broken c = of_memory c.args.tree.now c.from_residual-in_err-of_legal-in-None.result c.from_residual-in_err-of_legal-in-None.ensures.1
-
-pub returns-in_err-culprit-in-Some-clause-broken : goal.returns-in_err-culprit-in-Some-clause-broken
-returns-in_err-culprit-in-Some-clause-broken c = of_memory c.args.tree.now c.from_residual-in_err-culprit-in-Some.result c.from_residual-in_err-culprit-in-Some.ensures.1

@@ -1,7 +1,0 @@
-use Rattle.std.proofs.Common.{◌≡◌, drop}
-use Rattle.std.specs.List.{list_all}
-use Rattle.cil_model.specs.Legality.{implements_all}
-use Rattle.metadata.proofs.implemented.lacks_implementation.Given as goal
-
-abbrev pub invariant-loop-class : goal.invariant-loop-class
-invariant-loop-class l = list_all (implements_all l.names.classes.tree.now) (drop l.class-index l.class-items) ≡ list_all (implements_all l.names.classes.tree.now) l.class-items

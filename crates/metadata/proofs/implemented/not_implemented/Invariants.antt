@@ -1,0 +1,7 @@
+use Rattle.std.proofs.Common.{◌≡◌, drop}
+use Rattle.std.specs.List.{list_all}
+use Rattle.cil_model.specs.Legality.{implements_all}
+use Rattle.metadata.proofs.implemented.not_implemented.Given as goal
+
+abbrev pub invariant-loop-class : goal.invariant-loop-class
+invariant-loop-class l = list_all (implements_all l.names.classes.tree.now) (drop l.class l.declared-items) ≡ list_all (implements_all l.names.classes.tree.now) l.declared-items

@@ -1,7 +1,0 @@
-use Rattle.std.proofs.Common.{◌≡◌, map, drop}
-use Rattle.std.specs.List.{list_any}
-use Rattle.cil_model.specs.Chains.{is_abstract_method}
-use Rattle.metadata.proofs.kinds.has_abstract_method.Given as goal
-
-abbrev pub invariant-loop-method : goal.invariant-loop-method
-invariant-loop-method l = list_any (λ m. is_abstract_method m.kind) (map (λ m. m.now) (drop l.method-index l.methods)) ≡ list_any (λ m. is_abstract_method m.kind) (map (λ m. m.now) l.methods)

@@ -1,8 +1,0 @@
-use Rattle.std.proofs.Common.{◌≡◌, map, drop}
-use Rattle.std.specs.List.{list_any}
-use Rattle.cil_model.specs.Declarations.{source_name}
-use Rattle.cil_model.specs.Legality.{overrides_no_virtual}
-use Rattle.metadata.proofs.kinds.some_overrides_no_virtual.Given as goal
-
-abbrev pub invariant-loop-method : goal.invariant-loop-method
-invariant-loop-method l = list_any (overrides_no_virtual l.names.classes.tree.now (source_name l.class)) (map (λ m. m.now) (drop l.method-index l.methods)) ≡ list_any (overrides_no_virtual l.names.classes.tree.now (source_name l.class)) (map (λ m. m.now) l.methods)

@@ -1,0 +1,248 @@
+// What breaks a rule of legality: which clause, and at which class, member, line or label, all by numbers. Externs and classes are
+// counted from 0 in source order, fields and methods among those of their class, and lines among the instructions of their method.
+
+use crate::rules::Rule;
+use name_tables::lookups::MemberNumber;
+use std::fmt;
+
+/// A field or a method of a class of the source.
+#[derive(Clone, Copy, Debug)]
+pub struct SourceMember {
+    pub class: usize,
+    /// Among the fields, or among the methods, of the class.
+    pub place: usize,
+}
+
+/// Two places of a list at which the same name stands.
+#[derive(Clone, Copy, Debug)]
+pub struct Repeat {
+    pub first: usize,
+    pub again: usize,
+}
+
+/// A name that stands twice where it must stand once (number 201).
+#[derive(Clone, Copy, Debug)]
+pub enum Doubled {
+    Externs(Repeat),
+    Classes(Repeat),
+    InClass {
+        class: usize,
+        doubled: DoubledInClass,
+    },
+}
+
+/// A name that stands twice in a class.
+#[derive(Clone, Copy, Debug)]
+pub enum DoubledInClass {
+    /// Among its fields.
+    Fields(Repeat),
+    /// Among its methods, with the signature.
+    Methods(Repeat),
+    /// Among the interfaces that it lists.
+    Interfaces(Repeat),
+    /// Among all labels of one of its methods.
+    Labels { method: usize, labels: Repeat },
+}
+
+/// Why a class may not be named where it is.
+#[derive(Clone, Copy, Debug)]
+pub enum ClassFault {
+    /// The assembly before it is not declared.
+    NoExtern,
+    /// There is no such class.
+    Absent,
+    /// It is an interface, and a class is wanted.
+    IsInterface,
+    /// It is a class, and an interface is wanted.
+    IsClass,
+    /// It is a built-in class that may not stand there.
+    IsBuiltIn,
+}
+
+/// A class that the first line of a class names.
+#[derive(Clone, Copy, Debug)]
+pub enum HeadingName {
+    /// Behind `extends`.
+    Base,
+    /// Behind `implements`, by its place in the list.
+    Interface(usize),
+}
+
+/// A part of a source that names types.
+#[derive(Clone, Copy, Debug)]
+pub enum TypesPart {
+    Field(SourceMember),
+    Signature(SourceMember),
+    Locals(SourceMember),
+    Line { method: SourceMember, line: usize },
+}
+
+/// Where a type stands.
+#[derive(Clone, Copy, Debug)]
+pub struct TypeSite {
+    pub part: TypesPart,
+    /// Among the types of that part: parameters or locals from 0, and a result or another type behind them.
+    pub place: usize,
+}
+
+/// A name that stands for nothing of the kind needed (number 202).
+#[derive(Clone, Copy, Debug)]
+pub enum Unknown {
+    /// An extern that is no library.
+    Extern(usize),
+    /// A class that the first line of a class names.
+    Heading {
+        class: usize,
+        name: HeadingName,
+        fault: ClassFault,
+    },
+    /// The class in a type.
+    Type {
+        site: TypeSite,
+        fault: ClassFault,
+    },
+    /// A label that no instruction of the method has, by its place among those to which the line's instruction may go.
+    Label {
+        method: SourceMember,
+        line: usize,
+        target: usize,
+    },
+    /// The class before the `::` of an instruction.
+    Owner {
+        method: SourceMember,
+        line: usize,
+        fault: ClassFault,
+    },
+    /// The member that an instruction names, which its class neither has nor inherits.
+    Member {
+        method: SourceMember,
+        line: usize,
+    },
+}
+
+/// A method of an interface that a class lists.
+#[derive(Clone, Copy, Debug)]
+pub struct ListedMethod {
+    /// By its place in the list.
+    pub interface: usize,
+    /// Among the methods of the interface.
+    pub method: usize,
+}
+
+/// A class that neither has nor inherits a virtual method for one of an interface that it lists (number 204).
+#[derive(Clone, Copy, Debug)]
+pub struct NotImplemented {
+    pub class: usize,
+    pub listed: ListedMethod,
+}
+
+/// Which method's kind does not fit, and why.
+#[derive(Clone, Copy, Debug)]
+pub enum KindFault {
+    /// A method of an interface that is not `newslot abstract virtual instance`.
+    InInterface { method: usize },
+    /// An abstract method of a class that is not abstract.
+    Abstract { method: usize },
+    /// A method, by its number among those of all classes, that fills a slot of the class, which is not abstract, with nothing.
+    LeftOpen { open: MemberNumber },
+    /// A virtual method without newslot over one that is not virtual, and the number of that one's class among all classes.
+    OverPlain { method: usize, base: usize },
+}
+
+/// A method whose kind does not fit its class or what that inherits (number 205).
+#[derive(Clone, Copy, Debug)]
+pub struct Misfit {
+    pub class: usize,
+    pub fault: KindFault,
+}
+
+/// Why a source has not one entry point, in a static method without parameters that returns nothing (number 206).
+#[derive(Clone, Copy, Debug)]
+pub enum BadEntry {
+    Absent,
+    /// There are two.
+    Second {
+        first: SourceMember,
+        second: SourceMember,
+    },
+    /// It stands in a method that is not static.
+    NotStatic(SourceMember),
+    /// It stands in a method that returns a value.
+    Returns(SourceMember),
+    /// It stands in a method with parameters.
+    Takes(SourceMember),
+}
+
+/// A limit of a method that is passed.
+#[derive(Clone, Copy, Debug)]
+pub enum MethodLimit {
+    Arguments,
+    Instructions,
+    Locals,
+    MaxStack,
+    /// Of the targets of a `switch`, or of the brackets of what `newarr` makes.
+    Line(usize),
+}
+
+/// A limit that is passed (number 207).
+#[derive(Clone, Copy, Debug)]
+pub enum Passed {
+    Classes,
+    Methods,
+    /// The first static field that is too many, by its place among the static fields of its class.
+    StaticFields {
+        class: usize,
+        place: usize,
+    },
+    /// Of a type.
+    Brackets(TypeSite),
+    /// Of an object of the class.
+    InstanceFields {
+        class: usize,
+    },
+    Method {
+        method: SourceMember,
+        limit: MethodLimit,
+    },
+}
+
+/// What breaks a rule of legality.
+#[derive(Clone, Copy, Debug)]
+pub enum Violation {
+    Doubled(Doubled),
+    Unknown(Unknown),
+    /// The class that stands in the chain of its base (number 203).
+    OwnBase { class: usize },
+    NotImplemented(NotImplemented),
+    Misfit(Misfit),
+    BadEntry(BadEntry),
+    Passed(Passed),
+}
+
+impl Violation {
+    ghost use Rattle.std.specs.Prelude.{◌≡◌};
+    ghost use Rattle.metadata.specs.RuleNumbers.{rule_of};
+
+    /// The rule that is broken.
+    pub fn rule(&self) -> Rule
+        ensures { result ≡ rule_of self.now }
+    {
+        match self {
+            Violation::Doubled(_) => Rule::NamesStandOnce,
+            Violation::Unknown(_) => Rule::NamesAreKnown,
+            Violation::OwnBase { .. } => Rule::BasesEnd,
+            Violation::NotImplemented(_) => Rule::InterfacesAreImplemented,
+            Violation::Misfit(_) => Rule::KindsFit,
+            Violation::BadEntry(_) => Rule::OneEntryPoint,
+            Violation::Passed(_) => Rule::LimitsAreKept,
+        }
+    }
+}
+
+/// The rule that is broken.
+impl fmt::Display for Violation {
+    fn fmt<W: fmt::Write>(&self, f: &mut fmt::Formatter<W>) -> fmt::Result {
+        let rule = self.rule();
+        write!(f, "{rule}")
+    }
+}
