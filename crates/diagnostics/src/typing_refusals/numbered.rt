@@ -1,9 +1,9 @@
 //! Types by numbers, as text.
 
+use crate::name_breaches::ClassText;
 use cil_model::memory::NoMemory;
 use cil_model::trees::Tree;
 use flow_rules::entries::StackEntry;
-use crate::name_breaches::ClassText;
 use name_tables::built_in::BuiltInClass;
 use name_tables::keys::ClassKey;
 use resolved_code::types::{NumberedElement, NumberedType};
