@@ -1,11 +1,9 @@
 //! The program `cilvm`.
 #![tactic(auto)]
 
-mod files;
-
 use command_line::LineFault;
 use driver::Failure;
-use orders::Order;
+use orders::{Order, read_source, read_text};
 use std::fs::File;
 use std::process::ExitCode;
 use std::sync::Wait;
@@ -54,11 +52,11 @@ fn carry_out(
 ) -> Result<u8, Failure> {
     let alloc = rt.alloc();
     let source = match order.file() {
-        Some(file) => files::source(alloc, File::open(rt, file)?)?,
+        Some(file) => read_source(alloc, File::open(rt, file)?)?,
         None => Vec::new(alloc),
     };
     let schedule = match order.schedule_file() {
-        Some(file) => files::text(alloc, File::open(rt, file)?)?,
+        Some(file) => read_text(alloc, File::open(rt, file)?)?,
         None => Vec::new(alloc),
     };
     let errors = rt.stderr();
@@ -77,10 +75,3 @@ fn carry_out(
     );
     Ok(status)
 }
-
-#[cfg(test)]
-mod drive_tests;
-#[cfg(test)]
-mod line_tests;
-#[cfg(test)]
-mod tests;

@@ -4,8 +4,6 @@
 #![tactic(auto)]
 
 mod epochs;
-#[cfg(test)]
-mod tests;
 mod word_table;
 
 pub use epochs::{Epochs, Herald, Post, Seat};

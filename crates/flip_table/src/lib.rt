@@ -3,8 +3,6 @@
 
 mod flip_table;
 mod slot_table;
-#[cfg(test)]
-mod tests;
 
-pub use crate::{Copier, FlipTable, Writer};
+pub use flip_table::{Copier, FlipTable, Writer};
 pub use slot_table::{CopierView, Plan, PlanView, WriterView};

@@ -5,8 +5,6 @@
 mod collector;
 mod seat;
 mod sizes;
-#[cfg(test)]
-mod tests;
 mod trial;
 
 pub use sizes::Sizes;

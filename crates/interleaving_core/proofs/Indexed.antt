@@ -20,8 +20,8 @@ use Rattle.threads_monitors.specs.declared.threads.Thread.{Thread}
 use Rattle.interpreter.specs.Instructions.{IsDone}
 use Rattle.interpreter.specs.declared.outcomes.Outcome.{Outcome}
 use Rattle.step_simulation.specs.simulation.MachineContents.{Content}
-use Rattle.step_simulation.specs.simulation.Turns.{after_request, counted, started, thread_for}
-use Rattle.interleaving_core.specs.Finishing.{IsInstructed, answered, live_thread}
+use Rattle.step_simulation.specs.simulation.Turns.{after_request, answered, counted, live_thread, started, thread_for}
+use Rattle.interleaving_core.specs.Finishing.{IsInstructed}
 use Rattle.interleaving_core.proofs.Stepping.{live_there, thread_is}
 
 -- the elements of a vector that was changed as a slice

@@ -17,9 +17,9 @@ use Rattle.interpreter.specs.Instructions.{IsDone, Prints}
 use Rattle.interpreter.specs.declared.outcomes.Outcome.{Outcome}
 use Rattle.interpreter.specs.declared.outcomes.Outcome.TheVariants.{Comes, Starts, Joins}
 use Rattle.step_simulation.specs.simulation.MachineContents.{Content}
-use Rattle.step_simulation.specs.simulation.Turns.{Answer, IsThreadTurn, IsTurn, PrintsOrStarts, after_request, counted, finished, left_by, started, thread_for}
+use Rattle.step_simulation.specs.simulation.Turns.{Answer, IsThreadTurn, IsTurn, PrintsOrStarts, after_request, counted, finished, left_by, live_thread, started, thread_for}
 use Rattle.step_simulation.specs.simulation.Ready.{IsAnswerable}
-use Rattle.interleaving_core.specs.Finishing.{IsInstructed, live_thread}
+use Rattle.interleaving_core.specs.Finishing.{IsInstructed}
 use Rattle.interleaving_core.proofs.Finished.{finished_printed, set_length}
 
 -- what holds anyway holds of an error

@@ -11,9 +11,9 @@ use Rattle.threads_monitors.specs.declared.effects.Effect.{Effect}
 use Rattle.threads_monitors.specs.declared.threads.Thread.{Thread}
 use Rattle.interpreter.specs.declared.outcomes.Outcome.{Outcome}
 use Rattle.interpreter.specs.declared.outcomes.Outcome.TheVariants.{Starts, Joins}
+use Rattle.step_simulation.specs.simulation.Ready.{CanFinish}
 use Rattle.step_simulation.specs.simulation.MachineContents.{Content}
-use Rattle.step_simulation.specs.simulation.Turns.{started}
-use Rattle.interleaving_core.specs.Finishing.{CanFinish, answered, finish, live_thread}
+use Rattle.step_simulation.specs.simulation.Turns.{answered, finish, live_thread, started}
 use Rattle.interleaving_core.proofs.Stepping.{live_by, live_there, started_keeps}
 
 -- what is known of a live thread's frames

@@ -21,9 +21,9 @@ use Rattle.threads_monitors.specs.declared.threads.Thread.{Thread}
 use Rattle.interpreter.specs.declared.outcomes.Outcome.{Outcome}
 use Rattle.interpreter.specs.declared.outcomes.Outcome.TheVariants.{Comes, Starts, Joins}
 use Rattle.step_simulation.specs.simulation.MachineContents.{Content}
-use Rattle.step_simulation.specs.simulation.Turns.{Answer, IsStandingTurn, IsThreadTurn, IsTurn, finished, left_by, started, thread_for}
-use Rattle.step_simulation.specs.simulation.Ready.{IsAnswerable}
-use Rattle.interleaving_core.specs.Finishing.{CanFinish, IsInstructed, finish, live_thread}
+use Rattle.step_simulation.specs.simulation.Turns.{Answer, IsStandingTurn, IsThreadTurn, IsTurn, finish, finished, left_by, live_thread, started, thread_for}
+use Rattle.step_simulation.specs.simulation.Ready.{CanFinish, IsAnswerable}
+use Rattle.interleaving_core.specs.Finishing.{IsInstructed}
 use Rattle.interleaving_core.proofs.Asking.{start_changes_nothing}
 
 -- ---- lists of threads
@@ -74,11 +74,6 @@ started_keeps tree limits threads o a n t after is done = by_fault (start_fault 
 
 -- ---- both halves
 
-finish_finishes : (c : Content) (t left : ℕ) (a : Answer) (outcome : Outcome) → finished c t left a outcome ≡ finish (left_by c t left a) t left a.0 outcome
-finish_finishes c t left a (Comes e) = refl
-finish_finishes c t left a (Starts object) = refl
-finish_finishes c t left a (Joins object) = refl
-
 module _ (c : Content) (t : ℕ) (outcome : Outcome) (after : Content) (half : IsInstructed c t outcome after) where
   pub thread_left : slice_get after.threads t ≡ Some (live_thread half.left half.answer.0)
   thread_left = ap (λ (x : Content). slice_get x.threads t) half.is ∙ set_is_there c.threads t (live_thread half.left half.answer.0) (live_thread half.left half.frames) half.there
@@ -92,7 +87,7 @@ module _ (c : Content) (t : ℕ) (outcome : Outcome) (after : Content) (half : I
       let second : finish (left_by c t half.left half.answer) t half.left half.answer.0 outcome ≡ Some (final, report) =
       subst (λ (x : Content). finish x t half.left half.answer.0 outcome ≡ Some (final, report)) half.is (counts half.left half.answer.0 thread_left) in
       let whole : finished c t half.left half.answer half.answer.4 ≡ Some (final, report) =
-      subst (λ (x : Outcome). finished c t half.left half.answer x ≡ Some (final, report)) (sym half.comes) (finish_finishes c t half.left half.answer outcome ∙ second) in
+      subst (λ (x : Outcome). finished c t half.left half.answer x ≡ Some (final, report)) (sym half.comes) second in
       let turn : IsStandingTurn c t half.left (Live half.frames) (final, report) = (half.answer, half.done, whole) in
       subst (λ (x : Option Thread). IsThreadTurn c t x (final, report)) (sym half.there) turn
 
@@ -104,11 +99,6 @@ module _ (c : Content) (t : ℕ) (outcome : Outcome) (after : Content) (half : I
 
 -- ---- what was asked for can be answered
 
-answerable_left : (c : Content) (t left : ℕ) (a : Answer) (outcome : Outcome) → IsAnswerable c t left a outcome → CanFinish (left_by c t left a) a.0 outcome
-answerable_left c t left a (Comes e) h = tt
-answerable_left c t left a (Starts object) h = (record { slot = h.0.slot; operand = h.0.operand; behind = h.0.behind }, h.1)
-answerable_left c t left a (Joins object) h = record { slot = h.slot; operand = h.operand; behind = h.behind }
-
 same_frames : (left l : ℕ) (m n : Frames) → live_thread left m ≡ live_thread l n → m ≡ n
 same_frames left l m n e = same_live m n (ap (λ (x : Thread). x.standing) e)
   where
@@ -118,7 +108,7 @@ same_frames left l m n e = same_live m n (ap (λ (x : Thread). x.standing) e)
 module _ (c : Content) (t : ℕ) (outcome : Outcome) (after : Content) (half : IsInstructed c t outcome after) (answerable : IsAnswerable c t half.left half.answer half.answer.4) where
   pub can_finish : (left : ℕ) (m : Frames) → slice_get after.threads t ≡ Some (live_thread left m) → CanFinish after m outcome
   can_finish left m is =
-      let asked : CanFinish (left_by c t half.left half.answer) half.answer.0 outcome = answerable_left c t half.left half.answer outcome (subst (IsAnswerable c t half.left half.answer) half.comes answerable) in
+      let asked : CanFinish (left_by c t half.left half.answer) half.answer.0 outcome = subst (IsAnswerable c t half.left half.answer) half.comes answerable in
       let there : CanFinish after half.answer.0 outcome = subst (λ (x : Content). CanFinish x half.answer.0 outcome) (sym half.is) asked in
       let same : half.answer.0 ≡ m =
       same_frames half.left left half.answer.0 m (same_some (live_thread half.left half.answer.0) (live_thread left m) (sym (thread_left c t outcome after half) ∙ is)) in

@@ -12,10 +12,11 @@ ghost use Rattle.threads_monitors.specs.Threads.{is_live, is_live_at, start_faul
 ghost use Rattle.interpreter.specs.declared.outcomes.Outcome.TheVariants.{Starts as StartsOn, Joins as JoinsOn};
 ghost use Rattle.method_table.specs.Prepared.{IsMethodTable};
 ghost use Rattle.interpreter.specs.Instructions.{Prints};
-ghost use Rattle.step_simulation.specs.simulation.Turns.{IsTurn, PrintsOrStarts, counted, started, thread_for};
+ghost use Rattle.step_simulation.specs.simulation.Ready.{CanFinish};
+ghost use Rattle.step_simulation.specs.simulation.Turns.{IsTurn, PrintsOrStarts, answered, counted, finish, live_thread, started, thread_for};
 ghost use Rattle.interleaving_core.specs.Views.{CanGoOn, content_of, end_at};
 ghost use Rattle.interleaving_core.specs.Positions.{position_at};
-ghost use Rattle.interleaving_core.specs.Finishing.{CanFinish, IsInstructed, answered, finish, live_thread};
+ghost use Rattle.interleaving_core.specs.Finishing.{IsInstructed};
 
 use crate::beginnings::beginning_on;
 use crate::positions::{Position, position_in};

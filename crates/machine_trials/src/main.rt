@@ -6,11 +6,8 @@ mod failure;
 mod generated;
 mod grammar;
 mod random;
-mod rows;
 mod schedules;
 mod sources;
-mod table;
-mod telling;
 
 use failure::Failure;
 use std::process::ExitCode;
@@ -26,10 +23,9 @@ fn main(rt: HostRuntime) -> ExitCode {
 
 /// Does all trials, and answers how many of them differ.
 fn trials(rt: &HostRuntime) -> Result<usize, Failure> {
-    let rows = rows::try_rows(rt)?;
     let schedules = schedules::try_schedules(rt)?;
     let programs = generated::try_programs(rt)?;
-    Ok(rows.saturating_add(schedules).saturating_add(programs))
+    Ok(schedules.saturating_add(programs))
 }
 
 /// Says why the trials were not done, and answers the status.

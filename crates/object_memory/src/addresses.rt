@@ -59,17 +59,3 @@ impl Addr {
         self.number as usize - 1
     }
 }
-
-#[cfg(test)]
-mod tests {
-    use super::Addr;
-
-    #[test]
-    fn literals_are_told_from_null(rt: HostRuntime) {
-        assert!(rt; Addr::null().is_null());
-        assert_eq!(rt; Addr::null().literal_number(), None);
-        assert!(rt; !Addr::literal(0).is_null());
-        assert_eq!(rt; Addr::literal(5).literal_number(), Some(5));
-        assert!(rt; Addr::literal(5) != Addr::literal(6));
-    }
-}

@@ -232,6 +232,3 @@ impl Heap {
             .write(address.place() + MONITOR_WORD, monitor.word());
     }
 }
-
-#[cfg(test)]
-mod tests;

@@ -1,6 +1,8 @@
-//! The orders that `cilvm` carries out: what the words of a command line come to.
+//! The orders that `cilvm` carries out: what the words of a command line come to, and the files that they name.
 #![tactic(auto)]
 
+mod files;
 mod order;
 
+pub use files::{read_source, read_text};
 pub use order::Order;

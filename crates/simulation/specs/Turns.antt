@@ -79,10 +79,18 @@ started tree limits threads o a =
 
 -- ---- a step
 
+-- a live thread of so many steps
+abbrev pub live_thread : ℕ → Frames → Thread
+live_thread left m = record { standing = Live m; steps_left = left }
+
 -- the thread's frames and the content beside them, once the step is counted
 abbrev pub counted : Content → ℕ → ℕ → Effect → Frames → Content × Report
 counted c t left effect m =
-    (record c { threads = slice_set c.threads t (settled effect (record { standing = Live m; steps_left = left })).0 }, (settled effect (record { standing = Live m; steps_left = left })).1)
+    (record c { threads = slice_set c.threads t (settled effect (live_thread left m)).0 }, (settled effect (live_thread left m)).1)
+
+-- and once what the thread asked of another one was answered by this effect
+abbrev pub answered : Content → ℕ → ℕ → Frames → Effect → Content × Report
+answered c t left m effect = counted c t left effect (after_request effect m)
 
 -- all that an instruction leaves
 abbrev pub Answer : Type 0
@@ -90,16 +98,18 @@ Answer = Frames × Objects × List Value × List ℕ × Outcome
 
 -- the content with all that an instruction of a thread left, before the step is counted
 abbrev pub left_by : Content → ℕ → ℕ → Answer → Content
-left_by c t left a = record c { threads = slice_set c.threads t (record { standing = Live a.0; steps_left = left }); objects = a.1; statics = a.2; printed = a.3 }
+left_by c t left a = record c { threads = slice_set c.threads t (live_thread left a.0); objects = a.1; statics = a.2; printed = a.3 }
 
--- the step of a thread that had so many steps left, by what its instruction comes to
+-- the content once the step of a thread with these frames is counted, by what its instruction comes to
+abbrev pub finish : Content → ℕ → ℕ → Frames → Outcome → Option (Content × Report)
+finish c t left m (Comes e) = Some (counted c t left e m)
+finish c t left m (Starts object) =
+    option_map (λ (x : List Thread × Objects × Effect). answered (record c { threads = x.0; objects = x.1 }) t left m x.2) (started c.tree c.limits c.threads c.objects object)
+finish c t left m (Joins object) = Some (answered c t left m (join_effect c.threads c.objects object))
+
+-- the step of a thread that had so many steps left: its instruction, and then what that comes to
 abbrev pub finished : Content → ℕ → ℕ → Answer → Outcome → Option (Content × Report)
-finished c t left a (Comes e) = Some (counted (left_by c t left a) t left e a.0)
-finished c t left a (Starts object) =
-    option_map (λ (x : List Thread × Objects × Effect). counted (record (left_by c t left a) { threads = x.0; objects = x.1 }) t left x.2 (after_request x.2 a.0))
-    (started c.tree c.limits (left_by c t left a).threads a.1 object)
-finished c t left a (Joins object) =
-    Some (counted (left_by c t left a) t left (join_effect (left_by c t left a).threads a.1 object) (after_request (join_effect (left_by c t left a).threads a.1 object) a.0))
+finished c t left a outcome = finish (left_by c t left a) t left a.0 outcome
 
 -- a live thread does its next instruction; one that has ended is absent
 abbrev pub IsStandingTurn : Content → ℕ → ℕ → Standing → Content × Report → Type 0

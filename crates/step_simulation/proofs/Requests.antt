@@ -26,7 +26,7 @@ use Rattle.simulation.specs.Turns.{Answer, after_request}
 use Rattle.simulation.proofs.AgreeLaws.{agree_length, agree_drop}
 use Rattle.simulation.proofs.Going.{moved_frames, place_is_small}
 use Rattle.simulation.proofs.Instructions.{IsSetting, AsksFor}
-use Rattle.simulation.specs.Ready.{HasThreadOperand}
+use Rattle.simulation.specs.Ready.{HasRequest}
 use Rattle.step_simulation.proofs.Settings.{setting_of, is_alive, is_running, in_setting}
 use Rattle.step_simulation.proofs.Settling.{done}
 use Rattle.step_simulation.proofs.ThreadObjects.{reference_is, IsThreadObject, thread_object_is}
@@ -88,7 +88,7 @@ module _ (c : Content) (s : State) (r : Represents c s) (t left : ℕ) (m : Fram
 
   -- the operand is there, and its slot
   pub has_operand : (action : Action) (go : ObjectName → HeapObject → StateEffect) (object : Addr) (a : Answer) → (asks : Asks action object a) → IsAskedOf (done c s r t left m there false) go object →
-      nat_lt m.running.place MOST_INSTRUCTIONS ≡ true → HasThreadOperand a object
+      nat_lt m.running.place MOST_INSTRUCTIONS ≡ true → HasRequest a.1 a.0 object
   has_operand action go object a asks asked small = record {
     slot = λ apart. subst (λ o. 0 < length (slots_at o.block object)) (sym asks.memory.0) (by_object asked apart);
     operand = subst (λ (x : Frames). 0 < length x.running.stack) (sym asks.frames) stack_is_there;

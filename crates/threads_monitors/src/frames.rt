@@ -279,6 +279,3 @@ fn push_values(values: &mut Vec<Value>, more: &[Value])
         values.push_reserved(*value);
     }
 }
-
-#[cfg(test)]
-mod tests;

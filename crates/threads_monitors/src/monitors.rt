@@ -82,6 +82,3 @@ fn once_less(monitor: Monitor, thread: u8) -> Option<Monitor>
         _ => None,
     }
 }
-
-#[cfg(test)]
-mod tests;

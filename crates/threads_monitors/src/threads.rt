@@ -201,6 +201,3 @@ fn is_live(threads: &[Thread], number: u64) -> bool
 {
     threads.get(number as usize).is_some_and(Thread::is_live)
 }
-
-#[cfg(test)]
-mod tests;

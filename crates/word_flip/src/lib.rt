@@ -7,7 +7,5 @@
 
 mod flip;
 mod objects;
-#[cfg(test)]
-mod tests;
 
 pub use flip::{Advance, Copier, Copy, Flip, Retire, Writer};

@@ -1,7 +1,0 @@
-use Rattle.shared_trials.proofs.tests.one_worker_prints_the_sum.Given as goal
-
-abbrev pub ghosts-act_alone-M-Opening : goal.ghosts-act_alone-M-Opening
-ghosts-act_alone-M-Opening g a = record { opening = a.core; workers = 1 }
-
-abbrev pub ghosts-act_alone-M-Naming : goal.ghosts-act_alone-M-Naming
-ghosts-act_alone-M-Naming g a = record { table = a.blank.table.shared.table_id }

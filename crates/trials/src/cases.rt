@@ -1,0 +1,42 @@
+//! The parts of a case.
+
+/// A command, the texts that stand for its files, and what has to come of it.
+#[derive(Clone, Copy)]
+pub struct Case<'a> {
+    pub name: &'a str,
+    /// The words of the command line, as a shell takes them.
+    pub command: &'a str,
+    /// Limits in the place of those that the command gives, which no command can have.
+    pub limits: Option<&'a str>,
+    /// The source in the place of the file that the command names.
+    pub source: Option<&'a str>,
+    /// The schedule in the place of the file that the command names.
+    pub schedule: Option<&'a str>,
+    /// The standard output, and then in marked parts the standard error, the status, and perhaps more of the run.
+    pub wanted: &'a str,
+}
+
+/// The case of a block; none where it has no name, no command or nothing that is wanted.
+pub fn case_of(block: &str) -> Option<Case<'_>> {
+    let (given, wanted) = block.split_once("\n--- out\n")?;
+    let (given, schedule) = part_of(given, "\n--- schedule\n");
+    let (given, source) = part_of(given, "\n--- source\n");
+    let (given, limits) = part_of(given, "\n--- limits ");
+    let (name, command) = given.split_once("\n$ ")?;
+    Some(Case {
+        name,
+        command,
+        limits,
+        source,
+        schedule,
+        wanted,
+    })
+}
+
+/// What stands before a mark, and what stands behind it where there is one.
+fn part_of<'a>(text: &'a str, mark: &str) -> (&'a str, Option<&'a str>) {
+    match text.split_once(mark) {
+        Some((before, behind)) => (before, Some(behind)),
+        None => (text, None),
+    }
+}

@@ -1,0 +1,79 @@
+//! Epochs that one thread posts and two others acknowledge.
+
+ghost use Rattle.std.specs.Prelude.{◌≡◌};
+
+use epoch_words::{Epochs, Herald, Post, Seat};
+use std::alloc::{AllocError, Global};
+use std::thread::{Threads, join, yield_now};
+
+/// No waiting loop takes more turns than this.
+const MOST_TURNS: u32 = 1_000_000;
+
+/// Polls and acknowledges until it has seen `last`, and gives back what it saw then, or 0.
+fn follow(epochs: &Epochs, mut seat: Seat, last: u64) -> u64
+    requires { seat.table ≡ epochs.now.table }
+{
+    for _ in 0..MOST_TURNS {
+        let (polled, after) = epochs.poll(seat);
+        seat = epochs.ack(after);
+        if polled == last {
+            return polled;
+        }
+        yield_now();
+    }
+    0
+}
+
+/// Posts until `last` is posted, and gives back how many were.
+fn lead(epochs: &Epochs, mut herald: Herald, last: u64) -> u64
+    requires { herald.table ≡ epochs.now.table }
+{
+    let mut posted = 0;
+    for _ in 0..MOST_TURNS {
+        if posted == last {
+            break;
+        }
+        let (answer, after) = epochs.post(herald);
+        herald = after;
+        if answer == Post::Posted {
+            posted += 1;
+        } else {
+            yield_now();
+        }
+    }
+    posted
+}
+
+/// Both seats follow, each in a thread of its own.
+fn follow_both<R: Threads + Sync>(
+    rt: &R,
+    epochs: &Epochs,
+    first: Seat,
+    second: Seat,
+    last: u64,
+) -> (u64, u64)
+    requires { (first.table ≡ epochs.now.table) × (second.table ≡ epochs.now.table) }
+{
+    join(
+        rt,
+        || follow(epochs, first, last),
+        || follow(epochs, second, last),
+    )
+}
+
+/// Whether two threads see each epoch that a third one posts, under any schedule of them.
+pub fn threads_see_every_epoch<R: Threads + Sync>(
+    rt: &R,
+    alloc: Global,
+) -> Result<bool, AllocError> {
+    let (epochs, herald, mut seats) = Epochs::new(alloc, 2)?;
+    let (Some(second), Some(first)) = (seats.pop(), seats.pop()) else {
+        return Ok(false);
+    };
+    let (posted, (first_saw, second_saw)) = join(
+        rt,
+        || lead(&epochs, herald, 200),
+        || follow_both(rt, &epochs, first, second, 200),
+    );
+    Ok((posted, first_saw, second_saw) == (200, 200, 200))
+}

@@ -1,0 +1,74 @@
+//! The groups of cases.
+
+use crate::cases::{Case, case_of};
+use crate::outcomes::outcome;
+use std::io::ErrorKind;
+use std::sync::Wait;
+use std::thread::Threads;
+use std::{fs, io, str};
+
+/// What begins a case, with its name behind it. What stands before the first is passed over.
+const HEAD: &str = "\n=== ";
+
+/// What comes of a case for which memory is wanting.
+const MEMORY: &[u8] = b"--- err\nmemory\n--- status 5\n";
+
+/// Does all cases of a group, says how many are as expected, and answers how many are not.
+pub fn try_group(
+    rt: &HostRuntime,
+    threads: &(impl Threads + Wait),
+    group: &str,
+) -> io::Result<usize> {
+    let table = fs::read_to_string(rt, format!(in rt.alloc(); "{group}.txt")?.as_str())?;
+    let mut cases = 0usize;
+    let mut differing = 0usize;
+    for block in table.split(HEAD).skip(1) {
+        cases = cases.saturating_add(1);
+        if !try_block(rt, threads, block)? {
+            differing = differing.saturating_add(1);
+        }
+    }
+    println!(rt; "{group}: {cases} cases, {differing} differ")?;
+    Ok(differing)
+}
+
+/// Does the case of a block of text, and answers whether it is as expected. A block that is no case is not.
+fn try_block(rt: &HostRuntime, threads: &(impl Threads + Wait), block: &str) -> io::Result<bool> {
+    match case_of(block) {
+        Some(case) => try_case(rt, threads, &case),
+        None => {
+            println!(rt; "no case: {block}")?;
+            Ok(false)
+        }
+    }
+}
+
+/// Does a case, and answers whether it is as expected: as the text of the case, or as that of the file that it names by `= FILE`.
+fn try_case(
+    rt: &HostRuntime,
+    threads: &(impl Threads + Wait),
+    case: &Case<'_>,
+) -> io::Result<bool> {
+    let came = outcome(rt, threads, case)?;
+    match case.wanted.strip_prefix("= ") {
+        Some(file) => {
+            let wanted = fs::read_to_string(rt, file.trim())?;
+            compare(rt, case.name, came.as_slice(), wanted.as_str())
+        }
+        None => compare(rt, case.name, came.as_slice(), case.wanted),
+    }
+}
+
+/// Whether what came is what is wanted. Where it is not, both are printed; want of memory, told alone, is an error instead.
+fn compare(rt: &HostRuntime, name: &str, came: &[u8], wanted: &str) -> io::Result<bool> {
+    if came == wanted.as_bytes() {
+        return Ok(true);
+    }
+    if came == MEMORY {
+        return Err(io::Error::from(ErrorKind::OutOfMemory));
+    }
+    println!(rt; "{name}: differs. It came to")?;
+    println!(rt; "{}", str::from_utf8(came).unwrap_or("no text"))?;
+    println!(rt; "and what is wanted is\n{wanted}")?;
+    Ok(false)
+}

@@ -1,0 +1,152 @@
+//! What comes of a case.
+
+use crate::answers::answer;
+use crate::cases::Case;
+use crate::reports::add_run;
+use crate::texts::{expanded, limits_of, words_of};
+use command_line::{LineFault, order};
+use driver::{Failure, drive, report};
+use orders::{Order, read_source, read_text};
+use std::fs::File;
+use std::io;
+use std::io::Write;
+use std::sync::Wait;
+use std::thread::Threads;
+
+/// The bytes of the files of an order.
+#[derive(Drop)]
+pub struct Files {
+    pub source: Vec<u8>,
+    pub schedule: Vec<u8>,
+}
+
+/// What comes of a case: the standard output, the standard error and the status, as `main` of `cilvm` has them, and the parts
+/// behind them that the case wants.
+pub fn outcome(
+    rt: &HostRuntime,
+    threads: &(impl Threads + Wait),
+    case: &Case<'_>,
+) -> io::Result<Vec<u8>> {
+    let alloc = rt.alloc();
+    let words = words_of(alloc, case.command)?;
+    let mut out = Vec::new(alloc);
+    match order(alloc, words.as_slice()) {
+        Ok(order) => carry_out(rt, threads, case, &limited(order, case.limits), &mut out)?,
+        Err(LineFault::Help(text)) => {
+            out.extend_from_slice(text.as_bytes())?;
+            add_end(&mut out, &[], 0)?;
+        }
+        Err(LineFault::Bad(text)) => add_end(&mut out, text.as_bytes(), 2)?,
+        Err(LineFault::Memory) => add_failure(rt, Failure::Memory, &mut out)?,
+    }
+    Ok(out)
+}
+
+/// The order with other limits, where some are given.
+fn limited<'a>(order: Order<'a>, limits: Option<&str>) -> Order<'a> {
+    let Some(limits) = limits else {
+        return order;
+    };
+    let limits = limits_of(limits);
+    match order {
+        Order::Run {
+            file,
+            schedule,
+            explain,
+            ..
+        } => Order::Run {
+            file,
+            schedule,
+            limits,
+            explain,
+        },
+        Order::Replay {
+            file,
+            schedule,
+            explain,
+            ..
+        } => Order::Replay {
+            file,
+            schedule,
+            limits,
+            explain,
+        },
+        other => other,
+    }
+}
+
+/// Adds the standard error and the status.
+fn add_end(out: &mut Vec<u8>, err: &[u8], status: u8) -> io::Result<()> {
+    out.extend_from_slice(b"--- err\n")?;
+    out.extend_from_slice(err)?;
+    writeln!(out, "--- status {status}")
+}
+
+/// Adds what a failure is told as.
+fn add_failure(rt: &HostRuntime, failure: Failure, out: &mut Vec<u8>) -> io::Result<()> {
+    let mut err = Vec::new(rt.alloc());
+    let status = report(failure, &mut err);
+    add_end(out, err.as_slice(), status)
+}
+
+/// Carries out an order on its files, and adds what comes of it.
+fn carry_out(
+    rt: &HostRuntime,
+    threads: &(impl Threads + Wait),
+    case: &Case<'_>,
+    order: &Order<'_>,
+    out: &mut Vec<u8>,
+) -> io::Result<()> {
+    let files = match files_of(rt, case, order) {
+        Ok(files) => files,
+        Err(error) => return add_failure(rt, Failure::from(error), out),
+    };
+    add_driven(rt, threads, order, &files, out)?;
+    if case.wanted.contains("\n--- answer ") {
+        let answer = answer(rt.alloc(), order, &files)?;
+        writeln!(out, "--- answer {answer}")?;
+    }
+    if case.wanted.contains("\n--- reports") {
+        add_run(threads, rt.alloc(), order, &files, out)?;
+    }
+    Ok(())
+}
+
+/// The files of an order: the texts of the case, and else the files that the order names.
+fn files_of(rt: &HostRuntime, case: &Case<'_>, order: &Order<'_>) -> io::Result<Files> {
+    let alloc = rt.alloc();
+    let source = match (case.source, order.file()) {
+        (Some(text), _) => expanded(alloc, text)?,
+        (None, Some(file)) => read_source(alloc, File::open(rt, file)?)?,
+        (None, None) => Vec::new(alloc),
+    };
+    let schedule = match (case.schedule, order.schedule_file()) {
+        (Some(text), _) => expanded(alloc, text)?,
+        (None, Some(file)) => read_text(alloc, File::open(rt, file)?)?,
+        (None, None) => Vec::new(alloc),
+    };
+    Ok(Files { source, schedule })
+}
+
+/// Adds what the order prints on both outputs, and its status.
+fn add_driven(
+    rt: &HostRuntime,
+    threads: &(impl Threads + Wait),
+    order: &Order<'_>,
+    files: &Files,
+    out: &mut Vec<u8>,
+) -> io::Result<()> {
+    let mut err = Vec::new(rt.alloc());
+    let mut record = Vec::new(rt.alloc());
+    let status = drive(
+        threads,
+        rt.alloc(),
+        order,
+        files.source.as_slice(),
+        files.schedule.as_slice(),
+        out,
+        &mut err,
+        &mut record,
+    );
+    add_end(out, err.as_slice(), status)
+}

@@ -1,0 +1,94 @@
+//! The reports of a run, and the words that objects take after it.
+
+use crate::outcomes::Files;
+use cil_model::reports::{End, Report};
+use driver::{Failure, report, run_events};
+use orders::Order;
+use schedule_text::read_schedule;
+use shared_machine::Run;
+use std::alloc::Global;
+use std::io;
+use std::io::Write;
+use std::sync::Wait;
+
+/// Adds the reports of an order's events and the words in use after them; where they are not to be had, why.
+pub fn add_run(
+    waits: &impl Wait,
+    alloc: Global,
+    order: &Order<'_>,
+    files: &Files,
+    out: &mut Vec<u8>,
+) -> io::Result<()> {
+    if let Err(failure) = add_events(waits, alloc, order, files, out) {
+        report(failure, out);
+    }
+    Ok(())
+}
+
+fn add_events(
+    waits: &impl Wait,
+    alloc: Global,
+    order: &Order<'_>,
+    files: &Files,
+    out: &mut Vec<u8>,
+) -> Result<(), Failure> {
+    let (limits, text) = match *order {
+        Order::Run {
+            limits,
+            schedule,
+            ..
+        } => (limits, schedule.as_bytes()),
+        Order::Replay { limits, .. } => (limits, files.schedule.as_slice()),
+        _ => return Ok(()),
+    };
+    let events = read_schedule(alloc, text)?;
+    let outcome = run_events(
+        waits,
+        alloc,
+        files.source.as_slice(),
+        limits,
+        events.as_slice(),
+    )?;
+    add_reports(outcome.history.runs(), out)?;
+    writeln!(out, "--- used {}", outcome.machine.used().0)?;
+    Ok(())
+}
+
+/// Adds the reports with a blank before each: equal ones that follow one another are told once, with `*` and their number behind.
+fn add_reports(runs: &[Run], out: &mut Vec<u8>) -> io::Result<()> {
+    write!(out, "--- reports")?;
+    for equal in runs.chunk_by(|one, next| one.entry.report == next.entry.report) {
+        add_equal(equal, out)?;
+    }
+    writeln!(out, "")
+}
+
+/// Adds the first of these reports, and how many there are.
+fn add_equal(runs: &[Run], out: &mut Vec<u8>) -> io::Result<()> {
+    let mut count = 0u64;
+    for run in runs {
+        count = count.saturating_add(run.times);
+    }
+    match runs.first() {
+        Some(run) => add_report(run.entry.report, out)?,
+        None => return Ok(()),
+    }
+    if count > 1 {
+        write!(out, "*{count}")?;
+    }
+    Ok(())
+}
+
+/// Adds `r` for ran, `b` blocked, `a` absent, `n` nothing posted, `w` waiting, and the end of a thread in brackets.
+fn add_report(report: Report, out: &mut Vec<u8>) -> io::Result<()> {
+    match report {
+        Report::Ran => write!(out, " r"),
+        Report::Blocked => write!(out, " b"),
+        Report::Absent => write!(out, " a"),
+        Report::NothingPosted => write!(out, " n"),
+        Report::Waiting => write!(out, " w"),
+        Report::Ended(End::Fault(fault)) => write!(out, " [{fault:?}]"),
+        Report::Ended(end) => write!(out, " [{end:?}]"),
+        other => write!(out, " [{other:?}]"),
+    }
+}

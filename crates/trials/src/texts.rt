@@ -1,0 +1,83 @@
+//! The texts of cases, as the bytes, words and numbers that they stand for.
+
+use cil_model::limits::Limits;
+use std::alloc::{AllocError, Global};
+
+/// The bytes of a text of lines, each of which ends in a line feed. A line `@NUMBER TEXT` stands for so many lines of the text, in
+/// which `#` is the line's number from 0, and `@@NUMBER TEXT` for the same without line feeds.
+pub fn expanded(alloc: Global, text: &str) -> Result<Vec<u8>, AllocError> {
+    let mut bytes = Vec::new(alloc);
+    for line in text.split('\n') {
+        add_line(alloc, &mut bytes, line)?;
+    }
+    Ok(bytes)
+}
+
+/// Adds the lines that a line stands for.
+fn add_line(alloc: Global, bytes: &mut Vec<u8>, line: &str) -> Result<(), AllocError> {
+    if let Some(repeated) = line.strip_prefix("@@") {
+        return add_repeated(alloc, bytes, repeated, "");
+    }
+    if let Some(repeated) = line.strip_prefix("@") {
+        return add_repeated(alloc, bytes, repeated, "\n");
+    }
+    bytes.extend_from_slice(line.as_bytes())?;
+    bytes.push(b'\n')?;
+    Ok(())
+}
+
+/// Adds the text of `NUMBER TEXT` so many times, with the end behind each.
+fn add_repeated(
+    alloc: Global,
+    bytes: &mut Vec<u8>,
+    repeated: &str,
+    end: &str,
+) -> Result<(), AllocError> {
+    let (count, text) = repeated.split_once(" ").unwrap_or(("", ""));
+    for number in 0..number_of(Some(count)) {
+        let number = number.to_string(alloc)?;
+        let text = text.replace(alloc, "#", number.as_str())?;
+        bytes.extend_from_slice(text.as_bytes())?;
+        bytes.extend_from_slice(end.as_bytes())?;
+    }
+    Ok(())
+}
+
+/// The words of a command: blanks stand between them, and a part between two `'` is one word.
+pub fn words_of<'a>(alloc: Global, command: &'a str) -> Result<Vec<&'a str>, AllocError> {
+    let mut words = Vec::new(alloc);
+    let mut is_quoted = false;
+    for part in command.split('\'') {
+        if is_quoted {
+            words.push(part)?;
+        } else {
+            add_words(&mut words, part)?;
+        }
+        is_quoted = !is_quoted;
+    }
+    Ok(words)
+}
+
+fn add_words<'a>(words: &mut Vec<&'a str>, part: &'a str) -> Result<(), AllocError> {
+    for word in part.split_whitespace() {
+        words.push(word)?;
+    }
+    Ok(())
+}
+
+/// The limits that three numbers tell. A missing one is 0.
+pub fn limits_of(text: &str) -> Limits {
+    let mut words = text.split_whitespace();
+    Limits {
+        words: number_of(words.next()),
+        budget: number_of(words.next()),
+        depth: number_of(words.next()),
+    }
+}
+
+fn number_of(word: Option<&str>) -> u32 {
+    match word {
+        None => 0,
+        Some(word) => word.parse::<u32>().unwrap_or(0),
+    }
+}

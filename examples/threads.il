@@ -1,0 +1,1 @@
+../crates/trials/data/examples/threads.il
