@@ -37,7 +37,7 @@ pub told_of_source : (source : List ℕ) (tree : Tree) (v : Verdict) → AreUniq
 told_of_source source tree Accepted unique read told = (tree, read, told)
 told_of_source source tree (Unread error) unique read told = λ accepted. told (its_tree source tree unique read accepted)
 told_of_source source tree (Illegal violation) unique read told = λ accepted. told (its_tree source tree unique read accepted)
-told_of_source source tree (Untyped method place reason explanation) unique read told = λ accepted. told (its_tree source tree unique read accepted)
+told_of_source source tree (Untyped method failure) unique read told = λ accepted. told (its_tree source tree unique read accepted)
 
 -- a source with another answer than a tree is not accepted
 not_accepted : (source : List ℕ) (a : SourceAnswer) → AreUnique → IsAnswer source a → ((tree : Tree) → HasTree tree ≢ a) → IsAcceptedSource source → ⊥

@@ -20,4 +20,4 @@ abbrev pub Tells : Verdict → Type 0 → Type 0
 Tells Accepted P = P
 Tells (Unread error) P = P → ⊥
 Tells (Illegal violation) P = P → ⊥
-Tells (Untyped method place reason explanation) P = P → ⊥
+Tells (Untyped method failure) P = P → ⊥

@@ -6,7 +6,7 @@ ghost use Rattle.diagnostics.specs.Verdicts.{IsAcceptedSource, is_acceptance};
 use crate::messages::Named;
 use crate::readings::explain_reading;
 use crate::rules::{broken, explain_rule};
-use crate::typing_refusals::{Untyped, told_typing};
+use crate::typing_refusals::told_typing;
 use crate::verdicts::{Verdict, verdict_of};
 use cil_model::memory::NoMemory;
 use cil_model::trees::Tree;
@@ -14,6 +14,7 @@ use ilasm_reader::{ReadError, read};
 use metadata::violations::Violation;
 use metadata::{MetaError, Program, resolve};
 use std::alloc::Global;
+use typing_search::refusals::FailurePoint;
 
 /// The tree of a source that was read before; None where it has none.
 fn tree_of(alloc: Global, source: &[u8]) -> Result<Option<Tree>, NoMemory> {
@@ -44,13 +45,18 @@ fn illegal(alloc: Global, named: Named, violation: Violation) -> Result<String, 
     }
 }
 
-/// Why a method has no typing. The program is made once more, since a refusal drops it.
-fn untyped(alloc: Global, named: Named, untyped: Untyped) -> Result<String, NoMemory> {
+/// Why the method of a number has no typing. The program is made once more, since a refusal drops it.
+fn untyped(
+    alloc: Global,
+    named: Named,
+    method: usize,
+    failure: &FailurePoint,
+) -> Result<String, NoMemory> {
     let Some(program) = program_of(alloc, named.text)? else {
-        return named.message(alloc, untyped.explanation);
+        return named.message(alloc, "a method has no typing");
     };
-    let Some(told) = told_typing(alloc, named.text, &program, untyped)? else {
-        return named.message(alloc, untyped.explanation);
+    let Some(told) = told_typing(alloc, named.text, &program, method, failure)? else {
+        return named.message(alloc, "a method has no typing");
     };
     let mut message = named.message_where(alloc, told.offset, told.sentence.as_str())?;
     message.push_str(told.stacks.as_str())?;
@@ -64,21 +70,7 @@ fn refusal_text(alloc: Global, named: Named, verdict: &Verdict) -> Result<String
         Verdict::Accepted => named.message(alloc, "accepted"),
         Verdict::Unread(error) => explain_reading(alloc, named, *error),
         Verdict::Illegal(violation) => illegal(alloc, named, *violation),
-        Verdict::Untyped {
-            method,
-            place,
-            reason,
-            explanation,
-        } => untyped(
-            alloc,
-            named,
-            Untyped {
-                method: *method,
-                place: *place,
-                reason: *reason,
-                explanation: explanation.as_str(),
-            },
-        ),
+        Verdict::Untyped { method, failure } => untyped(alloc, named, *method, failure),
     }
 }
 

@@ -2,8 +2,7 @@
 
 mod numbered;
 mod refusals;
-mod replays;
 mod typings;
 mod wanted;
 
-pub use typings::{Told, Untyped, told_typing};
+pub use typings::{Told, told_typing};

@@ -13,7 +13,7 @@ use ilasm_reader::{ReadError, read};
 use metadata::violations::Violation;
 use metadata::{MetaError, Program, resolve};
 use std::alloc::Global;
-use typing_search::refusals::Reason;
+use typing_search::refusals::FailurePoint;
 use verifier::{VerifyError, verify};
 
 /// What is answered of a source.
@@ -27,9 +27,7 @@ pub(crate) enum Verdict {
     /// A method of its program has no typing.
     Untyped {
         method: usize,
-        place: usize,
-        reason: Reason,
-        explanation: String,
+        failure: FailurePoint,
     },
 }
 
@@ -41,19 +39,7 @@ fn verdict_of_program(alloc: Global, program: Program) -> Result<Verdict, NoMemo
     match verify(alloc, program, layout) {
         Ok(_) => Ok(Verdict::Accepted),
         Err(VerifyError::OutOfMemory) => Err(NoMemory),
-        Err(
-            VerifyError::NoTyping {
-                method,
-                place,
-                reason,
-                explanation,
-            },
-        ) => Ok(Verdict::Untyped {
-            method,
-            place,
-            reason,
-            explanation,
-        }),
+        Err(VerifyError::NoTyping { method, failure }) => Ok(Verdict::Untyped { method, failure }),
     }
 }
 

@@ -15,8 +15,8 @@ use Rattle.typing_search.specs.StackMerges.{AreMerged}
 use Rattle.typing_search.specs.Rises.{stack_rises, row_rises, table_rises, most_values}
 use Rattle.typing_search.specs.Tables.{IsPending, HasRisen}
 use Rattle.typing_search.specs.Answers.{typing_of, work_left, count_pending, IsWhole, IsMergeAt, IsRisen, IsRefused, IsRise}
-use Rattle.typing_search.specs.declared.refusals.TypingError.{TypingError}
-use Rattle.typing_search.specs.declared.refusals.TypingError.TheVariants.{Untyped, OutOfMemory}
+use Rattle.typing_search.specs.declared.search.RaiseError.{RaiseError}
+use Rattle.typing_search.specs.declared.search.RaiseError.TheVariants.{Refused, OutOfMemory}
 use Rattle.typing_search.specs.declared.merging.StackMerge.{StackMerge}
 use Rattle.typing_search.specs.declared.search.Search.{Search}
 use Rattle.typing_search.proofs.RiseLaws.{table_falls, first_falls}
@@ -74,8 +74,8 @@ module _ (tree : Tree) where
         let past : length old.rows.items ≤ place = past_the_end old.rows.items place e in
         off_the_end tree max_stack (stack_types tree after) (typing_of tree old.rows.items) place (omega (arith, same, past))
 
-    pub rise_refused : (T U : Type 0) (e : TypingError) (known : List StackEntry) (new : Search) → slice_get old.rows.items place ≡ Some (Some known) → IsMergeAt tree known after (Err e) → IsRise {T = U} tree max_stack after (place ∷ []) old new (Err e)
-    rise_refused T U (Untyped at reason) known new e none = apart tree max_stack (stack_types tree after) (typing_of tree old.rows.items) place (stack_types tree known) (row_at old.rows.items place (Some known) e) none
+    pub rise_refused : (T U : Type 0) (e : RaiseError) (known : List StackEntry) (new : Search) → slice_get old.rows.items place ≡ Some (Some known) → IsMergeAt tree known after (Err e) → IsRise {T = U} tree max_stack after (place ∷ []) old new (Err e)
+    rise_refused T U (Refused at reason) known new e none = apart tree max_stack (stack_types tree after) (typing_of tree old.rows.items) place (stack_types tree known) (row_at old.rows.items place (Some known) e) none
     rise_refused T U OutOfMemory known new e none = tt
 
     set_risen : (new : Search) (row : Option (List StackEntry)) (stack : List StackEntry) → slice_get old.rows.items place ≡ Some row →
@@ -154,9 +154,9 @@ module _ (tree : Tree) where
           omega (arith, before.1, one.1),
         )
 
-    pub all_fails : (T U : Type 0) (e : TypingError) (ways : List ℕ) (n d : ℕ) (old middle new other : Search) → n < length ways → IsRisen tree max_stack after (take n ways) old middle → IsRise {T = T} tree max_stack after (get_or ways n d ∷ []) middle new (Err e) →
+    pub all_fails : (T U : Type 0) (e : RaiseError) (ways : List ℕ) (n d : ℕ) (old middle new other : Search) → n < length ways → IsRisen tree max_stack after (take n ways) old middle → IsRise {T = T} tree max_stack after (get_or ways n d ∷ []) middle new (Err e) →
         IsRise {T = U} tree max_stack after ways old other (Err e)
-    all_fails T U (Untyped at reason) ways n d old middle new other inside before one =
+    all_fails T U (Refused at reason) ways n d old middle new other inside before one =
         no_next_way tree max_stack (stack_types tree after) (take n ways) ways (get_or ways n d) (typing_of tree old.rows.items) (typing_of tree middle.rows.items) old.is_pending.items middle.is_pending.items before.0 one among
       where
         whole_has : (w : ℕ) → Contains (take (n + 1) ways) w → Contains ways w

@@ -25,14 +25,17 @@ use Rattle.typing_search.specs.Rises.{table_rises, most_values, natural}
 use Rattle.typing_search.specs.Ways.{ways_on}
 use Rattle.typing_search.specs.Tables.{IsPending, HasRisen, CannotRise, AreWays}
 use Rattle.typing_search.specs.Answers.{typing_of, work_left, count_pending, IsWhole, IsResultAt, IsRise, IsRisen, AreOf, IsOnTheWay, IsVisit, IsLeastTyping, IsTypingAnswer}
+use Rattle.typing_search.specs.Evidence.{IsToldOf, IsAnsweredBy}
 use Rattle.typing_search.specs.declared.refusals.TypingError.{TypingError}
 use Rattle.typing_search.specs.declared.refusals.TypingError.TheVariants.{Untyped, OutOfMemory}
+use Rattle.typing_search.specs.declared.search.RaiseError.{RaiseError}
+use Rattle.typing_search.specs.declared.search.RaiseError.TheVariants as OfRaise
 use Rattle.typing_search.specs.declared.search.Search.{Search}
 use Rattle.typing_search.proofs.TableLaws.{set_length, finished, begun, not_begun, passed_over, no_result, visited, not_visited}
 use Rattle.typing_search.proofs.WayLaws.{are_ways}
 use Rattle.typing_search.proofs.SearchLaws.{past_the_end, row_at, count_taken, taken_back, still_whole}
 
-pub work_falls : {T : Type 0} (tree : Tree) (max_stack : ℤ) (after : List StackEntry) (ways : List ℕ) (old new : Search) (r : Result T TypingError) → IsRise tree max_stack after ways old new r → OnOk r (work_left tree max_stack new ≤ work_left tree max_stack old)
+pub work_falls : {T : Type 0} (tree : Tree) (max_stack : ℤ) (after : List StackEntry) (ways : List ℕ) (old new : Search) (r : Result T RaiseError) → IsRise tree max_stack after ways old new r → OnOk r (work_left tree max_stack new ≤ work_left tree max_stack old)
 work_falls tree max_stack after ways old new (Ok done) h = h.1
 work_falls tree max_stack after ways old new (Err e) h = tt
 
@@ -80,15 +83,15 @@ module _ (m : MethodTypes) (operations : List Operation) (max_stack : ℤ) (code
     in_code answer i e = subst (λ (ls : List DeclaredType). flow m.types.now arguments ls return_type i (stack_types m.types.now before) ≡ answer) of.locals e
 
     pub visit_no_result : (T U : Type 0) (e : TypingError) (new : Search) → ((lines : List Line) (i : Instruction) → IsOperation m.types.now lines i op → IsResultAt m.types.now (Err e) (flow_of m i before)) → IsVisit {T = U} m code new (Err e)
-    visit_no_result T U (Untyped at' reason) new h =
+    visit_no_result T U (Untyped failure) new h =
         no_result m.types.now arguments return_type code legal (typing_of m.types.now old.rows.items) old.is_pending.items place u line.0 line.1 (stack_types m.types.now before) named
         (in_code None line.0.instruction (h code.lines line.0.instruction line.2))
     visit_no_result T U OutOfMemory new h = tt
 
-    pub visit_goes_on : {T : Type 0} (r : Result T TypingError) (new : Search) (after : List StackEntry) (ways : List ℕ) →
+    pub visit_goes_on : {T : Type 0} (r : Result T RaiseError) (answer : Result T TypingError) (new : Search) (after : List StackEntry) (ways : List ℕ) →
         ((lines : List Line) (i : Instruction) → IsOperation m.types.now lines i op → flow_of m i before ≡ Some (stack_types m.types.now after)) → ways ≡ ways_on op (place + 1) →
-        IsRise m.types.now max_stack after ways old new r → IsVisit m code new r
-    visit_goes_on r new after ways h along rise = by_answer r rise
+        IsRise m.types.now max_stack after ways old new r → IsAnsweredBy r answer → IsVisit m code new answer
+    visit_goes_on r answer new after ways h along rise told = by_answer r answer rise told
       where
         result : flow m.types.now arguments code.locals return_type line.0.instruction (stack_types m.types.now before) ≡ Some (stack_types m.types.now after)
         result = in_code (Some (stack_types m.types.now after)) line.0.instruction (h code.lines line.0.instruction line.2)
@@ -96,16 +99,20 @@ module _ (m : MethodTypes) (operations : List Operation) (max_stack : ℤ) (code
         are : AreWays code place line.0 ways
         are = subst (λ (w : List ℕ). AreWays code place line.0 w) (sym along) (are_ways m.types.now code place line.0 op line.2)
 
-        by_answer : {T : Type 0} (r : Result T TypingError) → IsRise m.types.now max_stack after ways old new r → IsVisit m code new r
-        by_answer (Ok done) k =
+        by_answer : {T : Type 0} (r : Result T RaiseError) (answer : Result T TypingError) → IsRise m.types.now max_stack after ways old new r → IsAnsweredBy r answer → IsVisit m code new answer
+        by_answer (Ok done) (Ok done') k same =
             visited m.types.now arguments return_type code legal (typing_of m.types.now old.rows.items) old.is_pending.items place u line.0 line.1 (stack_types m.types.now before) named
             (stack_types m.types.now after) result ways are (typing_of m.types.now new.rows.items) new.is_pending.items
             (subst (λ (z : ℤ). HasRisen m.types.now z (stack_types m.types.now after) ways (typing_of m.types.now old.rows.items) old.is_pending.items (typing_of m.types.now new.rows.items) new.is_pending.items) of.same_max k.0)
-        by_answer (Err (Untyped at' reason)) k =
+        by_answer (Ok done) (Err e) k same = elim same [ ]
+        by_answer (Err step) (Ok done) k same = elim same [ ]
+        by_answer (Err (OfRaise.Refused at' reason)) (Err (Untyped failure)) k same =
             not_visited m.types.now arguments return_type code legal (typing_of m.types.now old.rows.items) old.is_pending.items place u line.0 line.1 (stack_types m.types.now before) named
             (stack_types m.types.now after) result ways are
             (subst (λ (z : ℤ). CannotRise m.types.now z (stack_types m.types.now after) ways (typing_of m.types.now old.rows.items)) of.same_max k)
-        by_answer (Err OutOfMemory) k = tt
+        by_answer (Err OfRaise.OutOfMemory) (Err (Untyped failure)) k same = elim same [ ]
+        by_answer (Err (OfRaise.Refused at' reason)) (Err OutOfMemory) k same = tt
+        by_answer (Err OfRaise.OutOfMemory) (Err OutOfMemory) k same = tt
 
   -- ---- the beginning and the end
 
@@ -133,14 +140,16 @@ module _ (m : MethodTypes) (operations : List Operation) (max_stack : ℤ) (code
         begun m.types.now arguments return_type code (typing_of m.types.now old.rows.items) (typing_of m.types.now new.rows.items) old.is_pending.items new.is_pending.items as_long nothing
         (subst (λ (z : ℤ). HasRisen m.types.now z [] (0 ∷ []) (typing_of m.types.now old.rows.items) old.is_pending.items (typing_of m.types.now new.rows.items) new.is_pending.items) of.same_max h.0)
 
-    pub never_begun : (T : Type 0) (e : TypingError) (new : Search) → IsRise {T = T} m.types.now max_stack [] (0 ∷ []) old new (Err e) → IsTypingAnswer m.types.now arguments return_type code (Err e)
-    never_begun T (Untyped at reason) new h =
+    pub never_begun : (T : Type 0) (step : RaiseError) (e : TypingError) (new : Search) → IsRise {T = T} m.types.now max_stack [] (0 ∷ []) old new (Err step) → IsToldOf step e → IsTypingAnswer m.types.now arguments return_type code (Err e)
+    never_begun T (OfRaise.Refused at reason) (Untyped failure) new h told =
         not_begun m.types.now arguments return_type code (typing_of m.types.now old.rows.items) as_long nothing
         (subst (λ (z : ℤ). CannotRise m.types.now z [] (0 ∷ []) (typing_of m.types.now old.rows.items)) of.same_max h)
-    never_begun T OutOfMemory new h = tt
+    never_begun T OfRaise.OutOfMemory (Untyped failure) new h told = elim told [ ]
+    never_begun T (OfRaise.Refused at reason) OutOfMemory new h told = tt
+    never_begun T OfRaise.OutOfMemory OutOfMemory new h told = tt
 
   pub stopped : (T : Type 0) (e : TypingError) (new : Search) → IsVisit {T = T} m code new (Err e) → IsTypingAnswer m.types.now arguments return_type code (Err e)
-  stopped T (Untyped at reason) new h = h
+  stopped T (Untyped failure) new h = h
   stopped T OutOfMemory new h = tt
 
   arrived : (rows : List (Option (List StackEntry))) (pending : List Bool) → IsOnTheWay m code rows pending → ((place : ℕ) → IsPending pending place → ⊥) → IsLeastTyping m.types.now arguments return_type code (typing_of m.types.now rows)
@@ -179,7 +188,7 @@ begun_whole n s rows flags = ap length flags ∙ as_many n ∙ ap length (sym ro
 pub taken_whole : (old new : Search) (place : ℕ) → IsWhole old → new.rows.items ≡ old.rows.items → new.is_pending.items ≡ slice_set old.is_pending.items place false → IsWhole new
 taken_whole old new place w rows pending = ap length pending ∙ set_length old.is_pending.items place false ∙ w ∙ ap length (sym rows)
 
-pub rise_whole : {T : Type 0} (tree : Tree) (max_stack : ℤ) (after : List StackEntry) (ways : List ℕ) (old new : Search) (r : Result T TypingError) → IsWhole old → IsRise tree max_stack after ways old new r → OnOk r (IsWhole new)
+pub rise_whole : {T : Type 0} (tree : Tree) (max_stack : ℤ) (after : List StackEntry) (ways : List ℕ) (old new : Search) (r : Result T RaiseError) → IsWhole old → IsRise tree max_stack after ways old new r → OnOk r (IsWhole new)
 rise_whole tree max_stack after ways old new (Ok done) w h = still_whole tree max_stack after ways old new w h
 rise_whole tree max_stack after ways old new (Err e) w h = tt
 
@@ -195,3 +204,8 @@ no_natural (negsuc k) n e h = grind (arith, ints, h)
 
 pub none_is_low : (tree : Tree) (taken_types : List DeclaredType) (given : Option DeclaredType) (code : Code) (z : ℤ) → z ≡ code.max_stack → natural z ≡ None → (typing : Typing) → IsCodeTyping tree taken_types given code typing → ⊥
 none_is_low tree taken_types given code z same e typing t = no_natural z 0 e (subst (λ (k : ℤ). pos 0 ≤ℤ k) (sym same) (t.height 0 [] t.start))
+
+-- a failure answers for code without a typing
+pub has_no_typing : (tree : Tree) (taken_types : List DeclaredType) (given : Option DeclaredType) (code : Code) (e : TypingError) → ((typing : Typing) → IsCodeTyping tree taken_types given code typing → ⊥) → IsTypingAnswer tree taken_types given code (Err e)
+has_no_typing tree taken_types given code (Untyped failure) none = none
+has_no_typing tree taken_types given code OutOfMemory none = tt

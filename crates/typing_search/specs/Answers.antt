@@ -19,6 +19,8 @@ use Rattle.typing_search.specs.Rises.{table_rises, most_values}
 use Rattle.typing_search.specs.Tables.{IsUnder, HasRisen, CannotRise, IsUnfinished}
 use Rattle.typing_search.specs.declared.refusals.TypingError.{TypingError}
 use Rattle.typing_search.specs.declared.refusals.TypingError.TheVariants.{Untyped, OutOfMemory}
+use Rattle.typing_search.specs.declared.search.RaiseError.{RaiseError}
+use Rattle.typing_search.specs.declared.search.RaiseError.TheVariants as OfRaise
 use Rattle.typing_search.specs.declared.search.Search.{Search}
 use Rattle.typing_search.specs.declared.search.Row.{Row}
 use Rattle.typing_search.specs.declared.search.Row.TheVariants.{Absent, Unmapped, Mapped}
@@ -32,14 +34,14 @@ IsResult tree (Err OfFlow.OutOfMemory) after = Unit {0}
 -- the same, where a mismatch was told with its place
 abbrev pub IsResultAt : Tree → Result (List StackEntry) TypingError → StackAfter → Type 0
 IsResultAt tree (Ok stack) after = after ≡ Some (stack_types tree stack)
-IsResultAt tree (Err (Untyped place reason)) after = after ≡ None
+IsResultAt tree (Err (Untyped failure)) after = after ≡ None
 IsResultAt tree (Err OutOfMemory) after = Unit {0}
 
 -- The merge of two stacks, or that none is above both. Of want of memory nothing is said.
-abbrev pub IsMergeAt : Tree → List StackEntry → List StackEntry → Result StackMerge TypingError → Type 0
+abbrev pub IsMergeAt : Tree → List StackEntry → List StackEntry → Result StackMerge RaiseError → Type 0
 IsMergeAt tree one other (Ok merge) = AreMerged tree (stack_types tree one) (stack_types tree other) (stack_types tree merge.stack)
-IsMergeAt tree one other (Err (Untyped place reason)) = AreApart tree (stack_types tree one) (stack_types tree other)
-IsMergeAt tree one other (Err OutOfMemory) = Unit {0}
+IsMergeAt tree one other (Err (OfRaise.Refused place reason)) = AreApart tree (stack_types tree one) (stack_types tree other)
+IsMergeAt tree one other (Err OfRaise.OutOfMemory) = Unit {0}
 
 -- what is known of a place
 abbrev pub IsRow : List (Option (List StackEntry)) → ℕ → Row → Type 0
@@ -75,10 +77,10 @@ abbrev pub IsRefused : Tree → ℤ → List StackEntry → List ℕ → Search 
 IsRefused tree max_stack after ways old = CannotRise tree max_stack (stack_types tree after) ways (typing_of tree old.rows.items)
 
 -- One or the other. Of want of memory nothing is said.
-abbrev pub IsRise : {T : Type 0} → Tree → ℤ → List StackEntry → List ℕ → Search → Search → Result T TypingError → Type 0
+abbrev pub IsRise : {T : Type 0} → Tree → ℤ → List StackEntry → List ℕ → Search → Search → Result T RaiseError → Type 0
 IsRise tree max_stack after ways old new (Ok done) = IsRisen tree max_stack after ways old new
-IsRise tree max_stack after ways old new (Err (Untyped place reason)) = IsRefused tree max_stack after ways old
-IsRise tree max_stack after ways old new (Err OutOfMemory) = Unit {0}
+IsRise tree max_stack after ways old new (Err (OfRaise.Refused place reason)) = IsRefused tree max_stack after ways old
+IsRise tree max_stack after ways old new (Err OfRaise.OutOfMemory) = Unit {0}
 
 -- a method's types, its operations and its .maxstack are those of its code
 pub record AreOf (m : MethodTypes) (operations : List Operation) (max_stack : ℤ) (code : Code) : Type 0 where
@@ -97,7 +99,7 @@ HasNone m code = (typing : Typing) → IsCodeTyping m.types.now (types_named m.t
 -- a step of a search goes on, or shows that there is no typing
 abbrev pub IsVisit : {T : Type 0} → MethodTypes → Code → Search → Result T TypingError → Type 0
 IsVisit m code s (Ok done) = IsOnTheWay m code s.rows.items s.is_pending.items
-IsVisit m code s (Err (Untyped place reason)) = HasNone m code
+IsVisit m code s (Err (Untyped failure)) = HasNone m code
 IsVisit m code s (Err OutOfMemory) = Unit {0}
 
 -- a typing that lies below every other
@@ -108,5 +110,5 @@ pub record IsLeastTyping (tree : Tree) (arguments : List DeclaredType) (return_t
 -- The least typing, or that there is none. Of want of memory nothing is said.
 abbrev pub IsTypingAnswer : Tree → List DeclaredType → Option DeclaredType → Code → Result (List (Option (List StackEntry))) TypingError → Type 0
 IsTypingAnswer tree arguments return_type code (Ok rows) = IsLeastTyping tree arguments return_type code (typing_of tree rows)
-IsTypingAnswer tree arguments return_type code (Err (Untyped place reason)) = (typing : Typing) → IsCodeTyping tree arguments return_type code typing → ⊥
+IsTypingAnswer tree arguments return_type code (Err (Untyped failure)) = (typing : Typing) → IsCodeTyping tree arguments return_type code typing → ⊥
 IsTypingAnswer tree arguments return_type code (Err OutOfMemory) = Unit {0}

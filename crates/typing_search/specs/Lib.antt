@@ -3,3 +3,4 @@ pub mod Rises
 pub mod Ways
 pub mod Tables
 pub mod Answers
+pub mod Evidence

@@ -13,16 +13,18 @@ ghost use Rattle.typing_search.specs.Rises.{stack_rises, natural};
 ghost use Rattle.typing_search.specs.Ways.{ways_on};
 ghost use Rattle.typing_search.specs.Tables.{IsPending};
 ghost use Rattle.typing_search.specs.Answers.{IsRow, IsResultAt, IsMergeAt, IsRise, AreOf, IsOnTheWay, IsVisit, IsTypingAnswer, IsWhole, work_left};
+ghost use Rattle.typing_search.specs.Evidence.{IsRefusedAt, IsToldOf, IsAnsweredBy, IsStackOf, IsShown, IsEvidence};
 ghost use Rattle.typing_search.specs.declared.refusals.TypingError.TheVariants.{OutOfMemory};
 
 use crate::merging::{MergeError, StackMerge, merge_stacks};
-use crate::refusals::{Reason, TypingError};
+use crate::refusals::{FailurePoint, IncomingStack, Reason, TypingError};
 use crate::stacks::stack_after;
 use crate::ways::ways_on;
+use cil_model::memory::NoMemory;
 use cil_model::sequences::Sequence;
 use flow_rules::entries::StackEntry;
 use flow_rules::method_types::MethodTypes;
-use flow_rules::mismatches::FlowError;
+use flow_rules::mismatches::{FlowError, Mismatch};
 use flow_rules::type_tree::TypeTree;
 use resolved_code::classes::Body;
 use resolved_code::operations::Operation;
@@ -105,13 +107,58 @@ fn place_behind(operations: &[Operation], place: usize) -> usize
 }
 
 /// A copy. Fails for want of memory alone.
-fn copied(entries: &[StackEntry], alloc: Global) -> Result<Sequence<StackEntry>, TypingError>
-    ensures copied { IfOk result (λ copy. copy ≡ entries.now) }
-    ensures err { IfErr result (λ e. e ≡ OutOfMemory) }
+fn copied(entries: &[StackEntry], alloc: Global) -> Result<Sequence<StackEntry>, NoMemory>
+    ensures { IfOk result (λ copy. copy ≡ entries.now) }
 {
     match entries.to_vec(alloc) {
         Ok(copy) => Ok(Sequence::new(copy)),
-        Err(_) => Err(TypingError::OutOfMemory),
+        Err(_) => Err(NoMemory),
+    }
+}
+
+/// Why a stack can't be taken to a place.
+#[derive(Clone, Copy)]
+enum RaiseError {
+    Refused { place: usize, reason: Reason },
+    OutOfMemory,
+}
+
+/// A failure of a search that never gets to an instruction.
+fn without_stacks(place: usize, reason: Reason, alloc: Global) -> TypingError
+    ensures { IsRefusedAt place reason result }
+{
+    TypingError::Untyped(FailurePoint {
+        place,
+        reason,
+        instruction: place,
+        stack: Sequence::new(Vec::new(alloc)),
+        incoming: None,
+    })
+}
+
+/// Why a search does not begin.
+fn not_begun(error: RaiseError, alloc: Global) -> TypingError
+    ensures { IsToldOf error result }
+{
+    match error {
+        RaiseError::Refused { place, reason } => without_stacks(place, reason, alloc),
+        RaiseError::OutOfMemory => TypingError::OutOfMemory,
+    }
+}
+
+/// The failure of an instruction that has no result on the stack before it.
+fn no_result(place: usize, mismatch: Mismatch, before: &[StackEntry], alloc: Global) -> TypingError
+    ensures { IsStackOf place before.now result }
+{
+    match copied(before, alloc) {
+        Ok(stack) => TypingError::Untyped(FailurePoint {
+            place,
+            reason: Reason::NoResult(mismatch),
+            instruction: place,
+            stack,
+            incoming: None,
+        }),
+        Err(NoMemory) => TypingError::OutOfMemory,
     }
 }
 
@@ -122,18 +169,18 @@ fn merged(
     known: &[StackEntry],
     coming: &[StackEntry],
     alloc: Global,
-) -> Result<StackMerge, TypingError>
+) -> Result<StackMerge, RaiseError>
     ensures merged { IsMergeAt types.now known.now coming.now result }
     ensures same { IfOk result (λ m. m.is_higher ≡ false → m.stack ≡ known.now) }
     ensures higher { IfOk result (λ m. m.is_higher ≡ true → stack_rises types.now (stack_types types.now m.stack) < stack_rises types.now (stack_types types.now known.now)) }
 {
     match merge_stacks(types, known, coming, alloc) {
         Ok(merge) => Ok(merge),
-        Err(MergeError::Apart(mismatch)) => Err(TypingError::Untyped {
+        Err(MergeError::Apart(mismatch)) => Err(RaiseError::Refused {
             place,
             reason: Reason::NoMerge(mismatch),
         }),
-        Err(MergeError::OutOfMemory) => Err(TypingError::OutOfMemory),
+        Err(MergeError::OutOfMemory) => Err(RaiseError::OutOfMemory),
     }
 }
 
@@ -145,14 +192,12 @@ fn result_at(
     before: &[StackEntry],
     alloc: Global,
 ) -> Result<Sequence<StackEntry>, TypingError>
-    ensures { (lines : List Line) (i : Instruction) → IsOperation method.now.types.now lines i operation.now → IsResultAt method.now.types.now result (flow_of method.now i before.now) }
+    ensures found { (lines : List Line) (i : Instruction) → IsOperation method.now.types.now lines i operation.now → IsResultAt method.now.types.now result (flow_of method.now i before.now) }
+    ensures evidence { IfErr result (IsStackOf place before.now) }
 {
     match stack_after(method, operation, before, alloc) {
         Ok(after) => Ok(after),
-        Err(FlowError::Mismatch(mismatch)) => Err(TypingError::Untyped {
-            place,
-            reason: Reason::NoResult(mismatch),
-        }),
+        Err(FlowError::Mismatch(mismatch)) => Err(no_result(place, mismatch, before, alloc)),
         Err(FlowError::OutOfMemory) => Err(TypingError::OutOfMemory),
     }
 }
@@ -253,18 +298,20 @@ impl Search {
         after: &[StackEntry],
         most: usize,
         alloc: Global,
-    ) -> Result<(), TypingError>
+    ) -> Result<(), RaiseError>
         requires unmapped { slice_get self.old.rows.items place ≡ Some None }
         requires whole { IsWhole self.old }
         ensures { (tree : Tree) → IsRise tree (pos most) after.now (place ∷ []) self.old self.new result }
     {
         if is_low(after.len(), most) {
-            let stack = copied(after, alloc)?;
+            let Ok(stack) = copied(after, alloc) else {
+                return Err(RaiseError::OutOfMemory);
+            };
             self.set(place, stack);
             return Ok(());
         }
         let reason = Reason::TooHigh(after.len());
-        Err(TypingError::Untyped { place, reason })
+        Err(RaiseError::Refused { place, reason })
     }
 
     /// Takes a further stack to a place.
@@ -288,14 +335,14 @@ impl Search {
         after: &[StackEntry],
         most: usize,
         alloc: Global,
-    ) -> Result<(), TypingError>
+    ) -> Result<(), RaiseError>
         requires whole { IsWhole self.old }
         ensures { IsRise types.now (pos most) after.now (place ∷ []) self.old self.new result }
     {
         match row_at(self.rows.as_slice(), place) {
             Row::Absent => {
                 let reason = Reason::NoInstruction;
-                Err(TypingError::Untyped { place, reason })
+                Err(RaiseError::Refused { place, reason })
             }
             Row::Unmapped => self.map(place, after, most, alloc),
             Row::Mapped(known) => {
@@ -314,7 +361,7 @@ impl Search {
         after: &[StackEntry],
         most: usize,
         alloc: Global,
-    ) -> Result<(), TypingError>
+    ) -> Result<(), RaiseError>
         requires whole { IsWhole self.old }
         ensures { IsRise types.now (pos most) after.now ways.now self.old self.new result }
     {
@@ -322,6 +369,62 @@ impl Search {
             self.raise(types, ways[index], after, most, alloc)?;
         }
         Ok(())
+    }
+
+    /// A copy of the stack of a place; an empty one where control was not found to go there. Fails for want of memory alone.
+    fn stack_at(&self, place: usize, alloc: Global) -> Result<Sequence<StackEntry>, NoMemory>
+        ensures { IfOk result (λ copy. IsShown self.now.rows.items place copy) }
+    {
+        match mapped_at(self.rows.as_slice(), place) {
+            Some(stack) => copied(stack, alloc),
+            None => Ok(Sequence::new(Vec::new(alloc))),
+        }
+    }
+
+    /// The failure of a search that could not take to a place what an instruction leaves.
+    fn stopped(
+        &self,
+        place: usize,
+        reason: Reason,
+        incoming: IncomingStack,
+        alloc: Global,
+    ) -> TypingError
+        ensures told { IsRefusedAt place reason result }
+        ensures evidence { IsEvidence self.now.rows.items result }
+    {
+        let instruction = match reason {
+            Reason::NoMerge(_) => place,
+            _ => incoming.from,
+        };
+        match self.stack_at(instruction, alloc) {
+            Ok(stack) => TypingError::Untyped(FailurePoint {
+                place,
+                reason,
+                instruction,
+                stack,
+                incoming: Some(incoming),
+            }),
+            Err(NoMemory) => TypingError::OutOfMemory,
+        }
+    }
+
+    /// What is answered where what an instruction leaves was taken on, or could not be.
+    fn answered(
+        &self,
+        risen: Result<(), RaiseError>,
+        incoming: IncomingStack,
+        alloc: Global,
+    ) -> Result<(), TypingError>
+        ensures told { IsAnsweredBy risen result }
+        ensures evidence { IfErr result (IsEvidence self.now.rows.items) }
+    {
+        match risen {
+            Ok(()) => Ok(()),
+            Err(RaiseError::OutOfMemory) => Err(TypingError::OutOfMemory),
+            Err(RaiseError::Refused { place, reason }) => {
+                Err(self.stopped(place, reason, incoming, alloc))
+            }
+        }
     }
 
     /// Takes the next pending place, which is pending no longer. At None there is none.
@@ -348,6 +451,7 @@ impl Search {
     ) -> Result<(), TypingError>
         requires whole { IsWhole self.old }
         ensures found { (code : Code) → AreOf method.now operations.now (pos most) code → IsOnTheWay method.now code self.old.rows.items (slice_set self.old.is_pending.items place true) → IsVisit method.now code self.new result }
+        ensures evidence { IfErr result (IsEvidence self.new.rows.items) }
         ensures whole { OnOk result (IsWhole self.new) }
         ensures work { OnOk result (work_left method.now.types.now (pos most) self.new ≤ work_left method.now.types.now (pos most) self.old) }
     {
@@ -361,7 +465,12 @@ impl Search {
         let _object = method.types.class(0);
         let after = result_at(method, operation, place, stack, alloc)?;
         let ways = ways_behind(operation, place_behind(operations, place), alloc)?;
-        self.raise_all(method.types, ways.as_slice(), after.as_slice(), most, alloc)
+        let risen = self.raise_all(method.types, ways.as_slice(), after.as_slice(), most, alloc);
+        let incoming = IncomingStack {
+            from: place,
+            stack: after,
+        };
+        self.answered(risen, incoming, alloc)
     }
 }
 
@@ -375,7 +484,10 @@ fn least_typing(
     ensures { (code : Code) → AreOf method.now operations.now (pos most) code → IsTypingAnswer method.now.types.now (types_named method.now.types.now method.now.arguments.now) (option_map (type_named method.now.types.now) method.now.return_type) code result }
 {
     let mut search = Search::new(operations.len(), alloc)?;
-    search.raise(method.types, 0, [].as_slice(), most, alloc)?;
+    match search.raise(method.types, 0, [].as_slice(), most, alloc) {
+        Ok(()) => {}
+        Err(error) => return Err(not_begun(error, alloc)),
+    }
     while let Some(place) = search.next() {
         search.visit(method, operations, most, place, alloc)?;
     }
@@ -396,14 +508,13 @@ fn typing_of_body(
     ensures { (code : Code) → IsBody method.now.types.now code body.now → types_named method.now.types.now method.now.locals.now ≡ code.locals → IsTypingAnswer method.now.types.now (types_named method.now.types.now method.now.arguments.now) (option_map (type_named method.now.types.now) method.now.return_type) code result }
 {
     let Some(most) = most_values(body.max_stack) else {
-        let reason = Reason::TooHigh(0);
-        return Err(TypingError::Untyped { place: 0, reason });
+        return Err(without_stacks(0, Reason::TooHigh(0), alloc));
     };
     least_typing(method, body.operations.as_slice(), most, alloc)
 }
 
 /// The least typing of a method's code, the top of each stack first; none at a place that control never reaches. An `Untyped` error
-/// comes exactly where the code has no typing (ECMA-335 III.1.8.1.3).
+/// comes exactly where the code has no typing (ECMA-335 III.1.8.1.3), and tells the stacks where the search failed.
 pub fn find_typing(
     types: &TypeTree,
     arguments: &[NumberedType],

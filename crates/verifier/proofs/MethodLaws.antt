@@ -81,5 +81,5 @@ module _ (tree : Tree) (owner : ClassName) (m : Method) where
 
       by_answer : (a : Result (List (Option (List StackEntry))) TypingError) → IsTypingAnswer tree (types_named tree arguments) (option_map (type_named tree) found.return_type) code a → IsMethodVerdict tree owner m a
       by_answer (Ok rows) t = subst (λ (T : Type 0). T) (same (typing_of tree rows)) t.is_typing
-      by_answer (Err (OfMethod.Untyped place reason)) t = λ typing typed. t typing (subst (λ (T : Type 0). T) (sym (same typing)) typed)
+      by_answer (Err (OfMethod.Untyped failure)) t = λ typing typed. t typing (subst (λ (T : Type 0). T) (sym (same typing)) typed)
       by_answer (Err OfMethod.OutOfMemory) t = t

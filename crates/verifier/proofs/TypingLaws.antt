@@ -120,8 +120,8 @@ module _ (tree : Tree) (members : List MemberNumber) (typings : List (List (Opti
   -- the next method is the first without a typing
   pub next_refused : (error : TypingError) (refusal : VerifyError) → ((owner : ClassName) (m : Method) → method_at tree (member.class, member.place) ≡ Some (owner, m) → IsMethodVerdict tree owner m (Err error)) →
       IsRefusalOf n error refusal → AreVerdicts tree (Err refusal)
-  next_refused (OfMethod.Untyped place reason) (NoTyping method p r text) told is =
+  next_refused (OfMethod.Untyped told_of) (NoTyping method failure) told is =
       subst (IsFirstUntyped tree) (sym is.0) (first_untyped tree typings kept n there.0 there.1 counted there.2 (told there.0 there.1 there.3))
-  next_refused (OfMethod.Untyped place reason) OutOfMemory told is = tt
-  next_refused OfMethod.OutOfMemory (NoTyping method p r text) told is = elim is [ ]
+  next_refused (OfMethod.Untyped told_of) OutOfMemory told is = tt
+  next_refused OfMethod.OutOfMemory (NoTyping method failure) told is = elim is [ ]
   next_refused OfMethod.OutOfMemory OutOfMemory told is = tt

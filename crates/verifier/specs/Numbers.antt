@@ -4,5 +4,5 @@ use Rattle.verifier.specs.declared.refusals.VerifyError.{VerifyError}
 use Rattle.verifier.specs.declared.refusals.VerifyError.TheVariants.{NoTyping, OutOfMemory}
 
 abbrev pub typing_number_of : VerifyError → ℕ
-typing_number_of (NoTyping method place reason explanation) = 301
+typing_number_of (NoTyping method failure) = 301
 typing_number_of OutOfMemory = 302

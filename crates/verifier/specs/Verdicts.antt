@@ -15,7 +15,7 @@ use Rattle.verifier.specs.declared.refusals.VerifyError.TheVariants.{NoTyping, O
 -- a typing of a method, or that it has none; of want of memory nothing is said
 abbrev pub IsMethodVerdict : Tree → ClassName → Method → Result (List (Option (List StackEntry))) TypingError → Type 0
 IsMethodVerdict tree owner m (Ok rows) = IsTyping tree owner m (typing_of tree rows)
-IsMethodVerdict tree owner m (Err (OfMethod.Untyped place reason)) = (typing : Typing) → IsTyping tree owner m typing → ⊥
+IsMethodVerdict tree owner m (Err (OfMethod.Untyped failure)) = (typing : Typing) → IsTyping tree owner m typing → ⊥
 IsMethodVerdict tree owner m (Err OfMethod.OutOfMemory) = Unit {0}
 
 -- each typing is one of the method with its number (III.1.8)
@@ -31,17 +31,17 @@ pub record AreTypings (tree : Tree) (typings : List (List (Option (List StackEnt
 -- a typing of each method, or the first method that has none; of want of memory nothing is said
 abbrev pub AreVerdicts : Tree → Result (List (List (Option (List StackEntry)))) VerifyError → Type 0
 AreVerdicts tree (Ok typings) = AreTypings tree typings
-AreVerdicts tree (Err (NoTyping method place reason explanation)) = IsFirstUntyped tree method
+AreVerdicts tree (Err (NoTyping method failure)) = IsFirstUntyped tree method
 AreVerdicts tree (Err OutOfMemory) = Unit {0}
 
--- the refusal of a method: the same place and reason, or want of memory
+-- the refusal of a method, with what is known of its failure, or want of memory
 abbrev pub IsRefusalOf : ℕ → TypingError → VerifyError → Type 0
-IsRefusalOf number (OfMethod.Untyped at why) (NoTyping method place reason explanation) = (method ≡ number) × (place ≡ at) × (reason ≡ why)
-IsRefusalOf number OfMethod.OutOfMemory (NoTyping method place reason explanation) = ⊥
+IsRefusalOf number (OfMethod.Untyped told) (NoTyping method failure) = (method ≡ number) × (failure ≡ told)
+IsRefusalOf number OfMethod.OutOfMemory (NoTyping method failure) = ⊥
 IsRefusalOf number error OutOfMemory = Unit {0}
 
 -- the program, which is accepted, or the first method without a typing; of want of memory nothing is said (III.1.8)
 abbrev pub IsVerdict : Tree → Result Tree VerifyError → Type 0
 IsVerdict tree (Ok verified) = (verified ≡ tree) × IsAccepted tree
-IsVerdict tree (Err (NoTyping method place reason explanation)) = IsFirstUntyped tree method
+IsVerdict tree (Err (NoTyping method failure)) = IsFirstUntyped tree method
 IsVerdict tree (Err OutOfMemory) = Unit {0}

@@ -82,7 +82,7 @@ pub(crate) fn typings_of(
     for method in 0..members.len() {
         match typing_of(alloc, program, members[method]) {
             Ok(typing) => typings.push(typing)?,
-            Err(error) => return Err(refused(alloc, program, method, error)),
+            Err(error) => return Err(refused(method, error)),
         }
     }
     Ok(Sequence::new(typings))

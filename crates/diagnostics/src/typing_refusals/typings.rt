@@ -3,13 +3,11 @@
 use crate::source_map::{LinePart, MemberPart, Outline, Place, token_at};
 use crate::typing_refusals::numbered::{StackOf, class_keys};
 use crate::typing_refusals::refusals::Refusal;
-use crate::typing_refusals::replays::{Halt, first_halt};
 use crate::typing_refusals::wanted::{Scene, Wanted};
 use cil_model::instructions::MethodName;
 use cil_model::memory::NoMemory;
 use cil_model::trees::{Member, Method, Tree};
-use flow_rules::method_types::MethodTypes;
-use flow_rules::type_tree::{TypeTree, type_of_class};
+use flow_rules::type_tree::type_of_class;
 use metadata::Program;
 use name_tables::built_in::BuiltInClass;
 use name_tables::keys::ClassKey;
@@ -18,19 +16,9 @@ use resolved_code::classes::{Body, ResolvedKind, ResolvedMethod};
 use resolved_code::operations::Operation;
 use resolved_code::types::NumberedType;
 use std::alloc::Global;
-use typing_search::refusals::Reason;
+use typing_search::refusals::FailurePoint;
 
-/// What a verifier told of a method without a typing: its number in the source, the place in it, both from 0, and why.
-#[derive(Clone, Copy)]
-pub struct Untyped<'a> {
-    pub method: usize,
-    pub place: usize,
-    pub reason: Reason,
-    /// The verifier's own words.
-    pub explanation: &'a str,
-}
-
-/// What a person is told of it.
+/// What a person is told of a method without a typing.
 #[derive(Drop)]
 pub struct Told {
     /// The offset in the source of the instruction at fault, in bytes from 0; of the method's name, where it has no instruction. None where
@@ -126,105 +114,62 @@ fn arguments_of(
     Ok(types)
 }
 
-/// Where the search for a typing stops.
-fn halt_of(
-    alloc: Global,
-    program: &Program,
-    arguments: &[NumberedType],
-    return_type: Option<NumberedType>,
-    body: &Body,
-) -> Result<Option<Halt>, NoMemory> {
-    let types = TypeTree::new(program.tree(), program.classes());
-    let method = MethodTypes {
-        types: &types,
-        arguments,
-        locals: body.locals.as_slice(),
-        return_type,
-    };
-    let most = usize::try_from(body.max_stack).unwrap_or(0);
-    let halt = first_halt(alloc, &method, body.operations.as_slice(), most);
-    let MethodTypes {
-        types: _,
-        arguments: _,
-        locals: _,
-        return_type: _,
-    } = method;
-    halt
-}
-
 /// The method, the instruction by its number from 0, and the stacks there.
 fn told_stacks(
     alloc: Global,
     found: &Found,
     refusal: &Refusal,
-    halt: &Halt,
+    failure: &FailurePoint,
 ) -> Result<String, NoMemory> {
     let names = refusal.scene.names;
     let class = found.class_name;
     let method = found.name();
-    let instruction = halt.instruction;
-    let stack = StackOf(names, halt.stack.as_slice());
+    let instruction = failure.instruction;
+    let stack = StackOf(names, failure.stack.as_slice());
     let mut text = format!(in alloc;
         "method {class}::{method}, instruction {instruction}; stack: {stack}"
     )?;
-    match (refusal.operation, &halt.coming) {
+    match (refusal.operation, &failure.incoming) {
         (Some(operation), _) if refusal.is_of_operands() => {
             let wanted = Wanted(refusal.scene, operation);
             write!(text, "; wanted: {wanted}")?;
         }
-        (_, Some((from, coming))) if *from != instruction => {
-            let coming = StackOf(names, coming.as_slice());
-            write!(text, "; stack from instruction {from}: {coming}")?;
+        (_, Some(incoming)) if incoming.from != instruction => {
+            let from = incoming.from;
+            let stack = StackOf(names, incoming.stack.as_slice());
+            write!(text, "; stack from instruction {from}: {stack}")?;
         }
-        (_, Some((_, coming))) => {
-            let coming = StackOf(names, coming.as_slice());
-            write!(text, "; stack behind it: {coming}")?;
+        (_, Some(incoming)) => {
+            let stack = StackOf(names, incoming.stack.as_slice());
+            write!(text, "; stack behind it: {stack}")?;
         }
         _ => {}
     }
     Ok(text)
 }
 
-/// What is told where the search was followed to where it stops.
-fn told_halt(
+/// What is told of a method with instructions.
+fn told_instruction(
     alloc: Global,
     source: &[u8],
     found: &Found,
     scene: Scene,
     operations: &[Operation],
-    halt: &Halt,
+    failure: &FailurePoint,
 ) -> Result<Told, NoMemory> {
-    let place = found.line(halt.instruction, operations.len());
+    let place = found.line(failure.instruction, operations.len());
     let offset = offset_of(alloc, source, place)?;
     let token = token_at(source, offset.unwrap_or(source.len()));
     let refusal = Refusal {
         scene,
-        reason: halt.reason,
-        operation: operations.get(halt.instruction),
+        reason: failure.reason,
+        operation: operations.get(failure.instruction),
         name: str::from_utf8(token).unwrap_or("?"),
     };
     Ok(Told {
         offset,
         sentence: refusal.to_string(alloc)?,
-        stacks: told_stacks(alloc, found, &refusal, halt)?,
-    })
-}
-
-/// What is told in the verifier's own words, where the search was not followed.
-fn told_words(
-    alloc: Global,
-    source: &[u8],
-    found: &Found,
-    lines: usize,
-    untyped: Untyped,
-) -> Result<Told, NoMemory> {
-    let class = found.class_name;
-    let method = found.name();
-    let place = untyped.place;
-    Ok(Told {
-        offset: offset_of(alloc, source, found.line(place, lines))?,
-        sentence: String::from_str(alloc, untyped.explanation)?,
-        stacks: format!(in alloc; "method {class}::{method}, instruction {place}")?,
+        stacks: told_stacks(alloc, found, &refusal, failure)?,
     })
 }
 
@@ -247,35 +192,7 @@ fn offset_of(alloc: Global, source: &[u8], place: Place) -> Result<Option<usize>
     }
 }
 
-/// What is told of a method with code.
-fn told_body(
-    alloc: Global,
-    source: &[u8],
-    scene: Scene,
-    found: &Found,
-    body: &Body,
-    untyped: Untyped,
-) -> Result<Told, NoMemory> {
-    let operations = body.operations.as_slice();
-    if operations.is_empty() {
-        return told_empty(alloc, source, found);
-    }
-    let halt = halt_of(
-        alloc,
-        scene.program,
-        scene.arguments,
-        scene.return_type,
-        body,
-    )?;
-    match halt {
-        Some(halt) if halt.place == untyped.place && halt.reason == untyped.reason => {
-            told_halt(alloc, source, found, scene, operations, &halt)
-        }
-        _ => told_words(alloc, source, found, operations.len(), untyped),
-    }
-}
-
-/// What is told of a method of the class of a number.
+/// What is told of a method of the class of a number. None where the program has no code for it.
 fn told_method(
     alloc: Global,
     source: &[u8],
@@ -283,16 +200,19 @@ fn told_method(
     names: &[ClassKey],
     class: usize,
     found: &Found,
-    untyped: Untyped,
-) -> Result<Told, NoMemory> {
+    failure: &FailurePoint,
+) -> Result<Option<Told>, NoMemory> {
     let place = found.place;
-    let number = MemberNumber { class, place };
-    let Some(method) = program.method(number) else {
-        return told_words(alloc, source, found, 0, untyped);
+    let Some(method) = program.method(MemberNumber { class, place }) else {
+        return Ok(None);
     };
     let Some(body) = body_of(&method.kind) else {
-        return told_words(alloc, source, found, 0, untyped);
+        return Ok(None);
     };
+    let operations = body.operations.as_slice();
+    if operations.is_empty() {
+        return Ok(Some(told_empty(alloc, source, found)?));
+    }
     let arguments = arguments_of(alloc, class, method)?;
     let scene = Scene {
         program,
@@ -302,35 +222,35 @@ fn told_method(
         return_type: method.return_type,
         max_stack: body.max_stack,
     };
-    told_body(alloc, source, scene, found, body, untyped)
+    let told = told_instruction(alloc, source, found, scene, operations, failure)?;
+    Ok(Some(told))
 }
 
-/// Why a method of a program, which was read from a source, has no typing (number 301), by what the verifier told. The search for a typing
-/// is followed once more, in its own order; where it stops elsewhere, the verifier's words stand without stacks. None where the program
-/// has no method of the number. Fails for want of memory alone.
+/// Why a method of a program, which was read from a source, has no typing (number 301), by the method's number in the source, from 0, and
+/// what the verifier tells of its failure. None where the program has no method of the number with code. Fails for want of memory alone.
 pub fn told_typing(
     alloc: Global,
     source: &[u8],
     program: &Program,
-    untyped: Untyped,
+    method: usize,
+    failure: &FailurePoint,
 ) -> Result<Option<Told>, NoMemory> {
     let tree = program.tree();
     let table = BuiltInClass::all(alloc)?;
     let keys = class_keys(alloc, table.as_slice(), tree)?;
-    let Some(found) = method_of_number(tree, untyped.method) else {
+    let Some(found) = method_of_number(tree, method) else {
         return Ok(None);
     };
     let Some(class) = found.class.checked_add(table.as_slice().len()) else {
         return Ok(None);
     };
-    let told = told_method(
+    told_method(
         alloc,
         source,
         program,
         keys.as_slice(),
         class,
         &found,
-        untyped,
-    )?;
-    Ok(Some(told))
+        failure,
+    )
 }

@@ -7,16 +7,14 @@ use Rattle.typing_search.proofs.SearchLaws.{still_whole}
 use Rattle.typing_search.proofs.VisitLaws.{on_the_way, never_begun, stopped, taken, settled_all, work_taken}
 use Rattle.typing_search.proofs.search.least_typing.Goals as goal
 
-pub returns-in_err-raise : goal.returns-in_err-raise
-returns-in_err-raise c =
-    let p = err_from_is_err_and c.from_residual-in_err-raise.result c.from_residual-in_err-raise.ensures.1 in
-    rw (p.1, p.2) (λ code of. never_begun c.args.method.now c.args.operations.now (pos c.args.most) code of c.in_ok-search.search c.in_ok-search.ensures.rows Unit c.in_err-raise.field-0.0 c.raise.new.self
-    (subst (λ (v : List StackEntry). IsRise {T = Unit} c.args.method.now.types.now (pos c.args.most) v (0 ∷ []) c.in_ok-search.search c.raise.new.self (Err c.in_err-raise.field-0.0)) c.as_slice.ensures c.in_err-raise.ensures))
+pub returns-in-Err : goal.returns-in-Err
+returns-in-Err c = λ code of. never_begun c.args.method.now c.args.operations.now (pos c.args.most) code of c.in_ok-search.search c.in_ok-search.ensures.rows Unit c.in-Err.error c.not_begun.result c.raise.new.self
+    (subst (λ (v : List StackEntry). IsRise {T = Unit} c.args.method.now.types.now (pos c.args.most) v (0 ∷ []) c.in_ok-search.search c.raise.new.self (Err c.in-Err.error)) c.as_slice.ensures c.in-Err.ensures) c.not_begun.ensures
 
 pub loop-place-init : goal.loop-place-init
 loop-place-init c =
     let h : IsRisen c.args.method.now.types.now (pos c.args.most) [] (0 ∷ []) c.in_ok-search.search c.raise.new.self =
-    subst (λ (v : List StackEntry). IsRisen c.args.method.now.types.now (pos c.args.most) v (0 ∷ []) c.in_ok-search.search c.raise.new.self) c.as_slice.ensures c.in_ok-raise.ensures in
+    subst (λ (v : List StackEntry). IsRisen c.args.method.now.types.now (pos c.args.most) v (0 ∷ []) c.in_ok-search.search c.raise.new.self) c.as_slice.ensures c.in-Ok.ensures in
     record {
       whole = still_whole c.args.method.now.types.now (pos c.args.most) [] (0 ∷ []) c.in_ok-search.search c.raise.new.self c.in_ok-search.ensures.whole h;
       found = λ code of. on_the_way c.args.method.now c.args.operations.now (pos c.args.most) code of c.in_ok-search.search c.in_ok-search.ensures.rows c.raise.new.self h;

@@ -3,13 +3,13 @@ use Rattle.cil_model.specs.declared.trees.Line.{Line}
 use Rattle.resolved_code.specs.Resolved.{AllAlike, IsOperation}
 use Rattle.resolved_code.specs.declared.operations.Operation.{Operation}
 use Rattle.typing_search.specs.Rises.{natural}
-use Rattle.typing_search.proofs.VisitLaws.{natural_is, none_is_low}
+use Rattle.typing_search.proofs.VisitLaws.{natural_is, none_is_low, has_no_typing}
 use Rattle.typing_search.proofs.search.typing_of_body.Goals as goal
 
 pub returns-in_default : goal.returns-in_default
 returns-in_default c =
     let negative : natural c.args.body.now.max_stack ≡ None = sym (ap natural (search rules)) ∙ (sym c.most_values.ensures ∙ c.in_default.is) in
-    λ code is locals. none_is_low c.args.method.now.types.now _ _ code c.args.body.now.max_stack is.max_stack negative
+    λ code is locals. has_no_typing c.args.method.now.types.now _ _ code c.without_stacks.result (none_is_low c.args.method.now.types.now _ _ code c.args.body.now.max_stack is.max_stack negative)
 
 pub returns : goal.returns
 returns c =
