@@ -209,7 +209,7 @@ fn program<'a>(alloc: Global) -> Command<'a>
     ensures { app_of result ≡ with_required_subcommand (new_app (codes "cilvm")) }
 {
     Command::new(alloc, "cilvm")
-        .about("A machine that runs CIL threads while a collector copies their heap")
+        .about("Checks CIL programs, and runs their threads by a schedule of steps")
         .after_help(
             "'cilvm COMMAND --help' says what a command takes.\n\nExample, which prints 5:\n  cilvm run examples/add.il --schedule 's0*5'",
         )
