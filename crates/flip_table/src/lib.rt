@@ -6,5 +6,5 @@ mod slot_table;
 #[cfg(test)]
 mod tests;
 
-pub use crate::{Copier, FlipTable, Writer};
+pub use flip_table::{Copier, FlipTable, Writer};
 pub use slot_table::{CopierView, Plan, PlanView, WriterView};

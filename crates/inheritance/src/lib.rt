@@ -9,4 +9,4 @@ mod tours;
 
 pub use changes::Declared;
 pub use forests::Forest;
-pub use crate::{Endless, Inheritance};
+pub use inheritance::{Endless, Inheritance};
