@@ -22,29 +22,6 @@ alike_behind R (x ∷ xs) (y ∷ ys) more others h k = (h.0, alike_behind R xs y
 alike_behind R [] (y ∷ ys) more others h k = absurd h
 alike_behind R (x ∷ xs) [] more others h k = absurd h
 
-pub alike_length : {X Y : Type 0} (R : X → Y → Type 0) (xs : List X) (ys : List Y) → AllAlike R xs ys → length xs ≡ length ys
-alike_length R [] [] h = refl
-alike_length R (x ∷ xs) (y ∷ ys) h = ap suc (alike_length R xs ys h.1)
-alike_length R [] (y ∷ ys) h = absurd h
-alike_length R (x ∷ xs) [] h = absurd h
-
--- the item that stands in the relation to one of the other list
-pub record AlikeTo {X Y : Type 0} (R : X → Y → Type 0) (xs : List X) (n : ℕ) (y : Y) : Type 0 where
-  pub item : X
-  pub there : slice_get xs n ≡ Some item
-  pub alike : R item y
-
-pub alike_to : {X Y : Type 0} (R : X → Y → Type 0) (xs : List X) (ys : List Y) (n : ℕ) (y : Y) → AllAlike R xs ys → slice_get ys n ≡ Some y → AlikeTo R xs n y
-alike_to R [] [] n y h e = absurd (none_is_some y e)
-alike_to R (x ∷ xs) (z ∷ zs) zero y h e =
-    let same : z ≡ y = cc in
-    record { item = x; there = refl; alike = subst (R x) same h.0 }
-alike_to R (x ∷ xs) (z ∷ zs) (suc n) y h e =
-    let further : AlikeTo R xs n y = alike_to R xs zs n y h.1 e in
-    record { item = further.item; there = further.there; alike = further.alike }
-alike_to R [] (z ∷ zs) n y h e = absurd h
-alike_to R (x ∷ xs) [] n y h e = absurd h
-
 -- the first items of a list, with one more
 pub one_more : {X : Type 0} (xs : List X) (i : ℕ) (x : X) → slice_get xs i ≡ Some x → take (i + 1) xs ≡ take i xs ++ x ∷ []
 one_more xs i x at = take_more xs i x (slice_get_within xs i x at) ∙ ap (λ z. take i xs ++ z ∷ []) (get_or_from_slice_get xs i x x at)

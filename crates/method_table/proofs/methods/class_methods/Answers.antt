@@ -7,7 +7,8 @@ use Rattle.resolved_code.specs.Resolved.{AllAlike, IsResolvedMethod}
 use Rattle.method_table.specs.declared.methods.TableMethod.{TableMethod}
 use Rattle.method_table.specs.AllMethods.{owned_methods}
 use Rattle.method_table.specs.Prepared.{IsTableMethod}
-use Rattle.method_table.proofs.FlatLaws.{AlikeTo, alike_to, alike_more, alike_length, owned_count, owned_at, numbered_at}
+use Rattle.resolved_code.proofs.AlikeLaws.{AlikeTo, alike_to, alike_length}
+use Rattle.method_table.proofs.FlatLaws.{alike_more, owned_count, owned_at, numbered_at}
 use Rattle.method_table.proofs.methods.class_methods.Goals as goal
 
 pub loop-place-preserved : goal.loop-place-preserved

@@ -13,7 +13,8 @@ use Rattle.resolved_code.specs.Resolved.{AllAlike, IsResolvedMethod, IsResolvedC
 use Rattle.method_table.specs.declared.methods.TableMethod.{TableMethod}
 use Rattle.method_table.specs.AllMethods.{owned_methods}
 use Rattle.method_table.specs.Prepared.{IsTableMethod}
-use Rattle.method_table.proofs.FlatLaws.{AlikeTo, alike_to, alike_behind, alike_length, classes_more}
+use Rattle.resolved_code.proofs.AlikeLaws.{AlikeTo, alike_to, alike_length}
+use Rattle.method_table.proofs.FlatLaws.{alike_behind, classes_more}
 use Rattle.method_table.proofs.table.all_methods.Goals as goal
 
 abbrev IsClass : Tree → ClassName × Declaration → ResolvedClass → Type 0

@@ -3,7 +3,7 @@ use Rattle.name_tables.specs.Numbers.{declarations}
 use Rattle.resolved_code.specs.Resolved.{AllAlike}
 use Rattle.method_table.specs.AllMethods.{all_methods}
 use Rattle.method_table.specs.Prepared.{IsTableMethod}
-use Rattle.method_table.proofs.FlatLaws.{alike_length}
+use Rattle.resolved_code.proofs.AlikeLaws.{alike_length}
 use Rattle.method_table.proofs.ResolvedLaws.{first_alike}
 use Rattle.method_table.proofs.table.MethodTable.new.Goals as goal
 
