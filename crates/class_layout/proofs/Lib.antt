@@ -7,3 +7,5 @@ pub mod NumberedLaws
 pub mod KindLaws
 pub mod SlotLaws
 pub mod TargetLaws
+pub mod ResolvedLaws
+pub mod RoleLaws

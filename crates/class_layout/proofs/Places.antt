@@ -1,14 +1,13 @@
 -- Places in lists.
 use Rattle.std.proofs.Common.{◌≡◌, ◌<◌, ◌+◌, ℕ, zero, suc, Bool, false, cond, IsTrue, List, [], ◌∷◌, ◌++◌, length, map, get_or, take, slice_get, Option, Some, None, option_map, refl, sym, ap, ◌∙◌, append_assoc}
-use Rattle.std.proofs.Math.Seq.{take-length}
 use Rattle.std.specs.Prelude.{filter_map, flat_map}
 use Rattle.std.specs.List.{list_any, position_from, cons_option}
-use Rattle.std.proofs.lemmas.List.{take_more, append-nil, length-map}
+use Rattle.std.proofs.lemmas.List.{take_more, append-nil}
 use Rattle.std.proofs.lemmas.Grind.{flat_map-append}
 use Rattle.std.proofs.lemmas.Bool.{or_parts}
 use Rattle.cil_model.specs.Legality.{has_repeat}
 use Rattle.name_tables.proofs.NumberLaws.{none_is_some, position_from-suc}
-use Rattle.name_tables.proofs.Lists.{map_of_map, map-take_more, filter_map-take_more}
+use Rattle.name_tables.proofs.Lists.{map-take_more, filter_map-take_more}
 
 -- two lists with the same element at each place
 pub same_elements : {X : Type 0} (xs ys : List X) → ((j : ℕ) → slice_get xs j ≡ slice_get ys j) → xs ≡ ys
@@ -40,12 +39,6 @@ first_place same itself symm (y ∷ ys) (suc n) x h e =
     let apart : same x y ≡ false = symm x y ∙ passes_not (same y) ys n x (or_parts _ _ h).0 e in
     ap (λ b. cond b (Some 0) (position_from (same x) 1 ys)) apart ∙ position_from-suc (same x) 0 ys ∙ ap (option_map suc) (first_place same itself symm ys n x (or_parts _ _ h).1 e)
 
--- what a loop over keys has pushed, when it has seen all of them
-pub all_pushed : {K E C Y : Type 0} (key : K → C) (name : E → C) (answer : C → Y) (pushed : List Y) (ks : List K) (es : List E) (n : ℕ) → n ≡ length ks →
-    pushed ≡ map (λ k. answer (key k)) (take n ks) → map key ks ≡ map name es → pushed ≡ map (λ e. answer (name e)) es
-all_pushed key name answer pushed ks es n h e keys =
-    e ∙ ap (λ m. map (λ k. answer (key k)) (take m ks)) h ∙ ap (map (λ k. answer (key k))) (take-length ks) ∙ sym (map_of_map key answer ks) ∙ ap (map answer) keys ∙ map_of_map name answer es
-
 -- a loop that filters, where nothing or one more is pushed
 pub filter_skips : {X Y : Type 0} (h : X → Option Y) (xs : List X) (i : ℕ) (x : X) (ys : List Y) → i < length xs → x ≡ get_or xs i x → ys ≡ filter_map h (take i xs) → h x ≡ None → ys ≡ filter_map h (take (i + 1) xs)
 filter_skips h xs i x ys l e before none =
@@ -66,20 +59,8 @@ flat_takes f xs i d ys zs l before after =
     after ∙ ap (λ vs. vs ++ f (get_or xs i d)) before ∙ ap (λ vs. flat_map f (take i xs) ++ vs) (sym (append-nil (f (get_or xs i d)))) ∙
     sym (flat_map-append f (take i xs) (get_or xs i d ∷ [])) ∙ ap (flat_map f) (sym (take_more xs i d l))
 
--- lists with the same answers have one length
-pub same_length : {X Y Z : Type 0} (f : X → Z) (g : Y → Z) (xs : List X) (ys : List Y) → map f xs ≡ map g ys → length xs ≡ length ys
-same_length f g xs ys e = sym (length-map xs f) ∙ ap length e ∙ length-map ys g
-
 -- the same, behind a list that stands before
 pub flat_takes_after : {X Y : Type 0} (f : X → List Y) (xs : List X) (i : ℕ) (d : X) (first ys zs : List Y) → i < length xs → ys ≡ first ++ flat_map f (take i xs) → zs ≡ ys ++ f (get_or xs i d) → zs ≡ first ++ flat_map f (take (i + 1) xs)
 flat_takes_after f xs i d first ys zs l before after =
     after ∙ ap (λ vs. vs ++ f (get_or xs i d)) before ∙ append_assoc first (flat_map f (take i xs)) (f (get_or xs i d)) ∙
     ap (λ vs. first ++ vs) (flat_takes f xs i d (flat_map f (take i xs)) (flat_map f (take i xs) ++ f (get_or xs i d)) l refl refl)
-
-pub filter_map_of_map : {X Y Z : Type 0} (f : X → Y) (h : Y → Option Z) (xs : List X) → filter_map h (map f xs) ≡ filter_map (λ x. h (f x)) xs
-filter_map_of_map f h [] = refl
-filter_map_of_map f h (x ∷ xs) = ap (cons_option (h (f x))) (filter_map_of_map f h xs)
-
--- what a loop has filtered, when it has seen all items
-pub all_filtered : {X Y Z : Type 0} (h : Y → Option Z) (f : X → Y) (xs : List X) (i : ℕ) (zs : List Z) → i ≡ length xs → zs ≡ filter_map (λ x. h (f x)) (take i xs) → zs ≡ filter_map h (map f xs)
-all_filtered h f xs i zs seen e = e ∙ ap (λ n. filter_map (λ x. h (f x)) (take n xs)) seen ∙ ap (filter_map (λ x. h (f x))) (take-length xs) ∙ sym (filter_map_of_map f h xs)

@@ -26,7 +26,7 @@ use Rattle.metadata.proofs.SlotLaws.{IsTied, tied, same_slot}
 use Rattle.resolved_code.specs.Numbered.{class_name}
 use Rattle.class_layout.specs.ByClass.{by_class, interface_numbers}
 use Rattle.class_layout.specs.declared.targets.Targets.{Targets}
-use Rattle.class_layout.specs.Targets.{methods_named, chain_at, filler_over, filler_numbered, own_method, class_filler, is_lister, interface_filler, target_number, target_row, target_rows, targets_of, target_in}
+use Rattle.class_layout.specs.Targets.{chain_at, filler_over, filler_numbered, own_method, class_filler, is_lister, interface_filler, target_number, target_row, target_rows, targets_of, target_in}
 use Rattle.class_layout.proofs.ClassNumbers.{FoundAt, found_at, not_declared, among_numbers, number_of_place}
 use Rattle.class_layout.proofs.AncestorLaws.{answer_at, answer_of}
 
@@ -71,23 +71,6 @@ module _ (tree : Tree) where
   chain_known c n e = ap (λ o. option_map_or (λ (y : ClassName × Declaration). chain_numbers tree y.0) o []) (found_at tree c n e).2
 
   module _ (k : MethodIdentity) where
-    abbrev method_of : ClassName × Declaration → Option Method
-    method_of e = find (λ m. same_identity k (identity_of m)) e.1.methods
-
-    -- the method of a class, from the table of these
-    pub method_named : {X : Type 0} (now : X → Method) (found : List (Option X)) → map (option_map now) found ≡ methods_named tree k → (n : ℕ) → option_map now (unwrap_or (slice_get found n) None) ≡ method_found tree k n
-    method_named {X} now found are n =
-        by_entry (slice_get found n) ∙ sym (ap (λ o. unwrap_or o None) (slice_get-map (option_map now) found n)) ∙ ap (λ xs. unwrap_or (slice_get xs n) None) are ∙
-        ap (λ o. unwrap_or o None) (slice_get-map method_of (declarations tree) n) ∙ by_declared (slice_get (declarations tree) n)
-      where
-        by_entry : (o : Option (Option X)) → option_map now (unwrap_or o None) ≡ unwrap_or (option_map (option_map now) o) None
-        by_entry None = refl
-        by_entry (Some entry) = refl
-
-        by_declared : (o : Option (ClassName × Declaration)) → unwrap_or (option_map method_of o) None ≡ option_and_then method_of o
-        by_declared None = refl
-        by_declared (Some e) = refl
-
     abbrev numbers : List ClassName → List ℕ
     numbers = filter_map (class_number tree)
 

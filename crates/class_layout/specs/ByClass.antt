@@ -1,5 +1,5 @@
 -- Answers for each class, by the classes' numbers.
-use Rattle.std.specs.Prelude.{ℕ, Bool, false, List, [], ◌∷◌, map, filter_map, Option, option_and_then, slice_get, unwrap_or}
+use Rattle.std.specs.Prelude.{ℕ, zero, suc, Bool, false, List, [], ◌∷◌, map, filter_map, Option, Some, None, option_and_then, slice_get, unwrap_or}
 use Rattle.cil_model.specs.declared.types.ClassName.{ClassName}
 use Rattle.cil_model.specs.declared.trees.Tree.{Tree}
 use Rattle.cil_model.specs.Declarations.{Declaration}
@@ -30,3 +30,15 @@ with_interfaces listed n = n ∷ unwrap_or (slice_get listed n) []
 -- a flag of a table by rows
 abbrev pub marked_at : List (List Bool) → ℕ → ℕ → Bool
 marked_at rows n m = unwrap_or (slice_get (unwrap_or (slice_get rows n) []) m) false
+
+-- ---- chains by numbers alone
+
+-- the base of a number
+abbrev pub base_at : List (Option ℕ) → ℕ → Option ℕ
+base_at bases n = unwrap_or (slice_get bases n) None
+
+-- a number, its base, and so on, up to so many (I.8.9.9)
+abbrev pub chain_by : List (Option ℕ) → ℕ → Option ℕ → List ℕ
+chain_by bases zero n = []
+chain_by bases (suc k) None = []
+chain_by bases (suc k) (Some n) = n ∷ chain_by bases k (base_at bases n)

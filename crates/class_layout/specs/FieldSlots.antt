@@ -1,5 +1,5 @@
 -- Numbers of static fields and slots of instance fields (II.16; this profile).
-use Rattle.std.specs.Prelude.{ℕ, ◌+◌, ◌-◌, Bool, if◌then◌else◌, List, [], ◌∷◌, length, map}
+use Rattle.std.specs.Prelude.{ℕ, ◌+◌, ◌-◌, Bool, if◌then◌else◌, List, [], ◌∷◌, length, map, slice_get, unwrap_or}
 use Rattle.cil_model.specs.declared.types.ClassName.{ClassName}
 use Rattle.cil_model.specs.declared.trees.Tree.{Tree}
 use Rattle.cil_model.specs.declared.trees.Field.{Field}
@@ -7,6 +7,7 @@ use Rattle.cil_model.specs.Declarations.{Declaration}
 use Rattle.cil_model.specs.Chains.{fields_in}
 use Rattle.name_tables.specs.Numbers.{declarations}
 use Rattle.class_layout.specs.Kinds.{own_kinds, slot_kinds}
+use Rattle.class_layout.specs.declared.kinds.SlotKind.{SlotKind}
 
 -- the first free number behind a field that is counted, or one that is not
 abbrev pub number_after : Bool → ℕ → ℕ
@@ -35,3 +36,20 @@ field_rows tree next (c ∷ cs) = numbered_fields next (first_slot tree c) (fiel
 -- the names of all classes, by number
 abbrev pub class_names : Tree → List ClassName
 class_names tree = map (λ (e : ClassName × Declaration). e.0) (declarations tree)
+
+-- ---- the same, by whether each field is static
+
+-- the fields of one class in source order
+abbrev pub numbered_by_flag : ℕ → ℕ → List Bool → List ℕ
+numbered_by_flag next_static next_slot [] = []
+numbered_by_flag next_static next_slot (b ∷ bs) =
+    (if b then next_static else next_slot) ∷ numbered_by_flag (number_after b next_static) (if b then next_slot else next_slot + 1) bs
+
+-- the first free number behind the static ones
+abbrev pub statics_by_flag : ℕ → List Bool → ℕ
+statics_by_flag next [] = next
+statics_by_flag next (b ∷ bs) = statics_by_flag (number_after b next) bs
+
+-- the slot of the first instance field that a class itself declares, from the tables of all kinds and of those of its own fields
+abbrev pub slot_behind : List (List SlotKind) → List (List SlotKind) → ℕ → ℕ
+slot_behind kinds own n = length (unwrap_or (slice_get kinds n) []) - length (unwrap_or (slice_get own n) [])

@@ -1,6 +1,8 @@
 pub mod ByClass
 pub mod Tested
 pub mod Kinds
+pub mod NumberedKinds
 pub mod FieldSlots
+pub mod Roles
 pub mod Targets
 pub mod Laid

@@ -7,17 +7,13 @@ use Rattle.cil_model.specs.declared.trees.Tree.{Tree}
 use Rattle.cil_model.specs.declared.trees.Method.{Method}
 use Rattle.cil_model.specs.Declarations.{Declaration}
 use Rattle.cil_model.specs.Chains.{methods_in, is_interface, is_virtual}
-use Rattle.name_tables.specs.Sameness.{MethodIdentity, identity_of, same_identity, same_called, called_of}
+use Rattle.name_tables.specs.Sameness.{MethodIdentity, identity_of, same_called, called_of}
 use Rattle.name_tables.specs.Numbers.{declarations, class_number, chain_numbers, place_in, method_found}
 use Rattle.name_tables.specs.declared.lookups.MemberNumber.{MemberNumber}
 use Rattle.metadata.specs.Found.{is_virtual_found, slot_numbered}
 use Rattle.class_layout.specs.ByClass.{by_class, interface_numbers}
 use Rattle.class_layout.specs.declared.targets.Targets.{Targets}
 use Rattle.class_layout.specs.declared.targets.Targets.TheVariants.{Itself, ByClass}
-
--- the first method of this name and signature of each class
-abbrev pub methods_named : Tree → MethodIdentity → List (Option Method)
-methods_named tree k = map (λ (e : ClassName × Declaration). find (λ m. same_identity k (identity_of m)) e.1.methods) (declarations tree)
 
 -- the numbers of the chain of a class, by its own
 abbrev pub chain_at : Tree → ℕ → List ℕ

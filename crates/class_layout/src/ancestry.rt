@@ -1,20 +1,19 @@
 // Bases, interfaces and assignability of classes, by their numbers (ECMA-335 I.8.7).
 
-ghost use Rattle.std.specs.Prelude.{◌≡◌, ◌<◌, ◌∷◌, ◌==◌, [], ℕ, IfOk, Some, map, length, filter_map, flat_map, slice_get, unwrap_or};
+ghost use Rattle.std.specs.Prelude.{◌≡◌, ◌<◌, ◌==◌, ℕ, IfOk, Some, map, length, flat_map, slice_get};
 ghost use Rattle.std.specs.List.{list_any};
 ghost use Rattle.cil_model.specs.declared.types.ClassName.{ClassName};
-ghost use Rattle.cil_model.specs.Legality.{IsLegal};
 ghost use Rattle.cil_model.specs.Chains.{is_interface};
-ghost use Rattle.name_tables.specs.Keys.{class_of_key};
-ghost use Rattle.name_tables.specs.Numbers.{class_number, declarations};
+ghost use Rattle.cil_model.specs.Declarations.{Declaration};
+ghost use Rattle.name_tables.specs.Numbers.{declarations};
 ghost use Rattle.resolved_code.specs.Numbered.{class_name};
-ghost use Rattle.class_layout.specs.ByClass.{by_class, base_number, interface_numbers, assignable_row, with_interfaces, marked_at};
+ghost use Rattle.resolved_code.specs.Resolved.{AreResolved};
+ghost use Rattle.class_layout.specs.ByClass.{by_class, base_number, assignable_row, with_interfaces, marked_at};
 
+use crate::classes::Classes;
 use crate::rows::{entry_at, flag_at, row_at};
 use cil_model::memory::NoMemory;
-use cil_model::types::ClassName;
-use name_tables::keys::ClassKey;
-use name_tables::lookups::NameTables;
+use resolved_code::classes::ResolvedClass;
 use std::alloc::Global;
 
 /// The base of each class, whether it is an interface, and whether it is assignable to each class.
@@ -25,92 +24,34 @@ pub struct Ancestry {
     pub rows: Vec<Vec<bool>>,
 }
 
-/// The number of the base that a class names.
-fn base_of(names: &NameTables, class: ClassKey) -> Option<usize>
-    ensures { result ≡ base_number names.now.classes.tree.now (class_of_key class.entry) }
-{
-    let declared = names.classes.declared(class)?;
-    let base = declared.base?;
-    names.classes.number(ClassKey::of(base))
-}
-
-fn bases(alloc: Global, names: &NameTables) -> Result<Vec<Option<usize>>, NoMemory>
-    ensures { IfOk result (λ v. v.items ≡ by_class names.now.classes.tree.now (base_number names.now.classes.tree.now)) }
+fn bases(alloc: Global, classes: &[ResolvedClass]) -> Result<Vec<Option<usize>>, NoMemory>
+    ensures { IfOk result (λ v. v.items ≡ map (λ r. r.base) classes.now) }
 {
     let mut bases = Vec::new(alloc);
-    for class in names.classes.names() {
-        bases.push(base_of(names, *class))?;
+    for class in classes {
+        bases.push(class.base)?;
     }
     Ok(bases)
 }
 
-/// Whether a class is an interface.
-pub fn is_interface(names: &NameTables, class: ClassKey) -> bool
-    ensures { result ≡ is_interface names.now.classes.tree.now (class_of_key class.entry) }
-{
-    match names.classes.declared(class) {
-        None => false,
-        Some(declared) => declared.is_interface,
-    }
-}
-
-fn interfaces(alloc: Global, names: &NameTables) -> Result<Vec<bool>, NoMemory>
-    ensures { IfOk result (λ v. v.items ≡ by_class names.now.classes.tree.now (is_interface names.now.classes.tree.now)) }
+fn interfaces(alloc: Global, classes: &[ResolvedClass]) -> Result<Vec<bool>, NoMemory>
+    ensures { IfOk result (λ v. v.items ≡ map (λ r. r.is_interface) classes.now) }
 {
     let mut interfaces = Vec::new(alloc);
-    for class in names.classes.names() {
-        interfaces.push(is_interface(names, *class))?;
+    for class in classes {
+        interfaces.push(class.is_interface)?;
     }
     Ok(interfaces)
 }
 
-/// The numbers of the classes with these names.
-fn numbers_of(
-    alloc: Global,
-    names: &NameTables,
-    classes: &[ClassName],
-) -> Result<Vec<usize>, NoMemory>
-    ensures { IfOk result (λ v. v.items ≡ filter_map (class_number names.now.classes.tree.now) classes.now) }
-{
-    let mut numbers = Vec::new(alloc);
-    for class in classes {
-        let Some(number) = names.classes.number(ClassKey::of(class)) else {
-            continue;
-        };
-        numbers.push(number)?;
-    }
-    Ok(numbers)
-}
-
-/// The numbers of the interfaces that a class lists.
-fn listed(alloc: Global, names: &NameTables, class: ClassKey) -> Result<Vec<usize>, NoMemory>
-    ensures { IfOk result (λ v. v.items ≡ interface_numbers names.now.classes.tree.now (class_of_key class.entry)) }
-{
-    match names.classes.declared(class) {
-        None => Ok(Vec::new(alloc)),
-        Some(declared) => numbers_of(alloc, names, declared.interfaces),
-    }
-}
-
-/// The numbers of the interfaces that each class lists.
-pub fn all_listed(alloc: Global, names: &NameTables) -> Result<Vec<Vec<usize>>, NoMemory>
-    ensures { IfOk result (λ v. map (λ row. row.items) v.items ≡ by_class names.now.classes.tree.now (interface_numbers names.now.classes.tree.now)) }
-{
-    let mut rows = Vec::new(alloc);
-    for class in names.classes.names() {
-        rows.push(listed(alloc, names, *class)?)?;
-    }
-    Ok(rows)
-}
-
 /// The classes of a chain, each with the interfaces that it lists.
-fn ancestors(alloc: Global, listed: &[Vec<usize>], chain: &[usize]) -> Result<Vec<usize>, NoMemory>
-    ensures { IfOk result (λ v. v.items ≡ flat_map (with_interfaces (map (λ row. row.items) listed.now)) chain.now) }
+fn ancestors(alloc: Global, classes: &Classes, chain: &[usize]) -> Result<Vec<usize>, NoMemory>
+    ensures { IfOk result (λ v. v.items ≡ flat_map (with_interfaces (map (λ r. r.interfaces) classes.now.all.now)) chain.now) }
 {
     let mut numbers = Vec::new(alloc);
     for class in chain {
         numbers.push(*class)?;
-        numbers.extend_from_slice(row_at(listed, *class))?;
+        numbers.extend_from_slice(classes.interfaces(*class))?;
     }
     Ok(numbers)
 }
@@ -128,36 +69,20 @@ fn marks(alloc: Global, count: usize, numbers: &[usize]) -> Result<Vec<bool>, No
     Ok(marks)
 }
 
-/// How many classes there are.
-fn class_count(names: &NameTables) -> usize
-    ensures { result ≡ length (declarations names.now.classes.tree.now) }
-{
-    names.classes.names().len()
-}
-
 /// Which classes a class is assignable to.
-fn row(
-    alloc: Global,
-    names: &NameTables,
-    listed: &[Vec<usize>],
-    class: ClassKey,
-) -> Result<Vec<bool>, NoMemory>
-    requires legal { IsLegal names.now.classes.tree.now }
-    requires listed { map (λ row. row.items) listed.now ≡ by_class names.now.classes.tree.now (interface_numbers names.now.classes.tree.now) }
-    ensures { IfOk result (λ v. v.items ≡ assignable_row names.now.classes.tree.now (class_of_key class.entry)) }
+fn row(alloc: Global, classes: &Classes, class: usize) -> Result<Vec<bool>, NoMemory>
+    ensures { IfOk result (λ v. (e : ClassName × Declaration) → slice_get (declarations classes.now.program.now) class ≡ Some e → v.items ≡ assignable_row classes.now.program.now e.0) }
 {
-    let ancestors = ancestors(alloc, listed, names.chain(class))?;
-    marks(alloc, class_count(names), ancestors.as_slice())
+    let ancestors = ancestors(alloc, classes, classes.chain(class))?;
+    marks(alloc, classes.count(), ancestors.as_slice())
 }
 
-fn rows(alloc: Global, names: &NameTables) -> Result<Vec<Vec<bool>>, NoMemory>
-    requires legal { IsLegal names.now.classes.tree.now }
-    ensures { IfOk result (λ v. map (λ row. row.items) v.items ≡ by_class names.now.classes.tree.now (assignable_row names.now.classes.tree.now)) }
+fn rows(alloc: Global, classes: &Classes) -> Result<Vec<Vec<bool>>, NoMemory>
+    ensures { IfOk result (λ v. map (λ row. row.items) v.items ≡ by_class classes.now.program.now (assignable_row classes.now.program.now)) }
 {
-    let listed = all_listed(alloc, names)?;
     let mut rows = Vec::new(alloc);
-    for class in names.classes.names() {
-        rows.push(row(alloc, names, listed.as_slice(), *class)?)?;
+    for class in 0..classes.count() {
+        rows.push(row(alloc, classes, class)?)?;
     }
     Ok(rows)
 }
@@ -167,14 +92,14 @@ impl Ancestry {
     ghost use Rattle.cil_model.specs.declared.trees.Tree.{Tree};
 
     /// Fails for want of memory alone.
-    pub fn new(alloc: Global, names: &NameTables) -> Result<Self, NoMemory>
-        requires { IsLegal names.now.classes.tree.now }
-        ensures { IfOk result (λ table. IsAncestry names.now.classes.tree.now table) }
+    pub fn new(alloc: Global, classes: &Classes) -> Result<Self, NoMemory>
+        requires { AreResolved classes.now.program.now classes.now.all.now }
+        ensures { IfOk result (λ table. IsAncestry classes.now.program.now table) }
     {
         Ok(Ancestry {
-            bases: bases(alloc, names)?,
-            interfaces: interfaces(alloc, names)?,
-            rows: rows(alloc, names)?,
+            bases: bases(alloc, classes.all)?,
+            interfaces: interfaces(alloc, classes.all)?,
+            rows: rows(alloc, classes)?,
         })
     }
 

@@ -1,53 +1,54 @@
 // Slots of fields, and what each slot of an object holds (ECMA-335 II.16; the hidden field is this profile's).
 
-ghost use Rattle.std.specs.Prelude.{◌≡◌, ◌==◌, IfOk, Some, false, map, filter_map, reverse, slice_get};
+ghost use Rattle.std.specs.Prelude.{◌≡◌, ◌==◌, IfOk, false, map, filter_map, reverse, slice_get};
 ghost use Rattle.std.specs.List.{list_any};
 ghost use Rattle.std.specs.Option.{option_map_or};
-ghost use Rattle.name_tables.specs.Keys.{class_of_key};
 ghost use Rattle.class_layout.specs.ByClass.{by_class};
-ghost use Rattle.class_layout.specs.Kinds.{kind_of, instance_kind, own_kinds, hidden_kinds, chain_kinds, slot_kinds, is_reference_kind};
+ghost use Rattle.class_layout.specs.Kinds.{own_kinds, hidden_kinds, chain_kinds, slot_kinds, is_reference_kind};
+ghost use Rattle.class_layout.specs.NumberedKinds.{kind_of_numbered, numbered_kind};
 
+use crate::classes::Classes;
 use crate::kinds::SlotKind;
 use crate::rows::row_at;
 use cil_model::memory::NoMemory;
-use cil_model::trees::Field;
-use cil_model::types::{DeclaredType, Element};
-use name_tables::keys::ClassKey;
-use name_tables::lookups::NameTables;
+use resolved_code::classes::{ResolvedClass, ResolvedField};
+use resolved_code::types::{NumberedElement, NumberedType};
 use std::alloc::Global;
 
 /// The number of `Cilvm.Thread` among all classes.
 const THREAD: usize = 4;
 
-fn kind_of(field_type: &DeclaredType) -> SlotKind
-    ensures { result ≡ kind_of (Some field_type.now) }
+fn kind_of(field_type: NumberedType) -> SlotKind
+    ensures { result ≡ kind_of_numbered field_type }
 {
     if field_type.brackets > 0 {
         return SlotKind::Reference;
     }
-    match &field_type.element {
-        Element::Int32 => SlotKind::Int32,
-        Element::Int64 => SlotKind::Int64,
-        Element::Object | Element::String | Element::Class(_) => SlotKind::Reference,
+    match field_type.element {
+        NumberedElement::Int32 => SlotKind::Int32,
+        NumberedElement::Int64 => SlotKind::Int64,
+        NumberedElement::Object | NumberedElement::String | NumberedElement::Class(_) => {
+            SlotKind::Reference
+        }
     }
 }
 
-fn instance_kind(field: &Field) -> Option<SlotKind>
-    ensures { result ≡ instance_kind field.now }
+fn instance_kind(field: ResolvedField) -> Option<SlotKind>
+    ensures { result ≡ numbered_kind field }
 {
     if field.is_static {
         None
     } else {
-        Some(kind_of(&field.field_type))
+        Some(kind_of(field.field_type))
     }
 }
 
-fn instance_kinds(alloc: Global, fields: &[&Field]) -> Result<Vec<SlotKind>, NoMemory>
-    ensures { IfOk result (λ v. v.items ≡ filter_map instance_kind (map (λ f. f.now) fields.now)) }
+fn instance_kinds(alloc: Global, fields: &[ResolvedField]) -> Result<Vec<SlotKind>, NoMemory>
+    ensures { IfOk result (λ v. v.items ≡ filter_map numbered_kind fields.now) }
 {
     let mut kinds = Vec::new(alloc);
     for field in fields {
-        let Some(kind) = instance_kind(field) else {
+        let Some(kind) = instance_kind(*field) else {
             continue;
         };
         kinds.push(kind)?;
@@ -55,27 +56,16 @@ fn instance_kinds(alloc: Global, fields: &[&Field]) -> Result<Vec<SlotKind>, NoM
     Ok(kinds)
 }
 
-/// What the instance fields that a class itself declares hold.
-pub fn own_kinds(
-    alloc: Global,
-    names: &NameTables,
-    class: ClassKey,
-) -> Result<Vec<SlotKind>, NoMemory>
-    ensures { IfOk result (λ v. v.items ≡ own_kinds names.now.classes.tree.now (class_of_key class.entry)) }
-{
-    match names.classes.declared(class) {
-        None => Ok(Vec::new(alloc)),
-        Some(declared) => instance_kinds(alloc, declared.fields.as_slice()),
-    }
-}
-
 /// What the instance fields that each class itself declares hold.
-pub fn all_own_kinds(alloc: Global, names: &NameTables) -> Result<Vec<Vec<SlotKind>>, NoMemory>
-    ensures { IfOk result (λ v. map (λ row. row.items) v.items ≡ by_class names.now.classes.tree.now (own_kinds names.now.classes.tree.now)) }
+pub fn all_own_kinds(
+    alloc: Global,
+    classes: &[ResolvedClass],
+) -> Result<Vec<Vec<SlotKind>>, NoMemory>
+    ensures { IfOk result (λ v. map (λ row. row.items) v.items ≡ map (λ r. filter_map numbered_kind r.fields) classes.now) }
 {
     let mut rows = Vec::new(alloc);
-    for class in names.classes.names() {
-        rows.push(own_kinds(alloc, names, *class)?)?;
+    for class in classes {
+        rows.push(instance_kinds(alloc, class.fields.as_slice())?)?;
     }
     Ok(rows)
 }
@@ -124,27 +114,18 @@ fn chain_kinds(
     Ok(kinds)
 }
 
-/// What each slot of an object of a class holds.
-pub fn class_kinds(
-    alloc: Global,
-    names: &NameTables,
-    own: &[Vec<SlotKind>],
-    class: ClassKey,
-) -> Result<Vec<SlotKind>, NoMemory>
-    requires { map (λ row. row.items) own.now ≡ by_class names.now.classes.tree.now (own_kinds names.now.classes.tree.now) }
-    ensures { IfOk result (λ v. v.items ≡ slot_kinds names.now.classes.tree.now (class_of_key class.entry)) }
-{
-    chain_kinds(alloc, own, names.chain(class))
-}
-
 /// What each slot of an object of each class holds.
-pub fn all_kinds(alloc: Global, names: &NameTables) -> Result<Vec<Vec<SlotKind>>, NoMemory>
-    ensures { IfOk result (λ v. map (λ row. row.items) v.items ≡ by_class names.now.classes.tree.now (slot_kinds names.now.classes.tree.now)) }
+pub fn all_kinds(
+    alloc: Global,
+    classes: &Classes,
+    own: &[Vec<SlotKind>],
+) -> Result<Vec<Vec<SlotKind>>, NoMemory>
+    requires { map (λ row. row.items) own.now ≡ by_class classes.now.program.now (own_kinds classes.now.program.now) }
+    ensures { IfOk result (λ v. map (λ row. row.items) v.items ≡ by_class classes.now.program.now (slot_kinds classes.now.program.now)) }
 {
-    let own = all_own_kinds(alloc, names)?;
     let mut rows = Vec::new(alloc);
-    for class in names.classes.names() {
-        rows.push(class_kinds(alloc, names, own.as_slice(), *class)?)?;
+    for class in 0..classes.count() {
+        rows.push(chain_kinds(alloc, own, classes.chain(class))?)?;
     }
     Ok(rows)
 }

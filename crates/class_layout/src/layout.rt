@@ -11,19 +11,20 @@ ghost use Rattle.cil_model.specs.declared.trees.Field.{Field};
 ghost use Rattle.cil_model.specs.declared.trees.Method.{Method};
 ghost use Rattle.cil_model.specs.Slots.{target};
 ghost use Rattle.name_tables.specs.Numbers.{field_at, method_at};
-ghost use Rattle.cil_model.specs.Legality.{IsLegal};
 ghost use Rattle.resolved_code.specs.Numbered.{class_name, type_at};
+ghost use Rattle.resolved_code.specs.Resolved.{AreResolved};
 ghost use Rattle.class_layout.specs.ByClass.{base_number};
 
 use crate::ancestry::Ancestry;
-use crate::fields::{all_kinds, is_reference_at, kind_at};
+use crate::classes::Classes;
+use crate::fields::{all_kinds, all_own_kinds, is_reference_at, kind_at};
 use crate::kinds::SlotKind;
 use crate::rows::row_at;
 use crate::slots::{all_fields, number_at};
 use crate::targets::{Targets, all_targets, target_at};
 use crate::tested::is_tested;
 use cil_model::memory::NoMemory;
-use name_tables::lookups::{MemberNumber, NameTables};
+use name_tables::lookups::MemberNumber;
 use resolved_code::types::NumberedType;
 use std::alloc::Global;
 
@@ -41,16 +42,19 @@ impl Layout {
     ghost use Rattle.class_layout.specs.Laid.{IsLayout};
     ghost use Rattle.class_layout.specs.Kinds.{kind_of};
 
-    /// The layout of a legal tree. Fails for want of memory alone.
-    pub(crate) fn new(alloc: Global, names: &NameTables) -> Result<Self, NoMemory>
-        requires { IsLegal names.now.classes.tree.now }
-        ensures { IfOk result (λ layout. IsLayout names.now.classes.tree.now layout) }
+    /// The layout of a program. Fails for want of memory alone.
+    pub(crate) fn new(alloc: Global, classes: &Classes) -> Result<Self, NoMemory>
+        requires { AreResolved classes.now.program.now classes.now.all.now }
+        ensures { IfOk result (λ layout. IsLayout classes.now.program.now layout) }
     {
+        let own = all_own_kinds(alloc, classes.all)?;
+        let kinds = all_kinds(alloc, classes, own.as_slice())?;
+        let fields = all_fields(alloc, classes, own.as_slice(), kinds.as_slice())?;
         Ok(Layout {
-            ancestry: Ancestry::new(alloc, names)?,
-            kinds: all_kinds(alloc, names)?,
-            fields: all_fields(alloc, names)?,
-            targets: all_targets(alloc, names)?,
+            ancestry: Ancestry::new(alloc, classes)?,
+            kinds,
+            fields,
+            targets: all_targets(alloc, classes)?,
         })
     }
 

@@ -2,11 +2,13 @@
 #![tactic(auto)]
 
 mod ancestry;
+mod classes;
 mod fields;
 mod kinds;
 mod layout;
 mod namesakes;
 mod program;
+mod roles;
 mod rows;
 mod slots;
 mod targets;

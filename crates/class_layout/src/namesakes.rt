@@ -1,55 +1,36 @@
 // The methods of one name and signature, and the slots that they fill (ECMA-335 II.10.3 and II.12.2).
 
-ghost use Rattle.std.specs.Prelude.{◌≡◌, ◌==◌, IfOk, false, map, find, option_map};
+ghost use Rattle.std.specs.Prelude.{◌≡◌, ◌==◌, IfOk, false, map, find};
 ghost use Rattle.std.specs.Option.{option_map_or};
-ghost use Rattle.metadata.specs.Found.{is_virtual_found, slot_filled_at, slot_over, slot_numbered};
-ghost use Rattle.name_tables.specs.Keys.{method_of_key};
-ghost use Rattle.name_tables.specs.Numbers.{method_found};
-ghost use Rattle.class_layout.specs.Targets.{methods_named, chain_at, filler_over, filler_numbered, own_method, class_filler, is_lister, interface_filler};
+ghost use Rattle.class_layout.specs.Roles.{role_in, role_at, own_at, is_virtual_at, slot_by_role, slot_from, slot_along, filler_from, filler_along, filled_along, listed_filler};
+ghost use Rattle.class_layout.specs.Targets.{is_lister};
 
-use crate::rows::{entry_at, row_at};
+use crate::classes::Classes;
+use crate::roles::{Role, own_place, roles};
+use crate::rows::entry_at;
 use cil_model::memory::NoMemory;
-use cil_model::trees::Method;
-use name_tables::keys::{CallKey, MethodKey};
-use name_tables::kinds::{is_new_slot_method, is_virtual};
-use name_tables::lookups::{MemberNumber, NameTables};
+use name_tables::lookups::MemberNumber;
 use std::alloc::Global;
 
-/// The first method of one name and signature of each class, by the classes' numbers.
+/// The methods of one name and signature: the role of the first one of each class, by the classes' numbers.
 #[derive(Drop)]
-pub struct Namesakes<'n, 'a> {
-    pub names: &'n NameTables<'a>,
-    pub key: MethodKey<'n>,
-    found: Vec<Option<&'a Method>>,
-    ghost found_are: { map (option_map (λ m. m.now)) found.items ≡ methods_named names.now.classes.tree.now (method_of_key key) },
-}
-
-fn methods_named<'a>(
-    alloc: Global,
-    names: &NameTables<'a>,
-    key: MethodKey,
-) -> Result<Vec<Option<&'a Method>>, NoMemory>
-    ensures { IfOk result (λ v. map (option_map (λ m. m.now)) v.items ≡ methods_named names.now.classes.tree.now (method_of_key key.entry)) }
-{
-    let mut found = Vec::new(alloc);
-    for table in names.classes.all() {
-        found.push(table.method(key))?;
-    }
-    Ok(found)
+pub struct Namesakes<'c, 'p> {
+    pub classes: &'c Classes<'p>,
+    pub identity: usize,
+    roles: Vec<Option<Role>>,
+    ghost roles_are: { roles.items ≡ map (λ r. role_in identity r.methods) classes.now.all.now },
 }
 
 /// The slot that a method of a class fills over the one that it inherits. A slot is known by the number of the class that introduced
 /// it.
-fn slot_filled(class: usize, inherited: Option<usize>, method: &Method) -> Option<usize>
-    ensures { result ≡ slot_filled_at class inherited method.now }
+fn slot_filled(class: usize, inherited: Option<usize>, role: Role) -> Option<usize>
+    ensures { result ≡ slot_by_role class inherited role }
 {
-    if !is_virtual(&method.kind) {
-        return None;
+    match role {
+        Role::Plain => None,
+        Role::ReuseSlot => Some(inherited.unwrap_or(class)),
+        Role::NewSlot => Some(class),
     }
-    if is_new_slot_method(&method.kind) {
-        return Some(class);
-    }
-    Some(inherited.unwrap_or(class))
 }
 
 fn is_slot(slot: Option<usize>, wanted: usize) -> bool
@@ -61,70 +42,60 @@ fn is_slot(slot: Option<usize>, wanted: usize) -> bool
     }
 }
 
-fn is_lister(listed: &[Vec<usize>], interface: usize, class: usize) -> bool
-    ensures { result ≡ is_lister (map (λ row. row.items) listed.now) interface class }
+fn is_lister(classes: &Classes, interface: usize, class: usize) -> bool
+    ensures { result ≡ is_lister (map (λ r. r.interfaces) classes.now.all.now) interface class }
 {
-    row_at(listed, class).contains(&interface)
+    classes.interfaces(class).contains(&interface)
 }
 
 /// The nearest class of a chain that lists an interface itself.
-fn nearest_lister(listed: &[Vec<usize>], interface: usize, chain: &[usize]) -> Option<usize>
-    ensures { result ≡ find (is_lister (map (λ row. row.items) listed.now) interface) chain.now }
+fn nearest_lister(classes: &Classes, interface: usize, chain: &[usize]) -> Option<usize>
+    ensures { result ≡ find (is_lister (map (λ r. r.interfaces) classes.now.all.now) interface) chain.now }
 {
     for class in chain {
-        if is_lister(listed, interface, *class) {
+        if is_lister(classes, interface, *class) {
             return Some(*class);
         }
     }
     None
 }
 
-/// The numbers of the chain of a class, by its own.
-fn chain_at<'n>(names: &'n NameTables, class: usize) -> &'n [usize]
-    ensures { result.now ≡ chain_at names.now.classes.tree.now class }
-{
-    match names.classes.class(class) {
-        None => &[],
-        Some(declared) => names.chain(declared.name),
-    }
-}
-
-impl<'n, 'a> Namesakes<'n, 'a> {
+impl<'c, 'p> Namesakes<'c, 'p> {
     /// Fails for want of memory alone.
-    pub fn new(
-        alloc: Global,
-        names: &'n NameTables<'a>,
-        key: MethodKey<'n>,
-    ) -> Result<Self, NoMemory>
-        ensures tables { IfOk result (λ methods. methods.names.now ≡ names.now) }
-        ensures identity { IfOk result (λ methods. method_of_key methods.key ≡ method_of_key key.entry) }
+    pub fn new(alloc: Global, classes: &'c Classes<'p>, identity: usize) -> Result<Self, NoMemory>
+        ensures classes { IfOk result (λ methods. methods.classes.now ≡ classes.now) }
+        ensures identity { IfOk result (λ methods. methods.identity ≡ identity) }
     {
-        let found = methods_named(alloc, names, key)?;
-        Ok(Namesakes { names, key, found })
+        let roles = roles(alloc, classes.all, identity)?;
+        Ok(Namesakes {
+            classes,
+            identity,
+            roles,
+        })
     }
 
-    /// The method of a class.
-    fn method(&self, class: usize) -> Option<&'a Method>
-        ensures { option_map (λ m. m.now) result ≡ method_found self.now.names.now.classes.tree.now (method_of_key self.now.key) class }
+    /// The role of the method of a class.
+    fn role(&self, class: usize) -> Option<Role>
+        ensures { result ≡ role_at self.now.classes.now.all.now self.now.identity class }
     {
-        entry_at(self.found.as_slice(), class)
+        entry_at(self.roles.as_slice(), class)
     }
 
     // ---- slots along a chain
 
     /// The slot as seen from a class, where it is known as seen from its base.
     fn slot_over(&self, class: usize, inherited: Option<usize>) -> Option<usize>
-        ensures { result ≡ slot_over self.now.names.now.classes.tree.now (method_of_key self.now.key) class inherited }
+        ensures { result ≡ slot_from self.now.classes.now.all.now self.now.identity class inherited }
     {
-        match self.method(class) {
+        match self.role(class) {
             None => inherited,
-            Some(method) => slot_filled(class, inherited, method),
+            Some(role) => slot_filled(class, inherited, role),
         }
     }
 
     /// The slot that the nearest of these methods along a chain fills.
     fn slot_along(&self, chain: &[usize]) -> Option<usize>
-        ensures { result ≡ slot_numbered self.now.names.now.classes.tree.now (method_of_key self.now.key) chain.now }
+        ensures { result ≡ slot_along self.now.classes.now.all.now self.now.identity chain.now }
     {
         let mut slot = None;
         for place in (0..chain.len()).rev() {
@@ -136,12 +107,12 @@ impl<'n, 'a> Namesakes<'n, 'a> {
     /// The nearest class whose method fills a slot as seen from a class, where it is known as seen from its base. `fills` tells
     /// whether the class's own method fills that very slot.
     fn filler_over(&self, class: usize, fills: bool, below: Option<usize>) -> Option<usize>
-        ensures { result ≡ filler_over self.now.names.now.classes.tree.now (method_of_key self.now.key) class fills below }
+        ensures { result ≡ filler_from self.now.classes.now.all.now self.now.identity class fills below }
     {
         if !fills {
             return below;
         }
-        match self.method(class) {
+        match self.role(class) {
             None => below,
             Some(_) => Some(class),
         }
@@ -149,7 +120,7 @@ impl<'n, 'a> Namesakes<'n, 'a> {
 
     /// The nearest class of a chain whose method fills a slot.
     fn filler_along(&self, chain: &[usize], wanted: usize) -> Option<usize>
-        ensures { result ≡ filler_numbered self.now.names.now.classes.tree.now (method_of_key self.now.key) wanted chain.now }
+        ensures { result ≡ filler_along self.now.classes.now.all.now self.now.identity wanted chain.now }
     {
         let mut slot = None;
         let mut filler = None;
@@ -162,13 +133,10 @@ impl<'n, 'a> Namesakes<'n, 'a> {
 
     /// The method that a class declares for its objects.
     fn own_method(&self, class: usize) -> Option<MemberNumber>
-        ensures { result ≡ own_method self.now.names.now.classes.tree.now (method_of_key self.now.key) class }
+        ensures { result ≡ own_at self.now.classes.now.all.now self.now.identity class }
     {
-        let key = CallKey {
-            method: self.key,
-            is_static: false,
-        };
-        match self.names.classes.call(class, key) {
+        let resolved = self.classes.all.get(class)?;
+        match own_place(resolved.methods.as_slice(), self.identity) {
             None => None,
             Some(place) => Some(MemberNumber { class, place }),
         }
@@ -176,7 +144,7 @@ impl<'n, 'a> Namesakes<'n, 'a> {
 
     /// The method that fills along one chain the slot that is known along another.
     pub fn class_filler(&self, chain: &[usize], introduced: &[usize]) -> Option<MemberNumber>
-        ensures { result ≡ class_filler self.now.names.now.classes.tree.now (method_of_key self.now.key) chain.now introduced.now }
+        ensures { result ≡ filled_along self.now.classes.now.all.now self.now.identity chain.now introduced.now }
     {
         let slot = self.slot_along(introduced)?;
         let class = self.filler_along(chain, slot)?;
@@ -187,17 +155,17 @@ impl<'n, 'a> Namesakes<'n, 'a> {
 
     /// Whether the class of a number has a virtual one.
     fn has_virtual(&self, class: usize) -> bool
-        ensures { result ≡ is_virtual_found self.now.names.now.classes.tree.now (method_of_key self.now.key) class }
+        ensures { result ≡ is_virtual_at self.now.classes.now.all.now self.now.identity class }
     {
-        match self.method(class) {
-            None => false,
-            Some(method) => is_virtual(&method.kind),
+        match self.role(class) {
+            None | Some(Role::Plain) => false,
+            Some(Role::ReuseSlot | Role::NewSlot) => true,
         }
     }
 
     /// The nearest class of a chain with a virtual one.
     fn nearest_virtual(&self, chain: &[usize]) -> Option<usize>
-        ensures { result ≡ find (is_virtual_found self.now.names.now.classes.tree.now (method_of_key self.now.key)) chain.now }
+        ensures { result ≡ find (is_virtual_at self.now.classes.now.all.now self.now.identity) chain.now }
     {
         for class in chain {
             if self.has_virtual(*class) {
@@ -208,16 +176,11 @@ impl<'n, 'a> Namesakes<'n, 'a> {
     }
 
     /// The method that fills the slot of the nearest virtual one, as seen from the nearest class of a chain that lists the interface.
-    pub fn interface_filler(
-        &self,
-        listed: &[Vec<usize>],
-        chain: &[usize],
-        interface: usize,
-    ) -> Option<MemberNumber>
-        ensures { result ≡ interface_filler self.now.names.now.classes.tree.now (map (λ row. row.items) listed.now) (method_of_key self.now.key) chain.now interface }
+    pub fn interface_filler(&self, chain: &[usize], interface: usize) -> Option<MemberNumber>
+        ensures { result ≡ listed_filler self.now.classes.now.program.now self.now.classes.now.all.now self.now.identity chain.now interface }
     {
-        let lister = nearest_lister(listed, interface, chain)?;
-        let found = self.nearest_virtual(chain_at(self.names, lister))?;
-        self.class_filler(chain, chain_at(self.names, found))
+        let lister = nearest_lister(self.classes, interface, chain)?;
+        let found = self.nearest_virtual(self.classes.chain(lister))?;
+        self.class_filler(chain, self.classes.chain(found))
     }
 }

@@ -1,18 +1,16 @@
 // The numbers of static fields and the slots of instance fields (ECMA-335 II.16; the numbers are this profile's).
 
 ghost use Rattle.std.specs.Prelude.{◌≡◌, ◌+◌, IfOk, if◌then◌else◌, map, slice_get};
-ghost use Rattle.cil_model.specs.Chains.{fields_in};
-ghost use Rattle.name_tables.specs.Keys.{class_of_key};
+ghost use Rattle.resolved_code.specs.Resolved.{AreResolved};
 ghost use Rattle.class_layout.specs.ByClass.{by_class};
-ghost use Rattle.class_layout.specs.Kinds.{own_kinds};
-ghost use Rattle.class_layout.specs.FieldSlots.{number_after, numbered_fields, statics_after, first_slot, field_rows, class_names};
+ghost use Rattle.class_layout.specs.Kinds.{own_kinds, slot_kinds};
+ghost use Rattle.class_layout.specs.FieldSlots.{number_after, numbered_by_flag, statics_by_flag, slot_behind, field_rows, class_names};
 
-use crate::fields::{all_own_kinds, class_kinds, own_kinds};
+use crate::classes::Classes;
 use crate::kinds::SlotKind;
+use crate::rows::row_at;
 use cil_model::memory::NoMemory;
-use cil_model::trees::Field;
-use name_tables::keys::ClassKey;
-use name_tables::lookups::NameTables;
+use resolved_code::classes::ResolvedField;
 use std::alloc::Global;
 
 /// The first free number behind a field that is counted, or one that is not.
@@ -42,9 +40,9 @@ fn field_row(
     alloc: Global,
     first_static: usize,
     first_slot: usize,
-    fields: &[&Field],
+    fields: &[ResolvedField],
 ) -> Result<Vec<usize>, NoMemory>
-    ensures { IfOk result (λ v. v.items ≡ numbered_fields first_static first_slot (map (λ f. f.now) fields.now)) }
+    ensures { IfOk result (λ v. v.items ≡ numbered_by_flag first_static first_slot (map (λ f. f.is_static) fields.now)) }
 {
     let mut numbers = Vec::new(alloc);
     let mut next_static = first_static;
@@ -58,8 +56,8 @@ fn field_row(
 }
 
 /// The first free number behind the static ones among some fields.
-fn statics_after(first: usize, fields: &[&Field]) -> Result<usize, NoMemory>
-    ensures { IfOk result (λ n. n ≡ statics_after first (map (λ f. f.now) fields.now)) }
+fn statics_after(first: usize, fields: &[ResolvedField]) -> Result<usize, NoMemory>
+    ensures { IfOk result (λ n. n ≡ statics_by_flag first (map (λ f. f.is_static) fields.now)) }
 {
     let mut next = first;
     for field in fields {
@@ -68,59 +66,33 @@ fn statics_after(first: usize, fields: &[&Field]) -> Result<usize, NoMemory>
     Ok(next)
 }
 
-/// The slot of the first instance field that a class itself declares.
-fn first_slot(
-    alloc: Global,
-    names: &NameTables,
-    own: &[Vec<SlotKind>],
-    class: ClassKey,
-) -> Result<usize, NoMemory>
-    requires { map (λ row. row.items) own.now ≡ by_class names.now.classes.tree.now (own_kinds names.now.classes.tree.now) }
-    ensures { IfOk result (λ n. n ≡ first_slot names.now.classes.tree.now (class_of_key class.entry)) }
+/// The slot of the first instance field that a class itself declares: behind those that it inherits.
+fn first_slot(own: &[Vec<SlotKind>], kinds: &[Vec<SlotKind>], class: usize) -> usize
+    ensures { result ≡ slot_behind (map (λ row. row.items) kinds.now) (map (λ row. row.items) own.now) class }
 {
-    let all = class_kinds(alloc, names, own, class)?;
-    let own = own_kinds(alloc, names, class)?;
-    Ok(all.len().saturating_sub(own.len()))
-}
-
-/// The fields that a class itself declares, from the first free number of a static field.
-fn class_fields(
-    alloc: Global,
-    names: &NameTables,
-    own: &[Vec<SlotKind>],
-    class: ClassKey,
-    first_static: usize,
-) -> Result<Vec<usize>, NoMemory>
-    requires { map (λ row. row.items) own.now ≡ by_class names.now.classes.tree.now (own_kinds names.now.classes.tree.now) }
-    ensures { IfOk result (λ v. v.items ≡ numbered_fields first_static (first_slot names.now.classes.tree.now (class_of_key class.entry)) (fields_in names.now.classes.tree.now (class_of_key class.entry))) }
-{
-    let slot = first_slot(alloc, names, own, class)?;
-    match names.classes.declared(class) {
-        None => Ok(Vec::new(alloc)),
-        Some(declared) => field_row(alloc, first_static, slot, declared.fields.as_slice()),
-    }
-}
-
-/// The first free number behind the static fields that a class declares.
-fn statics_behind(names: &NameTables, class: ClassKey, first: usize) -> Result<usize, NoMemory>
-    ensures { IfOk result (λ n. n ≡ statics_after first (fields_in names.now.classes.tree.now (class_of_key class.entry))) }
-{
-    match names.classes.declared(class) {
-        None => Ok(first),
-        Some(declared) => statics_after(first, declared.fields.as_slice()),
-    }
+    let all = row_at(kinds, class).len();
+    all.saturating_sub(row_at(own, class).len())
 }
 
 /// The number of each static field and the slot of each instance field, by its class and its place.
-pub fn all_fields(alloc: Global, names: &NameTables) -> Result<Vec<Vec<usize>>, NoMemory>
-    ensures { IfOk result (λ v. map (λ row. row.items) v.items ≡ field_rows names.now.classes.tree.now 0 (class_names names.now.classes.tree.now)) }
+pub fn all_fields(
+    alloc: Global,
+    classes: &Classes,
+    own: &[Vec<SlotKind>],
+    kinds: &[Vec<SlotKind>],
+) -> Result<Vec<Vec<usize>>, NoMemory>
+    requires resolved { AreResolved classes.now.program.now classes.now.all.now }
+    requires own { map (λ row. row.items) own.now ≡ by_class classes.now.program.now (own_kinds classes.now.program.now) }
+    requires kinds { map (λ row. row.items) kinds.now ≡ by_class classes.now.program.now (slot_kinds classes.now.program.now) }
+    ensures { IfOk result (λ v. map (λ row. row.items) v.items ≡ field_rows classes.now.program.now 0 (class_names classes.now.program.now)) }
 {
-    let own = all_own_kinds(alloc, names)?;
+    let all = classes.all;
     let mut rows = Vec::new(alloc);
     let mut next = 0;
-    for class in names.classes.names() {
-        rows.push(class_fields(alloc, names, own.as_slice(), *class, next)?)?;
-        next = statics_behind(names, *class, next)?;
+    for class in 0..all.len() {
+        let fields = all[class].fields.as_slice();
+        rows.push(field_row(alloc, next, first_slot(own, kinds, class), fields)?)?;
+        next = statics_after(next, fields)?;
     }
     Ok(rows)
 }

@@ -1,19 +1,24 @@
 // Which method runs where a method is called on an object of a class (ECMA-335 II.10.3 and II.12.2).
 
-ghost use Rattle.std.specs.Prelude.{◌≡◌, [], IfOk, map, slice_get, unwrap_or, option_map, option_and_then};
-ghost use Rattle.name_tables.specs.Keys.{class_of_key, method_of_key};
-ghost use Rattle.name_tables.specs.Sameness.{identity_of};
-ghost use Rattle.class_layout.specs.ByClass.{by_class, interface_numbers};
+ghost use Rattle.std.specs.Prelude.{◌≡◌, [], IfOk, Some, false, map, slice_get, unwrap_or, option_map, option_and_then};
+ghost use Rattle.cil_model.specs.declared.types.ClassName.{ClassName};
+ghost use Rattle.cil_model.specs.declared.trees.Method.{Method};
+ghost use Rattle.cil_model.specs.Declarations.{Declaration};
+ghost use Rattle.name_tables.specs.Numbers.{declarations};
+ghost use Rattle.name_tables.specs.Sameness.{MethodIdentity, identity_of};
+ghost use Rattle.resolved_code.specs.Identities.{identity_number};
+ghost use Rattle.resolved_code.specs.Resolved.{AllAlike, AreResolved, IsResolvedMethod};
+ghost use Rattle.std.specs.Option.{option_map_or};
+ghost use Rattle.class_layout.specs.ByClass.{by_class};
 ghost use Rattle.class_layout.specs.Targets.{target_number, target_row, target_rows, targets_of, target_in};
 
-use crate::ancestry::{all_listed, is_interface};
+use crate::classes::Classes;
 use crate::namesakes::Namesakes;
+use crate::roles::is_virtual;
 use crate::rows::{entry_at, row_at};
 use cil_model::memory::NoMemory;
-use cil_model::trees::Method;
-use name_tables::keys::{ClassKey, MethodKey};
-use name_tables::kinds::is_virtual;
-use name_tables::lookups::{MemberNumber, NameTables};
+use name_tables::lookups::MemberNumber;
+use resolved_code::classes::ResolvedMethod;
 use std::alloc::Global;
 
 /// The methods that run where one method is called.
@@ -25,115 +30,104 @@ pub enum Targets {
     ByClass(Vec<Option<MemberNumber>>),
 }
 
-/// The method that runs where a virtual method of a class or interface is called on an object of a class.
-fn target_number(
-    methods: &Namesakes,
-    listed: &[Vec<usize>],
-    class: ClassKey,
-    object: ClassKey,
-) -> Option<MemberNumber>
-    requires { map (λ row. row.items) listed.now ≡ by_class methods.now.names.now.classes.tree.now (interface_numbers methods.now.names.now.classes.tree.now) }
-    ensures { result ≡ target_number methods.now.names.now.classes.tree.now (class_of_key class.entry) (method_of_key methods.now.key) (class_of_key object.entry) }
+fn is_interface(classes: &Classes, class: usize) -> bool
+    ensures { result ≡ option_map_or (λ r. r.is_interface) (slice_get classes.now.all.now class) false }
 {
-    let names = methods.names;
-    let chain = names.chain(object);
-    if !is_interface(names, class) {
-        return methods.class_filler(chain, names.chain(class));
+    match classes.all.get(class) {
+        None => false,
+        Some(resolved) => resolved.is_interface,
     }
-    let interface = names.classes.number(class)?;
-    methods.interface_filler(listed, chain, interface)
+}
+
+/// The method that runs where a virtual method of a class or interface is called on an object of a class.
+fn target_number(methods: &Namesakes, class: usize, object: usize) -> Option<MemberNumber>
+    requires { AreResolved methods.now.classes.now.program.now methods.now.classes.now.all.now }
+    ensures { (k : MethodIdentity) (e d : ClassName × Declaration) → identity_number methods.now.classes.now.program.now k ≡ methods.now.identity →
+        slice_get (declarations methods.now.classes.now.program.now) class ≡ Some e → slice_get (declarations methods.now.classes.now.program.now) object ≡ Some d → result ≡ target_number methods.now.classes.now.program.now e.0 k d.0 }
+{
+    let chain = methods.classes.chain(object);
+    if is_interface(methods.classes, class) {
+        methods.interface_filler(chain, class)
+    } else {
+        methods.class_filler(chain, methods.classes.chain(class))
+    }
 }
 
 /// The methods that run on objects of each class, where a virtual one of these methods is called.
 fn named_row(
     alloc: Global,
     methods: &Namesakes,
-    listed: &[Vec<usize>],
-    class: ClassKey,
+    class: usize,
 ) -> Result<Vec<Option<MemberNumber>>, NoMemory>
-    requires { map (λ row. row.items) listed.now ≡ by_class methods.now.names.now.classes.tree.now (interface_numbers methods.now.names.now.classes.tree.now) }
-    ensures { IfOk result (λ v. v.items ≡ by_class methods.now.names.now.classes.tree.now (target_number methods.now.names.now.classes.tree.now (class_of_key class.entry) (method_of_key methods.now.key))) }
+    requires { AreResolved methods.now.classes.now.program.now methods.now.classes.now.all.now }
+    ensures { IfOk result (λ v. (k : MethodIdentity) (e : ClassName × Declaration) → identity_number methods.now.classes.now.program.now k ≡ methods.now.identity →
+        slice_get (declarations methods.now.classes.now.program.now) class ≡ Some e → v.items ≡ by_class methods.now.classes.now.program.now (target_number methods.now.classes.now.program.now e.0 k)) }
 {
     let mut row = Vec::new(alloc);
-    for object in methods.names.classes.names() {
-        row.push(target_number(methods, listed, class, *object))?;
+    for object in 0..methods.classes.count() {
+        row.push(target_number(methods, class, object))?;
     }
     Ok(row)
 }
 
 fn class_row(
     alloc: Global,
-    names: &NameTables,
-    listed: &[Vec<usize>],
-    class: ClassKey,
-    method: &Method,
+    classes: &Classes,
+    class: usize,
+    method: &ResolvedMethod,
 ) -> Result<Vec<Option<MemberNumber>>, NoMemory>
-    requires { map (λ row. row.items) listed.now ≡ by_class names.now.classes.tree.now (interface_numbers names.now.classes.tree.now) }
-    ensures { IfOk result (λ v. v.items ≡ by_class names.now.classes.tree.now (target_number names.now.classes.tree.now (class_of_key class.entry) (identity_of method.now))) }
+    requires { AreResolved classes.now.program.now classes.now.all.now }
+    ensures { IfOk result (λ v. (e : ClassName × Declaration) (m : Method) → slice_get (declarations classes.now.program.now) class ≡ Some e →
+        IsResolvedMethod classes.now.program.now m method.now → v.items ≡ by_class classes.now.program.now (target_number classes.now.program.now e.0 (identity_of m))) }
 {
-    let key = MethodKey::new(&method.name, &method.signature);
-    let methods = Namesakes::new(alloc, names, key)?;
-    named_row(alloc, &methods, listed, class)
+    let methods = Namesakes::new(alloc, classes, method.identity)?;
+    named_row(alloc, &methods, class)
 }
 
 fn method_targets(
     alloc: Global,
-    names: &NameTables,
-    listed: &[Vec<usize>],
-    class: ClassKey,
-    method: &Method,
+    classes: &Classes,
+    class: usize,
+    method: &ResolvedMethod,
 ) -> Result<Targets, NoMemory>
-    requires { map (λ row. row.items) listed.now ≡ by_class names.now.classes.tree.now (interface_numbers names.now.classes.tree.now) }
-    ensures { IfOk result (λ t. targets_of t ≡ target_row names.now.classes.tree.now (class_of_key class.entry) method.now) }
+    requires { AreResolved classes.now.program.now classes.now.all.now }
+    ensures { IfOk result (λ t. (e : ClassName × Declaration) (m : Method) → slice_get (declarations classes.now.program.now) class ≡ Some e →
+        IsResolvedMethod classes.now.program.now m method.now → targets_of t ≡ target_row classes.now.program.now e.0 m) }
 {
     if !is_virtual(&method.kind) {
         return Ok(Targets::Itself);
     }
-    let row = class_row(alloc, names, listed, class, method)?;
+    let row = class_row(alloc, classes, class, method)?;
     Ok(Targets::ByClass(row))
 }
 
+/// The methods that run where each of these methods of a class is called.
 fn rows_of(
     alloc: Global,
-    names: &NameTables,
-    listed: &[Vec<usize>],
-    class: ClassKey,
-    methods: &[&Method],
+    classes: &Classes,
+    class: usize,
+    methods: &[ResolvedMethod],
 ) -> Result<Vec<Targets>, NoMemory>
-    requires { map (λ row. row.items) listed.now ≡ by_class names.now.classes.tree.now (interface_numbers names.now.classes.tree.now) }
-    ensures { IfOk result (λ v. map targets_of v.items ≡ map (target_row names.now.classes.tree.now (class_of_key class.entry)) (map (λ m. m.now) methods.now)) }
+    requires { AreResolved classes.now.program.now classes.now.all.now }
+    ensures { IfOk result (λ v. (e : ClassName × Declaration) → slice_get (declarations classes.now.program.now) class ≡ Some e →
+        AllAlike (IsResolvedMethod classes.now.program.now) e.1.methods methods.now → map targets_of v.items ≡ map (target_row classes.now.program.now e.0) e.1.methods) }
 {
     let mut rows = Vec::new(alloc);
-    for method in methods {
-        rows.push(method_targets(alloc, names, listed, class, method)?)?;
+    for place in 0..methods.len() {
+        rows.push(method_targets(alloc, classes, class, &methods[place])?)?;
     }
     Ok(rows)
 }
 
-/// The methods that run where each method that a class itself declares is called.
-fn class_targets(
-    alloc: Global,
-    names: &NameTables,
-    listed: &[Vec<usize>],
-    class: ClassKey,
-) -> Result<Vec<Targets>, NoMemory>
-    requires { map (λ row. row.items) listed.now ≡ by_class names.now.classes.tree.now (interface_numbers names.now.classes.tree.now) }
-    ensures { IfOk result (λ v. map targets_of v.items ≡ target_rows names.now.classes.tree.now (class_of_key class.entry)) }
-{
-    match names.classes.declared(class) {
-        None => Ok(Vec::new(alloc)),
-        Some(declared) => rows_of(alloc, names, listed, class, declared.methods.as_slice()),
-    }
-}
-
 /// The methods that run where each method is called, by its class and its place.
-pub fn all_targets(alloc: Global, names: &NameTables) -> Result<Vec<Vec<Targets>>, NoMemory>
-    ensures { IfOk result (λ v. map (λ row. map targets_of row.items) v.items ≡ by_class names.now.classes.tree.now (target_rows names.now.classes.tree.now)) }
+pub fn all_targets(alloc: Global, classes: &Classes) -> Result<Vec<Vec<Targets>>, NoMemory>
+    requires { AreResolved classes.now.program.now classes.now.all.now }
+    ensures { IfOk result (λ v. map (λ row. map targets_of row.items) v.items ≡ by_class classes.now.program.now (target_rows classes.now.program.now)) }
 {
-    let listed = all_listed(alloc, names)?;
+    let all = classes.all;
     let mut rows = Vec::new(alloc);
-    for class in names.classes.names() {
-        rows.push(class_targets(alloc, names, listed.as_slice(), *class)?)?;
+    for class in 0..all.len() {
+        rows.push(rows_of(alloc, classes, class, all[class].methods.as_slice())?)?;
     }
     Ok(rows)
 }

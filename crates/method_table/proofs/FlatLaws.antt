@@ -22,12 +22,6 @@ alike_behind R (x ∷ xs) (y ∷ ys) more others h k = (h.0, alike_behind R xs y
 alike_behind R [] (y ∷ ys) more others h k = absurd h
 alike_behind R (x ∷ xs) [] more others h k = absurd h
 
-pub alike_length : {X Y : Type 0} (R : X → Y → Type 0) (xs : List X) (ys : List Y) → AllAlike R xs ys → length xs ≡ length ys
-alike_length R [] [] h = refl
-alike_length R (x ∷ xs) (y ∷ ys) h = ap suc (alike_length R xs ys h.1)
-alike_length R [] (y ∷ ys) h = absurd h
-alike_length R (x ∷ xs) [] h = absurd h
-
 -- the first items of a list, with one more
 pub one_more : {X : Type 0} (xs : List X) (i : ℕ) (x : X) → slice_get xs i ≡ Some x → take (i + 1) xs ≡ take i xs ++ x ∷ []
 one_more xs i x at = take_more xs i x (slice_get_within xs i x at) ∙ ap (λ z. take i xs ++ z ∷ []) (get_or_from_slice_get xs i x x at)

@@ -1,3 +1,4 @@
 pub mod ActionLaws
 pub mod FlatLaws
 pub mod NumberLaws
+pub mod ResolvedLaws

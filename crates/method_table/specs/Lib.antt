@@ -1,3 +1,4 @@
 pub mod AllMethods
+pub mod Numbered
 pub mod Prepared
 pub mod MethodNumbers

@@ -1,23 +1,23 @@
 // What a call needs to know of a method.
 
-ghost use Rattle.std.specs.Prelude.{◌≡◌, IfOk, Some, length, map, slice_get};
+ghost use Rattle.std.specs.Prelude.{◌≡◌, IfOk, Some, map, slice_get};
 ghost use Rattle.cil_model.specs.declared.types.ClassName.{ClassName};
+ghost use Rattle.cil_model.specs.declared.trees.Method.{Method};
 ghost use Rattle.cil_model.specs.declared.trees.Tree.{Tree};
-ghost use Rattle.cil_model.specs.Bodies.{argument_types};
 ghost use Rattle.cil_model.specs.Declarations.{Declaration};
 ghost use Rattle.name_tables.specs.Numbers.{declarations, method_at};
-ghost use Rattle.resolved_code.specs.Resolved.{AllAlike};
+ghost use Rattle.resolved_code.specs.Resolved.{AllAlike, IsResolvedMethod};
 ghost use Rattle.method_table.specs.AllMethods.{owned_methods};
-ghost use Rattle.method_table.specs.Prepared.{kind_of_type, local_kinds, IsTableMethod};
+ghost use Rattle.method_table.specs.Numbered.{kind_of_numbered, numbered_locals, operand_count};
+ghost use Rattle.method_table.specs.Prepared.{kind_of_type, IsTableMethod};
 
 use crate::actions::{Action, action_at};
 use cil_model::memory::NoMemory;
-use cil_model::trees::Method;
 use cil_model::types::{DeclaredType, Element};
-use name_tables::bodies::locals_of;
-use name_tables::kinds::is_static;
 use name_tables::lookups::MemberNumber;
 use object_memory::ValueKind;
+use resolved_code::classes::{ResolvedKind, ResolvedMethod};
+use resolved_code::types::{NumberedElement, NumberedType};
 use std::alloc::Global;
 
 /// What a call needs to know of a method (ECMA-335 II.15).
@@ -49,22 +49,50 @@ pub fn value_kind(declared: &DeclaredType) -> ValueKind
     }
 }
 
-fn local_kinds(alloc: Global, method: &Method) -> Result<Vec<ValueKind>, NoMemory>
-    ensures { IfOk result (λ v. v.items ≡ local_kinds method.now) }
+/// What a place of a type holds, where the type is told by number.
+fn numbered_kind(numbered: NumberedType) -> ValueKind
+    ensures { result ≡ kind_of_numbered numbered }
 {
-    let types = locals_of(method);
+    if numbered.brackets > 0 {
+        return ValueKind::Ref;
+    }
+    match numbered.element {
+        NumberedElement::Int32 => ValueKind::Int32,
+        NumberedElement::Int64 => ValueKind::Int64,
+        NumberedElement::Object | NumberedElement::String | NumberedElement::Class(_) => {
+            ValueKind::Ref
+        }
+    }
+}
+
+/// The types of the locals; none where there is no code (ECMA-335 II.15.4.1.3).
+fn locals_of(kind: &ResolvedKind) -> &[NumberedType]
+    ensures { result.now ≡ numbered_locals kind.now }
+{
+    match kind {
+        ResolvedKind::Static(body) => body.locals.as_slice(),
+        ResolvedKind::Instance(body) => body.locals.as_slice(),
+        ResolvedKind::Virtual { body, .. } => body.locals.as_slice(),
+        ResolvedKind::Abstract { .. } => &[],
+    }
+}
+
+fn local_kinds(alloc: Global, kind: &ResolvedKind) -> Result<Vec<ValueKind>, NoMemory>
+    ensures { IfOk result (λ v. v.items ≡ map kind_of_numbered (numbered_locals kind.now)) }
+{
+    let types = locals_of(kind);
     let mut kinds = Vec::with_capacity(alloc, types.len())?;
-    for declared in types {
-        kinds.push(value_kind(declared))?;
+    for numbered in types {
+        kinds.push(numbered_kind(*numbered))?;
     }
     Ok(kinds)
 }
 
-fn argument_count(method: &Method) -> usize
-    ensures { (c : ClassName) → result ≡ length (argument_types method.now c) }
+fn argument_count(method: &ResolvedMethod) -> usize
+    ensures { result ≡ operand_count method.now }
 {
-    let parameters = method.signature.parameters.as_slice();
-    if is_static(&method.kind) {
+    let parameters = method.parameters.as_slice();
+    if matches!(method.kind, ResolvedKind::Static(_)) {
         parameters.len()
     } else {
         parameters.len() + 1
@@ -73,14 +101,14 @@ fn argument_count(method: &Method) -> usize
 
 impl TableMethod {
     /// What a call needs to know of the method with this number. Fails for want of memory alone.
-    fn new(alloc: Global, member: MemberNumber, method: &Method) -> Result<Self, NoMemory>
-        ensures { IfOk result (λ entry. (tree : Tree) (c : ClassName) → method_at tree (member.class, member.place) ≡ Some (c, method.now) → IsTableMethod tree (c, method.now) entry) }
+    fn new(alloc: Global, member: MemberNumber, method: &ResolvedMethod) -> Result<Self, NoMemory>
+        ensures { IfOk result (λ entry. (tree : Tree) (c : ClassName) (m : Method) → method_at tree (member.class, member.place) ≡ Some (c, m) → IsResolvedMethod tree m method.now → IsTableMethod tree (c, m) entry) }
     {
         Ok(TableMethod {
             member,
             arguments: argument_count(method),
-            locals: local_kinds(alloc, method)?,
-            has_value: method.signature.return_type.is_some(),
+            locals: local_kinds(alloc, &method.kind)?,
+            has_value: method.return_type.is_some(),
             action: action_at(member),
         })
     }
@@ -90,14 +118,14 @@ impl TableMethod {
 pub(crate) fn class_methods(
     alloc: Global,
     class: usize,
-    methods: &[&Method],
+    methods: &[ResolvedMethod],
 ) -> Result<Vec<TableMethod>, NoMemory>
-    ensures { IfOk result (λ v. (tree : Tree) (e : ClassName × Declaration) → slice_get (declarations tree) class ≡ Some e → e.1.methods ≡ map (λ m. m.now) methods.now → AllAlike (IsTableMethod tree) (owned_methods e) v.items) }
+    ensures { IfOk result (λ v. (tree : Tree) (e : ClassName × Declaration) → slice_get (declarations tree) class ≡ Some e → AllAlike (IsResolvedMethod tree) e.1.methods methods.now → AllAlike (IsTableMethod tree) (owned_methods e) v.items) }
 {
     let mut entries = Vec::with_capacity(alloc, methods.len())?;
     for place in 0..methods.len() {
         let member = MemberNumber { class, place };
-        entries.push(TableMethod::new(alloc, member, methods[place])?)?;
+        entries.push(TableMethod::new(alloc, member, &methods[place])?)?;
     }
     Ok(entries)
 }

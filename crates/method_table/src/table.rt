@@ -4,19 +4,18 @@ ghost use Rattle.std.specs.Prelude.{◌≡◌, ◌+◌, ◌<◌, ◌^◌, IfOk, 
 ghost use Rattle.cil_model.specs.declared.types.ClassName.{ClassName};
 ghost use Rattle.cil_model.specs.declared.trees.Method.{Method};
 ghost use Rattle.cil_model.specs.declared.trees.Tree.{Tree};
-ghost use Rattle.name_tables.specs.Entries.{entry_of};
 ghost use Rattle.name_tables.specs.Numbers.{declarations, method_at};
-ghost use Rattle.resolved_code.specs.Resolved.{AllAlike};
+ghost use Rattle.resolved_code.specs.Resolved.{AllAlike, AreResolved};
 ghost use Rattle.metadata.specs.Contents.{BothAlike};
 ghost use Rattle.method_table.specs.AllMethods.{all_methods, flat_number, first_numbers};
+ghost use Rattle.method_table.specs.Numbered.{running_counts};
 ghost use Rattle.method_table.specs.Prepared.{IsTableMethod};
 
 use crate::methods::{TableMethod, class_methods};
 use cil_model::memory::NoMemory;
 use metadata::Program;
-use name_tables::built_in::BuiltInClass;
-use name_tables::class_tables::ClassTable;
-use name_tables::lookups::{MemberNumber, NameTables};
+use name_tables::lookups::MemberNumber;
+use resolved_code::classes::ResolvedClass;
 use std::alloc::Global;
 
 /// All methods of a program by flat numbers: class by class, in the order of the classes' numbers, those of a class in their order.
@@ -45,26 +44,25 @@ fn number_behind(first: u32, count: usize) -> Result<u32, NoMemory>
 }
 
 /// The flat number of each class's first method. Fails for want of memory alone.
-fn first_numbers(alloc: Global, classes: &[ClassTable]) -> Result<Vec<u32>, NoMemory>
-    ensures { IfOk result (λ v. v.items ≡ first_numbers 0 (map (λ t. entry_of t.class) classes.now)) }
+fn first_numbers(alloc: Global, classes: &[ResolvedClass]) -> Result<Vec<u32>, NoMemory>
+    ensures { IfOk result (λ v. v.items ≡ running_counts 0 (map (λ r. length r.methods) classes.now)) }
 {
     let mut first = Vec::with_capacity(alloc, classes.len())?;
     let mut next = 0;
-    for table in classes {
+    for class in classes {
         first.push(next)?;
-        next = number_behind(next, table.class.methods.len())?;
+        next = number_behind(next, class.methods.as_slice().len())?;
     }
     Ok(first)
 }
 
 /// The methods of all classes. Fails for want of memory alone.
-fn all_methods(alloc: Global, names: &NameTables) -> Result<Vec<TableMethod>, NoMemory>
-    ensures { IfOk result (λ v. AllAlike (IsTableMethod names.now.classes.tree.now) (all_methods names.now.classes.tree.now) v.items) }
+fn all_methods(alloc: Global, classes: &[ResolvedClass]) -> Result<Vec<TableMethod>, NoMemory>
+    ensures { IfOk result (λ v. (tree : Tree) → AreResolved tree classes.now → AllAlike (IsTableMethod tree) (all_methods tree) v.items) }
 {
-    let classes = names.classes.all();
     let mut methods = Vec::new(alloc);
     for class in 0..classes.len() {
-        let mut entries = class_methods(alloc, class, classes[class].class.methods.as_slice())?;
+        let mut entries = class_methods(alloc, class, classes[class].methods.as_slice())?;
         methods.append(&mut entries)?;
     }
     Ok(methods)
@@ -95,22 +93,14 @@ fn entry_at(methods: &[TableMethod], number: usize) -> Option<&TableMethod>
 impl MethodTable {
     ghost use Rattle.method_table.specs.Prepared.{IsMethodTable};
 
-    fn of_names(alloc: Global, names: &NameTables) -> Result<Self, NoMemory>
-        ensures { IfOk result (λ table. IsMethodTable names.now.classes.tree.now table) }
-    {
-        let methods = all_methods(alloc, names)?;
-        let _count = flat_number(methods.len())?;
-        let first = first_numbers(alloc, names.classes.all())?;
-        Ok(MethodTable { methods, first })
-    }
-
     /// The table of a program. Fails for want of memory alone.
     pub fn new(alloc: Global, program: &Program) -> Result<Self, NoMemory>
         ensures { IfOk result (λ table. IsMethodTable program.now table) }
     {
-        let table = BuiltInClass::all(alloc)?;
-        let names = NameTables::new(alloc, program.tree(), table.as_slice())?;
-        MethodTable::of_names(alloc, &names)
+        let methods = all_methods(alloc, program.classes())?;
+        let _count = flat_number(methods.len())?;
+        let first = first_numbers(alloc, program.classes())?;
+        Ok(MethodTable { methods, first })
     }
 
     /// The flat number of a method, by its class and its place there. Where no method is there, any number. Takes constant time, and

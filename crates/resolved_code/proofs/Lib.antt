@@ -1,3 +1,4 @@
+pub mod AlikeLaws
 pub mod Lists
 pub mod LabelLaws
 pub mod LiteralNumbers

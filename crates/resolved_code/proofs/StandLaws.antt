@@ -38,6 +38,8 @@ use Rattle.resolved_code.specs.declared.classes.ResolvedMethod.{ResolvedMethod}
 use Rattle.resolved_code.specs.declared.classes.ResolvedClass.{ResolvedClass}
 use Rattle.resolved_code.specs.declared.classes.Body.{Body}
 use Rattle.resolved_code.specs.Numbered.{class_name, element_at, type_at, AreTypes}
+use Rattle.name_tables.specs.Sameness.{identity_of}
+use Rattle.resolved_code.specs.Identities.{identity_number}
 use Rattle.resolved_code.specs.Resolved.{AllAlike, IsField, IsMethod, IsOperation, IsResolvedField, IsBody, IsResolvedKind, IsResolvedMethod, IsResolvedClass, AreResolved}
 use Rattle.resolved_code.specs.Rules.{all_some, if_named, element_rule, type_rule, types_rule, member_of, field_rule, method_rule, with_owner, branch_rule, type_operand_rule, field_operand_rule, call_rule, plain_rule, operation_rule, operations_rule, body_rule, kind_rule, resolved_method_rule, resolved_field_rule, with_members, class_rule, classes_rule}
 
@@ -208,8 +210,8 @@ module _ (tree : Tree) where
   method_stands_resolved m r h =
       chosen _ (types_rule tree m.signature.parameters) r h (λ parameters e k.
       chosen _ (if_named (type_rule tree) m.signature.return_type) r k (λ return_type f l.
-      mapped (IsResolvedMethod tree m) (λ kind. record { parameters = parameters; return_type = return_type; kind = kind }) (kind_rule tree m.kind) r l (λ kind g.
-      record { parameters = types_stand m.signature.parameters parameters e; return_type = named_back (type_at tree) (type_rule tree) type_stands m.signature.return_type return_type f; kind = kind_stands m.kind kind g })))
+      mapped (IsResolvedMethod tree m) (λ kind. record { identity = identity_number tree (identity_of m); parameters = parameters; return_type = return_type; kind = kind }) (kind_rule tree m.kind) r l (λ kind g.
+      record { identity = refl; parameters = types_stand m.signature.parameters parameters e; return_type = named_back (type_at tree) (type_rule tree) type_stands m.signature.return_type return_type f; kind = kind_stands m.kind kind g })))
 
   pub field_stands_resolved : (f : Field) (r : ResolvedField) → resolved_field_rule tree f ≡ Some r → IsResolvedField tree f r
   field_stands_resolved f r h =

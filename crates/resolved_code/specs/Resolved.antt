@@ -25,6 +25,8 @@ use Rattle.cil_model.specs.Chains.{find_field, find_method}
 use Rattle.cil_model.specs.Mentions.{literals_of}
 use Rattle.name_tables.specs.declared.lookups.MemberNumber.{MemberNumber}
 use Rattle.name_tables.specs.Numbers.{declarations, field_at, method_at}
+use Rattle.name_tables.specs.Sameness.{identity_of}
+use Rattle.resolved_code.specs.Identities.{identity_number}
 use Rattle.resolved_code.specs.Numbered.{class_name, type_at, AreTypes}
 use Rattle.resolved_code.specs.declared.types.NumberedType.{NumberedType}
 use Rattle.resolved_code.specs.declared.operations.Operation.{Operation}
@@ -138,6 +140,7 @@ IsResolvedKind tree _ _ = ⊥
 
 -- a method (II.15)
 pub record IsResolvedMethod (tree : Tree) (named : Method) (resolved : ResolvedMethod) : Type 0 where
+  pub identity : resolved.identity ≡ identity_number tree (identity_of named)
   pub parameters : AreTypes tree resolved.parameters named.signature.parameters
   pub return_type : option_map (type_at tree) resolved.return_type ≡ option_map Some named.signature.return_type
   pub kind : IsResolvedKind tree named.kind resolved.kind

@@ -24,6 +24,8 @@ use Rattle.cil_model.specs.Bodies.{place_of, virtual_reference, constructor_refe
 use Rattle.cil_model.specs.Mentions.{literals_of}
 use Rattle.name_tables.specs.declared.lookups.MemberNumber.{MemberNumber}
 use Rattle.name_tables.specs.Numbers.{class_number, field_number, method_number, declarations}
+use Rattle.name_tables.specs.Sameness.{identity_of}
+use Rattle.resolved_code.specs.Identities.{identity_number}
 use Rattle.resolved_code.specs.declared.types.NumberedElement.{NumberedElement}
 use Rattle.resolved_code.specs.declared.types.NumberedElement.TheVariants.{Int32, Int64, Object, String, Class}
 use Rattle.resolved_code.specs.declared.types.NumberedType.{NumberedType}
@@ -183,7 +185,7 @@ kind_rule tree (NamedKind.Abstract is_new_slot) = Some (KindOf.Abstract is_new_s
 -- a method (II.15)
 abbrev pub resolved_method_rule : Tree → Method → Option ResolvedMethod
 resolved_method_rule tree m =
-    option_and_then (λ parameters. option_and_then (λ return_type. option_map (λ kind. record { parameters = parameters; return_type = return_type; kind = kind }) (kind_rule tree m.kind)) (if_named (type_rule tree) m.signature.return_type)) (types_rule tree m.signature.parameters)
+    option_and_then (λ parameters. option_and_then (λ return_type. option_map (λ kind. record { identity = identity_number tree (identity_of m); parameters = parameters; return_type = return_type; kind = kind }) (kind_rule tree m.kind)) (if_named (type_rule tree) m.signature.return_type)) (types_rule tree m.signature.parameters)
 
 -- a field (II.16)
 abbrev pub resolved_field_rule : Tree → Field → Option ResolvedField

@@ -28,9 +28,11 @@ pub enum ResolvedKind {
     Abstract { is_new_slot: bool },
 }
 
-/// A method (ECMA-335 II.15). No return type is `void`.
+/// A method (ECMA-335 II.15). Methods have one `identity` exactly where they have the same name and signature. No return type is
+/// `void`.
 #[derive(Debug, Drop)]
 pub struct ResolvedMethod {
+    pub identity: usize,
     pub parameters: Sequence<NumberedType>,
     pub return_type: Option<NumberedType>,
     pub kind: ResolvedKind,

@@ -9,6 +9,7 @@ ghost use Rattle.resolved_code.specs.declared.operations.Operation.TheVariants.{
 ghost use Rattle.name_tables.specs.Numbers.{field_number, method_number};
 ghost use Rattle.resolved_code.specs.Rules.{all_some, field_rule, method_rule, with_owner, branch_rule, type_operand_rule, field_operand_rule, call_rule, plain_rule, operation_rule};
 
+use crate::identities::Identities;
 use crate::labels::Labels;
 use crate::literals::Literals;
 use crate::numbering::{class_number, numbered_type};
@@ -26,7 +27,9 @@ use std::alloc::Global;
 pub struct Resolver<'n, 'a> {
     pub names: &'n NameTables<'a>,
     pub literals: &'n Literals<'a>,
+    pub identities: &'n Identities<'a>,
     ghost one_tree: { literals.now.tree.now ≡ names.now.classes.tree.now },
+    ghost same_tree: { identities.now.tree.now ≡ names.now.classes.tree.now },
 }
 
 // ---- instructions without names

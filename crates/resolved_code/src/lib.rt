@@ -2,6 +2,7 @@
 #![tactic(auto)]
 
 pub mod classes;
+mod identities;
 mod instructions;
 mod labels;
 pub mod literals;

@@ -137,6 +137,7 @@ impl<'n, 'a> Resolver<'n, 'a> {
             return Ok(None);
         };
         Ok(Some(ResolvedMethod {
+            identity: self.identities.number(method),
             parameters,
             return_type,
             kind,

@@ -8,6 +8,7 @@ ghost use Rattle.resolved_code.specs.Resolved.{AreResolved};
 ghost use Rattle.resolved_code.specs.Rules.{all_some, class_rule};
 
 use crate::classes::ResolvedClass;
+use crate::identities::Identities;
 use crate::instructions::Resolver;
 use crate::literals::Literals;
 use crate::members::resolved_fields;
@@ -76,7 +77,12 @@ pub fn resolve_classes(
     ensures resolved { IfOk result (λ r. IfSome r (AreResolved names.now.classes.tree.now)) }
     ensures legal { IfOk result (λ r. IsLegal names.now.classes.tree.now → IsSome r) }
 {
-    let resolver = Resolver { names, literals };
+    let identities = Identities::new(alloc, &names.classes)?;
+    let resolver = Resolver {
+        names,
+        literals,
+        identities: &identities,
+    };
     let resolved = resolver.classes(alloc, names.classes.all())?;
     Ok(resolved)
 }

@@ -6,7 +6,7 @@ use Rattle.class_layout.proofs.ancestry.ancestors.Goals as goal
 pub loop-class-preserved : goal.loop-class-preserved
 loop-class-preserved c =
     let x = get_or c.args.chain.now c.loop-class.class-index 0 in
-    let table = map (λ row. row.items) c.args.listed.now in
+    let table = map (λ r. r.interfaces) c.args.classes.now.all.now in
     let after : c.extend_from_slice.new.self.items ≡ c.loop-class.numbers.items ++ with_interfaces table x =
-    c.in_ok-extend_from_slice.ensures.items ∙ ap (λ z. z ++ c.row_at.result.now) c.in_ok-push.ensures.items ∙ append_assoc c.loop-class.numbers.items (x ∷ []) c.row_at.result.now ∙ ap (λ z. c.loop-class.numbers.items ++ (x ∷ z)) c.row_at.ensures in
+    c.in_ok-extend_from_slice.ensures.items ∙ ap (λ z. z ++ c.interfaces.result.now) c.in_ok-push.ensures.items ∙ append_assoc c.loop-class.numbers.items (x ∷ []) c.interfaces.result.now ∙ ap (λ z. c.loop-class.numbers.items ++ (x ∷ z)) c.interfaces.ensures in
     flat_takes (with_interfaces table) c.args.chain.now c.loop-class.class-index 0 c.loop-class.numbers.items c.extend_from_slice.new.self.items (omega arith) c.loop-class.invariant after

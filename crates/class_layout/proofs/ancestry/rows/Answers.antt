@@ -1,14 +1,16 @@
-use Rattle.std.proofs.Common.{◌≡◌, arith, length, map}
-use Rattle.cil_model.specs.declared.types.ClassName.{ClassName}
-use Rattle.cil_model.specs.Declarations.{Declaration}
+use Rattle.std.proofs.Common.{◌∷◌, [], map, ap, ◌∙◌, arith}
+use Rattle.std.proofs.lemmas.List.{map-append}
 use Rattle.class_layout.specs.ByClass.{assignable_row}
-use Rattle.name_tables.specs.Keys.{class_of_key}
-use Rattle.name_tables.specs.Numbers.{declarations}
-use Rattle.class_layout.proofs.Places.{all_pushed}
+use Rattle.class_layout.proofs.ResolvedLaws.{class_pushed, classes_pushed}
 use Rattle.class_layout.proofs.ancestry.rows.Goals as goal
+
+pub loop-class-preserved : goal.loop-class-preserved
+loop-class-preserved c =
+    let t = c.args.classes.now.program.now in
+    class_pushed t (assignable_row t) c.loop-class.class (map (λ row. row.items) c.loop-class.rows.items) (map (λ row. row.items) c.push.new.self.items) c.in_ok-row.field-0.items (omega arith) c.loop-class.invariant c.in_ok-row.ensures
+    (ap (map (λ row. row.items)) c.in_ok-push.ensures.items ∙ map-append (λ row. row.items) c.loop-class.rows.items (c.in_ok-row.field-0 ∷ []))
 
 pub returns : goal.returns
 returns c =
-    let t = c.args.names.now.classes.tree.now in
-    let seen : c.loop-class.class-index ≡ length c.names-class-items.result.now = omega arith in
-    all_pushed class_of_key (λ (e : ClassName × Declaration). e.0) (assignable_row t) (map (λ row. row.items) c.loop-class.rows.items) c.names-class-items.result.now (declarations t) c.loop-class.class-index seen c.loop-class.invariant c.names-class-items.ensures
+    let t = c.args.classes.now.program.now in
+    classes_pushed t (assignable_row t) c.loop-class.class (map (λ row. row.items) c.loop-class.rows.items) (omega arith) c.loop-class.invariant

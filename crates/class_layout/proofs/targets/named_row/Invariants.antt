@@ -1,7 +1,13 @@
-use Rattle.std.proofs.Common.{◌≡◌, map, take}
-use Rattle.name_tables.specs.Keys.{class_of_key, method_of_key}
+use Rattle.std.proofs.Common.{◌≡◌, Some, map, take, slice_get}
+use Rattle.cil_model.specs.declared.types.ClassName.{ClassName}
+use Rattle.cil_model.specs.Declarations.{Declaration}
+use Rattle.name_tables.specs.Numbers.{declarations}
+use Rattle.name_tables.specs.Sameness.{MethodIdentity}
+use Rattle.resolved_code.specs.Identities.{identity_number}
 use Rattle.class_layout.specs.Targets.{target_number}
 use Rattle.class_layout.proofs.targets.named_row.Given as goal
 
 abbrev pub invariant-loop-object : goal.invariant-loop-object
-invariant-loop-object l = l.row.items ≡ map (λ k. target_number l.methods.names.now.classes.tree.now (class_of_key l.class) (method_of_key l.methods.key) (class_of_key k)) (take l.object-index l.object-items)
+invariant-loop-object l =
+    (k : MethodIdentity) (e : ClassName × Declaration) → identity_number l.methods.classes.now.program.now k ≡ l.methods.identity → slice_get (declarations l.methods.classes.now.program.now) l.class ≡ Some e →
+    l.row.items ≡ map (λ d. target_number l.methods.classes.now.program.now e.0 k d.0) (take l.object (declarations l.methods.classes.now.program.now))

@@ -1,15 +1,30 @@
-use Rattle.std.proofs.Common.{◌≡◌, length, map, take, sym, ap, ◌∙◌, arith}
+use Rattle.std.proofs.Common.{◌≡◌, ◌<◌, ◌∷◌, [], Some, length, map, take, slice_get, refl, sym, ap, ◌∙◌, arith}
 use Rattle.std.proofs.Math.Seq.{take-length}
-use Rattle.name_tables.specs.Keys.{class_of_key}
-use Rattle.name_tables.proofs.Lists.{map_of_map}
-use Rattle.class_layout.specs.Targets.{target_row}
+use Rattle.std.proofs.lemmas.List.{map-append}
+use Rattle.std.proofs.lemmas.Option.{slice_get_read, get_or_from_slice_get}
+use Rattle.resolved_code.specs.Resolved.{IsResolvedMethod}
+use Rattle.resolved_code.proofs.AlikeLaws.{AlikeTo, alike_to, alike_length}
+use Rattle.class_layout.specs.Targets.{target_row, targets_of}
+use Rattle.class_layout.proofs.Places.{push_takes}
 use Rattle.class_layout.proofs.targets.rows_of.Goals as goal
 
+pub loop-place-preserved : goal.loop-place-preserved
+loop-place-preserved c = λ e there are.
+    let t = c.args.classes.now.program.now in
+    let p = c.loop-place.place in
+    let rs = c.args.methods.now in
+    let r = c.index-methods-place.result in
+    let read : slice_get rs p ≡ Some r = slice_get_read rs (length rs) p r refl (omega arith) c.index-methods-place.is in
+    let found : AlikeTo (IsResolvedMethod t) e.1.methods p r = alike_to (IsResolvedMethod t) e.1.methods rs p r are read in
+    let many : length e.1.methods ≡ length rs = alike_length (IsResolvedMethod t) e.1.methods rs are in
+    let within : p < length e.1.methods = omega arith in
+    push_takes (target_row t e.0) e.1.methods p found.item (map targets_of c.loop-place.rows.items) (map targets_of c.push.new.self.items) (targets_of c.in_ok-method_targets.field-0) within
+    (sym (get_or_from_slice_get e.1.methods p found.item found.item found.there)) (c.loop-place.invariant e there are) (c.in_ok-method_targets.ensures e found.item there found.alike)
+    (ap (map targets_of) c.in_ok-push.ensures.items ∙ map-append targets_of c.loop-place.rows.items (c.in_ok-method_targets.field-0 ∷ []))
+
 pub returns : goal.returns
-returns c =
-    let t = c.args.names.now.classes.tree.now in
-    let k = class_of_key c.args.class in
-    let items = c.args.methods.now in
-    let seen : c.loop-method.method-index ≡ length items = omega arith in
-    c.loop-method.invariant ∙ ap (λ n. map (λ m. target_row t k m.now) (take n items)) seen ∙ ap (map (λ m. target_row t k m.now)) (take-length items) ∙
-    sym (map_of_map (λ m. m.now) (target_row t k) items)
+returns c = λ e there are.
+    let t = c.args.classes.now.program.now in
+    let many : length e.1.methods ≡ length c.args.methods.now = alike_length (IsResolvedMethod t) e.1.methods c.args.methods.now are in
+    let seen : c.loop-place.place ≡ length e.1.methods = omega arith in
+    c.loop-place.invariant e there are ∙ ap (λ n. map (target_row t e.0) (take n e.1.methods)) seen ∙ ap (map (target_row t e.0)) (take-length e.1.methods)

@@ -1,7 +1,12 @@
-use Rattle.std.proofs.Common.{◌≡◌, map, take}
-use Rattle.name_tables.specs.Keys.{class_of_key}
+use Rattle.std.proofs.Common.{◌≡◌, Some, map, take, slice_get}
+use Rattle.cil_model.specs.declared.types.ClassName.{ClassName}
+use Rattle.cil_model.specs.Declarations.{Declaration}
+use Rattle.name_tables.specs.Numbers.{declarations}
+use Rattle.resolved_code.specs.Resolved.{AllAlike, IsResolvedMethod}
 use Rattle.class_layout.specs.Targets.{target_row, targets_of}
 use Rattle.class_layout.proofs.targets.rows_of.Given as goal
 
-abbrev pub invariant-loop-method : goal.invariant-loop-method
-invariant-loop-method l = map targets_of l.rows.items ≡ map (λ m. target_row l.names.classes.tree.now (class_of_key l.class) m.now) (take l.method-index l.methods)
+abbrev pub invariant-loop-place : goal.invariant-loop-place
+invariant-loop-place l =
+    (e : ClassName × Declaration) → slice_get (declarations l.classes.program.now) l.class ≡ Some e → AllAlike (IsResolvedMethod l.classes.program.now) e.1.methods l.methods →
+    map targets_of l.rows.items ≡ map (target_row l.classes.program.now e.0) (take l.place e.1.methods)

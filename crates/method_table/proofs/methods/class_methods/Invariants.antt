@@ -1,13 +1,13 @@
-use Rattle.std.proofs.Common.{◌≡◌, Some, map, take, slice_get}
+use Rattle.std.proofs.Common.{◌≡◌, Some, take, slice_get}
 use Rattle.cil_model.specs.declared.types.ClassName.{ClassName}
 use Rattle.cil_model.specs.declared.trees.Tree.{Tree}
 use Rattle.cil_model.specs.Declarations.{Declaration}
 use Rattle.name_tables.specs.Numbers.{declarations}
-use Rattle.resolved_code.specs.Resolved.{AllAlike}
+use Rattle.resolved_code.specs.Resolved.{AllAlike, IsResolvedMethod}
 use Rattle.method_table.specs.AllMethods.{owned_methods}
 use Rattle.method_table.specs.Prepared.{IsTableMethod}
 use Rattle.method_table.proofs.methods.class_methods.Given as goal
 
 abbrev pub invariant-loop-place : goal.invariant-loop-place
 invariant-loop-place l =
-    (tree : Tree) (e : ClassName × Declaration) → slice_get (declarations tree) l.class ≡ Some e → e.1.methods ≡ map (λ m. m.now) l.methods → AllAlike (IsTableMethod tree) (take l.place (owned_methods e)) l.entries.items
+    (tree : Tree) (e : ClassName × Declaration) → slice_get (declarations tree) l.class ≡ Some e → AllAlike (IsResolvedMethod tree) e.1.methods l.methods → AllAlike (IsTableMethod tree) (take l.place (owned_methods e)) l.entries.items

@@ -1,7 +1,6 @@
-use Rattle.std.proofs.Common.{◌≡◌, ◌++◌, map, drop}
-use Rattle.name_tables.specs.Entries.{entry_of}
-use Rattle.method_table.specs.AllMethods.{first_numbers}
+use Rattle.std.proofs.Common.{◌≡◌, ◌++◌, length, map, drop}
+use Rattle.method_table.specs.Numbered.{running_counts}
 use Rattle.method_table.proofs.table.first_numbers.Given as goal
 
-abbrev pub invariant-loop-table : goal.invariant-loop-table
-invariant-loop-table l = l.first.items ++ first_numbers l.next (map (λ t. entry_of t.class) (drop l.table-index l.classes)) ≡ first_numbers 0 (map (λ t. entry_of t.class) l.classes)
+abbrev pub invariant-loop-class : goal.invariant-loop-class
+invariant-loop-class l = l.first.items ++ running_counts l.next (map (λ r. length r.methods) (drop l.class-index l.classes)) ≡ running_counts 0 (map (λ r. length r.methods) l.classes)

@@ -1,8 +1,6 @@
 use Rattle.std.proofs.Common.{◌≡◌, drop}
-use Rattle.name_tables.specs.Keys.{method_of_key}
-use Rattle.metadata.specs.Found.{slot_numbered}
-use Rattle.class_layout.specs.Targets.{filler_numbered}
+use Rattle.class_layout.specs.Roles.{slot_along, filler_along}
 use Rattle.class_layout.proofs.namesakes.Namesakes.filler_along.Given as goal
 
 abbrev pub invariant-loop-place : goal.invariant-loop-place
-invariant-loop-place l = (l.slot ≡ slot_numbered l.self.names.now.classes.tree.now (method_of_key l.self.key) (drop l.place l.chain)) × (l.filler ≡ filler_numbered l.self.names.now.classes.tree.now (method_of_key l.self.key) l.wanted (drop l.place l.chain))
+invariant-loop-place l = (l.slot ≡ slot_along l.self.classes.now.all.now l.self.identity (drop l.place l.chain)) × (l.filler ≡ filler_along l.self.classes.now.all.now l.self.identity l.wanted (drop l.place l.chain))

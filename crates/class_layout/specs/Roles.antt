@@ -1,0 +1,99 @@
+-- Which method a virtual call runs, told by numbers alone: of classes, and of names and signatures (II.10.3, II.12.2).
+use Rattle.std.specs.Prelude.{ℕ, ◌==◌, Bool, true, false, ◌&&◌, not, if◌then◌else◌, List, [], ◌∷◌, map, find, slice_get, unwrap_or, Option, Some, None, option_map, option_and_then}
+use Rattle.std.specs.List.{position_from}
+use Rattle.std.specs.Option.{option_map_or}
+use Rattle.cil_model.specs.declared.trees.Tree.{Tree}
+use Rattle.cil_model.specs.declared.trees.MethodKind.{MethodKind}
+use Rattle.cil_model.specs.declared.trees.MethodKind.TheVariants as NamedKind
+use Rattle.name_tables.specs.declared.lookups.MemberNumber.{MemberNumber}
+use Rattle.resolved_code.specs.declared.classes.ResolvedClass.{ResolvedClass}
+use Rattle.resolved_code.specs.declared.classes.ResolvedMethod.{ResolvedMethod}
+use Rattle.resolved_code.specs.declared.classes.ResolvedKind.{ResolvedKind}
+use Rattle.resolved_code.specs.declared.classes.ResolvedKind.TheVariants as KindOf
+use Rattle.class_layout.specs.declared.roles.Role.{Role}
+use Rattle.class_layout.specs.declared.roles.Role.TheVariants.{Plain, ReuseSlot, NewSlot}
+use Rattle.class_layout.specs.Targets.{chain_at, is_lister}
+
+-- newslot or not (II.10.3.1)
+abbrev pub role_by_flag : Bool → Role
+role_by_flag true = NewSlot
+role_by_flag false = ReuseSlot
+
+-- of a method of the tree
+abbrev pub role_of_named : MethodKind → Role
+role_of_named (NamedKind.Static code) = Plain
+role_of_named (NamedKind.Instance code) = Plain
+role_of_named (NamedKind.Virtual is_new_slot code) = role_by_flag is_new_slot
+role_of_named (NamedKind.Abstract is_new_slot) = role_by_flag is_new_slot
+
+-- of a method by numbers
+abbrev pub role_of_numbered : ResolvedKind → Role
+role_of_numbered (KindOf.Static body) = Plain
+role_of_numbered (KindOf.Instance body) = Plain
+role_of_numbered (KindOf.Virtual is_new_slot body) = role_by_flag is_new_slot
+role_of_numbered (KindOf.Abstract is_new_slot) = role_by_flag is_new_slot
+
+-- a static method has no object (II.15.4.2)
+abbrev pub is_static_numbered : ResolvedKind → Bool
+is_static_numbered (KindOf.Static body) = true
+is_static_numbered (KindOf.Instance body) = false
+is_static_numbered (KindOf.Virtual is_new_slot body) = false
+is_static_numbered (KindOf.Abstract is_new_slot) = false
+
+-- the role of the first method with a name and signature
+abbrev pub role_in : ℕ → List ResolvedMethod → Option Role
+role_in i rs = option_map (λ (r : ResolvedMethod). role_of_numbered r.kind) (find (λ (r : ResolvedMethod). i == r.identity) rs)
+
+-- the place of the first method with a name and signature that has an object
+abbrev pub own_place : ℕ → List ResolvedMethod → Option ℕ
+own_place i rs = position_from (λ (r : ResolvedMethod). (i == r.identity) && not (is_static_numbered r.kind)) 0 rs
+
+-- the same, in the class of a number
+abbrev pub role_at : List ResolvedClass → ℕ → ℕ → Option Role
+role_at classes i n = option_and_then (λ (r : ResolvedClass). role_in i r.methods) (slice_get classes n)
+
+abbrev pub own_at : List ResolvedClass → ℕ → ℕ → Option MemberNumber
+own_at classes i n = option_and_then (λ (r : ResolvedClass). option_map (λ place. record { class = n; place = place }) (own_place i r.methods)) (slice_get classes n)
+
+-- a method that fills a slot is virtual
+abbrev pub is_virtual_role : Role → Bool
+is_virtual_role Plain = false
+is_virtual_role ReuseSlot = true
+is_virtual_role NewSlot = true
+
+abbrev pub is_virtual_at : List ResolvedClass → ℕ → ℕ → Bool
+is_virtual_at classes i n = option_map_or is_virtual_role (role_at classes i n) false
+
+-- a slot is known by the number of the class that introduced it (II.10.3)
+abbrev pub slot_by_role : ℕ → Option ℕ → Role → Option ℕ
+slot_by_role n inherited Plain = None
+slot_by_role n inherited ReuseSlot = Some (unwrap_or inherited n)
+slot_by_role n inherited NewSlot = Some n
+
+-- the slot as seen from a class, by the one that it inherits
+abbrev pub slot_from : List ResolvedClass → ℕ → ℕ → Option ℕ → Option ℕ
+slot_from classes i n inherited = option_map_or (slot_by_role n inherited) (role_at classes i n) inherited
+
+-- the slot that the nearest method along a chain fills
+abbrev pub slot_along : List ResolvedClass → ℕ → List ℕ → Option ℕ
+slot_along classes i [] = None
+slot_along classes i (n ∷ ns) = slot_from classes i n (slot_along classes i ns)
+
+-- the nearest class whose method fills a slot as seen from a class, by what is so as seen from its base
+abbrev pub filler_from : List ResolvedClass → ℕ → ℕ → Bool → Option ℕ → Option ℕ
+filler_from classes i n fills below = if fills then option_map_or (λ (r : Role). Some n) (role_at classes i n) below else below
+
+-- the nearest class of a chain whose method fills a slot
+abbrev pub filler_along : List ResolvedClass → ℕ → ℕ → List ℕ → Option ℕ
+filler_along classes i slot [] = None
+filler_along classes i slot (n ∷ ns) = filler_from classes i n (option_map_or (λ s. s == slot) (slot_along classes i (n ∷ ns)) false) (filler_along classes i slot ns)
+
+-- the method that fills along one chain the slot that is known along another
+abbrev pub filled_along : List ResolvedClass → ℕ → List ℕ → List ℕ → Option MemberNumber
+filled_along classes i chain introduced = option_and_then (λ slot. option_and_then (own_at classes i) (filler_along classes i slot chain)) (slot_along classes i introduced)
+
+-- the method that fills the slot of the nearest virtual method, as seen from the nearest class of a chain that lists the interface
+abbrev pub listed_filler : Tree → List ResolvedClass → ℕ → List ℕ → ℕ → Option MemberNumber
+listed_filler tree classes i chain interface =
+    option_and_then (λ lister. option_and_then (λ found. filled_along classes i chain (chain_at tree found)) (find (is_virtual_at classes i) (chain_at tree lister)))
+    (find (is_lister (map (λ (r : ResolvedClass). r.interfaces) classes) interface) chain)

@@ -1,0 +1,90 @@
+// What methods are to the slots of their names and signatures (ECMA-335 II.10.3).
+
+ghost use Rattle.std.specs.Prelude.{◌≡◌, ◌==◌, ◌&&◌, not, IfOk, find, map, option_map};
+ghost use Rattle.std.specs.List.{position_from};
+ghost use Rattle.class_layout.specs.Roles.{role_of_numbered, is_virtual_role, is_static_numbered, role_in, own_place};
+
+use cil_model::memory::NoMemory;
+use resolved_code::classes::{ResolvedClass, ResolvedKind, ResolvedMethod};
+use std::alloc::Global;
+
+/// What a method is to the slots of its name and signature.
+#[derive(Clone, Copy, PartialEq, Eq, Debug)]
+pub enum Role {
+    /// It fills none: it is not virtual.
+    Plain,
+    /// It fills the slot that its class inherits, or its own where there is none.
+    ReuseSlot,
+    /// It fills a slot of its own.
+    NewSlot,
+}
+
+fn role_of(kind: &ResolvedKind) -> Role
+    ensures { result ≡ role_of_numbered kind.now }
+{
+    match kind {
+        ResolvedKind::Static(_) | ResolvedKind::Instance(_) => Role::Plain,
+        ResolvedKind::Virtual { is_new_slot, .. } | ResolvedKind::Abstract { is_new_slot } => {
+            if *is_new_slot {
+                Role::NewSlot
+            } else {
+                Role::ReuseSlot
+            }
+        }
+    }
+}
+
+/// Whether a method is virtual; an abstract one is too (ECMA-335 II.15.4.2).
+pub fn is_virtual(kind: &ResolvedKind) -> bool
+    ensures { result ≡ is_virtual_role (role_of_numbered kind.now) }
+{
+    match role_of(kind) {
+        Role::Plain => false,
+        Role::ReuseSlot | Role::NewSlot => true,
+    }
+}
+
+/// The role of the first of these methods with a name and signature.
+fn role_in(methods: &[ResolvedMethod], identity: usize) -> Option<Role>
+    ensures { result ≡ role_in identity methods.now }
+{
+    for method in methods {
+        if identity == method.identity {
+            return Some(role_of(&method.kind));
+        }
+    }
+    None
+}
+
+/// The role of the first method of each class with a name and signature.
+pub fn roles(
+    alloc: Global,
+    classes: &[ResolvedClass],
+    identity: usize,
+) -> Result<Vec<Option<Role>>, NoMemory>
+    ensures { IfOk result (λ v. v.items ≡ map (λ r. role_in identity r.methods) classes.now) }
+{
+    let mut roles = Vec::new(alloc);
+    for class in classes {
+        roles.push(role_in(class.methods.as_slice(), identity))?;
+    }
+    Ok(roles)
+}
+
+fn is_own(method: &ResolvedMethod, identity: usize) -> bool
+    ensures { result ≡ ((identity == method.now.identity) && not (is_static_numbered method.now.kind)) }
+{
+    identity == method.identity && !matches!(method.kind, ResolvedKind::Static(_))
+}
+
+/// The place of the first of these methods with a name and signature that has an object.
+pub fn own_place(methods: &[ResolvedMethod], identity: usize) -> Option<usize>
+    ensures { result ≡ own_place identity methods.now }
+{
+    for place in 0..methods.len() {
+        if is_own(&methods[place], identity) {
+            return Some(place);
+        }
+    }
+    None
+}

@@ -1,0 +1,46 @@
+-- What the table takes from classes and methods whose types are told by number.
+use Rattle.std.specs.Prelude.{ℕ, zero, suc, ◌+◌, List, [], ◌∷◌, length}
+use Rattle.resolved_code.specs.declared.types.NumberedElement.{NumberedElement}
+use Rattle.resolved_code.specs.declared.types.NumberedElement.TheVariants.{Int32, Int64, Object, String, Class}
+use Rattle.resolved_code.specs.declared.types.NumberedType.{NumberedType}
+use Rattle.resolved_code.specs.declared.classes.ResolvedKind.{ResolvedKind}
+use Rattle.resolved_code.specs.declared.classes.ResolvedKind.TheVariants.{Static, Instance, Virtual, Abstract}
+use Rattle.resolved_code.specs.declared.classes.ResolvedMethod.{ResolvedMethod}
+use Rattle.object_memory.specs.declared.values.ValueKind.{ValueKind}
+use Rattle.object_memory.specs.declared.values.ValueKind.TheVariants as Kind
+
+-- what a place of a type holds: every type but the two integers is a reference (I.8.2.1)
+abbrev pub numbered_kind_at : NumberedElement → ℕ → ValueKind
+numbered_kind_at e (suc n) = Kind.Ref
+numbered_kind_at Int32 zero = Kind.Int32
+numbered_kind_at Int64 zero = Kind.Int64
+numbered_kind_at Object zero = Kind.Ref
+numbered_kind_at String zero = Kind.Ref
+numbered_kind_at (Class n) zero = Kind.Ref
+
+-- the same, of a type
+abbrev pub kind_of_numbered : NumberedType → ValueKind
+kind_of_numbered t = numbered_kind_at t.element t.brackets
+
+-- the types of the locals of a method; none where it has no code (II.15.4.1.3)
+abbrev pub numbered_locals : ResolvedKind → List NumberedType
+numbered_locals (Static body) = body.locals
+numbered_locals (Instance body) = body.locals
+numbered_locals (Virtual is_new_slot body) = body.locals
+numbered_locals (Abstract is_new_slot) = []
+
+-- how many operands a call takes beside those of the parameters: the object, where the method has one (II.15.3)
+abbrev pub with_object : ResolvedKind → ℕ → ℕ
+with_object (Static body) n = n
+with_object (Instance body) n = n + 1
+with_object (Virtual is_new_slot body) n = n + 1
+with_object (Abstract is_new_slot) n = n + 1
+
+-- how many operands a call takes
+abbrev pub operand_count : ResolvedMethod → ℕ
+operand_count m = with_object m.kind (length m.parameters)
+
+-- for each count the sum of those before it, from a first sum on
+abbrev pub running_counts : ℕ → List ℕ → List ℕ
+running_counts next [] = []
+running_counts next (n ∷ ns) = next ∷ running_counts (next + n) ns
