@@ -267,7 +267,10 @@ fn is_done(outcome: &Outcome) -> bool {
 /// Whether a seat loads what another one stored, and nothing from a slot that nobody stored to.
 fn is_loaded_by_another(alloc: Global) -> Result<bool, NoMemory> {
     let (flip, _copier, mut writers) = Flip::new(alloc, 2, 1, &[0, 0], 2)?;
-    let (Some(second), Some(first)) = (writers.pop(), writers.pop()) else {
+    let Some(second) = writers.pop() else {
+        return Ok(false);
+    };
+    let Some(first) = writers.pop() else {
         return Ok(false);
     };
     let _first = flip.store(first, 1, 0, Some(1));

@@ -67,7 +67,10 @@ pub fn threads_see_every_epoch<R: Threads + Sync>(
     alloc: Global,
 ) -> Result<bool, AllocError> {
     let (epochs, herald, mut seats) = Epochs::new(alloc, 2)?;
-    let (Some(second), Some(first)) = (seats.pop(), seats.pop()) else {
+    let Some(second) = seats.pop() else {
+        return Ok(false);
+    };
+    let Some(first) = seats.pop() else {
         return Ok(false);
     };
     let (posted, (first_saw, second_saw)) = join(

@@ -42,7 +42,7 @@ pub fn outcome(
     Ok(out)
 }
 
-/// The order with other limits, where some are given.
+/// The order with other limits, where it is a run and some are given.
 fn limited<'a>(order: Order<'a>, limits: Option<&str>) -> Order<'a> {
     let Some(limits) = limits else {
         return order;
@@ -55,17 +55,6 @@ fn limited<'a>(order: Order<'a>, limits: Option<&str>) -> Order<'a> {
             explain,
             ..
         } => Order::Run {
-            file,
-            schedule,
-            limits,
-            explain,
-        },
-        Order::Replay {
-            file,
-            schedule,
-            explain,
-            ..
-        } => Order::Replay {
             file,
             schedule,
             limits,
