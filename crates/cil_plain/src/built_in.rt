@@ -3,7 +3,7 @@
 use crate::classes::{Classes, Found, name_of};
 use crate::effects::{Done, Effect, Halt};
 use crate::frames::Frame;
-use crate::heap::{Contents, Monitor};
+use crate::heap::Monitor;
 use crate::state::State;
 use crate::values::Value;
 use cil_model::limits::MOST_THREADS;
@@ -52,26 +52,18 @@ impl<'a> State<'a> {
 
     /// Prints a number in decimal digits, or a literal's characters, or nothing for null; then a line end.
     fn write_line(&mut self, value: Value) -> Result<(), Halt> {
-        let line = match value {
-            Value::Int32(number) => format!(in self.alloc; "{number}\n")?,
-            Value::Int64(number) => format!(in self.alloc; "{number}\n")?,
-            Value::Null => String::from_str(self.alloc, "\n")?,
-            Value::Reference(name) => self.line_of(name)?,
-            Value::Native(_) => return Err(Halt::Sticks),
-        };
-        self.console.extend_from_slice(line.as_bytes())?;
-        Ok(())
-    }
-
-    /// The characters of a literal with a line end.
-    fn line_of(&self, name: usize) -> Result<String, Halt> {
-        match self.heap.object(name)?.contents {
-            Contents::Literal(characters) => {
-                let characters = characters.as_str();
-                Ok(format!(in self.alloc; "{characters}\n")?)
+        match value {
+            Value::Int32(number) => write!(self.console, "{number}")?,
+            Value::Int64(number) => write!(self.console, "{number}")?,
+            Value::Null => {}
+            Value::Reference(name) => {
+                let characters = self.heap.characters(name)?;
+                self.console.push_str(characters.as_str())?;
             }
-            _ => Err(Halt::Sticks),
+            Value::Native(_) => return Err(Halt::Sticks),
         }
+        self.console.push('\n')?;
+        Ok(())
     }
 
     /// A monitor that is free or the thread's own is entered once more; another's blocks (ECMA-335 I.12.6.5).

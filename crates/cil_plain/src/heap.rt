@@ -145,6 +145,14 @@ impl<'a> Heap<'a> {
         }
     }
 
+    /// The characters of a literal.
+    pub fn characters(&self, name: usize) -> Result<&'a Text, Halt> {
+        match self.object(name)?.contents {
+            Contents::Literal(characters) => Ok(characters),
+            _ => Err(Halt::Sticks),
+        }
+    }
+
     fn type_of(&self, classes: Classes<'a>, name: usize) -> Result<PlainType, Halt> {
         Ok(match &self.object(name)?.contents {
             Contents::Instance(class, _) => classes.type_of_class(*class),

@@ -50,8 +50,10 @@ impl<'a> PlainMachine<'a> {
             return Ok(None);
         };
         let mut state = State::new(alloc, names, limits);
-        let opened = unless_stuck(state.open(entry))?;
-        Ok(opened.map(|()| PlainMachine { state }))
+        match unless_stuck(state.open(entry))? {
+            None => Ok(None),
+            Some(()) => Ok(Some(PlainMachine { state })),
+        }
     }
 
     /// One step of the thread, in which a birth is refused or not. None where it is stuck: an operand is missing or of the
@@ -65,7 +67,7 @@ impl<'a> PlainMachine<'a> {
 
     /// What was printed.
     pub fn console(&self) -> &[u8] {
-        self.state.console.as_slice()
+        self.state.console.as_bytes()
     }
 
     /// How the thread ended; none where it is live or was never started.

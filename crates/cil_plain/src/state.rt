@@ -57,7 +57,7 @@ pub struct State<'a> {
     pub heap: Heap<'a>,
     pub statics: Vec<FieldValue>,
     pub threads: Vec<PlainThread<'a>>,
-    pub console: Vec<u8>,
+    pub console: String,
     pub turn: Turn,
 }
 
@@ -71,7 +71,7 @@ impl<'a> State<'a> {
             heap: Heap::new(alloc),
             statics: Vec::new(alloc),
             threads: Vec::new(alloc),
-            console: Vec::new(alloc),
+            console: String::new(alloc),
             turn: Turn {
                 thread: 0,
                 depth: 0,

@@ -2,7 +2,7 @@
 
 use crate::effects::{Effect, Halt};
 use crate::frames::Frame;
-use crate::state::State;
+use crate::state::{State, Turn};
 use crate::values::Value;
 use cil_model::reports::{End, Report};
 
@@ -32,11 +32,15 @@ impl<'a> State<'a> {
         let Some(running) = self.threads.get_mut(thread) else {
             return Err(Halt::Sticks);
         };
-        self.turn.thread = thread;
-        self.turn.depth = running.frames.len();
-        self.turn.is_refused = is_refused;
         running.steps_left = running.steps_left.saturating_sub(1);
-        running.frames.pop().ok_or(Halt::Sticks)
+        let depth = running.frames.len();
+        let frame = running.frames.pop();
+        self.turn = Turn {
+            thread,
+            depth,
+            is_refused,
+        };
+        frame.ok_or(Halt::Sticks)
     }
 
     /// Puts a frame above the others of the thread.

@@ -284,9 +284,13 @@ fn runs_plainly(alloc: Global) -> Result<bool, Failure> {
     let tree = read(alloc, SUM.as_bytes())?;
     let built_ins = BuiltInClass::all(alloc)?;
     let names = NameTables::new(alloc, &tree, built_ins.as_slice())?;
-    match PlainMachine::new(alloc, &names, LIMITS)? {
+    Ok(is_run_plainly(alloc, &names)?)
+}
+
+fn is_run_plainly(alloc: Global, names: &NameTables) -> Result<bool, NoMemory> {
+    match PlainMachine::new(alloc, &*names, LIMITS)? {
         None => Ok(false),
-        Some(machine) => Ok(is_plain_run(alloc, machine)?),
+        Some(machine) => is_plain_run(alloc, machine),
     }
 }
 

@@ -56,12 +56,20 @@ pub fn compare(
     let tree = read(alloc, source)?;
     let built_ins = BuiltInClass::all(alloc)?;
     let names = NameTables::new(alloc, &tree, built_ins.as_slice())?;
-    match PlainMachine::new(alloc, &names, limits)? {
-        Some(plain) => {
-            let mut plain = plain;
-            Ok(run(alloc, &mut machine, &mut plain, events)?)
-        }
+    compare_with(alloc, &mut machine, &names, limits, events)
+}
+
+/// The same of a machine, and of the names of the tree that it runs.
+fn compare_with(
+    alloc: Global,
+    machine: &mut Machine,
+    names: &NameTables,
+    limits: Limits,
+    events: &[Event],
+) -> Result<Trial, Failure> {
+    match PlainMachine::new(alloc, &*names, limits)? {
         None => no_entry_point(alloc),
+        Some(mut plain) => Ok(run(alloc, machine, &mut plain, events)?),
     }
 }
 

@@ -85,14 +85,14 @@ fn try_program(
     number: u64,
     tally: &mut Tally,
 ) -> Result<(), Failure> {
-    let source = source_of(rt.alloc(), grammar, number)?;
+    let source = source_of(rt.alloc(), &*grammar, number)?;
     let mut random = Random::new(number.wrapping_add(PROGRAMS));
     let limits = limits_among(&mut random);
     let events = events_among(rt.alloc(), &mut random)?;
     match compare(rt.alloc(), source.as_bytes(), limits, events.as_slice()) {
         Ok(trial) => {
             tally.add(&trial)?;
-            if let Some(difference) = trial.difference {
+            if let Some(difference) = &trial.difference {
                 println!(rt; "program {number} differs at {difference}\n{limits:?}\n{source}")?;
             }
             Ok(())

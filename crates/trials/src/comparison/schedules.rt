@@ -72,7 +72,7 @@ fn try_schedule(
     if trial.printed.as_slice() == b"5\n".as_slice() {
         count.printing = count.printing.saturating_add(1);
     }
-    if let Some(difference) = trial.difference {
+    if let Some(difference) = &trial.difference {
         println!(rt; "schedule {number} differs at {difference}")?;
         count.differing = count.differing.saturating_add(1);
     }
