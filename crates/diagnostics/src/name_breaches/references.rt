@@ -52,15 +52,20 @@ pub fn type_at(tree: &Tree, site: TypeSite) -> Option<&DeclaredType> {
 
 /// The member in which types stand.
 fn spot_of(tree: &Tree, part: TypesPart) -> Option<MemberSpot> {
-    let (spot, _) = match part {
-        TypesPart::Field(field) => return Some(field_of(tree, field)?.0),
+    match part {
+        TypesPart::Field(field) => {
+            let (spot, _) = field_of(tree, field)?;
+            Some(spot)
+        }
         TypesPart::Signature(method) | TypesPart::Locals(method) | TypesPart::Line { method, .. } =>
-            method_of(tree, method)?,
-    };
-    Some(spot)
+            {
+                let (spot, _) = method_of(tree, method)?;
+                Some(spot)
+            }
+    }
 }
 
-/// Where a part of a source begins to name its types, without an own word of theirs.
+/// The place of a part of a source that names types: the name of its member, `.locals`, or the name of its instruction.
 pub fn place_of(tree: &Tree, part: TypesPart) -> Option<Place> {
     let spot = spot_of(tree, part)?;
     Some(match part {

@@ -18,7 +18,7 @@ use name_tables::lookups::NameTables;
 use std::fmt;
 
 /// What a class is named as.
-#[derive(Clone, Copy, PartialEq, Eq)]
+#[derive(Clone, Copy)]
 pub enum Role {
     /// Behind `extends`.
     Base,
@@ -311,26 +311,31 @@ fn absent_member<'a>(
     }
 }
 
-/// What an instruction names that is not there.
-fn unknown_in_line<'a>(
+fn unknown_owner(
+    tree: &Tree,
+    method: SourceMember,
+    line: usize,
+    fault: ClassFault,
+) -> Option<Found<'_>> {
+    let (spot, instruction) = line_at(tree, method, line)?;
+    let (owner, _) = member_of(instruction)?;
+    let unknown = Unknown::Class {
+        class: ClassKey::of(owner),
+        role: Role::Owner,
+        fault,
+    };
+    Some((unknown, Sites::at(spot.line(line, LinePart::Owner))))
+}
+
+fn unknown_member<'a>(
     names: &NameTables<'a>,
     method: SourceMember,
     line: usize,
-    part: LinePart,
-    fault: ClassFault,
 ) -> Option<Found<'a>> {
     let (spot, instruction) = line_at(names.classes.tree, method, line)?;
     let (owner, member) = member_of(instruction)?;
-    let class = ClassKey::of(owner);
-    let unknown = match part {
-        LinePart::Owner => Unknown::Class {
-            class,
-            role: Role::Owner,
-            fault,
-        },
-        _ => absent_member(names, class, member),
-    };
-    Some((unknown, Sites::at(spot.line(line, part))))
+    let unknown = absent_member(names, ClassKey::of(owner), member);
+    Some((unknown, Sites::at(spot.line(line, LinePart::Member))))
 }
 
 fn unknown_label(
@@ -371,10 +376,8 @@ pub fn unknown_name<'a>(
             method,
             line,
             fault,
-        } => unknown_in_line(names, method, line, LinePart::Owner, fault),
-        violations::Unknown::Member { method, line } => {
-            unknown_in_line(names, method, line, LinePart::Member, ClassFault::Absent)
-        }
+        } => unknown_owner(tree, method, line, fault),
+        violations::Unknown::Member { method, line } => unknown_member(names, method, line),
         violations::Unknown::Label {
             method,
             line,
