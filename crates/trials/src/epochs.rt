@@ -61,6 +61,27 @@ fn follow_both<R: Threads + Sync>(
     )
 }
 
+/// Whether both seats see each epoch that is posted up to 200, which are all that are posted.
+fn all_are_seen<R: Threads + Sync>(
+    rt: &R,
+    epochs: &Epochs,
+    herald: Herald,
+    first: Seat,
+    second: Seat,
+) -> bool
+    requires herald { herald.table ≡ epochs.now.table }
+    requires seats { (first.table ≡ epochs.now.table) × (second.table ≡ epochs.now.table) }
+{
+    let (posted, seen) = join(
+        rt,
+        || lead(epochs, herald, 200),
+        || -> (u64, u64)
+            requires { (first.table ≡ epochs.now.table) × (second.table ≡ epochs.now.table) }
+        { follow_both(rt, epochs, first, second, 200) },
+    );
+    posted == 200 && seen == (200, 200)
+}
+
 /// Whether two threads see each epoch that a third one posts, under any schedule of them.
 pub fn threads_see_every_epoch<R: Threads + Sync>(
     rt: &R,
@@ -73,10 +94,5 @@ pub fn threads_see_every_epoch<R: Threads + Sync>(
     let Some(first) = seats.pop() else {
         return Ok(false);
     };
-    let (posted, (first_saw, second_saw)) = join(
-        rt,
-        || lead(&epochs, herald, 200),
-        || follow_both(rt, &epochs, first, second, 200),
-    );
-    Ok((posted, first_saw, second_saw) == (200, 200, 200))
+    Ok(all_are_seen(rt, &epochs, herald, first, second))
 }
