@@ -48,5 +48,5 @@ pub unread_source : (source : List ℕ) (error : ReadError) → AreUnique → Is
 unread_source source TooLong unique answer other = not_accepted source IsTooLong unique answer (λ tree e. absurd (cc e))
 unread_source source (NotAscii offset) unique answer other = not_accepted source Foreign unique answer (λ tree e. absurd (cc e))
 unread_source source (NoToken offset) unique answer other = not_accepted source HasNoToken unique answer (λ tree e. absurd (cc e))
-unread_source source (NoTree offset) unique answer other = not_accepted source HasNoTree unique answer (λ tree e. absurd (cc e))
+unread_source source (NoTree offset expected) unique answer other = not_accepted source HasNoTree unique answer (λ tree e. absurd (cc e))
 unread_source source OutOfMemory unique answer other = λ accepted. other refl

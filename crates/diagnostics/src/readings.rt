@@ -1,11 +1,12 @@
 //! Why a source has no tree (numbers 101 to 104).
 
-use crate::hints::{Hint, hint_behind};
+use crate::hints::{ExpectedText, last_token};
 use crate::messages::Named;
 use crate::source_map::token_at;
 use cil_model::limits::MOST_SOURCE_BYTES;
 use cil_model::memory::NoMemory;
 use ilasm_reader::ReadError;
+use ilasm_tokens::expected::Expected;
 use ilasm_tokens::words::{WordUse, use_of};
 use std::alloc::Global;
 use std::fmt;
@@ -118,16 +119,19 @@ fn no_instruction(alloc: Global, named: Named, offset: usize) -> Result<String, 
     named.message_at(alloc, offset, sentence.as_str())
 }
 
-fn no_tree(alloc: Global, named: Named, offset: usize) -> Result<String, NoMemory> {
+fn no_tree(
+    alloc: Global,
+    named: Named,
+    offset: usize,
+    expected: Expected,
+) -> Result<String, NoMemory> {
+    if let Expected::LabelColon = expected {
+        let before = named.text.get(..offset).unwrap_or(named.text);
+        return no_instruction(alloc, named, last_token(alloc, before)?);
+    }
     let found = Found(token_at(named.text, offset));
-    let before = named.text.get(..offset).unwrap_or(named.text);
-    let sentence = match hint_behind(alloc, before, found.0)? {
-        (Hint::NoInstruction, name) => return no_instruction(alloc, named, name),
-        (Hint::Nothing, _) => format!(in alloc; "{found} cannot stand here")?,
-        (Hint::Wanted(wanted), _) => {
-            format!(in alloc; "{found} stands where {wanted} is wanted")?
-        }
-    };
+    let expected = ExpectedText(expected);
+    let sentence = format!(in alloc; "{found} stands where {expected} is wanted")?;
     let end = end_of_tokens(named.text);
     named.message_at(alloc, offset.min(end), sentence.as_str())
 }
@@ -150,7 +154,7 @@ pub(crate) fn explain_reading(
         ReadError::TooLong => too_long(alloc, named),
         ReadError::NotAscii { offset } => foreign_byte(alloc, named, offset),
         ReadError::NoToken { offset } => no_token(alloc, named, offset),
-        ReadError::NoTree { offset } => no_tree(alloc, named, offset),
+        ReadError::NoTree { offset, expected } => no_tree(alloc, named, offset, expected),
         ReadError::OutOfMemory => Err(NoMemory),
     }
 }

@@ -9,7 +9,7 @@ use Rattle.ilasm_reader.specs.declared.reading.ReadError.TheVariants.{TooLong, N
 abbrev pub numbered : ReadError → ℕ
 numbered (NotAscii offset) = 101
 numbered (NoToken offset) = 102
-numbered (NoTree offset) = 103
+numbered (NoTree offset expected) = 103
 numbered TooLong = 104
 numbered OutOfMemory = 105
 
@@ -19,5 +19,5 @@ IsReadAnswer source (Ok tree) = IsAnswer source (HasTree tree)
 IsReadAnswer source (Err TooLong) = IsAnswer source IsTooLong
 IsReadAnswer source (Err (NotAscii offset)) = IsAnswer source Foreign
 IsReadAnswer source (Err (NoToken offset)) = IsAnswer source HasNoToken
-IsReadAnswer source (Err (NoTree offset)) = IsAnswer source HasNoTree
+IsReadAnswer source (Err (NoTree offset expected)) = IsAnswer source HasNoTree
 IsReadAnswer source (Err OutOfMemory) = (is_too_long source ≡ false) × (has_foreign_byte source ≡ false)

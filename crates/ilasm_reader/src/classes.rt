@@ -1,17 +1,20 @@
 //! Assemblies, classes and their members.
 
-ghost use Rattle.ilasm_tokens.specs.Steps.{Gives};
+ghost use Rattle.ilasm_tokens.specs.Steps.{Gives, many};
 ghost use Rattle.ilasm_reader.specs.Parsing.{assembly_at, block_at, class_at, extern_at, field_at, implements_at, in_block, interface_at, interface_member_at, member_at, plain_class_at, starts_extern, tree_at};
 
 use crate::lists::{Parse, Starts, commas, in_block, many};
 use crate::methods::method;
-use crate::single::{after_word, expect_symbol, expect_word, flag, name};
+use crate::single::{
+    after_word, expect_symbol, expect_symbol_of, expect_word, expect_word_of, flag, name,
+};
 use crate::types::{AnyType, ClassReference};
 use cil_model::sequences::Sequence;
 use cil_model::texts::Text;
 use cil_model::tokens::Symbol;
 use cil_model::trees::{Class, ClassKind, Field, Member, Tree};
 use cil_model::types::ClassName;
+use ilasm_tokens::expected::Expected;
 use ilasm_tokens::failure::Failure;
 use ilasm_tokens::source_tokens::Tokens;
 use std::alloc::Global;
@@ -28,7 +31,7 @@ fn field(alloc: Global, tokens: Tokens<'_>) -> Result<(Field, Tokens<'_>), Failu
     let rest = expect_word(rest, b"public")?;
     let (is_static, rest) = flag(rest, b"static");
     let (field_type, rest) = AnyType::parse(alloc, rest)?;
-    let (name, rest) = name(alloc, rest)?;
+    let (name, rest) = name(alloc, rest, Expected::Name)?;
     Ok((
         Field {
             is_static,
@@ -51,7 +54,7 @@ impl Parse for InterfaceMember {
 
     #[tactic(auto, unfolding(crate::specs::Parsing::interface_member_at, ilasm_tokens::specs::Steps::bind))]
     fn parse(alloc: Global, tokens: Tokens<'_>) -> Result<(Member, Tokens<'_>), Failure> {
-        let (method, rest) = method(alloc, tokens)?;
+        let (method, rest) = method(alloc, tokens, Expected::InterfaceMember)?;
         Ok((Member::Method(method), rest))
     }
 
@@ -76,13 +79,14 @@ impl Parse for AnyMember {
 
     ghost parsed_at = { member_at };
 
-    #[tactic(auto, unfolding(crate::specs::Parsing::member_at, ilasm_tokens::specs::Steps::bind, ilasm_tokens::specs::Steps::choice))]
+    #[tactic(auto, unfolding(crate::specs::Parsing::member_at, crate::specs::Parsing::interface_member_at, ilasm_tokens::specs::Steps::bind, ilasm_tokens::specs::Steps::choice))]
     fn parse(alloc: Global, tokens: Tokens<'_>) -> Result<(Member, Tokens<'_>), Failure> {
         if after_word(tokens, b".field").is_some() {
             let (field, rest) = field(alloc, tokens)?;
             return Ok((Member::Field(field), rest));
         }
-        InterfaceMember::parse(alloc, tokens)
+        let (method, rest) = method(alloc, tokens, Expected::Member)?;
+        Ok((Member::Method(method), rest))
     }
 
     ghost consumes = { λ ts x rest e. ((member_sound ts).out (x, rest) e).1 };
@@ -96,16 +100,18 @@ impl Starts for AnyMember {
     }
 }
 
-/// Members in braces.
+/// Members in braces. Where one more may stand, the grammar has what is told as expected.
 #[tactic(auto, unfolding(crate::specs::Parsing::block_at, ilasm_tokens::specs::Steps::bind))]
 fn block<P: Starts>(
     alloc: Global,
     tokens: Tokens<'_>,
+    expected: Expected,
 ) -> Result<(Sequence<P::Tree>, Tokens<'_>), Failure>
     ensures { Gives (λ x. (x.0, x.1.now)) result (block_at P.starts_at P.parsed_at tokens.now) }
 {
     let (members, rest) = many::<P>(alloc, expect_symbol(tokens, Symbol::OpenBrace)?, FEW)?;
-    Ok((members, expect_symbol(rest, Symbol::CloseBrace)?))
+    let rest = expect_symbol_of(rest, Symbol::CloseBrace, expected)?;
+    Ok((members, rest))
 }
 
 /// The interfaces that a class lists; none where they are left out.
@@ -132,8 +138,8 @@ fn interface(alloc: Global, tokens: Tokens<'_>) -> Result<(Class, Tokens<'_>), F
     let rest = expect_word(rest, b"abstract")?;
     let rest = expect_word(rest, b"auto")?;
     let rest = expect_word(rest, b"ansi")?;
-    let (name, rest) = name(alloc, rest)?;
-    let (members, rest) = block::<InterfaceMember>(alloc, rest)?;
+    let (name, rest) = name(alloc, rest, Expected::Name)?;
+    let (members, rest) = block::<InterfaceMember>(alloc, rest, Expected::InterfaceMember)?;
     let kind = ClassKind::Interface;
     Ok((
         Class {
@@ -145,20 +151,29 @@ fn interface(alloc: Global, tokens: Tokens<'_>) -> Result<(Class, Tokens<'_>), F
     ))
 }
 
+/// What stands before `auto`, behind `abstract` or without it.
+fn attributes_behind(is_abstract: bool) -> Expected {
+    if is_abstract {
+        Expected::Word(b"auto")
+    } else {
+        Expected::ClassAttributes
+    }
+}
+
 /// A class that is no interface, behind the word `.class`.
 #[tactic(auto, unfolding(crate::specs::Parsing::plain_class_at, ilasm_tokens::specs::Steps::bind))]
 fn plain_class(alloc: Global, tokens: Tokens<'_>) -> Result<(Class, Tokens<'_>), Failure>
     ensures { Gives (λ x. (x.0, x.1.now)) result (plain_class_at tokens.now) }
 {
-    let rest = expect_word(tokens, b"public")?;
+    let rest = expect_word_of(tokens, b"public", Expected::ClassHead)?;
     let (is_abstract, rest) = flag(rest, b"abstract");
-    let rest = expect_word(rest, b"auto")?;
+    let rest = expect_word_of(rest, b"auto", attributes_behind(is_abstract))?;
     let rest = expect_word(rest, b"ansi")?;
-    let (name, rest) = name(alloc, rest)?;
+    let (name, rest) = name(alloc, rest, Expected::Name)?;
     let rest = expect_word(rest, b"extends")?;
     let (base, rest) = ClassReference::parse(alloc, rest)?;
     let (interfaces, rest) = implements(alloc, rest)?;
-    let (members, rest) = block::<AnyMember>(alloc, rest)?;
+    let (members, rest) = block::<AnyMember>(alloc, rest, Expected::Member)?;
     let kind = ClassKind::Class {
         is_abstract,
         base,
@@ -186,7 +201,7 @@ impl Parse for AnyClass {
 
     #[tactic(auto, unfolding(crate::specs::Parsing::class_at, ilasm_tokens::specs::Steps::bind, ilasm_tokens::specs::Steps::choice))]
     fn parse(alloc: Global, tokens: Tokens<'_>) -> Result<(Class, Tokens<'_>), Failure> {
-        let rest = expect_word(tokens, b".class")?;
+        let rest = expect_word_of(tokens, b".class", Expected::Class)?;
         if after_word(rest, b"interface").is_some() {
             interface(alloc, rest)
         } else {
@@ -219,7 +234,7 @@ impl Parse for Extern {
     fn parse(alloc: Global, tokens: Tokens<'_>) -> Result<(Text, Tokens<'_>), Failure> {
         let rest = expect_word(tokens, b".assembly")?;
         let rest = expect_word(rest, b"extern")?;
-        let (name, rest) = name(alloc, rest)?;
+        let (name, rest) = name(alloc, rest, Expected::Name)?;
         let rest = expect_symbol(rest, Symbol::OpenBrace)?;
         let rest = expect_symbol(rest, Symbol::CloseBrace)?;
         Ok((name, rest))
@@ -248,10 +263,43 @@ fn assembly(alloc: Global, tokens: Tokens<'_>) -> Result<(Option<Text>, Tokens<'
     let Some(rest) = after_word(tokens, b".assembly") else {
         return Ok((None, tokens));
     };
-    let (name, rest) = name(alloc, rest)?;
+    let (name, rest) = name(alloc, rest, Expected::AssemblyName)?;
     let rest = expect_symbol(rest, Symbol::OpenBrace)?;
     let rest = expect_symbol(rest, Symbol::CloseBrace)?;
     Ok((Some(name), rest))
+}
+
+/// What stands where the first class may begin, behind the source's own assembly or without it.
+fn classes_behind(has_assembly: bool) -> Expected {
+    if has_assembly {
+        Expected::Class
+    } else {
+        Expected::Declaration
+    }
+}
+
+/// What stands where a class may begin, behind so many; `start` behind none.
+fn class_behind(classes: usize, start: Expected) -> Expected {
+    if classes == 0 { start } else { Expected::Class }
+}
+
+/// As many classes as stand here. Where the first may begin, the grammar has what is told as `start`.
+fn classes(
+    alloc: Global,
+    tokens: Tokens<'_>,
+    start: Expected,
+) -> Result<(Sequence<Class>, Tokens<'_>), Failure>
+    ensures { Gives (λ x. (x.0, x.1.now)) result (many in_block class_at tokens.now) }
+{
+    match many::<AnyClass>(alloc, tokens, FEW) {
+        Err(Failure::Refused { left, .. }) if left == tokens.len() => {
+            Err(Failure::Refused {
+                left,
+                expected: start,
+            })
+        }
+        read => read,
+    }
 }
 
 /// The tree of all of the tokens.
@@ -261,9 +309,13 @@ pub fn tree(alloc: Global, tokens: Tokens<'_>) -> Result<Tree, Failure>
 {
     let (externs, rest) = many::<Extern>(alloc, tokens, FEW)?;
     let (assembly, rest) = assembly(alloc, rest)?;
-    let (classes, rest) = many::<AnyClass>(alloc, rest, FEW)?;
+    let start = classes_behind(assembly.is_some());
+    let (classes, rest) = classes(alloc, rest, start)?;
     if !rest.is_empty() {
-        return Err(Failure::Refused { left: rest.len() });
+        return Err(Failure::Refused {
+            left: rest.len(),
+            expected: class_behind(classes.as_slice().len(), start),
+        });
     }
     Ok(Tree {
         externs,

@@ -6,13 +6,17 @@ ghost use Rattle.ilasm_reader.specs.Parsing.{code_at, in_block, label_at, line_a
 
 use crate::instructions::instruction;
 use crate::lists::{Parse, Starts, commas, in_block, many};
-use crate::single::{after_name, after_word, expect_symbol, expect_word, flag, integer, name};
+use crate::single::{
+    after_name, after_word, expect_symbol, expect_symbol_of, expect_word, expect_word_of, flag,
+    integer, name,
+};
 use crate::types::Parameter;
 use cil_model::sequences::Sequence;
 use cil_model::texts::Text;
 use cil_model::tokens::Symbol;
 use cil_model::trees::{Code, Line};
 use cil_model::types::DeclaredType;
+use ilasm_tokens::expected::Expected;
 use ilasm_tokens::failure::Failure;
 use ilasm_tokens::source_tokens::Tokens;
 use std::alloc::Global;
@@ -29,8 +33,9 @@ impl Parse for Label {
 
     #[tactic(auto, unfolding(crate::specs::Parsing::label_at, ilasm_tokens::specs::Steps::bind))]
     fn parse(alloc: Global, tokens: Tokens<'_>) -> Result<(Text, Tokens<'_>), Failure> {
-        let (name, rest) = name(alloc, tokens)?;
-        Ok((name, expect_symbol(rest, Symbol::Colon)?))
+        let (name, rest) = name(alloc, tokens, Expected::LabelName)?;
+        let rest = expect_symbol_of(rest, Symbol::Colon, Expected::LabelColon)?;
+        Ok((name, rest))
     }
 
     ghost consumes = { λ ts x rest e. ((label_sound ts).out (x, rest) e).1 };
@@ -42,6 +47,15 @@ impl Starts for Label {
     #[tactic(auto, unfolding(crate::specs::Parsing::starts_label))]
     fn starts(tokens: Tokens<'_>) -> bool {
         after_name(tokens).is_some()
+    }
+}
+
+/// What stands where a line goes on that has so many labels.
+fn line_behind(labels: usize) -> Expected {
+    if labels == 0 {
+        Expected::Line
+    } else {
+        Expected::LabelledLine
     }
 }
 
@@ -58,7 +72,7 @@ impl Parse for CodeLine {
     #[tactic(auto, unfolding(crate::specs::Parsing::line_at, ilasm_tokens::specs::Steps::bind))]
     fn parse(alloc: Global, tokens: Tokens<'_>) -> Result<(Line, Tokens<'_>), Failure> {
         let (labels, rest) = many::<Label>(alloc, tokens, 1)?;
-        let (instruction, rest) = instruction(alloc, rest)?;
+        let (instruction, rest) = instruction(alloc, rest, line_behind(labels.as_slice().len()))?;
         Ok((
             Line {
                 labels,
@@ -93,15 +107,31 @@ fn locals(
     let rest = expect_word(rest, b"init")?;
     let rest = expect_symbol(rest, Symbol::OpenParenthesis)?;
     let (locals, rest) = commas::<Parameter>(alloc, rest)?;
-    Ok((locals, expect_symbol(rest, Symbol::CloseParenthesis)?))
+    let end = Expected::ListEnd(Symbol::CloseParenthesis);
+    Ok((
+        locals,
+        expect_symbol_of(rest, Symbol::CloseParenthesis, end)?,
+    ))
 }
 
-/// How high the stack may be.
+/// What stands where the code of a method begins, behind `.entrypoint` or without it.
+fn start_of_code(is_entry_point: bool) -> Expected {
+    if is_entry_point {
+        Expected::Word(b".maxstack")
+    } else {
+        Expected::CodeStart
+    }
+}
+
+/// How high the stack may be, behind `.entrypoint` or without it.
 #[tactic(auto, unfolding(crate::specs::Parsing::max_stack_at, ilasm_tokens::specs::Steps::bind))]
-fn max_stack(tokens: Tokens<'_>) -> Result<(i64, Tokens<'_>), Failure>
+fn max_stack(tokens: Tokens<'_>, is_entry_point: bool) -> Result<(i64, Tokens<'_>), Failure>
     ensures { Gives (λ x. (x.0, x.1.now)) result (max_stack_at tokens.now) }
 {
-    integer(expect_word(tokens, b".maxstack")?)
+    integer(
+        expect_word_of(tokens, b".maxstack", start_of_code(is_entry_point))?,
+        Expected::Integer,
+    )
 }
 
 /// How many reserved words stand before the end of a block. No more lines do, since each has the name of an instruction.
@@ -122,10 +152,10 @@ pub fn code(alloc: Global, tokens: Tokens<'_>) -> Result<(Code, Tokens<'_>), Fai
 {
     let block = expect_symbol(tokens, Symbol::OpenBrace)?;
     let (is_entry_point, rest) = flag(block, b".entrypoint");
-    let (max_stack, rest) = max_stack(rest)?;
+    let (max_stack, rest) = max_stack(rest, is_entry_point)?;
     let (locals, rest) = locals(alloc, rest)?;
     let (lines, rest) = many::<CodeLine>(alloc, rest, words_ahead(rest))?;
-    let rest = expect_symbol(rest, Symbol::CloseBrace)?;
+    let rest = expect_symbol_of(rest, Symbol::CloseBrace, Expected::Line)?;
     Ok((
         Code {
             is_entry_point,

@@ -12,6 +12,7 @@ use crate::types::{AnyType, element};
 use cil_model::instructions::{FieldReference, Instruction, MethodName, MethodReference};
 use cil_model::texts::Text;
 use cil_model::types::DeclaredType;
+use ilasm_tokens::expected::Expected;
 use ilasm_tokens::failure::Failure;
 use ilasm_tokens::source_tokens::Tokens;
 use ilasm_tokens::words::{Bare, FieldAccess, Form, Jump, TypeTest, WithInteger, WordUse, use_of};
@@ -94,10 +95,13 @@ fn with_type(which: TypeTest, its_type: DeclaredType) -> Instruction
 fn load_int32(tokens: Tokens<'_>) -> Result<(Instruction, Tokens<'_>), Failure>
     ensures { Gives (λ x. (x.0, x.1.now)) result (operands_at Int32 tokens.now) }
 {
-    let (value, rest) = integer(tokens)?;
+    let (value, rest) = integer(tokens, Expected::Int32)?;
     match i32::try_from(value) {
         Ok(value) => Ok((Instruction::LoadInt32(value), rest)),
-        Err(_) => Err(Failure::Refused { left: tokens.len() }),
+        Err(_) => Err(Failure::Refused {
+            left: tokens.len(),
+            expected: Expected::Int32,
+        }),
     }
 }
 
@@ -107,7 +111,7 @@ fn call(alloc: Global, tokens: Tokens<'_>) -> Result<(Instruction, Tokens<'_>), 
     ensures { Gives (λ x. (x.0, x.1.now)) result (operands_at Call tokens.now) }
 {
     if let Some(rest) = after_word(tokens, b"instance") {
-        let (method, rest) = method_reference(alloc, rest)?;
+        let (method, rest) = method_reference(alloc, rest, Expected::ReturnType)?;
         let is_instance = true;
         return Ok((
             Instruction::Call {
@@ -117,7 +121,7 @@ fn call(alloc: Global, tokens: Tokens<'_>) -> Result<(Instruction, Tokens<'_>), 
             rest,
         ));
     }
-    let (method, rest) = method_reference(alloc, tokens)?;
+    let (method, rest) = method_reference(alloc, tokens, Expected::CalledMethod)?;
     let is_instance = false;
     Ok((
         Instruction::Call {
@@ -133,14 +137,18 @@ fn call(alloc: Global, tokens: Tokens<'_>) -> Result<(Instruction, Tokens<'_>), 
 fn call_virtual(alloc: Global, tokens: Tokens<'_>) -> Result<(Instruction, Tokens<'_>), Failure>
     ensures { Gives (λ x. (x.0, x.1.now)) result (operands_at CallVirtual tokens.now) }
 {
-    let (method, rest) = method_reference(alloc, expect_word(tokens, b"instance")?)?;
+    let rest = expect_word(tokens, b"instance")?;
+    let (method, rest) = method_reference(alloc, rest, Expected::ReturnType)?;
     let MethodReference {
         owner,
         name,
         signature,
     } = method;
     match name {
-        MethodName::Constructor => Err(Failure::Refused { left: tokens.len() }),
+        MethodName::Constructor => Err(Failure::Refused {
+            left: tokens.len(),
+            expected: Expected::VirtualMethod,
+        }),
         MethodName::Named(name) => Ok((
             Instruction::CallVirtual {
                 owner,
@@ -157,7 +165,8 @@ fn call_virtual(alloc: Global, tokens: Tokens<'_>) -> Result<(Instruction, Token
 fn new_object(alloc: Global, tokens: Tokens<'_>) -> Result<(Instruction, Tokens<'_>), Failure>
     ensures { Gives (λ x. (x.0, x.1.now)) result (operands_at NewObject tokens.now) }
 {
-    let (method, rest) = method_reference(alloc, expect_word(tokens, b"instance")?)?;
+    let rest = expect_word(tokens, b"instance")?;
+    let (method, rest) = method_reference(alloc, rest, Expected::ReturnType)?;
     let MethodReference {
         owner,
         name,
@@ -167,7 +176,10 @@ fn new_object(alloc: Global, tokens: Tokens<'_>) -> Result<(Instruction, Tokens<
         (MethodName::Constructor, None) => {
             Ok((Instruction::NewObject(owner, signature.parameters), rest))
         }
-        _ => Err(Failure::Refused { left: tokens.len() }),
+        _ => Err(Failure::Refused {
+            left: tokens.len(),
+            expected: Expected::Constructor,
+        }),
     }
 }
 
@@ -184,7 +196,7 @@ fn instruction_of(
         Form::Bare(which) => Ok((bare(which), tokens)),
         Form::Int32 => load_int32(tokens),
         Form::Integer(which) => {
-            let (value, rest) = integer(tokens)?;
+            let (value, rest) = integer(tokens, Expected::Integer)?;
             Ok((with_integer(which, value), rest))
         }
         Form::Quoted => {
@@ -192,7 +204,7 @@ fn instruction_of(
             Ok((Instruction::LoadString(characters), rest))
         }
         Form::Jump(which) => {
-            let (label, rest) = name(alloc, tokens)?;
+            let (label, rest) = name(alloc, tokens, Expected::LabelName)?;
             Ok((jump(which, label), rest))
         }
         Form::Switch => {
@@ -204,7 +216,7 @@ fn instruction_of(
             Ok((with_field(which, field), rest))
         }
         Form::NewArray => {
-            let (element, rest) = element(alloc, tokens)?;
+            let (element, rest) = element(alloc, tokens, Expected::ElementType)?;
             let brackets = 0;
             Ok((
                 Instruction::NewArray(DeclaredType { element, brackets }),
@@ -221,14 +233,21 @@ fn instruction_of(
     }
 }
 
-/// An instruction.
+/// An instruction. Where there is none, the grammar has what is told as expected.
 #[tactic(auto, unfolding(crate::specs::Parsing::instruction_at, crate::specs::Parsing::form_of, ilasm_tokens::specs::Steps::bind))]
-pub fn instruction(alloc: Global, tokens: Tokens<'_>) -> Result<(Instruction, Tokens<'_>), Failure>
+pub fn instruction(
+    alloc: Global,
+    tokens: Tokens<'_>,
+    expected: Expected,
+) -> Result<(Instruction, Tokens<'_>), Failure>
     ensures { Gives (λ x. (x.0, x.1.now)) result (instruction_at tokens.now) }
 {
-    let (word, rest) = any_word(tokens)?;
+    let (word, rest) = any_word(tokens, expected)?;
     match use_of(word) {
         Some(WordUse::Instruction(form)) => instruction_of(alloc, form, rest),
-        _ => Err(Failure::Refused { left: tokens.len() }),
+        _ => Err(Failure::Refused {
+            left: tokens.len(),
+            expected,
+        }),
     }
 }

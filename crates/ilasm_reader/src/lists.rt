@@ -4,9 +4,10 @@ ghost use Rattle.std.specs.Prelude.{◌≡◌, ◌≤◌, List, Bool, true, leng
 ghost use Rattle.ilasm_tokens.specs.Steps.{Gives, Consumes, many};
 ghost use Rattle.ilasm_reader.specs.Parsing.{Parser, starts_comma, after_comma, commas_at, parentheses_at, in_block};
 
-use crate::single::{after_symbol, expect_symbol};
+use crate::single::{after_symbol, expect_symbol, expect_symbol_of};
 use cil_model::sequences::Sequence;
 use cil_model::tokens::Symbol;
+use ilasm_tokens::expected::Expected;
 use ilasm_tokens::failure::Failure;
 use ilasm_tokens::source_tokens::Tokens;
 use std::alloc::Global;
@@ -140,7 +141,11 @@ pub fn parentheses<P: Parse>(
         return Ok((Sequence::new(Vec::new(alloc)), rest));
     }
     let (items, rest) = commas::<P>(alloc, inside)?;
-    Ok((items, expect_symbol(rest, Symbol::CloseParenthesis)?))
+    let end = Expected::ListEnd(Symbol::CloseParenthesis);
+    Ok((
+        items,
+        expect_symbol_of(rest, Symbol::CloseParenthesis, end)?,
+    ))
 }
 
 /// Whether a block goes on: its end is neither here nor missing.

@@ -5,12 +5,13 @@ ghost use Rattle.ilasm_reader.specs.Parsing.{body_at, constructor_words_at, firs
 
 use crate::code::code;
 use crate::lists::parentheses;
-use crate::single::{after_word, expect_symbol, expect_word, flag, name};
+use crate::single::{after_word, expect_symbol, expect_word, expect_word_of, flag, name};
 use crate::types::{Parameter, return_type};
 use cil_model::instructions::MethodName;
 use cil_model::tokens::Symbol;
 use cil_model::trees::{Method, MethodKind};
 use cil_model::types::{DeclaredType, Signature};
+use ilasm_tokens::expected::Expected;
 use ilasm_tokens::failure::Failure;
 use ilasm_tokens::source_tokens::Tokens;
 use std::alloc::Global;
@@ -25,6 +26,15 @@ pub enum Beginning {
     Constructor,
 }
 
+/// What stands before `virtual`, behind these words.
+fn virtual_behind(is_new_slot: bool, is_abstract: bool) -> Expected {
+    match (is_new_slot, is_abstract) {
+        (false, false) => Expected::MethodKind,
+        (true, false) => Expected::VirtualWords,
+        (_, true) => Expected::Word(b"virtual"),
+    }
+}
+
 /// The words of a virtual method or of an abstract one.
 #[tactic(auto, unfolding(crate::specs::Parsing::virtual_words_at, ilasm_tokens::specs::Steps::bind))]
 fn virtual_words(tokens: Tokens<'_>) -> Result<(Beginning, Tokens<'_>), Failure>
@@ -32,7 +42,7 @@ fn virtual_words(tokens: Tokens<'_>) -> Result<(Beginning, Tokens<'_>), Failure>
 {
     let (is_new_slot, rest) = flag(tokens, b"newslot");
     let (is_abstract, rest) = flag(rest, b"abstract");
-    let rest = expect_word(rest, b"virtual")?;
+    let rest = expect_word_of(rest, b"virtual", virtual_behind(is_new_slot, is_abstract))?;
     let rest = expect_word(rest, b"instance")?;
     let beginning = if is_abstract {
         Beginning::Abstract { is_new_slot }
@@ -81,8 +91,8 @@ fn head(
         let rest = expect_word(rest, b".ctor")?;
         return Ok(((None, MethodName::Constructor), rest));
     }
-    let (return_type, rest) = return_type(alloc, tokens)?;
-    let (name, rest) = name(alloc, rest)?;
+    let (return_type, rest) = return_type(alloc, tokens, Expected::ReturnType)?;
+    let (name, rest) = name(alloc, rest, Expected::Name)?;
     Ok(((return_type, MethodName::Named(name)), rest))
 }
 
@@ -109,18 +119,22 @@ fn body(
     Ok((kind, rest))
 }
 
-/// A method.
+/// A method. Where none begins, the grammar has what is told as expected.
 #[tactic(auto, unfolding(crate::specs::Parsing::method_at, ilasm_tokens::specs::Steps::bind))]
-pub fn method(alloc: Global, tokens: Tokens<'_>) -> Result<(Method, Tokens<'_>), Failure>
+pub fn method(
+    alloc: Global,
+    tokens: Tokens<'_>,
+    expected: Expected,
+) -> Result<(Method, Tokens<'_>), Failure>
     ensures { Gives (λ x. (x.0, x.1.now)) result (method_at tokens.now) }
 {
-    let rest = expect_word(tokens, b".method")?;
+    let rest = expect_word_of(tokens, b".method", expected)?;
     let rest = expect_word(rest, b"public")?;
     let rest = after_word(rest, b"hidebysig").unwrap_or(rest);
     let (beginning, rest) = first_words(rest)?;
     let ((return_type, name), rest) = head(alloc, beginning, rest)?;
     let (parameters, rest) = parentheses::<Parameter>(alloc, rest)?;
-    let rest = expect_word(rest, b"cil")?;
+    let rest = expect_word_of(rest, b"cil", Expected::CilManaged)?;
     let rest = expect_word(rest, b"managed")?;
     let (kind, rest) = body(alloc, beginning, rest)?;
     let signature = Signature {

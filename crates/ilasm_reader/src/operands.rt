@@ -10,6 +10,7 @@ use cil_model::instructions::{FieldReference, MethodName, MethodReference};
 use cil_model::texts::Text;
 use cil_model::tokens::Symbol;
 use cil_model::types::Signature;
+use ilasm_tokens::expected::Expected;
 use ilasm_tokens::failure::Failure;
 use ilasm_tokens::source_tokens::Tokens;
 use std::alloc::Global;
@@ -25,7 +26,7 @@ impl Parse for Target {
     ghost parsed_at = { name_at };
 
     fn parse(alloc: Global, tokens: Tokens<'_>) -> Result<(Text, Tokens<'_>), Failure> {
-        name(alloc, tokens)
+        name(alloc, tokens, Expected::LabelName)
     }
 
     ghost consumes = { λ ts x rest e. ((name_sound ts).out (x, rest) e).1 };
@@ -42,7 +43,7 @@ pub fn field_reference(
     let (field_type, rest) = AnyType::parse(alloc, tokens)?;
     let (owner, rest) = ClassReference::parse(alloc, rest)?;
     let rest = expect_symbol(rest, Symbol::DoubleColon)?;
-    let (name, rest) = name(alloc, rest)?;
+    let (name, rest) = name(alloc, rest, Expected::MemberName)?;
     Ok((
         FieldReference {
             field_type,
@@ -61,19 +62,20 @@ fn method_name(alloc: Global, tokens: Tokens<'_>) -> Result<(MethodName, Tokens<
     if let Some(rest) = after_word(tokens, b".ctor") {
         return Ok((MethodName::Constructor, rest));
     }
-    let (name, rest) = name(alloc, tokens)?;
+    let (name, rest) = name(alloc, tokens, Expected::MemberName)?;
     Ok((MethodName::Named(name), rest))
 }
 
-/// `type owner::name(types)`, with a name or `.ctor`.
+/// `type owner::name(types)`, with a name or `.ctor`. Where no type stands, the grammar has what is told as expected.
 #[tactic(auto, unfolding(crate::specs::Parsing::method_reference_at, ilasm_tokens::specs::Steps::bind))]
 pub fn method_reference(
     alloc: Global,
     tokens: Tokens<'_>,
+    expected: Expected,
 ) -> Result<(MethodReference, Tokens<'_>), Failure>
     ensures { Gives (λ x. (x.0, x.1.now)) result (method_reference_at tokens.now) }
 {
-    let (return_type, rest) = return_type(alloc, tokens)?;
+    let (return_type, rest) = return_type(alloc, tokens, expected)?;
     let (owner, rest) = ClassReference::parse(alloc, rest)?;
     let rest = expect_symbol(rest, Symbol::DoubleColon)?;
     let (name, rest) = method_name(alloc, rest)?;

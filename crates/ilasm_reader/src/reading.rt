@@ -7,6 +7,7 @@ ghost use Rattle.ilasm_reader.specs.Answers.{numbered, IsReadAnswer};
 use crate::classes::tree;
 use cil_model::limits::MOST_SOURCE_BYTES;
 use cil_model::trees::Tree;
+use ilasm_tokens::expected::Expected;
 use ilasm_tokens::failure::Failure;
 use ilasm_tokens::source::{token_offset, tokens};
 use std::alloc::Global;
@@ -22,8 +23,8 @@ pub enum ReadError {
     NotAscii { offset: usize },
     /// No token begins at this offset, so the source has no list of tokens (ECMA-335 II.5.2).
     NoToken { offset: usize },
-    /// The source has tokens, but they are no sentence of the grammar; what begins at this offset does not fit.
-    NoTree { offset: usize },
+    /// The source has tokens, but they are no sentence of the grammar; what begins at this offset is not what the grammar has there.
+    NoTree { offset: usize, expected: Expected },
     /// Memory ran out for the tokens or the tree.
     OutOfMemory,
 }
@@ -51,7 +52,7 @@ impl fmt::Display for ReadError {
             ReadError::TooLong => write!(f, "the source has more than {MOST_SOURCE_BYTES} bytes"),
             ReadError::NotAscii { offset } => write!(f, "the byte at {offset} is above 127"),
             ReadError::NoToken { offset } => write!(f, "no token begins at byte {offset}"),
-            ReadError::NoTree { offset } => {
+            ReadError::NoTree { offset, .. } => {
                 write!(f, "what begins at byte {offset} is not expected there")
             }
             ReadError::OutOfMemory => write!(f, "out of memory"),
@@ -92,7 +93,7 @@ pub fn read(alloc: Global, source: &[u8]) -> Result<Tree, ReadError>
     }
     let tokens = match tokens(alloc, source) {
         Ok(tokens) => tokens,
-        Err(Failure::Refused { left }) => {
+        Err(Failure::Refused { left, .. }) => {
             let offset = source.len().saturating_sub(left);
             return Err(ReadError::NoToken { offset });
         }
@@ -100,10 +101,10 @@ pub fn read(alloc: Global, source: &[u8]) -> Result<Tree, ReadError>
     };
     match tree(alloc, tokens.as_slice()) {
         Ok(tree) => Ok(tree),
-        Err(Failure::Refused { left }) => {
+        Err(Failure::Refused { left, expected }) => {
             let number = tokens.as_slice().len().saturating_sub(left);
             let offset = token_offset(source, number).unwrap_or(source.len());
-            Err(ReadError::NoTree { offset })
+            Err(ReadError::NoTree { offset, expected })
         }
         Err(Failure::OutOfMemory) => Err(ReadError::OutOfMemory),
     }

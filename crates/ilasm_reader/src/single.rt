@@ -6,6 +6,7 @@ ghost use Rattle.ilasm_reader.specs.Parsing.{word_at, sign_at, any_word_at, name
 
 use cil_model::texts::Text;
 use cil_model::tokens::Symbol;
+use ilasm_tokens::expected::Expected;
 use ilasm_tokens::failure::Failure;
 use ilasm_tokens::source_tokens::Tokens;
 use std::alloc::Global;
@@ -38,51 +39,89 @@ pub fn after_symbol(tokens: Tokens<'_>, symbol: Symbol) -> Option<Tokens<'_>>
     }
 }
 
-/// The tokens behind a reserved word, which must stand here.
-pub fn expect_word<'a>(tokens: Tokens<'a>, word: &[u8]) -> Result<Tokens<'a>, Failure>
+/// The tokens behind a reserved word, which must stand here. Where it does not, the grammar has what is told as expected.
+pub fn expect_word_of<'a>(
+    tokens: Tokens<'a>,
+    word: &[u8],
+    expected: Expected,
+) -> Result<Tokens<'a>, Failure>
     ensures { Gives (λ r. r.now) result (word_at word.now tokens.now) }
 {
     match after_word(tokens, word) {
         Some(rest) => Ok(rest),
-        None => Err(Failure::Refused { left: tokens.len() }),
+        None => Err(Failure::Refused {
+            left: tokens.len(),
+            expected,
+        }),
     }
 }
 
-/// The tokens behind a symbol, which must stand here.
-pub fn expect_symbol(tokens: Tokens<'_>, symbol: Symbol) -> Result<Tokens<'_>, Failure>
+/// The tokens behind a reserved word, which alone may stand here.
+pub fn expect_word<'a>(tokens: Tokens<'a>, word: &'static [u8]) -> Result<Tokens<'a>, Failure>
+    ensures { Gives (λ r. r.now) result (word_at word.now tokens.now) }
+{
+    expect_word_of(tokens, word, Expected::Word(word))
+}
+
+/// The tokens behind a symbol, which must stand here. Where it does not, the grammar has what is told as expected.
+pub fn expect_symbol_of(
+    tokens: Tokens<'_>,
+    symbol: Symbol,
+    expected: Expected,
+) -> Result<Tokens<'_>, Failure>
     ensures { Gives (λ r. r.now) result (sign_at symbol tokens.now) }
 {
     match after_symbol(tokens, symbol) {
         Some(rest) => Ok(rest),
-        None => Err(Failure::Refused { left: tokens.len() }),
+        None => Err(Failure::Refused {
+            left: tokens.len(),
+            expected,
+        }),
     }
 }
 
-/// A reserved word.
+/// The tokens behind a symbol, which alone may stand here.
+pub fn expect_symbol(tokens: Tokens<'_>, symbol: Symbol) -> Result<Tokens<'_>, Failure>
+    ensures { Gives (λ r. r.now) result (sign_at symbol tokens.now) }
+{
+    expect_symbol_of(tokens, symbol, Expected::Symbol(symbol))
+}
+
+/// A reserved word. Where there is none, the grammar has what is told as expected.
 #[tactic(auto, unfolding(crate::specs::Parsing::any_word_at, ilasm_tokens::specs::Steps::choice))]
-pub fn any_word(tokens: Tokens<'_>) -> Result<(&[u8], Tokens<'_>), Failure>
+pub fn any_word(tokens: Tokens<'_>, expected: Expected) -> Result<(&[u8], Tokens<'_>), Failure>
     ensures { Gives (λ x. (x.0.now, x.1.now)) result (any_word_at tokens.now) }
 {
     let [first, rest @ ..] = tokens else {
-        return Err(Failure::Refused { left: 0 });
+        return Err(Failure::Refused { left: 0, expected });
     };
     match first.reserved() {
         Some(found) => Ok((found, rest)),
-        None => Err(Failure::Refused { left: tokens.len() }),
+        None => Err(Failure::Refused {
+            left: tokens.len(),
+            expected,
+        }),
     }
 }
 
-/// A name.
+/// A name. Where there is none, the grammar has what is told as expected.
 #[tactic(auto, unfolding(crate::specs::Parsing::name_at, ilasm_tokens::specs::Steps::choice))]
-pub fn name(alloc: Global, tokens: Tokens<'_>) -> Result<(Text, Tokens<'_>), Failure>
+pub fn name(
+    alloc: Global,
+    tokens: Tokens<'_>,
+    expected: Expected,
+) -> Result<(Text, Tokens<'_>), Failure>
     ensures { Gives (λ x. (x.0, x.1.now)) result (name_at tokens.now) }
 {
     let [first, rest @ ..] = tokens else {
-        return Err(Failure::Refused { left: 0 });
+        return Err(Failure::Refused { left: 0, expected });
     };
     match first.name(alloc)? {
         Some(found) => Ok((found, rest)),
-        None => Err(Failure::Refused { left: tokens.len() }),
+        None => Err(Failure::Refused {
+            left: tokens.len(),
+            expected,
+        }),
     }
 }
 
@@ -97,17 +136,20 @@ pub fn after_name(tokens: Tokens<'_>) -> Option<Tokens<'_>>
     }
 }
 
-/// An integer.
+/// An integer. Where there is none, the grammar has what is told as expected.
 #[tactic(auto, unfolding(crate::specs::Parsing::integer_at, ilasm_tokens::specs::Steps::choice))]
-pub fn integer(tokens: Tokens<'_>) -> Result<(i64, Tokens<'_>), Failure>
+pub fn integer(tokens: Tokens<'_>, expected: Expected) -> Result<(i64, Tokens<'_>), Failure>
     ensures { Gives (λ x. (x.0, x.1.now)) result (integer_at tokens.now) }
 {
     let [first, rest @ ..] = tokens else {
-        return Err(Failure::Refused { left: 0 });
+        return Err(Failure::Refused { left: 0, expected });
     };
     match first.integer() {
         Some(found) => Ok((found, rest)),
-        None => Err(Failure::Refused { left: tokens.len() }),
+        None => Err(Failure::Refused {
+            left: tokens.len(),
+            expected,
+        }),
     }
 }
 
@@ -117,11 +159,17 @@ pub fn quoted(alloc: Global, tokens: Tokens<'_>) -> Result<(Text, Tokens<'_>), F
     ensures { Gives (λ x. (x.0, x.1.now)) result (quoted_at tokens.now) }
 {
     let [first, rest @ ..] = tokens else {
-        return Err(Failure::Refused { left: 0 });
+        return Err(Failure::Refused {
+            left: 0,
+            expected: Expected::StringLiteral,
+        });
     };
     match first.quoted(alloc)? {
         Some(found) => Ok((found, rest)),
-        None => Err(Failure::Refused { left: tokens.len() }),
+        None => Err(Failure::Refused {
+            left: tokens.len(),
+            expected: Expected::StringLiteral,
+        }),
     }
 }
 

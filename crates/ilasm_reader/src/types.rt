@@ -5,9 +5,10 @@ ghost use Rattle.ilasm_tokens.specs.Steps.{Gives};
 ghost use Rattle.ilasm_reader.specs.Parsing.{brackets_at, class_name_at, element_at, parameter_at, return_type_at, type_at};
 
 use crate::lists::Parse;
-use crate::single::{after_name, after_symbol, after_word, expect_symbol, expect_word, name};
+use crate::single::{after_name, after_symbol, after_word, expect_symbol, expect_word_of, name};
 use cil_model::tokens::Symbol;
 use cil_model::types::{ClassName, DeclaredType, Element};
+use ilasm_tokens::expected::Expected;
 use ilasm_tokens::failure::Failure;
 use ilasm_tokens::source_tokens::Tokens;
 use std::alloc::Global;
@@ -25,13 +26,13 @@ impl Parse for ClassReference {
     #[tactic(auto, unfolding(crate::specs::Parsing::class_name_at, ilasm_tokens::specs::Steps::bind, ilasm_tokens::specs::Steps::choice))]
     fn parse(alloc: Global, tokens: Tokens<'_>) -> Result<(ClassName, Tokens<'_>), Failure> {
         if let Some(inside) = after_symbol(tokens, Symbol::OpenBracket) {
-            let (assembly, rest) = name(alloc, inside)?;
+            let (assembly, rest) = name(alloc, inside, Expected::Name)?;
             let rest = expect_symbol(rest, Symbol::CloseBracket)?;
-            let (name, rest) = name(alloc, rest)?;
+            let (name, rest) = name(alloc, rest, Expected::ClassName)?;
             let assembly = Some(assembly);
             return Ok((ClassName { assembly, name }, rest));
         }
-        let (name, rest) = name(alloc, tokens)?;
+        let (name, rest) = name(alloc, tokens, Expected::ClassName)?;
         let assembly = None;
         Ok((ClassName { assembly, name }, rest))
     }
@@ -39,9 +40,13 @@ impl Parse for ClassReference {
     ghost consumes = { λ ts x rest e. ((class_name_sound ts).out (x, rest) e).1 };
 }
 
-/// A type without brackets.
+/// A type without brackets. Where there is none, the grammar has what is told as expected.
 #[tactic(auto, unfolding(crate::specs::Parsing::element_at, ilasm_tokens::specs::Steps::bind, ilasm_tokens::specs::Steps::choice))]
-pub fn element(alloc: Global, tokens: Tokens<'_>) -> Result<(Element, Tokens<'_>), Failure>
+pub fn element(
+    alloc: Global,
+    tokens: Tokens<'_>,
+    expected: Expected,
+) -> Result<(Element, Tokens<'_>), Failure>
     ensures { Gives (λ x. (x.0, x.1.now)) result (element_at tokens.now) }
 {
     if let Some(rest) = after_word(tokens, b"int32") {
@@ -56,7 +61,7 @@ pub fn element(alloc: Global, tokens: Tokens<'_>) -> Result<(Element, Tokens<'_>
     if let Some(rest) = after_word(tokens, b"string") {
         return Ok((Element::String, rest));
     }
-    let (class, rest) = ClassReference::parse(alloc, expect_word(tokens, b"class")?)?;
+    let (class, rest) = ClassReference::parse(alloc, expect_word_of(tokens, b"class", expected)?)?;
     Ok((Element::Class(class), rest))
 }
 
@@ -71,6 +76,23 @@ fn after_brackets(tokens: Tokens<'_>) -> Option<Tokens<'_>>
     )
 }
 
+/// A type. Where there is none, the grammar has what is told as expected.
+#[tactic(auto, unfolding(crate::specs::Parsing::type_at, ilasm_tokens::specs::Steps::bind, ilasm_tokens::specs::Steps::choice))]
+fn declared_type(
+    alloc: Global,
+    tokens: Tokens<'_>,
+    expected: Expected,
+) -> Result<(DeclaredType, Tokens<'_>), Failure>
+    ensures { Gives (λ x. (x.0, x.1.now)) result (type_at tokens.now) }
+{
+    let (element, rest) = element(alloc, tokens, expected)?;
+    let (brackets, rest) = match after_brackets(rest) {
+        Some(after) => (1, after),
+        None => (0, rest),
+    };
+    Ok((DeclaredType { element, brackets }, rest))
+}
+
 /// A type.
 pub struct AnyType;
 
@@ -81,14 +103,8 @@ impl Parse for AnyType {
 
     ghost parsed_at = { type_at };
 
-    #[tactic(auto, unfolding(crate::specs::Parsing::type_at, ilasm_tokens::specs::Steps::bind, ilasm_tokens::specs::Steps::choice))]
     fn parse(alloc: Global, tokens: Tokens<'_>) -> Result<(DeclaredType, Tokens<'_>), Failure> {
-        let (element, rest) = element(alloc, tokens)?;
-        let (brackets, rest) = match after_brackets(rest) {
-            Some(after) => (1, after),
-            None => (0, rest),
-        };
-        Ok((DeclaredType { element, brackets }, rest))
+        declared_type(alloc, tokens, Expected::Type)
     }
 
     ghost consumes = { λ ts x rest e. ((type_sound ts).out (x, rest) e).1 };
@@ -113,17 +129,18 @@ impl Parse for Parameter {
     ghost consumes = { λ ts x rest e. ((parameter_sound ts).out (x, rest) e).1 };
 }
 
-/// A type, or `void`.
+/// A type, or `void`. Where there is neither, the grammar has what is told as expected.
 #[tactic(auto, unfolding(crate::specs::Parsing::return_type_at, ilasm_tokens::specs::Steps::bind, ilasm_tokens::specs::Steps::choice))]
 pub fn return_type(
     alloc: Global,
     tokens: Tokens<'_>,
+    expected: Expected,
 ) -> Result<(Option<DeclaredType>, Tokens<'_>), Failure>
     ensures { Gives (λ x. (x.0, x.1.now)) result (return_type_at tokens.now) }
 {
     if let Some(rest) = after_word(tokens, b"void") {
         return Ok((None, rest));
     }
-    let (its_type, rest) = AnyType::parse(alloc, tokens)?;
+    let (its_type, rest) = declared_type(alloc, tokens, expected)?;
     Ok((Some(its_type), rest))
 }

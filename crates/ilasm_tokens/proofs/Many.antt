@@ -58,7 +58,7 @@ module _ {S A : Type 0} (starts : List S → Bool) (parses : ParserOf S A) where
   pub fails : (failure : Failure) (total : Option (List A × List S)) (front : List A) (ts : List S) → Reading total front ts → starts ts ≡ true → Fails failure (parses ts) → Fails failure total
   unfolding with_front
   fails OutOfMemory total front ts reading s e = tt
-  fails (Refused left) total front ts reading s e =
+  fails (Refused left expected) total front ts reading s e =
       let go : (n : ℕ) → length ts < n → with_front front (many_up_to starts parses n ts) ≡ total → total ≡ None =
       elim [
         | zero ↦ λ enough whole. absurd (omega arith)

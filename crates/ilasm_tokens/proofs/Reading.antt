@@ -434,10 +434,10 @@ tokens_end bs start rest ts g e left = read_are_tokens bs ts (bind_at _ g (bind_
 pub tokens_fail : (failure : Failure) (bs start : List ℕ) → behind between bs ≡ Some start → Fails failure (many not_empty spaced_lexeme_at start) → IsTokenAnswer bs (Err failure)
 unfolding tokens_at bind
 tokens_fail OutOfMemory bs start g e = tt
-tokens_fail (Refused left) bs start g e = none_are_tokens bs (rw (g, e) refl)
+tokens_fail (Refused left expected) bs start g e = none_are_tokens bs (rw (g, e) refl)
 
 -- white space or comments that do not end
 pub no_start : (failure : Failure) (bs : List ℕ) → Fails failure (behind between bs) → IsTokenAnswer bs (Err failure)
 unfolding tokens_at bind
 no_start OutOfMemory bs e = tt
-no_start (Refused left) bs e = none_are_tokens bs (rw e refl)
+no_start (Refused left expected) bs e = none_are_tokens bs (rw e refl)

@@ -8,5 +8,5 @@ use Rattle.ilasm_tokens.specs.declared.failure.Failure.TheVariants.{Refused, Out
 -- these are its tokens; or no list is; or memory ran out
 abbrev pub IsTokenAnswer : List ℕ → Result (List Token) Failure → Type 0
 IsTokenAnswer source (Ok ts) = AreTokens source ts
-IsTokenAnswer source (Err (Refused left)) = (ts : List Token) → AreTokens source ts → ⊥
+IsTokenAnswer source (Err (Refused left expected)) = (ts : List Token) → AreTokens source ts → ⊥
 IsTokenAnswer source (Err OutOfMemory) = Unit {0}

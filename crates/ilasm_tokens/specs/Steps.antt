@@ -21,7 +21,7 @@ choice None f d = d
 -- What a function returned, seen by view, is what parsing gives, unless memory ran out.
 abbrev pub Fails : {Y : Type 0} → Failure → Option Y → Type 0
 Fails OutOfMemory read = Unit {0}
-Fails (Refused left) read = read ≡ None
+Fails (Refused left expected) read = read ≡ None
 
 abbrev pub Gives : {X Y : Type 0} → (X → Y) → Result X Failure → Option Y → Type 0
 Gives view (Ok x) read = read ≡ Some (view x)

@@ -72,7 +72,7 @@ fn word(bytes: &[u8]) -> Result<(SourceToken<'_>, &[u8]), Failure>
     } else if are_segments(word) {
         Ok((SourceToken::of_name(word), rest))
     } else {
-        Err(Failure::Refused { left: bytes.len() })
+        Err(Failure::no_token(bytes.len()))
     }
 }
 
@@ -152,7 +152,7 @@ fn integer(
 {
     let (digits, rest) = run(bytes);
     let Some(value) = integer_of(is_negative, digits) else {
-        return Err(Failure::Refused { left });
+        return Err(Failure::no_token(left));
     };
     Ok((SourceToken::of_integer(value), rest))
 }
@@ -203,7 +203,7 @@ fn characters(alloc: Global, bytes: &[u8]) -> Result<(Vec<u8>, &[u8]), Failure>
         }
         rest = after;
     }
-    Err(Failure::Refused { left: bytes.len() })
+    Err(Failure::no_token(bytes.len()))
 }
 
 /// The text of the characters of a literal up to its quote; an empty one where it has no end.
@@ -225,7 +225,7 @@ fn quoted(bytes: &[u8], left: usize) -> Result<(SourceToken<'_>, &[u8]), Failure
 {
     match after_quote(bytes) {
         Some(rest) => Ok((SourceToken::of_literal(bytes), rest)),
-        None => Err(Failure::Refused { left }),
+        None => Err(Failure::no_token(left)),
     }
 }
 
@@ -246,7 +246,7 @@ pub fn lexeme(bytes: &[u8]) -> Result<(SourceToken<'_>, &[u8]), Failure>
     ensures { Gives (λ x. (x.0, x.1.now)) result (lexeme_at bytes.now) }
 {
     let [first, rest @ ..] = bytes else {
-        return Err(Failure::Refused { left: 0 });
+        return Err(Failure::no_token(0));
     };
     match kind_of(*first) {
         Kind::Word => word(bytes),
@@ -255,6 +255,6 @@ pub fn lexeme(bytes: &[u8]) -> Result<(SourceToken<'_>, &[u8]), Failure>
         Kind::Quote => quoted(rest, bytes.len()),
         Kind::Colon => Ok(colon(rest)),
         Kind::Single(symbol) => Ok((SourceToken::of_symbol(symbol), rest)),
-        Kind::Nothing => Err(Failure::Refused { left: bytes.len() }),
+        Kind::Nothing => Err(Failure::no_token(bytes.len())),
     }
 }

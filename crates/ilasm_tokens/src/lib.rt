@@ -2,6 +2,7 @@
 #![tactic(auto)]
 
 mod bytes;
+pub mod expected;
 pub mod failure;
 pub mod laws;
 mod lexemes;

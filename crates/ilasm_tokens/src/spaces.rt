@@ -55,7 +55,7 @@ pub fn after_spaces(bytes: &[u8]) -> Result<&[u8], Failure>
                 rest = after_line(behind);
             } else if *second == b'*' {
                 let Some(outside) = after_block(behind) else {
-                    return Err(Failure::Refused { left: rest.len() });
+                    return Err(Failure::no_token(rest.len()));
                 };
                 rest = outside;
             } else {
