@@ -1,1 +1,0 @@
-../crates/trials/data/examples/deadlock.il
