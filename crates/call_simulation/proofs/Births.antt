@@ -1,5 +1,5 @@
 -- What a birth gives, and what it leaves as it was.
-use Rattle.std.proofs.Common.{◌≡◌, ℕ, ◌+◌, Bool, true, false, nat_le, if◌then◌else◌, List, ◌∷◌, [], ◌++◌, Option, Some, None, refl, ap}
+use Rattle.std.proofs.Common.{◌≡◌, ℕ, ◌+◌, Bool, true, false, nat_le, if◌then◌else◌, List, ◌∷◌, [], ◌++◌, Option, Some, None, refl, ap, ◌<◌, arith}
 use Rattle.simulation.specs.cil_model.Fields.{FieldKey}
 use Rattle.simulation.specs.cil_model.declared.reports.Fault.TheVariants.{OutOfMemory}
 use Rattle.simulation.specs.reference_machine.Values.{ObjectName, Value as StateValue}
@@ -15,9 +15,10 @@ use Rattle.simulation.specs.StandsFor.{Names, IsValue, IsMemory}
 use Rattle.simulation.proofs.AgreeLaws.{agree_weaken}
 use Rattle.simulation.proofs.Extending.{value_extends}
 use Rattle.simulation.proofs.Statements.{IsBirth}
+use Rattle.std.proofs.lemmas.Bool.Decides.{nat_tests}
 
--- a birth is refused, and nothing is changed, or an object lies at an address
-pub by_birth : (o : Objects) (k : Kind) (n : ℕ) (P : Objects × Option Addr → Type 0) → P (o, None) → ((born : Objects) (a : Addr) → with_birth o k n ≡ (born, Some a) → P (born, Some a)) → P (with_birth o k n)
+-- a birth is refused beyond the room, and nothing is changed, or an object lies at an address
+pub by_birth : (o : Objects) (k : Kind) (n : ℕ) (P : Objects × Option Addr → Type 0) → (free_words o.block < 3 + n → P (o, None)) → ((born : Objects) (a : Addr) → with_birth o k n ≡ (born, Some a) → P (born, Some a)) → P (with_birth o k n)
 by_birth o k n P refused given = by_flag (nat_le (3 + n) (free_words o.block)) refl
   where
     made : Bool → Cells × Option Addr
@@ -28,7 +29,7 @@ by_birth o k n P refused given = by_flag (nat_le (3 + n) (free_words o.block)) r
 
     by_flag : (b : Bool) → nat_le (3 + n) (free_words o.block) ≡ b → P (whole b)
     by_flag true e = given (whole true).0 (next_address o.block) (ap whole e)
-    by_flag false e = refused
+    by_flag false e = refused (grind (arith, nat_tests))
 
 -- where memory isn't refused the reference machine goes on with the object
 pub birth_goes : (here : Setting) (s : State) (f : StateFrame) (below : List StateFrame) (contents : Contents) (go : ObjectName → State → StateEffect) → here.is_refused ≡ false →

@@ -1,5 +1,5 @@
 -- Monitors are entered and left alike on both machines.
-use Rattle.std.proofs.Common.{◌≡◌, ◌≤◌, ◌+◌, ◌-◌, ◌^◌, ℕ, Bool, true, false, ◌||◌, List, [], ◌∷◌, Some, None, option_and_then, refl, sym, ap, ◌∙◌, subst, arith}
+use Rattle.std.proofs.Common.{◌≡◌, ◌≤◌, ◌+◌, ◌-◌, ◌^◌, ℕ, Bool, true, false, ◌||◌, List, [], ◌∷◌, Some, None, option_and_then, refl, sym, ap, ◌∙◌, subst, arith, inr}
 use Rattle.std.specs.Prelude.{nat_lt, nat_le, ◌==◌, if◌then◌else◌, is_some}
 use Rattle.std.proofs.lemmas.Bool.Decides.{nat_tests}
 use Rattle.simulation.specs.cil_model.declared.instructions.Instruction.{Instruction}
@@ -33,7 +33,7 @@ use Rattle.simulation.specs.interpreter.declared.outcomes.Outcome.TheVariants.{C
 use Rattle.simulation.specs.Agreement.{Agree}
 use Rattle.simulation.specs.StandsFor.{Names, IsValue, int32, int64, native, null_reference, reference, IsMonitor}
 use Rattle.simulation.proofs.Statements.{CellsMayChange, LiteralsMayChange}
-use Rattle.simulation.proofs.Instructions.{IsSetting, DoesAlike}
+use Rattle.simulation.proofs.Instructions.{IsSetting, DoesAlike, no_refusal, refused_fault}
 use Rattle.simulation.proofs.Going.{onward_alike, onward_is}
 use Rattle.call_simulation.proofs.Monitors.{IsMonitorAt, IsChanged, monitor_there}
 use Rattle.simulation.proofs.Memories.{named_is_not_null}
@@ -70,10 +70,10 @@ module _ (cells_may_change : CellsMayChange) (literals_may_change : LiteralsMayC
   carrying x = beside_console printed (carried m (with_stack m rest) x)
 
   blocks_alike : (turn : CallTurn) → turn ≡ carrying (o, Blocks) → Alike turn StateBlocks
-  blocks_alike turn is = record { answer = (m, o, statics, printed, Comes Blocks); is = ap (of_calls o statics printed) is; alike = λ r. (refl, refl, (refl, refl, refl)) }
+  blocks_alike turn is = record { answer = (m, o, statics, printed, Comes Blocks); is = ap (of_calls o statics printed) is; refuses = λ _ h. no_refusal h; alike = λ r. (refl, refl, (refl, refl, refl)) }
 
   raises_alike : (turn : CallTurn) (x : Fault) → turn ≡ carrying (o, Raises x) → Alike turn (StateRaises x)
-  raises_alike turn x is = record { answer = (m, o, statics, printed, Comes (Raises x)); is = ap (of_calls o statics printed) is; alike = λ r. (refl, (refl, refl, refl)) }
+  raises_alike turn x is = record { answer = (m, o, statics, printed, Comes (Raises x)); is = ap (of_calls o statics printed) is; refuses = λ _ h. inr (refused_fault x h); alike = λ r. (refl, (refl, refl, refl)) }
 
   -- ---- an object, at its address
 
@@ -84,6 +84,7 @@ module _ (cells_may_change : CellsMayChange) (literals_may_change : LiteralsMayC
         record {
           answer = (with_place (with_stack m rest) (m.running.place + 1), with_monitor o a new, statics, printed, Comes GoesOn);
           is = ap (of_calls o statics printed) is ∙ ap (λ x. of_calls o statics printed (beside_console printed (beside (with_monitor o a new) x))) (onward_is here name m o statics printed s f below i operation at rest);
+          refuses = λ _ h. no_refusal h;
           alike = λ r. onward_alike here name m o statics printed s f below i operation at name (λ b k e. e) (with_monitor o a new) statics printed (with_state_monitor s n changed) after.others after.memory rest rest' others;
         }
 

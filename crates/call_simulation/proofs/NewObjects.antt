@@ -1,5 +1,5 @@
 -- newobj does the same on a machine as on the reference machine (III.4.21).
-use Rattle.std.proofs.Common.{◌≡◌, ◌+◌, ℕ, Bool, true, false, nat_le, if◌then◌else◌, List, ◌∷◌, length, take, drop, reverse, Option, Some, None, is_some, refl, sym, ap, ◌∙◌, subst, arith}
+use Rattle.std.proofs.Common.{◌≡◌, ◌+◌, ℕ, Bool, true, false, nat_le, if◌then◌else◌, List, ◌∷◌, length, take, drop, reverse, Option, Some, None, is_some, refl, sym, ap, ◌∙◌, subst, arith, inl, ◌<◌, replicate}
 use Rattle.std.specs.Option.{option_map_or}
 use Rattle.simulation.specs.cil_model.declared.types.ClassName.{ClassName}
 use Rattle.simulation.specs.cil_model.declared.types.DeclaredType.{DeclaredType}
@@ -37,7 +37,7 @@ use Rattle.simulation.specs.interpreter.Calls.{beside_console, called_as, slots_
 use Rattle.simulation.specs.StandsFor.{Names, reference}
 use Rattle.simulation.specs.Turns.{Answer}
 use Rattle.simulation.proofs.Extending.{values_extend}
-use Rattle.simulation.proofs.Instructions.{IsSetting, GoesAlike, DoesAlike}
+use Rattle.simulation.proofs.Instructions.{IsSetting, GoesAlike, DoesAlike, no_refusal}
 use Rattle.simulation.proofs.Going.{own_frame, leaves_is, onward_alike}
 use Rattle.simulation.proofs.Operands.{fine}
 use Rattle.simulation.proofs.Statements.{BirthsStand, IsBirth}
@@ -45,6 +45,9 @@ use Rattle.call_simulation.proofs.Births.{by_birth, birth_goes, memory_after}
 use Rattle.call_simulation.proofs.Constructors.{constructor, finds_own, numbered_own, class_named, class_is_in, slots_are_at, plain_has_none, is_numbered}
 use Rattle.call_simulation.proofs.Frames.{depth_is, frames_in, constructs_is, frames_stand}
 use Rattle.call_simulation.proofs.Zeros.{new_instance_stands}
+use Rattle.std.proofs.lemmas.List.{length-replicate}
+use Rattle.simulation.specs.object_memory.Cells.{free_words}
+use Rattle.simulation.proofs.Rooms.{contents_size}
 
 -- what doesn't stick passed its test
 not_stuck : (here : Setting) (b : Bool) (e : StateEffect) → IsTypedEffect here.tree (if b then e else Sticks) → b ≡ true
@@ -124,12 +127,28 @@ module _ (births_stand : BirthsStand) (here : Setting) (name : Names) (m : Frame
 
   -- a fault that isn't one of memory
   too_deep : Alike (Some (m, o, Raises StackOverflow)) (StateRaises StackOverflow)
-  too_deep = record { answer = (m, o, statics, printed, Comes (Raises StackOverflow)); is = refl; alike = λ r. (refl, (refl, refl, refl)) }
+  too_deep = record { answer = (m, o, statics, printed, Comes (Raises StackOverflow)); is = refl; refuses = λ _ h. no_refusal h; alike = λ r. (refl, (refl, refl, refl)) }
 
-  refused : (go : ObjectName → State → StateEffect) → Alike (Some (m, o, Raises OutOfMemory)) (state_birth here s f below contents go)
-  refused go = record {
+  -- the reference machine goes on from a birth with frames of its thread
+  abbrev Enters : StateEffect → Type 0
+  Enters e = (running : StateFrame) × (waiting : List StateFrame) × (e ≡ Goes (running ∷ waiting) (with_state_birth s contents))
+
+  -- there is no room for the object
+  refused : (go : ObjectName → State → StateEffect) → (here.is_refused ≡ false → Enters (go (next_name s) (with_state_birth s contents))) → free_words o.block < 3 + slots →
+      Alike (Some (m, o, Raises OutOfMemory)) (state_birth here s f below contents go)
+  refused go enters room = record {
     answer = (m, o, statics, printed, Comes (Raises OutOfMemory));
     is = refl;
+    refuses = λ r _. let e = enters r in inl (record {
+      running = e.0;
+      waiting = e.1;
+      contents = contents;
+      is = birth_goes here s f below contents go r ∙ e.2;
+      exceeds =
+          (let words = contents_size here.tree name (Instance number.class) (replicate slots 0) contents None (new_instance_stands here.tree c number.class (class_named here.tree legal c parameters number is) name) in
+          let zeros = length-replicate {A = ℕ} slots 0 in
+          omega (arith, words, zeros, room));
+    });
     alike = λ r. (ap (λ b. if b then StateRaises OutOfMemory else go (next_name s) (with_state_birth s contents)) r, (refl, refl, refl));
   }
 
@@ -150,6 +169,7 @@ module _ (births_stand : BirthsStand) (here : Setting) (name : Names) (m : Frame
       record {
         answer = answer;
         is = ap (λ turn. as_turn (beside born turn)) (leaves_is here name m o statics printed s f below (Named.NewObject c parameters) (Resolved.NewObject number) at (Ref a) m.running.stack (omega arith));
+        refuses = λ _ h. no_refusal h;
         alike = λ r. subst (λ e'. GoesAlike here name m o statics printed s f below answer e') (sym (birth_goes here s f below contents pushed r))
             (onward_alike here name m o statics printed s f below (Named.NewObject c parameters) (Resolved.NewObject number) at birth.names birth.extends born statics printed (with_state_birth s contents) refl
             (memory_after here name o statics printed s at.memory contents born a birth) (Ref a ∷ m.running.stack) (Reference (next_name s) ∷ f.stack)
@@ -157,7 +177,7 @@ module _ (births_stand : BirthsStand) (here : Setting) (name : Names) (m : Frame
       }
 
   plain_alike : Alike (new_plain_object_turn number.class slots m o) (state_birth here s f below contents pushed)
-  plain_alike = by_birth o (Instance number.class) slots (λ w. Alike (born_turn m w) (state_birth here s f below contents pushed)) (refused pushed) plain_born
+  plain_alike = by_birth o (Instance number.class) slots (λ w. Alike (born_turn m w) (state_birth here s f below contents pushed)) (refused pushed (λ r. (after f (Reference (next_name s) ∷ f.stack), below, refl))) plain_born
 
   -- ---- a constructor with code
 
@@ -171,6 +191,7 @@ module _ (births_stand : BirthsStand) (here : Setting) (name : Names) (m : Frame
         record {
           answer = answer;
           is = ap (λ turn. as_turn (beside born turn)) (constructs_is here name m o statics printed s f below c parameters number is at enough deep a);
+          refuses = λ _ h. no_refusal h;
           alike = λ r. subst (λ e'. GoesAlike here name m o statics printed s f below answer e') (sym (birth_goes here s f below contents entered_by r))
               (by_code (code_of built.kind) refl (subst (IsTypedEffect here.tree) (birth_goes here s f below contents entered_by r) typed_birth));
         }
@@ -200,9 +221,18 @@ module _ (births_stand : BirthsStand) (here : Setting) (name : Names) (m : Frame
           memory = memory_after here name o statics printed s at.memory contents born a birth;
         }
 
+    enters : here.is_refused ≡ false → Enters (entered_by (next_name s) (with_state_birth s contents))
+    enters r = by_code (code_of built.kind) (subst (IsTypedEffect here.tree) (birth_goes here s f below contents entered_by r) typed_birth)
+      where
+        by_code : (x : Option Code) →
+            IsTypedEffect here.tree (state_given x (λ code. Goes (new_frame c built code (Reference (next_name s) ∷ arguments) (Some (next_name s)) ∷ after f rest ∷ below) (with_state_birth s contents))) →
+            Enters (state_given x (λ code. Goes (new_frame c built code (Reference (next_name s) ∷ arguments) (Some (next_name s)) ∷ after f rest ∷ below) (with_state_birth s contents)))
+        by_code None t = elim t [ ]
+        by_code (Some code) t = (new_frame c built code (Reference (next_name s) ∷ arguments) (Some (next_name s)), after f rest ∷ below, refl)
+
     framed_alike : Alike (constructs (called_as (c, built) (is_numbered here.tree legal c parameters number is).0) m (with_birth o (Instance number.class) slots)) (state_birth here s f below contents entered_by)
     framed_alike =
-        by_birth o (Instance number.class) slots (λ w. Alike (constructs (called_as (c, built) (is_numbered here.tree legal c parameters number is).0) m w) (state_birth here s f below contents entered_by)) (refused entered_by) framed_born
+        by_birth o (Instance number.class) slots (λ w. Alike (constructs (called_as (c, built) (is_numbered here.tree legal c parameters number is).0) m w) (state_birth here s f below contents entered_by)) (refused entered_by enters) framed_born
 
   -- ---- either
 

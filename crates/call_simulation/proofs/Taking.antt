@@ -1,5 +1,5 @@
 -- How an instruction goes on, in a frame and in the one that it stands for, with what was computed of its operands.
-use Rattle.std.proofs.Common.{◌≡◌, ◌≤◌, ◌<◌, ◌+◌, ℕ, ℤ, pos, negsuc, Bool, true, false, List, [], ◌∷◌, length, Option, Some, None, option_map, slice_get, slice_set, Result, Ok, Err, refl, sym, ap, subst, arith}
+use Rattle.std.proofs.Common.{◌≡◌, ◌≤◌, ◌<◌, ◌+◌, ℕ, ℤ, pos, negsuc, Bool, true, false, List, [], ◌∷◌, length, Option, Some, None, option_map, slice_get, slice_set, Result, Ok, Err, refl, sym, ap, subst, arith, inr, ◌∙◌}
 use Rattle.std.specs.Prelude.{if◌then◌else◌, nat_lt}
 use Rattle.std.specs.Option.{option_map_or}
 use Rattle.std.proofs.lemmas.Option.{slice_get_within}
@@ -29,7 +29,7 @@ use Rattle.simulation.proofs.size_bounds.Lists.{found_within}
 use Rattle.simulation.specs.Agreement.{Agree}
 use Rattle.simulation.specs.StandsFor.{Names, IsValue, IsFrame, AreFrames}
 use Rattle.simulation.proofs.AgreeLaws.{agree_length}
-use Rattle.simulation.proofs.Instructions.{IsSetting, DoesAlike}
+use Rattle.simulation.proofs.Instructions.{IsSetting, DoesAlike, no_refusal, refused_fault}
 use Rattle.simulation.proofs.Going.{below_test, own_frame, place_is_small, onward_is, leaves_is, moved_frames, next_alike, jump_alike}
 use Rattle.simulation.proofs.Operands.{one_operand, two_operands}
 use Rattle.call_simulation.proofs.Meeting.{Meets, IsResult, meets_at}
@@ -61,6 +61,7 @@ module _ (here : Setting) (name : Names) (m : Frames) (o : Objects) (statics : L
       record {
         answer = (moved (m.running.place + 1), o, statics, printed, Comes GoesOn);
         is = ap (λ b. of_frames o statics printed (if b then Some (moved (m.running.place + 1), GoesOn) else None)) (place_is_small here name m o statics printed s f below i operation at);
+        refuses = λ _ h. no_refusal h;
         alike = λ r. record {
           running = after (record f { arguments = arguments'; locals = locals' }) stack';
           waiting = below;
@@ -81,6 +82,7 @@ module _ (here : Setting) (name : Names) (m : Frames) (o : Objects) (statics : L
       record {
         answer = (with_place (with_stack m rest) (m.running.place + 1), o, statics, printed, Comes GoesOn);
         is = ap (of_frames o statics printed) (onward_is here name m o statics printed s f below i operation at rest);
+        refuses = λ _ h. no_refusal h;
         alike = λ r. next_alike here name m o statics printed s f below i operation at rest rest' k;
       }
 
@@ -90,6 +92,7 @@ module _ (here : Setting) (name : Names) (m : Frames) (o : Objects) (statics : L
       record {
         answer = (with_place (with_stack m (v ∷ rest)) (m.running.place + 1), o, statics, printed, Comes GoesOn);
         is = ap (of_frames o statics printed) (leaves_is here name m o statics printed s f below i operation at v rest shorter);
+        refuses = λ _ h. no_refusal h;
         alike = λ r. next_alike here name m o statics printed s f below i operation at (v ∷ rest) (u ∷ rest') (h, k);
       }
 
@@ -101,7 +104,7 @@ module _ (here : Setting) (name : Names) (m : Frames) (o : Objects) (statics : L
   pub result_does : (r : Result Value Fault) (r' : Result StateValue Fault) → IsResult name r r' → (rest : List Value) (rest' : List StateValue) → Stands rest rest' → length rest ≤ length m.running.stack →
       Alike (leaves_result (with_stack m rest) r) (unless_fault r' (λ u. next here s f below (u ∷ rest')))
   result_does (Ok v) (Ok u) h rest rest' k shorter = leaves_does v u h rest rest' k shorter
-  result_does (Err x) (Err y) h rest rest' k shorter = record { answer = (with_stack m rest, o, statics, printed, Comes (Raises x)); is = refl; alike = λ r. (ap StateRaises (sym h), (refl, refl, refl)) }
+  result_does (Err x) (Err y) h rest rest' k shorter = record { answer = (with_stack m rest, o, statics, printed, Comes (Raises x)); is = refl; refuses = λ _ refused. inr (ap StateRaises (sym h) ∙ refused_fault x refused); alike = λ r. (ap StateRaises (sym h), (refl, refl, refl)) }
   result_does (Ok v) (Err y) h rest rest' k shorter = elim h [ ]
   result_does (Err x) (Ok u) h rest rest' k shorter = elim h [ ]
 
@@ -123,6 +126,7 @@ module _ (here : Setting) (name : Names) (m : Frames) (o : Objects) (statics : L
         (record {
           answer = (with_place (with_stack m rest) place, o, statics, printed, Comes GoesOn);
           is = ap (λ b. of_frames o statics printed (if b then Some (with_place (with_stack m rest) place, GoesOn) else None)) label_is_small;
+          refuses = λ _ h. no_refusal h;
           alike = λ r. jump_alike here name m o statics printed s f below i operation at place rest rest' k;
         })
 

@@ -14,7 +14,7 @@ use Rattle.reference_machine.specs.States.{Instance, Array, State}
 use Rattle.reference_machine.specs.Cycles.{Spaces, room, is_refused, most_working, working_in_cycle, is_cycle_open, IsNewestCycle}
 use Rattle.reference_machine.specs.Runs.{thread_part, step_reports}
 use Rattle.reference_machine.specs.Reachable.{IsReachable, from_root, from_member}
-use Rattle.reference_machine.specs.OwedWords.{cell_words}
+use Rattle.reference_machine.specs.Rooms.{cell_words}
 use Rattle.cil_model.specs.Ranges.{are_in_range}
 use Rattle.cil_model.specs.Sources.{is_too_long}
 use Rattle.cil_model.specs.Examples.{usual_limits, sum_source}

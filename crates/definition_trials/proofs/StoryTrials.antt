@@ -20,7 +20,7 @@ use Rattle.cil_model.specs.Legality.{least_broken}
 use Rattle.reference_machine.specs.Values.{Int32 as Int32Value}
 use Rattle.reference_machine.specs.States.{Array}
 use Rattle.reference_machine.specs.Cycles.{is_refused}
-use Rattle.reference_machine.specs.OwedWords.{cell_words}
+use Rattle.reference_machine.specs.Rooms.{cell_words}
 use Rattle.reference_machine.specs.Runs.{StepRequest}
 use Rattle.reference_machine.specs.Outcomes.{shown, Shows}
 use Rattle.cil_model.specs.Examples.{program_of, sum_program, unlabelled, usual_limits, write_line}

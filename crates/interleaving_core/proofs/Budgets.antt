@@ -22,7 +22,7 @@ use Rattle.interpreter.specs.declared.outcomes.Outcome.{Outcome}
 use Rattle.step_simulation.specs.simulation.Budgets.{KeepsBudgets, made_step, steps_left_of, steps_made}
 use Rattle.step_simulation.specs.simulation.MachineContents.{Content}
 use Rattle.step_simulation.specs.simulation.Turns.{Answer, IsStandingTurn, IsThreadTurn, IsTurn, counted, finished, left_by, live_thread}
-use Rattle.interleaving_core.proofs.Finished.{HasBegun, finished_by}
+use Rattle.step_simulation.proofs.Finished.{HasBegun, finished_by}
 
 -- ---- one thread among others
 

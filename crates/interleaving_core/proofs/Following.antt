@@ -13,11 +13,13 @@ use Rattle.step_simulation.specs.simulation.MachineContents.{Content}
 use Rattle.step_simulation.specs.simulation.Budgets.{KeepsBudgets, steps_left_of}
 use Rattle.step_simulation.specs.simulation.StandsFor.{Represents}
 use Rattle.step_simulation.specs.simulation.Turns.{IsTurn}
-use Rattle.step_simulation.proofs.Whole.{step_is_followed}
+use Rattle.step_simulation.proofs.Whole.{step_is_followed, step_is_refused}
 use Rattle.step_simulation.specs.simulation.Runs.{AreTurns, RunsAlike, FollowsReference}
-use Rattle.interleaving_core.proofs.Finished.{same_program}
+use Rattle.step_simulation.proofs.Finished.{same_program}
 use Rattle.interleaving_core.proofs.Budgets.{keeps_behind, turn_keeps}
 use Rattle.interleaving_core.proofs.LiveThreads.{some_budget, live_have_steps}
+use Rattle.reference_machine.specs.Rooms.{RefusesBeyondRoom}
+use Rattle.reference_machine.proofs.RoomLaws.{refuses_behind}
 
 -- ---- one event
 
@@ -32,15 +34,16 @@ module _ (c : Content) (after : Content × Report) where
       kept : (e : Event) → IsTurn c e after → KeepsBudgets c after.0 ((e, after.1) ∷ [])
       kept = λ e h. turn_keeps c (live_have_steps c s r) (some_budget c s r) e after h
 
-      itself : (e : Event) (h : IsTurn c e after) → (report : Report) → after ≡ (c, report) → run c.tree c.limits s (thread_part ((e, after.1) ∷ [])) ≡ RunsTo (step_reports ((e, after.1) ∷ [])) s → RunsAlike c after.0 ((e, after.1) ∷ []) s
-      itself e h report is comes = record { state = s; comes = comes; represents = subst (λ (x : Content × Report). Represents x.0 s) (sym is) r; budgets = kept e h }
+      itself : (e : Event) (h : IsTurn c e after) → (report : Report) → after ≡ (c, report) → run c.tree c.limits s (thread_part ((e, after.1) ∷ [])) ≡ RunsTo (step_reports ((e, after.1) ∷ [])) s →
+          RefusesBeyondRoom c.tree c.limits s (thread_part ((e, after.1) ∷ [])) → RunsAlike c after.0 ((e, after.1) ∷ []) s
+      itself e h report is comes refuses = record { state = s; comes = comes; refuses = refuses; represents = subst (λ (x : Content × Report). Represents x.0 s) (sym is) r; budgets = kept e h }
 
       by_event : (e : Event) → IsTurn c e after → RunsAlike c after.0 ((e, after.1) ∷ []) s
-      by_event (Ack t) h = itself (Ack t) h _ h refl
-      by_event Gc h = itself Gc h _ h refl
+      by_event (Ack t) h = itself (Ack t) h _ h refl tt
+      by_event Gc h = itself Gc h _ h refl tt
       by_event (Step t) h =
           let one = step_is_followed c s r t after h in
-          record { state = one.0; comes = ap (λ o. followed_by o (λ u. run c.tree c.limits u [])) one.1; represents = one.2; budgets = kept (Step t) h }
+          record { state = one.0; comes = ap (λ o. followed_by o (λ u. run c.tree c.limits u [])) one.1; refuses = (step_is_refused c s r t after h, λ report next is. tt); represents = one.2; budgets = kept (Step t) h }
 
 -- ---- one list behind another
 
@@ -50,8 +53,12 @@ joined c d n es fs same first more s r =
     let two = more one.state one.represents in
     let later : run c.tree c.limits one.state (thread_part fs) ≡ RunsTo (step_reports fs) two.state =
     ap (λ x. run x c.limits one.state (thread_part fs)) (sym same.0) ∙ (ap (λ x. run d.tree x one.state (thread_part fs)) (sym same.1) ∙ two.comes) in
+    let refuses : RefusesBeyondRoom c.tree c.limits one.state (thread_part fs) =
+    subst (λ x. RefusesBeyondRoom x c.limits one.state (thread_part fs)) same.0 (subst (λ x. RefusesBeyondRoom d.tree x one.state (thread_part fs)) same.1 two.refuses) in
     record {
       state = two.state;
+      refuses = subst (RefusesBeyondRoom c.tree c.limits s) (sym (filter_map-append (λ (e : Event × Report). request_of e.0 e.1) es fs))
+          (refuses_behind c.tree c.limits (thread_part es) (thread_part fs) s one.state (step_reports es) one.comes one.refuses refuses);
       comes = ap (run c.tree c.limits s) (filter_map-append (λ (e : Event × Report). request_of e.0 e.1) es fs)
           ∙ (runs_on c.tree c.limits (thread_part es) (thread_part fs) s one.state two.state (step_reports es) (step_reports fs) one.comes later
           ∙ ap (λ rs. RunsTo rs two.state) (sym (filter_map-append (λ (e : Event × Report). report_of_step e.0 e.1) es fs)));
@@ -87,10 +94,14 @@ turns_program c d (e ∷ es) [] h = elim h [ ]
 
 -- each list of events is followed
 pub turns_follow : (c d : Content) (es : List Event) (rs : List Report) → AreTurns c es d rs → FollowsReference c d (zip es rs)
-turns_follow c d [] rs h = λ s r. subst (λ x. RunsAlike c x [] s) (sym h.0) (record { state = s; comes = refl; represents = r; budgets = record { counted = λ t. none_made (steps_left_of c t); live = live_have_steps c s r } })
+turns_follow c d [] rs h = λ s r. subst (λ x. RunsAlike c x [] s) (sym h.0) (record { state = s; comes = refl; refuses = tt; represents = r; budgets = record { counted = λ t. none_made (steps_left_of c t); live = live_have_steps c s r } })
 turns_follow c d (e ∷ es) (r ∷ rs) h =
     joined c h.0 d ((e, r) ∷ []) (zip es rs) (same_program c (h.0, r) e h.1) (turn_follows c (h.0, r) e h.1) (turns_follow h.0 d es rs h.2)
 turns_follow c d (e ∷ es) [] h = elim h [ ]
+
+-- the turns, and that they are followed
+pub turns_and_more : (c d : Content) (es : List Event) (rs : List Report) → AreTurns c es d rs → AreTurns c es d rs × FollowsReference c d (zip es rs)
+turns_and_more c d es rs h = (h, turns_follow c d es rs h)
 
 -- the reports before a run, and those of the run so far
 pub record RunSoFar (c : Content) (before : List Report) (es : List Event) (d : Content) (reports : List Report) : Type 0 where

@@ -1,10 +1,8 @@
 pub use Rattle.step_simulation.proofs.simulation as simulation
 pub mod Declared
 pub mod OpeningLaws
-pub mod Finished
 pub mod Budgets
 pub mod LiveThreads
-pub mod Words
 pub mod Following
 pub mod Sound
 pub mod Refusing

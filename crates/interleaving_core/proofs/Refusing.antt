@@ -20,7 +20,7 @@ use Rattle.step_simulation.specs.simulation.MachineContents.{Content}
 use Rattle.step_simulation.specs.simulation.Turns.{Answer, IsThreadTurn, IsTurn, PrintsOrStarts, after_request, counted, finished, left_by, live_thread, started, thread_for}
 use Rattle.step_simulation.specs.simulation.Ready.{IsAnswerable}
 use Rattle.interleaving_core.specs.Finishing.{IsInstructed}
-use Rattle.interleaving_core.proofs.Finished.{finished_printed, set_length}
+use Rattle.step_simulation.proofs.Finished.{finished_printed, set_length}
 
 -- what holds anyway holds of an error
 pub on_err : {T E P : Type 0} (r : Result T E) → P → OnErr r P

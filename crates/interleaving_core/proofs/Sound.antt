@@ -1,29 +1,25 @@
 -- A machine that represents a state goes on to one that does.
-use Rattle.std.proofs.Common.{◌≡◌, ◌≤◌, ℕ, length, Option, None, Some, option_map, option_and_then, slice_get, Result, Ok, Err, sym, ap, ◌∙◌, subst}
+use Rattle.std.proofs.Common.{◌≡◌, ◌≤◌, ℕ, length, Some, Result, Ok, Err, sym, ap, ◌∙◌, subst}
 use Rattle.std.specs.Prelude.{IfOk, IsTrue, OnErr}
 use Rattle.cil_model.specs.declared.events.Event.{Event}
 use Rattle.cil_model.specs.declared.limits.Limits.{Limits}
 use Rattle.cil_model.specs.declared.limits.TheConstants.{MOST_THREADS}
 use Rattle.cil_model.specs.declared.memory.NoMemory.{NoMemory}
 use Rattle.cil_model.specs.declared.reports.Report.{Report}
-use Rattle.cil_model.specs.declared.trees.Method.{Method}
 use Rattle.cil_model.specs.declared.trees.Tree.{Tree}
-use Rattle.cil_model.specs.declared.types.ClassName.{ClassName}
-use Rattle.cil_model.specs.Bodies.{entry_points}
 use Rattle.cil_model.specs.Ranges.{are_in_range}
 use Rattle.cil_model.specs.Typings.{IsAccepted}
-use Rattle.cil_model.proofs.BelowLaws.{none_is_some, same_some}
+use Rattle.cil_model.proofs.BelowLaws.{same_some}
 use Rattle.reference_machine.specs.Runs.{opening}
 use Rattle.reference_machine.specs.States.{State}
-use Rattle.method_table.specs.MethodNumbers.{number_of}
 use Rattle.method_table.specs.Prepared.{IsMethodTable}
 use Rattle.step_simulation.specs.simulation.MachineContents.{Content}
 use Rattle.step_simulation.specs.simulation.StandsFor.{Represents}
-use Rattle.step_simulation.specs.simulation.Turns.{IsTurn, content_at, opening_content}
+use Rattle.step_simulation.specs.simulation.Turns.{IsTurn, opening_content}
 use Rattle.step_simulation.proofs.Whole.{asked_is_answerable, opening_is_represented, thread_is_ready}
 use Rattle.interleaving_core.specs.Views.{CanGoOn, IsSound, content_of}
 use Rattle.interleaving_core.specs.declared.engine.Engine.{Engine}
-use Rattle.interleaving_core.proofs.Finished.{same_program, turn_few, turn_keeps_words}
+use Rattle.step_simulation.proofs.Finished.{same_program, turn_few}
 use Rattle.interleaving_core.proofs.Following.{SameProgram, turn_follows}
 
 -- what it does next has an answer
@@ -40,14 +36,11 @@ module _ (e e' : Engine) (sound : IsSound e) (event : Event) (table : IsMethodTa
   turned : (r : Report) → IsTurn (content_of e) event (content_of e', r) → IsSound e'
   turned r turn =
       let alike = turn_follows (content_of e) (content_of e', r) event turn sound.state sound.represents in
-      let kept = turn_keeps_words (content_of e) (content_of e', r) event turn in
-      let limits = (same_program (content_of e) (content_of e', r) event turn).1 in
       record {
         table = table;
         state = alike.state;
         represents = alike.represents;
         few = turn_few (content_of e) (content_of e', r) event turn sound.few;
-        words = kept ∙ (sound.words ∙ sym (ap (λ (l : Limits). l.words) limits));
       }
 
   -- and after one that changed nothing
@@ -57,7 +50,6 @@ module _ (e e' : Engine) (sound : IsSound e) (event : Event) (table : IsMethodTa
     state = sound.state;
     represents = subst (λ c. Represents c sound.state) (sym same) sound.represents;
     few = subst (λ (c : Content). length c.threads ≤ MOST_THREADS) (sym same) sound.few;
-    words = subst (λ (c : Content). c.objects.block.words ≡ c.limits.words) (sym same) sound.words;
   }
 
   pub sound_after : (r : Result Report NoMemory) → IfOk r (λ report. IsTurn (content_of e) event (content_of e', report)) → OnErr r (content_of e' ≡ content_of e) → IsSound e'
@@ -75,16 +67,3 @@ module _ (tree : Tree) (limits : Limits) (accepted : IsAccepted tree) (in_range 
   opened_represents =
       let first = opening_is_represented tree limits accepted in_range in
       (first.1, first.3, subst (λ x. Represents x first.1) (same_some first.0 c (sym first.2 ∙ is)) first.4)
-
--- and its heap has all words of the limit
-module _ (tree : Tree) (limits : Limits) (c : Content) where
-  pub opened_words : opening_content tree limits ≡ Some c → c.objects.block.words ≡ limits.words
-  opened_words is = by_entry (slice_get (entry_points tree) 0) is
-    where
-      by_number : (entry : ClassName × Method) (n : Option ℕ) → option_map (content_at tree limits entry) n ≡ Some c → c.objects.block.words ≡ limits.words
-      by_number entry None e = none_is_some c e
-      by_number entry (Some n) e = sym (ap (λ (x : Content). x.objects.block.words) (same_some (content_at tree limits entry n) c e))
-
-      by_entry : (o : Option (ClassName × Method)) → option_and_then (λ (entry : ClassName × Method). option_map (content_at tree limits entry) (number_of tree entry)) o ≡ Some c → c.objects.block.words ≡ limits.words
-      by_entry None e = none_is_some c e
-      by_entry (Some entry) e = by_number entry (number_of tree entry) e

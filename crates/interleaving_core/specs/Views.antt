@@ -32,11 +32,10 @@ pub record CanGoOn (e : Engine) : Type 0 where
 abbrev pub end_at : List Thread → ℕ → Option End
 end_at threads n = option_and_then end_of (slice_get threads n)
 
--- The table of methods is the program's, there are no more threads than there may be, the heap has all words of its limit, and the content
--- represents a state of the reference machine
+-- The table of methods is the program's, there are no more threads than there may be, and the content represents a state of the reference
+-- machine
 pub record IsSound (e : Engine) : Type 0 where
   pub table : IsMethodTable e.program e.table
   pub state : State
   pub represents : Represents (content_of e) state
   pub few : length e.threads.items ≤ MOST_THREADS
-  pub words : e.heap.block.words ≡ e.limits.words

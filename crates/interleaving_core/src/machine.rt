@@ -11,7 +11,7 @@ ghost use Rattle.threads_monitors.specs.Threads.{end_of, is_live, is_live_at};
 ghost use Rattle.interleaving_core.specs.Views.{end_at};
 ghost use Rattle.interleaving_core.specs.Positions.{position_at};
 ghost use Rattle.step_simulation.specs.simulation.StandsFor.{Represents};
-ghost use Rattle.step_simulation.specs.simulation.Turns.{IsTurn, PrintsOrStarts};
+ghost use Rattle.step_simulation.specs.simulation.Turns.{IsTurn, PrintsOrStarts, opening_content};
 ghost use Rattle.interleaving_core.specs.Refusals.{number_of};
 ghost use Rattle.step_simulation.specs.simulation.Runs.{AreTurns, FollowsReference};
 ghost use Rattle.interleaving_core.specs.declared.machine.Refused.TheVariants.{Limits as BadLimits, OutOfMemory};
@@ -84,6 +84,7 @@ impl Machine {
     pub fn new(alloc: Global, program: Verified, limits: Limits) -> Result<Machine, Refused>
         ensures limits { (result ≡ Err BadLimits) ↔ (are_in_range limits ≡ false) }
         ensures program { IfOk result (λ m. (m.tree ≡ program) × (m.limits ≡ limits)) }
+        ensures begins { IfOk result (λ m. opening_content program limits ≡ Some m) }
         ensures opening { IfOk result (λ m. (s : State) × (opening program limits ≡ Some s) × Represents m s) }
     {
         if !are_in_range(limits) {
@@ -109,7 +110,8 @@ impl Machine {
 
     /// Does the events in order, and appends the report of each.
     ///
-    /// It stops at the first want of memory, the growth of `reports` included, which comes before its event.
+    /// It stops at the first want of memory, the growth of `reports` included, which comes before its event. The events before it are done
+    /// then, each with its report, and the reference machine has done the same.
     pub fn run(
         &mut self,
         alloc: Global,
@@ -122,7 +124,8 @@ impl Machine {
         ensures follows { OnOk result (FollowsReference self.old self.new (zip events.now (drop (length reports.old.items) reports.new.items))) }
         ensures same { (self.new.tree ≡ self.old.tree) × (self.new.limits ≡ self.old.limits) }
         ensures stopped { OnErr result ((count : ℕ) × (count < length events.now)
-            × AreTurns self.old (take count events.now) self.new (drop (length reports.old.items) reports.new.items)) }
+            × AreTurns self.old (take count events.now) self.new (drop (length reports.old.items) reports.new.items)
+            × FollowsReference self.old self.new (zip (take count events.now) (drop (length reports.old.items) reports.new.items))) }
     {
         let _engine = &self.engine;
         for event in events {

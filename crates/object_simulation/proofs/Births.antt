@@ -3,7 +3,7 @@ use Rattle.std.proofs.Common.{◌≡◌, ◌≢◌, ◌⊎◌, ◌+◌, ◌≤�
 use Rattle.std.specs.Prelude.{nat_le, nat_lt}
 use Rattle.std.proofs.lemmas.Bool.Decides.{nat_tests}
 use Rattle.std.proofs.lemmas.List.{length-replicate}
-use Rattle.std.proofs.lemmas.List.Sums.{sum_by-cons}
+use Rattle.std.proofs.lemmas.List.Sums.{sum_by-cons, sum_by_push}
 use Rattle.std.proofs.lemmas.Option.{slice_get_within}
 use Rattle.simulation.specs.cil_model.declared.trees.Tree.{Tree}
 use Rattle.simulation.proofs.cil_model.SameLaws.{if_true, if_false}
@@ -20,6 +20,8 @@ use Rattle.simulation.proofs.object_memory.Addressed.{birth_at, birth_keeps}
 use Rattle.simulation.specs.StandsFor.{Names, Extends, IsOfContents, IsBornAt, IsLiteralAt, IsHeap}
 use Rattle.simulation.proofs.Extending.{cell_extends}
 use Rattle.simulation.proofs.Statements.{IsBirth, BirthsStand}
+use Rattle.simulation.specs.reference_machine.Rooms.{cell_words}
+use Rattle.simulation.proofs.Rooms.{contents_size}
 
 -- ---- a birth that is refused
 
@@ -221,6 +223,12 @@ module _ (tree : Tree) (name : Names) (o : Objects) (s : State) (h : IsHeap tree
     heap = record {
       start = h.start;
       within = (let more = used_more o.block.cells (new_cell k count) in let slots = length-replicate {A = ℕ} count 0 in omega (arith, more, slots, room, h.within));
+      full =
+          (let more = used_more o.block.cells (new_cell k count) in
+          let slots = length-replicate {A = ℕ} count 0 in
+          let own = contents_size tree name k (replicate count 0) contents None (stands name) in
+          let all = sum_by_push (λ (x : HeapObject). cell_words tree x.contents) s.objects object in
+          omega (arith, more, slots, own, all, h.full));
       words = h.words;
       null_unnamed = named_else 0 (λ e. absurd (omega (arith, e, h.start))) ∙ h.null_unnamed;
       small = small_then;

@@ -18,6 +18,8 @@ use Rattle.simulation.proofs.object_memory.Addressed.{change_at_own, change_at_o
 use Rattle.std.specs.Option.{option_map_or}
 use Rattle.simulation.specs.StandsFor.{Names, IsMonitor, IsCell, IsBornAt, IsLiteralAt, IsHeap}
 use Rattle.simulation.proofs.Statements.{CellsMayChange, LiteralsMayChange}
+use Rattle.simulation.specs.reference_machine.Rooms.{cell_words, words_of_all}
+use Rattle.simulation.proofs.Rooms.{cell_size, words_stay}
 
 -- ---- entries under texts
 
@@ -127,11 +129,22 @@ module _ (tree : Tree) (name : Names) (o : Objects) (s : State) (h : IsHeap tree
       stands = l.stands;
     }
 
+    -- the object has as many words as the one before
+    own_words : cell_words tree object.contents ≡ cell_words tree (h.born a.number n named).object.contents
+    own_words =
+        let before = h.born a.number n named in
+        let same : before.cell ≡ cell = same_some before.cell cell (sym before.lies ∙ lies) in
+        sym (cell_size tree name (change cell) object stands) ∙ sizes_stay cell ∙ ap size (sym same) ∙ cell_size tree name before.cell before.object before.stands
+
+    all_words : words_of_all tree (slice_set s.objects n object) ≡ words_of_all tree s.objects
+    all_words = let before = h.born a.number n named in words_stay tree s.objects n before.object object before.is own_words
+
     -- all of it
     cell_changes : IsHeap tree name (with_cell change o a) (with_object s (Born n) object)
     cell_changes = record {
       start = h.start;
       within = subst (λ w. w ≤ o.block.words) (sym (used_stays change sizes_stay o.block.start o.block.cells a.number)) h.within;
+      full = used_stays change sizes_stay o.block.start o.block.cells a.number ∙ h.full ∙ sym all_words;
       words = h.words;
       null_unnamed = h.null_unnamed;
       small = h.small;
@@ -209,6 +222,7 @@ module _ (tree : Tree) (name : Names) (o : Objects) (s : State) (h : IsHeap tree
     numbered_changes = record {
       start = h.start;
       within = h.within;
+      full = h.full;
       words = h.words;
       null_unnamed = h.null_unnamed;
       small = h.small;

@@ -1,5 +1,5 @@
 -- The length of an array, and new arrays.
-use Rattle.std.proofs.Common.{◌≡◌, ◌≤◌, ◌<◌, ◌+◌, ◌==◌, ◌^◌, ℕ, zero, suc, ℤ, pos, negsuc, Bool, true, false, if◌then◌else◌, List, [], ◌∷◌, length, replicate, Option, Some, None, option_map, refl, sym, ap, ◌∙◌, subst, arith}
+use Rattle.std.proofs.Common.{◌≡◌, ◌≤◌, ◌<◌, ◌+◌, ◌==◌, ◌^◌, ℕ, zero, suc, ℤ, pos, negsuc, Bool, true, false, if◌then◌else◌, List, [], ◌∷◌, length, replicate, Option, Some, None, option_map, refl, sym, ap, ◌∙◌, subst, arith, inl}
 use Rattle.std.specs.Prelude.{nat_lt}
 use Rattle.std.proofs.lemmas.Bool.Decides.{nat_tests}
 use Rattle.std.proofs.lemmas.List.Sums.{sum_by-cons}
@@ -18,7 +18,7 @@ use Rattle.simulation.proofs.cil_model.BelowLaws.{none_is_some, same_some}
 use Rattle.simulation.specs.reference_machine.Values.{ObjectName, Value as StateValue, Int32 as Int32Value, Native as NativeValue, Null, Reference, integer_zero, zero_of}
 use Rattle.simulation.specs.reference_machine.Arithmetic.{as_index}
 use Rattle.simulation.specs.reference_machine.States.{Array as IsArray, Frame as StateFrame, State, array_at, next_name, with_birth as with_state_birth}
-use Rattle.simulation.specs.reference_machine.Effects.{Setting, Raises as StateRaises, given as state_given, not_null, onward as onward_frame}
+use Rattle.simulation.specs.reference_machine.Effects.{Setting, Raises as StateRaises, given as state_given, not_null, onward as onward_frame, after}
 use Rattle.simulation.specs.reference_machine.Steps.{execute, next, new_array}
 use Rattle.simulation.specs.resolved_code.Numbered.{class_name, element_at, type_at}
 use Rattle.simulation.specs.resolved_code.declared.operations.Operation.TheVariants as Resolved
@@ -49,12 +49,14 @@ use Rattle.simulation.specs.StandsFor.{Names, IsValue, native, int32, int64, nul
 use Rattle.simulation.proofs.AgreeLaws.{agree_length, agree_weaken}
 use Rattle.simulation.proofs.Extending.{value_extends, values_extend}
 use Rattle.simulation.proofs.Going.{leaves_is, onward_alike}
-use Rattle.simulation.proofs.Instructions.{IsSetting, GoesAlike, DoesAlike}
+use Rattle.simulation.proofs.Instructions.{IsSetting, GoesAlike, DoesAlike, no_refusal}
 use Rattle.simulation.proofs.Operands.{fine, one_operand}
 use Rattle.simulation.proofs.Statements.{IsBirth}
 use Rattle.object_simulation.proofs.Births.{refused_birth, births_stand}
 use Rattle.object_simulation.proofs.Things.{IsArrayThere, array_there}
 use Rattle.object_simulation.proofs.Parts.{alike_turn, given_alike, raised_alike, left_alike, object_alike, same_index}
+use Rattle.std.proofs.lemmas.List.{length-replicate}
+use Rattle.simulation.proofs.Rooms.{contents_size, refused_room}
 
 -- ---- how long an array is
 
@@ -167,6 +169,16 @@ module _ (here : Setting) (name : Names) (m : Frames) (o : Objects) (statics : L
     born_alike element element_is count o' None born rest rest' k shorter = record {
       answer = (with_stack m rest, o', statics, printed, Comes (Raises OutOfMemory));
       is = refl;
+      refuses = λ r _. inl (record {
+        running = after f (Reference (next_name s) ∷ rest');
+        waiting = below;
+        contents = IsArray t (replicate count (zero_of t));
+        is = ap (λ b. if b then StateRaises OutOfMemory else onward_frame f below (with_state_birth s (IsArray t (replicate count (zero_of t)))) (Reference (next_name s) ∷ rest')) r;
+        exceeds =
+            (let words = contents_size here.tree name (Array element) (replicate count 0) (IsArray t (replicate count (zero_of t))) None (element_is, zero_words name t count) in
+            let slots = length-replicate {A = ℕ} count 0 in
+            omega (arith, words, slots, refused_room o (Array element) count o' born));
+      });
       alike = λ r. (
         ap (λ b. if b then StateRaises OutOfMemory else onward_frame f below (with_state_birth s (IsArray t (replicate count (zero_of t)))) (Reference (next_name s) ∷ rest')) r,
         (refused_birth o (Array element) count o' born, refl, refl),
@@ -175,6 +187,7 @@ module _ (here : Setting) (name : Names) (m : Frames) (o : Objects) (statics : L
     born_alike element element_is count o' (Some a) born rest rest' k shorter = record {
       answer = (with_place (with_stack m (Ref a ∷ rest)) (m.running.place + 1), o', statics, printed, Comes GoesOn);
       is = ap (λ turn. of_objects o statics printed (beside o' turn)) (leaves_is here name m o statics printed s f below (Named.NewArray t) (Resolved.NewArray n) at (Ref a) rest shorter);
+      refuses = λ _ h. no_refusal h;
       alike = λ r.
           subst (λ e. GoesAlike here name m o statics printed s f below (with_place (with_stack m (Ref a ∷ rest)) (m.running.place + 1), o', statics, printed, Comes GoesOn) e)
           (sym (ap (λ b. if b then StateRaises OutOfMemory else onward_frame f below (with_state_birth s (IsArray t (replicate count (zero_of t)))) (Reference (next_name s) ∷ rest')) r))

@@ -1,3 +1,4 @@
+pub use Rattle.simulation.proofs as simulation
 pub mod Changes
 pub mod Births
 pub mod Words

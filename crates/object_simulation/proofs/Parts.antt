@@ -32,7 +32,7 @@ use Rattle.simulation.specs.interpreter.Instructions.{MachineTurn, of_objects}
 use Rattle.simulation.specs.Agreement.{Agree}
 use Rattle.simulation.specs.StandsFor.{Names, IsValue, int32, int64, native, null_reference, reference, IsWord, IsCell, IsMemory}
 use Rattle.simulation.proofs.AgreeLaws.{agree_length}
-use Rattle.simulation.proofs.Instructions.{IsSetting, DoesAlike}
+use Rattle.simulation.proofs.Instructions.{IsSetting, DoesAlike, no_refusal, refused_fault}
 use Rattle.simulation.proofs.Going.{leaves_is, onward_is, next_alike, onward_alike}
 use Rattle.object_simulation.proofs.Changes.{cells_may_change}
 use Rattle.simulation.proofs.Memories.{named_is_not_null}
@@ -71,7 +71,7 @@ module _ (here : Setting) (name : Names) (m : Frames) (o : Objects) (statics : L
 
   -- a fault, with nothing changed
   pub raised_alike : (k : Frames) (x : Fault) → Alike (objects_turn (Some (k, o, Raises x))) (StateRaises x)
-  raised_alike k x = record { answer = (k, o, statics, printed, Comes (Raises x)); is = refl; alike = λ r. (refl, (refl, refl, refl)) }
+  raised_alike k x = record { answer = (k, o, statics, printed, Comes (Raises x)); is = refl; refuses = λ _ h. inr (refused_fault x h); alike = λ r. (refl, (refl, refl, refl)) }
 
   -- a value is left
   pub left_alike : (v : Value) (u : StateValue) → IsValue name v u → (rest : List Value) (rest' : List StateValue) → Agree (IsValue name) rest rest' → length rest ≤ length m.running.stack →
@@ -79,6 +79,7 @@ module _ (here : Setting) (name : Names) (m : Frames) (o : Objects) (statics : L
   left_alike v u is rest rest' k shorter = record {
     answer = (with_place (with_stack m (v ∷ rest)) (m.running.place + 1), o, statics, printed, Comes GoesOn);
     is = ap (λ t. objects_turn (beside o t)) (leaves_is here name m o statics printed s f below i operation at v rest shorter);
+    refuses = λ _ h. no_refusal h;
     alike = λ r. next_alike here name m o statics printed s f below i operation at (v ∷ rest) (u ∷ rest') (is, k);
   }
 
@@ -88,6 +89,7 @@ module _ (here : Setting) (name : Names) (m : Frames) (o : Objects) (statics : L
   stored_alike o' s' others memory rest rest' k = record {
     answer = (with_place (with_stack m rest) (m.running.place + 1), o', statics, printed, Comes GoesOn);
     is = ap (λ t. objects_turn (beside o' t)) (onward_is here name m o statics printed s f below i operation at rest);
+    refuses = λ _ h. no_refusal h;
     alike = λ r. onward_alike here name m o statics printed s f below i operation at name (λ b n is. is) o' statics printed s' others memory rest rest' k;
   }
 

@@ -1,5 +1,5 @@
 -- Stores of references to arrays do the same on a machine as on the reference machine (III.4.27).
-use Rattle.std.proofs.Common.{◌≡◌, ◌≤◌, ◌+◌, ℕ, zero, suc, ℤ, pos, negsuc, Bool, true, false, if◌then◌else◌, List, [], ◌∷◌, length, Option, Some, None, option_map, option_and_then, slice_get, slice_set, refl, sym, ap, ◌∙◌, subst, arith}
+use Rattle.std.proofs.Common.{◌≡◌, ◌≤◌, ◌+◌, ℕ, zero, suc, ℤ, pos, negsuc, Bool, true, false, if◌then◌else◌, List, [], ◌∷◌, length, Option, Some, None, option_map, option_and_then, slice_get, slice_set, refl, sym, ap, ◌∙◌, subst, arith, inr}
 use Rattle.std.specs.Prelude.{nat_lt}
 use Rattle.std.specs.Option.{option_map_or}
 use Rattle.std.proofs.lemmas.Bool.Decides.{nat_tests}
@@ -36,7 +36,7 @@ use Rattle.simulation.specs.interpreter.Instructions.{of_objects, operation_turn
 use Rattle.simulation.specs.Agreement.{Agree}
 use Rattle.simulation.specs.StandsFor.{Names, IsValue, int32, int64, native, null_reference, reference, IsWord, IsOfContents, IsCell, IsHeap, IsMemory}
 use Rattle.simulation.proofs.AgreeLaws.{agree_get, agree_beyond, agree_set}
-use Rattle.simulation.proofs.Instructions.{IsSetting, DoesAlike}
+use Rattle.simulation.proofs.Instructions.{IsSetting, DoesAlike, no_refusal, refused_fault}
 use Rattle.simulation.proofs.Going.{onward_is, onward_alike}
 use Rattle.simulation.proofs.Operands.{fine, three_operands}
 use Rattle.simulation.proofs.Statements.{CellsMayChange}
@@ -80,7 +80,7 @@ module _ (cells_may_change : CellsMayChange) where
 
     -- a fault on both, which memory has no part in
     raised_alike : (j : Frames) (x : Fault) (turn : ObjectTurn) (e : StateEffect) → turn ≡ Some (j, o, Raises x) → e ≡ StateRaises x → Alike turn e
-    raised_alike j x turn e is is' = record { answer = (j, o, statics, printed, Comes (Raises x)); is = ap (of_objects o statics printed) is; alike = λ r. (is', (refl, refl, refl)) }
+    raised_alike j x turn e is is' = record { answer = (j, o, statics, printed, Comes (Raises x)); is = ap (of_objects o statics printed) is; refuses = λ _ h. inr (is' ∙ refused_fault x h); alike = λ r. (is', (refl, refl, refl)) }
 
     -- what the reference machine does with a value at a place, by whether the elements' type admits it
     module _ (u : StateValue) (rest' : List StateValue) where
@@ -139,6 +139,7 @@ module _ (cells_may_change : CellsMayChange) where
             by_kind true typed' = record {
               answer = (with_place (with_stack m rest) (m.running.place + 1), with_slot o a place (value_word v), statics, printed, Comes GoesOn);
               is = ap (of_objects o statics printed) changed_turn;
+              refuses = λ _ h. no_refusal h;
               alike = λ r. onward_alike here name m o statics printed s f below Named.StoreElementReference Resolved.StoreElementReference at name (λ b k named'. named') (with_slot o a place (value_word v)) statics printed
                   (with_object s (Born n) changed) refl changed_memory rest rest' agree;
             }

@@ -31,7 +31,7 @@ use Rattle.simulation.specs.interpreter.Instructions.{of_calls, operation_turn}
 use Rattle.simulation.specs.Agreement.{Agree}
 use Rattle.simulation.specs.StandsFor.{Names, IsValue, int32, int64, native, null_reference, reference}
 use Rattle.simulation.proofs.AgreeLaws.{agree_get}
-use Rattle.simulation.proofs.Instructions.{IsSetting, DoesAlike}
+use Rattle.simulation.proofs.Instructions.{IsSetting, DoesAlike, no_refusal}
 use Rattle.simulation.proofs.Going.{own_frame}
 use Rattle.simulation.proofs.Operands.{fine}
 use Rattle.simulation.proofs.Statements.{MethodsRunAlike}
@@ -116,7 +116,7 @@ module _ (methods_run_alike : MethodsRunAlike) where
       this_alike few this arguments taken v (int32 z fits) typed = elim typed [ ]
       this_alike few this arguments taken v (int64 z fits) typed = elim typed [ ]
       this_alike few this arguments taken v (native z fits) typed = elim typed [ ]
-      this_alike few this arguments taken v null_reference typed = record { answer = (m, o, statics, printed, Comes (Raises NullReference)); is = refl; alike = λ r. (refl, (refl, refl, refl)) }
+      this_alike few this arguments taken v null_reference typed = record { answer = (m, o, statics, printed, Comes (Raises NullReference)); is = refl; refuses = λ _ h. no_refusal h; alike = λ r. (refl, (refl, refl, refl)) }
       this_alike few this arguments taken v (reference a n named) typed =
           subst (λ turn. Alike turn (run_virtual here s f below own (Reference n ∷ arguments) rest)) (sym (turn_on_is a n named)) (chosen_alike few (Reference n) arguments taken a n named (method_by here.tree own (class_of s n)) refl typed)
 

@@ -1,0 +1,1 @@
+pub use Rattle.simulation.specs as simulation

@@ -15,17 +15,17 @@ use Rattle.cil_model.proofs.BelowLaws.{none_is_some, same_some}
 use Rattle.reference_machine.proofs.StateLaws.{follows_itself, follows_more}
 use Rattle.reference_machine.proofs.StepLaws.{step_follows}
 
-abbrev IsStuck : Run → Type 0
+abbrev pub IsStuck : Run → Type 0
 IsStuck (RunsTo reports s) = ⊥
 IsStuck (SticksAfter reports) = Unit {0}
 
-clash : {A : Type 0} (reports reports' : List Report) (s : State) → SticksAfter reports ≡ RunsTo reports' s → A
+pub clash : {A : Type 0} (reports reports' : List Report) (s : State) → SticksAfter reports ≡ RunsTo reports' s → A
 clash {A} reports reports' s e = absurd (subst IsStuck e tt)
 
-same_state : (rs qs : List Report) (s t : State) → RunsTo rs s ≡ RunsTo qs t → s ≡ t
+pub same_state : (rs qs : List Report) (s t : State) → RunsTo rs s ≡ RunsTo qs t → s ≡ t
 same_state rs qs s t e = cc
 
-same_reports : (rs qs : List Report) (s t : State) → RunsTo rs s ≡ RunsTo qs t → rs ≡ qs
+pub same_reports : (rs qs : List Report) (s t : State) → RunsTo rs s ≡ RunsTo qs t → rs ≡ qs
 same_reports rs qs s t e = cc
 
 same_stuck : (rs qs : List Report) → SticksAfter rs ≡ SticksAfter qs → rs ≡ qs
@@ -33,7 +33,7 @@ same_stuck rs qs e = cc
 
 -- what is behind a report
 module _ (r : Report) where
-  behind_run : {A : Type 0} (all : List Report) (s : State) (whole : Run) → preceded_by r whole ≡ RunsTo all s → ((reports : List Report) → whole ≡ RunsTo reports s → all ≡ r ∷ reports → A) → A
+  pub behind_run : {A : Type 0} (all : List Report) (s : State) (whole : Run) → preceded_by r whole ≡ RunsTo all s → ((reports : List Report) → whole ≡ RunsTo reports s → all ≡ r ∷ reports → A) → A
   behind_run {A} all s (RunsTo reports s') e go =
       go reports (ap (RunsTo reports) (same_state (r ∷ reports) all s' s e)) (sym (same_reports (r ∷ reports) all s' s e))
   behind_run all s (SticksAfter reports) e go = clash (r ∷ reports) all s e

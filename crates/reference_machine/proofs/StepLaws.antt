@@ -164,10 +164,14 @@ module _ (here : Setting) (s : State) (f : Frame) (below : List Frame) (F : Faul
   switch_ok labels Null rest = sticks
   switch_ok labels (Reference n) rest = sticks
 
-  birth_ok : (go : ObjectName → State → Effect) (contents : Contents) → F OutOfMemory → Allowed s F (go (next_name s) (with_birth s contents)) → Allowed s F (birth here s f below contents go)
-  birth_ok go contents h each = if_ok s F here.is_refused (raises OutOfMemory h) each
+  pub birth_ok : (go : ObjectName → State → Effect) (contents : Contents) → (here.is_refused ≡ true → F OutOfMemory) → Allowed s F (go (next_name s) (with_birth s contents)) → Allowed s F (birth here s f below contents go)
+  birth_ok go contents h each = by_refusal here.is_refused refl
+    where
+      by_refusal : (b : Bool) → here.is_refused ≡ b → Allowed s F (if b then Raises OutOfMemory else go (next_name s) (with_birth s contents))
+      by_refusal true is = raises OutOfMemory (h is)
+      by_refusal false is = each
 
-  array_ok : (t : DeclaredType) (z : ℤ) (rest : List Value) → F Overflow → F OutOfMemory → Allowed s F (new_array here s f below t z rest)
+  pub array_ok : (t : DeclaredType) (z : ℤ) (rest : List Value) → F Overflow → (here.is_refused ≡ true → F OutOfMemory) → Allowed s F (new_array here s f below t z rest)
   array_ok t (negsuc n) rest h k = raises Overflow h
   array_ok t (pos n) rest h k = birth_ok (λ name s'. onward f below s' (Reference name ∷ rest)) (Array t (replicate n (zero_of t))) k (goes _ _ (follows_birth s (Array t (replicate n (zero_of t)))))
 
@@ -205,7 +209,7 @@ module _ (here : Setting) (s : State) (f : Frame) (below : List Frame) (F : Faul
       or_ok s F (action_of found.0 found.1) (λ a e. act_ok a arguments rest (may a))
       (if_ok s F (is_too_deep here s f below) (raises StackOverflow h) (frame_ok found.0 found.1 arguments None s rest (follows_itself s)))
 
-  operands_ok : {go : List Value → List Value → Effect} (types : List DeclaredType) → ((arguments rest : List Value) → Allowed s F (go arguments rest)) → Allowed s F (operands here s f below types go)
+  pub operands_ok : {go : List Value → List Value → Effect} (types : List DeclaredType) → ((arguments rest : List Value) → Allowed s F (go arguments rest)) → Allowed s F (operands here s f below types go)
   operands_ok types each = many_ok s F (length types) f.stack (λ arguments rest. if_ok s F (are_of_kinds types arguments) (each arguments rest) sticks)
 
   virtual_ok : (found : ClassName × Method) (arguments rest : List Value) → ((a : Action) (x : Fault) → Contains (faults_of_action a) x → F x) → F NullReference → F StackOverflow → Allowed s F (run_virtual here s f below found arguments rest)
@@ -213,7 +217,7 @@ module _ (here : Setting) (s : State) (f : Frame) (below : List Frame) (F : Faul
   virtual_ok found (this ∷ arguments) rest may h k =
       null_ok s F this NullReference h (λ n. given_ok s F (method_for here s f below n found) (λ chosen e. run_ok chosen (this ∷ arguments) rest may k))
 
-  construct_ok : (c : ClassName) (found : ClassName × Method) (arguments rest : List Value) → F StackOverflow → F OutOfMemory → Allowed s F (construct here s f below c found arguments rest)
+  pub construct_ok : (c : ClassName) (found : ClassName × Method) (arguments rest : List Value) → F StackOverflow → (here.is_refused ≡ true → F OutOfMemory) → Allowed s F (construct here s f below c found arguments rest)
   construct_ok c found arguments rest h k =
       if_ok s F (is_some (action_of found.0 found.1)) (birth_ok (λ name s'. onward f below s' (Reference name ∷ rest)) (new_instance here.tree c) k (goes _ _ (follows_birth s (new_instance here.tree c)))) (
       if_ok s F (is_too_deep here s f below) (raises StackOverflow h) (
@@ -266,7 +270,7 @@ module _ (here : Setting) (s : State) (f : Frame) (below : List Frame) where
   instruction_ok (StoreStaticField r) = one_ok s (MayRaise (StoreStaticField r)) f.stack (λ v rest. given_ok s (MayRaise (StoreStaticField r)) (find_field here.tree true r) (λ found e.
       given_ok s (MayRaise (StoreStaticField r)) (replaced_entry (key_of found) v s.statics) (λ statics e'. goes _ _ (follows_statics s (key_of found) v statics e'))))
   instruction_ok (NewArray t) = one_ok s (MayRaise (NewArray t)) f.stack (λ v rest. given_ok s (MayRaise (NewArray t)) (as_index v) (λ z e.
-      array_ok here s f below (MayRaise (NewArray t)) t z rest (itself (NewArray t) Overflow (0, lit< tt, refl)) (itself (NewArray t) OutOfMemory (1, lit< tt, refl))))
+      array_ok here s f below (MayRaise (NewArray t)) t z rest (itself (NewArray t) Overflow (0, lit< tt, refl)) (λ r. itself (NewArray t) OutOfMemory (1, lit< tt, refl))))
   instruction_ok LoadLength = one_ok s (MayRaise LoadLength) f.stack (λ array rest. null_ok s (MayRaise LoadLength) array NullReference (itself LoadLength NullReference (0, lit< tt, refl)) (λ n.
       given_ok s (MayRaise LoadLength) (array_at s n) (λ held e. next_ok LoadLength _)))
   instruction_ok LoadElementInt32 = load_ok here s f below (MayRaise LoadElementInt32) _ (itself LoadElementInt32 NullReference (0, lit< tt, refl)) (itself LoadElementInt32 IndexOutOfRange (1, lit< tt, refl))
@@ -284,7 +288,7 @@ module _ (here : Setting) (s : State) (f : Frame) (below : List Frame) where
       virtual_ok here s f below (MayRaise (CallVirtual owner name signature)) found arguments rest (λ a x h. member (CallVirtual owner name signature) a x refl h) (itself (CallVirtual owner name signature) NullReference (0, lit< tt, refl)) (itself (CallVirtual owner name signature) StackOverflow (1, lit< tt, refl))))
   instruction_ok (NewObject c parameters) = given_ok s (MayRaise (NewObject c parameters)) (find_method here.tree true (constructor_reference c parameters)) (λ found e.
       operands_ok here s f below (MayRaise (NewObject c parameters)) parameters (λ arguments rest.
-      construct_ok here s f below (MayRaise (NewObject c parameters)) c found arguments rest (itself (NewObject c parameters) StackOverflow (0, lit< tt, refl)) (itself (NewObject c parameters) OutOfMemory (1, lit< tt, refl))))
+      construct_ok here s f below (MayRaise (NewObject c parameters)) c found arguments rest (itself (NewObject c parameters) StackOverflow (0, lit< tt, refl)) (λ r. itself (NewObject c parameters) OutOfMemory (1, lit< tt, refl))))
   instruction_ok Return = return_ok here s f below (MayRaise Return)
 
 -- ---- steps and runs
@@ -351,14 +355,14 @@ step_follows tree limits s t refused r s' e = by_thread (slice_get s.threads t) 
     by_thread None h = same h
     by_thread (Some thread) h = by_life thread (is_live_thread thread) h
 
-same_raised : (x y : Fault) → Raises x ≡ Raises y → x ≡ y
+pub same_raised : (x y : Fault) → Raises x ≡ Raises y → x ≡ y
 same_raised x y e = cc
 
-abbrev RaisesNothing : Effect → Type 0
+abbrev pub RaisesNothing : Effect → Type 0
 RaisesNothing (Raises x) = ⊥
 RaisesNothing _ = Unit {0}
 
-no_raise : {A : Type 0} (e : Effect) (x : Fault) → e ≡ Raises x → RaisesNothing e → A
+pub no_raise : {A : Type 0} (e : Effect) (x : Fault) → e ≡ Raises x → RaisesNothing e → A
 no_raise {A} e x k h = absurd (subst RaisesNothing k h)
 
 -- the faults that an instruction raises are listed

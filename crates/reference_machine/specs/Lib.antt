@@ -6,8 +6,9 @@ pub mod BuiltIn
 pub mod Steps
 pub mod Faults
 pub mod Growth
+pub mod Cycles
+pub mod Rooms
 pub mod Runs
 pub mod Reachable
-pub mod Cycles
 pub mod OwedWords
 pub mod Outcomes

@@ -1,23 +1,18 @@
 -- The words that a collection owes its user: those of what was reachable when its cycle began, or was born since (this profile).
-use Rattle.std.specs.Prelude.{◌≡◌, ◌↔◌, ◌≤◌, ◌⊎◌, ℕ, ◌+◌, List, length, sum_by, Option, Some, None, slice_get, Contains, nat_eq, if◌then◌else◌}
+use Rattle.std.specs.Prelude.{◌≡◌, ◌↔◌, ◌≤◌, ◌⊎◌, ℕ, ◌+◌, List, length, sum_by, Option, Some, None, slice_get, Contains, nat_eq}
 use Rattle.std.specs.List.{IsDistinct}
 use Rattle.cil_model.specs.declared.trees.Tree.{Tree}
 use Rattle.cil_model.specs.declared.limits.Limits.{Limits}
 use Rattle.cil_model.specs.declared.events.Event.{Event}
 use Rattle.cil_model.specs.declared.reports.Report.{Report}
-use Rattle.cil_model.specs.Chains.{is_thread_class}
 use Rattle.reference_machine.specs.Values.{Born}
-use Rattle.reference_machine.specs.States.{Contents, Instance, Array, HeapObject, State}
+use Rattle.reference_machine.specs.States.{HeapObject, State}
+use Rattle.reference_machine.specs.Rooms.{cell_words}
 use Rattle.reference_machine.specs.Runs.{IsStateAfter}
 use Rattle.reference_machine.specs.Reachable.{IsReachable}
 use Rattle.reference_machine.specs.Cycles.{IsNewestCycle}
 
--- the words of an object's cell: three, and one a field or element, the hidden field of a Cilvm.Thread counted (this profile)
-abbrev pub cell_words : Tree → Contents → ℕ
-cell_words tree (Instance c fields) = 3 + (if is_thread_class tree c then 1 else 0) + length fields
-cell_words tree (Array t elements) = 3 + length elements
-
--- the same, of an object that is there
+-- the words of an object that is there
 abbrev pub words_of_object : Tree → Option HeapObject → ℕ
 words_of_object tree None = 0
 words_of_object tree (Some o) = cell_words tree o.contents

@@ -16,6 +16,7 @@ use Rattle.cil_model.specs.declared.reports.Report.TheVariants.{Ended}
 use Rattle.cil_model.specs.Mentions.{literals_of}
 use Rattle.reference_machine.specs.States.{Free, State, zeroed}
 use Rattle.reference_machine.specs.Effects.{new_frame}
+use Rattle.reference_machine.specs.Rooms.{RefusesBeyondRoom}
 use Rattle.reference_machine.specs.Steps.{Outcome, Answers, Stuck, step}
 
 -- the state in which thread 0 is at the beginning of the entry point, nothing was born or printed, and no monitor is held
@@ -82,8 +83,9 @@ thread_part events = filter_map (λ (e : Event × Report). request_of e.0 e.1) e
 abbrev pub step_reports : List (Event × Report) → List Report
 step_reports events = filter_map (λ (e : Event × Report). report_of_step e.0 e.1) events
 
--- the state of the reference machine after these events; none is stuck among their steps, and the reports are theirs
+-- the state of the reference machine after these events; none is stuck among their steps, the reports are theirs, and so are the births that are refused
 pub record IsStateAfter (tree : Tree) (limits : Limits) (events : List (Event × Report)) (s : State) : Type 0 where
   pub first : State
   pub begins : opening tree limits ≡ Some first
   pub comes : run tree limits first (thread_part events) ≡ RunsTo (step_reports events) s
+  pub refuses : RefusesBeyondRoom tree limits first (thread_part events)

@@ -1,6 +1,8 @@
 // Laws of the reference machine. Each function has an empty body, and its contract is the law.
 
-ghost use Rattle.std.specs.Prelude.{◌≡◌, ℕ, List, Some, None, slice_get, Bool, replicate, false, ◌∷◌, ◌++◌, [], codes};
+ghost use Rattle.std.specs.Prelude.{◌≡◌, ℕ, List, Some, None, slice_get, Bool, replicate, false, true, length, ◌∷◌, ◌++◌, [], codes};
+ghost use Rattle.std.specs.List.{zip};
+ghost use Rattle.cil_model.specs.declared.events.Event.{Event};
 ghost use Rattle.cil_model.specs.declared.trees.Tree.{Tree};
 ghost use Rattle.cil_model.specs.declared.instructions.Instruction.{Instruction};
 ghost use Rattle.cil_model.specs.declared.instructions.MethodReference.{MethodReference};
@@ -9,6 +11,7 @@ ghost use Rattle.cil_model.specs.declared.types.ClassName.{ClassName};
 ghost use Rattle.cil_model.specs.declared.types.DeclaredType.{DeclaredType};
 ghost use Rattle.cil_model.specs.declared.limits.Limits.{Limits};
 ghost use Rattle.cil_model.specs.declared.reports.Fault.{Fault};
+ghost use Rattle.cil_model.specs.declared.reports.Fault.TheVariants.{OutOfMemory};
 ghost use Rattle.cil_model.specs.declared.reports.Report.{Report};
 ghost use Rattle.cil_model.specs.declared.reports.Report.TheVariants.{Ran, Ended};
 ghost use Rattle.cil_model.specs.declared.reports.End.TheVariants.{Done};
@@ -21,7 +24,7 @@ ghost use Rattle.reference_machine.specs.Effects.{Setting, Raises};
 ghost use Rattle.reference_machine.specs.Steps.{execute, step, Answers};
 ghost use Rattle.reference_machine.specs.Faults.{MayRaise};
 ghost use Rattle.reference_machine.specs.Growth.{Follows};
-ghost use Rattle.reference_machine.specs.Runs.{StepRequest, run, RunsTo, SticksAfter};
+ghost use Rattle.reference_machine.specs.Runs.{IsStateAfter, StepRequest, run, step_reports, RunsTo, SticksAfter};
 ghost use Rattle.reference_machine.specs.Outcomes.{shown, Shows};
 ghost use Rattle.cil_model.specs.Typings.{Typing, IsTyping, IsAccepted};
 ghost use Rattle.cil_model.specs.Examples.{sum_program, usual_limits};
@@ -65,6 +68,18 @@ pub fn runs_join()
         run tree limits s first ≡ RunsTo reports t → run tree limits t more ≡ SticksAfter later → run tree limits s (first ++ more) ≡ SticksAfter (reports ++ later) }
     ensures first_sticks { (tree : Tree) (limits : Limits) (first more : List StepRequest) (s : State) (reports : List Report) →
         run tree limits s first ≡ SticksAfter reports → run tree limits s (first ++ more) ≡ SticksAfter reports }
+{}
+
+/// An instruction wants memory only where its birth is refused.
+pub fn memory_is_wanting_only_where_a_birth_is_refused()
+    ensures { (here : Setting) (s : State) (f : Frame) (below : List Frame) (i : Instruction) → execute here s f below i ≡ Raises OutOfMemory → here.is_refused ≡ true }
+{}
+
+/// A program has one run by the same events within the same limits: since each birth is refused exactly beyond the room, the reports of
+/// its steps and the state that it comes to are the same.
+pub fn the_run_is_one()
+    ensures { (tree : Tree) (limits : Limits) (events : List Event) (reports reports' : List Report) → length reports ≡ length events → length reports' ≡ length events → (s s' : State) →
+        IsStateAfter tree limits (zip events reports) s → IsStateAfter tree limits (zip events reports') s' → (step_reports (zip events reports) ≡ step_reports (zip events reports')) × (s ≡ s') }
 {}
 
 /// The example prints the sum in five steps.

@@ -1,7 +1,7 @@
 -- What agreeing lists have in common, and what changes keep them agreeing.
 use Rattle.std.proofs.Common.{◌≡◌, ℕ, zero, suc, List, [], ◌∷◌, ◌++◌, map, length, take, drop, reverse, Some, None, slice_get, slice_set, refl, sym, ap, subst}
 use Rattle.std.proofs.lemmas.List.{reverse-append}
-use Rattle.cil_model.proofs.BelowLaws.{none_is_some, same_some}
+use Rattle.interpreter.proofs.cil_model.BelowLaws.{none_is_some, same_some}
 use Rattle.simulation.specs.Agreement.{Agree}
 
 module _ {A B : Type 0} (R : A → B → Type 0) where

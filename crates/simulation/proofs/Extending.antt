@@ -1,20 +1,20 @@
 -- What stands under names stands under more of them.
 use Rattle.std.proofs.Common.{ℕ, List, ◌∷◌, Option, Some, None}
-use Rattle.cil_model.specs.declared.limits.Limits.{Limits}
-use Rattle.cil_model.specs.declared.trees.Tree.{Tree}
-use Rattle.cil_model.specs.declared.reports.End.{End}
-use Rattle.cil_model.specs.Fields.{FieldKey}
-use Rattle.reference_machine.specs.Values.{ObjectName, Value as StateValue}
-use Rattle.reference_machine.specs.States.{Contents, Instance as IsInstance, Array as IsArray, HeapObject, Frame as StateFrame, Thread as StateThread}
-use Rattle.object_memory.specs.declared.addresses.Addr.{Addr}
-use Rattle.object_memory.specs.declared.kinds.Kind.{Kind}
-use Rattle.object_memory.specs.declared.kinds.Kind.TheVariants.{Instance, Array}
-use Rattle.object_memory.specs.declared.values.Value.{Value}
-use Rattle.object_memory.specs.Cells.{Cell}
-use Rattle.threads_monitors.specs.Frames.{Frame, Frames}
-use Rattle.threads_monitors.specs.declared.threads.Standing.{Standing}
-use Rattle.threads_monitors.specs.declared.threads.Standing.TheVariants.{Live, Ended}
-use Rattle.threads_monitors.specs.declared.threads.Thread.{Thread}
+use Rattle.interpreter.specs.cil_model.declared.limits.Limits.{Limits}
+use Rattle.interpreter.specs.cil_model.declared.trees.Tree.{Tree}
+use Rattle.interpreter.specs.cil_model.declared.reports.End.{End}
+use Rattle.interpreter.specs.cil_model.Fields.{FieldKey}
+use Rattle.interpreter.specs.reference_machine.Values.{ObjectName, Value as StateValue}
+use Rattle.interpreter.specs.reference_machine.States.{Contents, Instance as IsInstance, Array as IsArray, HeapObject, Frame as StateFrame, Thread as StateThread}
+use Rattle.interpreter.specs.object_memory.declared.addresses.Addr.{Addr}
+use Rattle.interpreter.specs.object_memory.declared.kinds.Kind.{Kind}
+use Rattle.interpreter.specs.object_memory.declared.kinds.Kind.TheVariants.{Instance, Array}
+use Rattle.interpreter.specs.object_memory.declared.values.Value.{Value}
+use Rattle.interpreter.specs.object_memory.Cells.{Cell}
+use Rattle.interpreter.specs.threads_monitors.Frames.{Frame, Frames}
+use Rattle.interpreter.specs.threads_monitors.declared.threads.Standing.{Standing}
+use Rattle.interpreter.specs.threads_monitors.declared.threads.Standing.TheVariants.{Live, Ended}
+use Rattle.interpreter.specs.threads_monitors.declared.threads.Thread.{Thread}
 use Rattle.simulation.specs.Agreement.{Agree}
 use Rattle.simulation.specs.StandsFor.{Names, Extends, IsValue, int32, int64, native, null_reference, reference, IsWord, IsOfContents, IsCell, IsObject, IsFrame, AreFrames, StandsAlike, IsThread}
 use Rattle.simulation.proofs.AgreeLaws.{agree_weaken}

@@ -4,24 +4,24 @@ use Rattle.std.specs.Prelude.{nat_lt, if◌then◌else◌}
 use Rattle.std.proofs.lemmas.Bool.Decides.{nat_tests}
 use Rattle.std.proofs.lemmas.Int.{ints}
 use Rattle.std.proofs.lemmas.Option.{slice_get_within}
-use Rattle.cil_model.specs.declared.instructions.Instruction.{Instruction}
-use Rattle.cil_model.specs.declared.limits.TheConstants.{MOST_ARGUMENTS, MOST_LOCALS, MOST_STACK, MOST_INSTRUCTIONS}
-use Rattle.cil_model.specs.declared.trees.Tree.{Tree}
-use Rattle.cil_model.specs.declared.types.DeclaredType.{DeclaredType}
-use Rattle.cil_model.specs.TypeTree.{StackType}
-use Rattle.cil_model.specs.FlowRules.{give}
-use Rattle.cil_model.specs.Legality.{IsLegal}
-use Rattle.cil_model.specs.Typings.{AreBelow}
-use Rattle.reference_machine.specs.Values.{Value as StateValue}
-use Rattle.reference_machine.specs.States.{Frame as StateFrame, State}
-use Rattle.reference_machine.specs.Effects.{Setting, Goes, after, onward as onward_frame}
+use Rattle.interpreter.specs.cil_model.declared.instructions.Instruction.{Instruction}
+use Rattle.interpreter.specs.cil_model.declared.limits.TheConstants.{MOST_ARGUMENTS, MOST_LOCALS, MOST_STACK, MOST_INSTRUCTIONS}
+use Rattle.interpreter.specs.cil_model.declared.trees.Tree.{Tree}
+use Rattle.interpreter.specs.cil_model.declared.types.DeclaredType.{DeclaredType}
+use Rattle.interpreter.specs.cil_model.TypeTree.{StackType}
+use Rattle.interpreter.specs.cil_model.FlowRules.{give}
+use Rattle.interpreter.specs.cil_model.Legality.{IsLegal}
+use Rattle.interpreter.specs.cil_model.Typings.{AreBelow}
+use Rattle.interpreter.specs.reference_machine.Values.{Value as StateValue}
+use Rattle.interpreter.specs.reference_machine.States.{Frame as StateFrame, State}
+use Rattle.interpreter.specs.reference_machine.Effects.{Setting, Goes, after, onward as onward_frame}
 use Rattle.type_soundness.specs.TypedStates.{HaveTypes, HaveStackTypes, IsTypedFrame}
-use Rattle.resolved_code.specs.declared.operations.Operation.{Operation}
-use Rattle.object_memory.specs.declared.values.Value.{Value}
-use Rattle.object_memory.specs.Objects.{Objects}
-use Rattle.threads_monitors.specs.Frames.{Frame, Frames, size, with_place, with_stack}
-use Rattle.threads_monitors.specs.declared.effects.Effect.TheVariants.{GoesOn}
-use Rattle.instructions.specs.Frames.{onward, leaves}
+use Rattle.interpreter.specs.resolved_code.declared.operations.Operation.{Operation}
+use Rattle.interpreter.specs.object_memory.declared.values.Value.{Value}
+use Rattle.interpreter.specs.object_memory.Objects.{Objects}
+use Rattle.interpreter.specs.threads_monitors.Frames.{Frame, Frames, size, with_place, with_stack}
+use Rattle.interpreter.specs.threads_monitors.declared.effects.Effect.TheVariants.{GoesOn}
+use Rattle.interpreter.specs.instructions.Frames.{onward, leaves}
 use Rattle.interpreter.specs.declared.outcomes.Outcome.TheVariants.{Comes}
 use Rattle.size_bounds.proofs.MethodSizes.{arguments_few, instructions_few, locals_few, stack_low}
 use Rattle.simulation.specs.Agreement.{Agree}

@@ -1,26 +1,28 @@
 -- When what an instruction of a machine does is what the same instruction of the reference machine does (this profile).
-use Rattle.std.specs.Prelude.{◌≡◌, ◌≤◌, ℕ, Bool, true, false, List, [], ◌∷◌, Some}
-use Rattle.cil_model.specs.declared.limits.TheConstants.{MOST_BUDGET}
-use Rattle.cil_model.specs.declared.reports.Fault.{Fault}
-use Rattle.cil_model.specs.declared.reports.Fault.TheVariants.{OutOfMemory}
-use Rattle.cil_model.specs.declared.instructions.Instruction.{Instruction}
-use Rattle.cil_model.specs.Bodies.{lines_of}
-use Rattle.reference_machine.specs.Values.{Value as StateValue}
-use Rattle.reference_machine.specs.States.{Frame, State}
+use Rattle.std.proofs.Common.{◌≡◌, ◌⊎◌, ◌<◌, ◌≤◌, ℕ, Bool, true, false, List, [], ◌∷◌, Some, refl}
+use Rattle.interpreter.specs.cil_model.declared.limits.TheConstants.{MOST_BUDGET}
+use Rattle.interpreter.specs.cil_model.declared.reports.Fault.{Fault}
+use Rattle.interpreter.specs.cil_model.declared.reports.Fault.TheVariants.{NullReference, IndexOutOfRange, ArrayTypeMismatch, InvalidCast, DivideByZero, Arithmetic, Overflow, OutOfMemory, TooManyThreads, StackOverflow, ArgumentNull, SynchronizationLock, ThreadState}
+use Rattle.interpreter.specs.cil_model.declared.instructions.Instruction.{Instruction}
+use Rattle.interpreter.specs.cil_model.Bodies.{lines_of}
+use Rattle.interpreter.specs.reference_machine.Values.{Value as StateValue}
+use Rattle.interpreter.specs.reference_machine.Rooms.{cell_words}
+use Rattle.interpreter.specs.reference_machine.States.{Contents, Frame, State, with_birth}
 use Rattle.size_bounds.specs.Counts.{IsCounted}
-use Rattle.reference_machine.specs.Effects.{Setting, Effect as StateEffect, Goes, Blocks as StateBlocks, Raises as StateRaises}
-use Rattle.reference_machine.specs.BuiltIn.{Action, Start, Join, act}
-use Rattle.reference_machine.specs.Steps.{execute}
+use Rattle.interpreter.specs.reference_machine.Effects.{Setting, Effect as StateEffect, Goes, Blocks as StateBlocks, Raises as StateRaises}
+use Rattle.interpreter.specs.reference_machine.BuiltIn.{Action, Start, Join, act}
+use Rattle.interpreter.specs.reference_machine.Steps.{execute}
 use Rattle.type_soundness.proofs.Running.{IsRunning}
-use Rattle.resolved_code.specs.Resolved.{IsOperation}
-use Rattle.resolved_code.specs.declared.operations.Operation.{Operation}
-use Rattle.object_memory.specs.declared.addresses.Addr.{Addr}
-use Rattle.object_memory.specs.declared.values.Value.{Value}
-use Rattle.object_memory.specs.declared.values.Value.TheVariants.{Ref}
-use Rattle.object_memory.specs.Objects.{Objects}
-use Rattle.threads_monitors.specs.Frames.{Frames}
-use Rattle.threads_monitors.specs.declared.effects.Effect.{Effect}
-use Rattle.threads_monitors.specs.declared.effects.Effect.TheVariants.{GoesOn, Returns, Blocks, Raises}
+use Rattle.interpreter.specs.resolved_code.Resolved.{IsOperation}
+use Rattle.interpreter.specs.resolved_code.declared.operations.Operation.{Operation}
+use Rattle.interpreter.specs.object_memory.declared.addresses.Addr.{Addr}
+use Rattle.interpreter.specs.object_memory.declared.values.Value.{Value}
+use Rattle.interpreter.specs.object_memory.declared.values.Value.TheVariants.{Ref}
+use Rattle.interpreter.specs.object_memory.Cells.{free_words}
+use Rattle.interpreter.specs.object_memory.Objects.{Objects}
+use Rattle.interpreter.specs.threads_monitors.Frames.{Frames}
+use Rattle.interpreter.specs.threads_monitors.declared.effects.Effect.{Effect}
+use Rattle.interpreter.specs.threads_monitors.declared.effects.Effect.TheVariants.{GoesOn, Returns, Blocks, Raises}
 use Rattle.interpreter.specs.declared.outcomes.Outcome.{Outcome}
 use Rattle.interpreter.specs.declared.outcomes.Outcome.TheVariants.{Comes, Starts, Joins}
 use Rattle.interpreter.specs.Instructions.{HasSmallConstant, MachineTurn, operation_turn}
@@ -56,6 +58,29 @@ abbrev pub is_refused_outcome : Outcome → Bool
 is_refused_outcome (Comes e) = is_refused_effect e
 is_refused_outcome (Starts a) = false
 is_refused_outcome (Joins a) = false
+
+-- what is no refusal
+pub no_refusal : {A : Type 0} → false ≡ true → A
+no_refusal {A} h = absurd (lost h)
+  where
+    lost : false ≡ true → ⊥
+    lost k = cc
+
+-- a fault that is
+pub refused_fault : (x : Fault) → is_refused_fault x ≡ true → StateRaises x ≡ StateRaises OutOfMemory
+refused_fault NullReference h = no_refusal h
+refused_fault IndexOutOfRange h = no_refusal h
+refused_fault ArrayTypeMismatch h = no_refusal h
+refused_fault InvalidCast h = no_refusal h
+refused_fault DivideByZero h = no_refusal h
+refused_fault Arithmetic h = no_refusal h
+refused_fault Overflow h = no_refusal h
+refused_fault OutOfMemory h = refl
+refused_fault TooManyThreads h = no_refusal h
+refused_fault StackOverflow h = no_refusal h
+refused_fault ArgumentNull h = no_refusal h
+refused_fault SynchronizationLock h = no_refusal h
+refused_fault ThreadState h = no_refusal h
 
 module _ (here : Setting) (name : Names) (m : Frames) (o : Objects) (statics : List Value) (printed : List ℕ) (s : State) (f : Frame) (below : List Frame) where
   -- the thread goes on with the same frames, in the same memory, in which nothing lost its name
@@ -93,11 +118,21 @@ module _ (here : Setting) (name : Names) (m : Frames) (o : Objects) (statics : L
   ComesAlike (Starts object) a e = AsksFor Start object a e
   ComesAlike (Joins object) a e = AsksFor Join object a e
 
-  -- The rule has an answer, and where the reference machine is refused memory exactly where the machine is, both do the same.
+  -- an object is born on the reference machine, whose cell exceeds the room of the machine
+  pub record ExceedsRoom (e : StateEffect) : Type 0 where
+    pub running : Frame
+    pub waiting : List Frame
+    pub contents : Contents
+    pub is : e ≡ Goes (running ∷ waiting) (with_birth s contents)
+    pub exceeds : free_words o.block < cell_words here.tree contents
+
+  -- The rule has an answer, and where the reference machine is refused memory exactly where the machine is, both do the same. The machine is refused
+  -- it only where the reference machine, if it weren't, would make an object that exceeds the room.
   pub record DoesAlike (turn : MachineTurn) (e : StateEffect) : Type 0 where
     pub answer : Answer
     pub is : turn ≡ Some answer
     pub alike : here.is_refused ≡ is_refused_outcome answer.4 → ComesAlike answer.4 answer e
+    pub refuses : here.is_refused ≡ false → is_refused_outcome answer.4 ≡ true → ExceedsRoom e ⊎ (e ≡ StateRaises OutOfMemory)
 
 -- each instruction does
 abbrev pub InstructionsAreAlike : Type 0

@@ -2,10 +2,10 @@
 use Rattle.std.proofs.Common.{◌≤◌, ℕ, ◌&&◌, IsTrue, arith}
 use Rattle.std.specs.Prelude.{nat_le}
 use Rattle.std.proofs.lemmas.Bool.Decides.{nat_tests}
-use Rattle.cil_model.specs.declared.limits.Limits.{Limits}
-use Rattle.cil_model.specs.declared.limits.TheConstants.{LEAST_WORDS, MOST_WORDS, MOST_BUDGET, MOST_DEPTH}
-use Rattle.cil_model.specs.Ranges.{is_between, are_in_range}
-use Rattle.cil_model.proofs.SameLaws.{both_first, both_second}
+use Rattle.interpreter.specs.cil_model.declared.limits.Limits.{Limits}
+use Rattle.interpreter.specs.cil_model.declared.limits.TheConstants.{LEAST_WORDS, MOST_WORDS, MOST_BUDGET, MOST_DEPTH}
+use Rattle.interpreter.specs.cil_model.Ranges.{is_between, are_in_range}
+use Rattle.interpreter.proofs.cil_model.SameLaws.{both_first, both_second}
 
 between_low : (low high n : ℕ) → IsTrue (is_between low high n) → low ≤ n
 between_low low high n h = let first : IsTrue (nat_le low n) = both_first (nat_le low n) (nat_le n high) h in grind (arith, nat_tests)

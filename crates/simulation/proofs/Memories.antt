@@ -1,14 +1,15 @@
 -- A memory stands for a state's, whatever the threads of the state are.
 use Rattle.std.proofs.Common.{◌≡◌, ◌==◌, ℕ, zero, suc, false, List, Some, slice_get, sym, ap, ◌∙◌, subst, arith}
 use Rattle.std.proofs.lemmas.Bool.Decides.{nat_tests}
-use Rattle.cil_model.specs.declared.trees.Tree.{Tree}
-use Rattle.cil_model.specs.Fields.{FieldKey}
-use Rattle.cil_model.specs.Same.{same_text}
-use Rattle.cil_model.proofs.BelowLaws.{none_is_some}
-use Rattle.reference_machine.specs.Values.{ObjectName, Value as StateValue}
-use Rattle.reference_machine.specs.States.{State, entry_at}
-use Rattle.object_memory.specs.declared.values.Value.{Value}
-use Rattle.object_memory.specs.Objects.{Objects}
+use Rattle.interpreter.specs.cil_model.declared.trees.Tree.{Tree}
+use Rattle.interpreter.specs.cil_model.Fields.{FieldKey}
+use Rattle.interpreter.specs.cil_model.Same.{same_text}
+use Rattle.interpreter.proofs.cil_model.BelowLaws.{none_is_some}
+use Rattle.interpreter.specs.reference_machine.Rooms.{words_of_all}
+use Rattle.interpreter.specs.reference_machine.Values.{ObjectName, Value as StateValue}
+use Rattle.interpreter.specs.reference_machine.States.{State, entry_at}
+use Rattle.interpreter.specs.object_memory.declared.values.Value.{Value}
+use Rattle.interpreter.specs.object_memory.Objects.{Objects}
 use Rattle.simulation.specs.Agreement.{Agree}
 use Rattle.simulation.specs.StandsFor.{Names, IsValue, IsHeap, IsMemory}
 
@@ -29,6 +30,7 @@ module _ (tree : Tree) (name : Names) (o : Objects) (s s' : State) (objects : s'
   heap_beside h = record {
     start = h.start;
     within = h.within;
+    full = h.full ∙ ap (words_of_all tree) (sym objects);
     words = h.words;
     null_unnamed = h.null_unnamed;
     small = h.small;

@@ -1,18 +1,18 @@
 -- Taking operands off a stack and the one that it stands for.
 use Rattle.std.proofs.Common.{◌≡◌, ◌≤◌, ◌+◌, ℕ, List, [], ◌∷◌, length, Option, refl, sym, subst, arith}
-use Rattle.cil_model.specs.declared.instructions.Instruction.{Instruction}
-use Rattle.cil_model.specs.Stacks.{take_one, take_two, take_three}
-use Rattle.reference_machine.specs.Values.{Value as StateValue}
-use Rattle.reference_machine.specs.States.{Frame as StateFrame, State}
-use Rattle.reference_machine.specs.Effects.{Setting, Effect as StateEffect, Sticks}
-use Rattle.reference_machine.specs.Steps.{execute}
+use Rattle.interpreter.specs.cil_model.declared.instructions.Instruction.{Instruction}
+use Rattle.interpreter.specs.cil_model.Stacks.{take_one, take_two, take_three}
+use Rattle.interpreter.specs.reference_machine.Values.{Value as StateValue}
+use Rattle.interpreter.specs.reference_machine.States.{Frame as StateFrame, State}
+use Rattle.interpreter.specs.reference_machine.Effects.{Setting, Effect as StateEffect, Sticks}
+use Rattle.interpreter.specs.reference_machine.Steps.{execute}
 use Rattle.type_soundness.proofs.Running.{IsTypedEffect}
 use Rattle.type_soundness.proofs.AllSteps.{instruction_typed}
-use Rattle.resolved_code.specs.declared.operations.Operation.{Operation}
-use Rattle.object_memory.specs.declared.values.Value.{Value}
-use Rattle.object_memory.specs.Objects.{Objects}
-use Rattle.threads_monitors.specs.Frames.{Frames, with_stack}
-use Rattle.instructions.specs.Frames.{top_of, with_top}
+use Rattle.interpreter.specs.resolved_code.declared.operations.Operation.{Operation}
+use Rattle.interpreter.specs.object_memory.declared.values.Value.{Value}
+use Rattle.interpreter.specs.object_memory.Objects.{Objects}
+use Rattle.interpreter.specs.threads_monitors.Frames.{Frames, with_stack}
+use Rattle.interpreter.specs.instructions.Frames.{top_of, with_top}
 use Rattle.interpreter.specs.Instructions.{MachineTurn}
 use Rattle.simulation.specs.Agreement.{Agree}
 use Rattle.simulation.specs.StandsFor.{Names, IsValue}

@@ -1,24 +1,25 @@
 -- What follows where a machine represents a state of the reference machine.
-use Rattle.std.proofs.Common.{◌≡◌, ◌≢◌, ◌<◌, ℕ, zero, suc, true, false, List, [], ◌∷◌, map, length, Option, Some, None, option_map, slice_get, is_none, refl, sym, ap, ◌∙◌, arith}
+use Rattle.std.proofs.Common.{◌≡◌, ◌≢◌, ◌<◌, ℕ, zero, suc, true, false, List, [], ◌∷◌, map, length, Option, Some, None, option_map, slice_get, is_none, refl, sym, ap, ◌∙◌, arith, subst}
 use Rattle.std.proofs.lemmas.Option.{option_and_then_some}
 use Rattle.std.specs.List.{zip}
 use Rattle.std.specs.Option.{option_map_or}
-use Rattle.cil_model.specs.declared.types.ClassName.{ClassName}
-use Rattle.cil_model.specs.declared.trees.Code.{Code}
-use Rattle.cil_model.specs.declared.trees.Method.{Method}
-use Rattle.cil_model.specs.declared.trees.Tree.{Tree}
-use Rattle.cil_model.specs.declared.events.Event.{Event}
-use Rattle.cil_model.specs.declared.limits.Limits.{Limits}
-use Rattle.cil_model.specs.declared.reports.End.{End}
-use Rattle.cil_model.specs.declared.reports.Report.{Report}
-use Rattle.cil_model.specs.Bodies.{code_of, entry_points}
-use Rattle.cil_model.proofs.BelowLaws.{none_is_some, same_some}
-use Rattle.reference_machine.specs.States.{Frame as StateFrame, State, Thread as StateThread}
-use Rattle.reference_machine.specs.Runs.{opening, opening_at, run, thread_part}
-use Rattle.threads_monitors.specs.Threads.{end_in, end_of, is_live, is_live_at}
-use Rattle.threads_monitors.specs.declared.threads.Standing.{Standing}
-use Rattle.threads_monitors.specs.declared.threads.Standing.TheVariants.{Live, Ended}
-use Rattle.threads_monitors.specs.declared.threads.Thread.{Thread}
+use Rattle.interpreter.specs.cil_model.declared.types.ClassName.{ClassName}
+use Rattle.interpreter.specs.cil_model.declared.trees.Code.{Code}
+use Rattle.interpreter.specs.cil_model.declared.trees.Method.{Method}
+use Rattle.interpreter.specs.cil_model.declared.trees.Tree.{Tree}
+use Rattle.interpreter.specs.cil_model.declared.events.Event.{Event}
+use Rattle.interpreter.specs.cil_model.declared.limits.Limits.{Limits}
+use Rattle.interpreter.specs.cil_model.declared.reports.End.{End}
+use Rattle.interpreter.specs.cil_model.declared.reports.Report.{Report}
+use Rattle.interpreter.specs.cil_model.Bodies.{code_of, entry_points}
+use Rattle.interpreter.proofs.cil_model.BelowLaws.{none_is_some, same_some}
+use Rattle.interpreter.specs.reference_machine.States.{Frame as StateFrame, State, Thread as StateThread}
+use Rattle.interpreter.specs.reference_machine.Rooms.{RefusesBeyondRoom}
+use Rattle.interpreter.specs.reference_machine.Runs.{opening, opening_at, run, thread_part}
+use Rattle.interpreter.specs.threads_monitors.Threads.{end_in, end_of, is_live, is_live_at}
+use Rattle.interpreter.specs.threads_monitors.declared.threads.Standing.{Standing}
+use Rattle.interpreter.specs.threads_monitors.declared.threads.Standing.TheVariants.{Live, Ended}
+use Rattle.interpreter.specs.threads_monitors.declared.threads.Thread.{Thread}
 use Rattle.simulation.specs.Agreement.{Agree}
 use Rattle.simulation.specs.Budgets.{AreWithinBudget, HasEnded, KeepsBudgets, steps_left_of}
 use Rattle.simulation.specs.MachineContents.{Content}
@@ -109,6 +110,7 @@ stands_after tree limits c d events reports first opens r same_tree same_limits 
           first = first;
           begins = opens;
           comes = ap (λ x. run x limits first (thread_part (zip events reports))) (sym same_tree) ∙ (ap (λ x. run c.tree x first (thread_part (zip events reports))) (sym same_limits) ∙ alike.comes);
+          refuses = subst (λ x. RefusesBeyondRoom x limits first (thread_part (zip events reports))) same_tree (subst (λ x. RefusesBeyondRoom c.tree x first (thread_part (zip events reports))) same_limits alike.refuses);
         };
       };
       budgets = within_budget limits c d alike.state (zip events reports) alike.represents (kept_limits ∙ same_limits) some (whole_budget tree limits c first opens r same_limits) alike.budgets;

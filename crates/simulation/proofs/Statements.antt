@@ -1,24 +1,24 @@
 -- What is proved of the memory and of calls, each in its own crate, as the crates beside it use it.
 use Rattle.std.specs.Prelude.{◌≡◌, ℕ, nat_le, true, List, length, take, drop, reverse, replicate, Some, None}
-use Rattle.cil_model.specs.declared.instructions.Instruction.{Instruction}
-use Rattle.cil_model.specs.declared.trees.Tree.{Tree}
-use Rattle.cil_model.specs.declared.trees.Method.{Method}
-use Rattle.cil_model.specs.declared.types.ClassName.{ClassName}
-use Rattle.cil_model.specs.Bodies.{argument_types}
-use Rattle.reference_machine.specs.Values.{Born, Literal}
-use Rattle.reference_machine.specs.States.{Monitor as StateMonitor, Contents, HeapObject, Frame as StateFrame, State, with_object, next_name, with_monitor as with_state_monitor, with_birth as with_state_birth}
-use Rattle.reference_machine.specs.Effects.{Setting}
-use Rattle.reference_machine.specs.Steps.{run_method}
+use Rattle.interpreter.specs.cil_model.declared.instructions.Instruction.{Instruction}
+use Rattle.interpreter.specs.cil_model.declared.trees.Tree.{Tree}
+use Rattle.interpreter.specs.cil_model.declared.trees.Method.{Method}
+use Rattle.interpreter.specs.cil_model.declared.types.ClassName.{ClassName}
+use Rattle.interpreter.specs.cil_model.Bodies.{argument_types}
+use Rattle.interpreter.specs.reference_machine.Values.{Born, Literal}
+use Rattle.interpreter.specs.reference_machine.States.{Monitor as StateMonitor, Contents, HeapObject, Frame as StateFrame, State, with_object, next_name, with_monitor as with_state_monitor, with_birth as with_state_birth}
+use Rattle.interpreter.specs.reference_machine.Effects.{Setting}
+use Rattle.interpreter.specs.reference_machine.Steps.{run_method}
 use Rattle.type_soundness.proofs.Running.{IsTypedEffect}
-use Rattle.name_tables.specs.Numbers.{method_at}
-use Rattle.resolved_code.specs.declared.operations.Operation.{Operation}
-use Rattle.object_memory.specs.declared.addresses.Addr.{Addr}
-use Rattle.object_memory.specs.declared.kinds.Kind.{Kind}
-use Rattle.object_memory.specs.declared.monitors.Monitor.{Monitor}
-use Rattle.object_memory.specs.declared.values.Value.{Value}
-use Rattle.object_memory.specs.Cells.{Cell, cell_at}
-use Rattle.object_memory.specs.Objects.{Objects, with_cell, with_monitor, with_birth}
-use Rattle.threads_monitors.specs.Frames.{Frames}
+use Rattle.interpreter.specs.name_tables.Numbers.{method_at}
+use Rattle.interpreter.specs.resolved_code.declared.operations.Operation.{Operation}
+use Rattle.interpreter.specs.object_memory.declared.addresses.Addr.{Addr}
+use Rattle.interpreter.specs.object_memory.declared.kinds.Kind.{Kind}
+use Rattle.interpreter.specs.object_memory.declared.monitors.Monitor.{Monitor}
+use Rattle.interpreter.specs.object_memory.declared.values.Value.{Value}
+use Rattle.interpreter.specs.object_memory.Cells.{Cell, cell_at}
+use Rattle.interpreter.specs.object_memory.Objects.{Objects, with_cell, with_monitor, with_birth}
+use Rattle.interpreter.specs.threads_monitors.Frames.{Frames}
 use Rattle.interpreter.specs.Instructions.{of_calls}
 use Rattle.interpreter.specs.Calls.{run_turn}
 use Rattle.simulation.specs.StandsFor.{Names, Extends, IsMonitor, IsOfContents, IsCell, IsHeap}

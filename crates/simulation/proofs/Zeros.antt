@@ -4,19 +4,19 @@ use Rattle.std.proofs.Math.Facts.{sfits_lit}
 use Rattle.std.proofs.lemmas.List.{length-map, append-nil}
 use Rattle.std.specs.Prelude.{option_to_list, FitsSigned}
 use Rattle.std.specs.Int.{w32, w64}
-use Rattle.cil_model.specs.declared.types.DeclaredType.{DeclaredType}
-use Rattle.cil_model.specs.declared.types.Element.{Element}
-use Rattle.cil_model.specs.declared.types.Element.TheVariants.{Int32 as Int32Element, Int64 as Int64Element, Object, String, Class}
-use Rattle.cil_model.specs.declared.trees.Method.{Method}
-use Rattle.cil_model.specs.declared.trees.Code.{Code}
-use Rattle.cil_model.specs.Bodies.{code_of}
-use Rattle.cil_model.specs.Fields.{FieldKey}
-use Rattle.cil_model.proofs.BelowLaws.{typed as typed_as}
-use Rattle.reference_machine.specs.Values.{Value as StateValue, zero_of}
-use Rattle.reference_machine.specs.States.{zeroed}
-use Rattle.object_memory.specs.Values.{value_word}
-use Rattle.method_table.specs.Prepared.{kind_at, kind_of_type, local_kinds}
-use Rattle.threads_monitors.specs.Frames.{zero_value}
+use Rattle.interpreter.specs.cil_model.declared.types.DeclaredType.{DeclaredType}
+use Rattle.interpreter.specs.cil_model.declared.types.Element.{Element}
+use Rattle.interpreter.specs.cil_model.declared.types.Element.TheVariants.{Int32 as Int32Element, Int64 as Int64Element, Object, String, Class}
+use Rattle.interpreter.specs.cil_model.declared.trees.Method.{Method}
+use Rattle.interpreter.specs.cil_model.declared.trees.Code.{Code}
+use Rattle.interpreter.specs.cil_model.Bodies.{code_of}
+use Rattle.interpreter.specs.cil_model.Fields.{FieldKey}
+use Rattle.interpreter.proofs.cil_model.BelowLaws.{typed as typed_as}
+use Rattle.interpreter.specs.reference_machine.Values.{Value as StateValue, zero_of}
+use Rattle.interpreter.specs.reference_machine.States.{zeroed}
+use Rattle.interpreter.specs.object_memory.Values.{value_word}
+use Rattle.interpreter.specs.method_table.Prepared.{kind_at, kind_of_type, local_kinds}
+use Rattle.interpreter.specs.threads_monitors.Frames.{zero_value}
 use Rattle.simulation.specs.Agreement.{Agree}
 use Rattle.simulation.specs.StandsFor.{Names, IsValue, int32, int64, null_reference, IsWord}
 

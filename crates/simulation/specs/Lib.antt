@@ -1,13 +1,13 @@
-pub use Rattle.cil_model.specs as cil_model
-pub use Rattle.reference_machine.specs as reference_machine
+pub use Rattle.interpreter.specs.cil_model as cil_model
+pub use Rattle.interpreter.specs.reference_machine as reference_machine
 pub use Rattle.type_soundness.specs as type_soundness
 pub use Rattle.size_bounds.specs as size_bounds
-pub use Rattle.name_tables.specs as name_tables
-pub use Rattle.resolved_code.specs as resolved_code
-pub use Rattle.object_memory.specs as object_memory
-pub use Rattle.method_table.specs as method_table
-pub use Rattle.threads_monitors.specs as threads_monitors
-pub use Rattle.instructions.specs as instructions
+pub use Rattle.interpreter.specs.name_tables as name_tables
+pub use Rattle.interpreter.specs.resolved_code as resolved_code
+pub use Rattle.interpreter.specs.object_memory as object_memory
+pub use Rattle.interpreter.specs.method_table as method_table
+pub use Rattle.interpreter.specs.threads_monitors as threads_monitors
+pub use Rattle.interpreter.specs.instructions as instructions
 pub use Rattle.interpreter.specs as interpreter
 pub mod Agreement
 pub mod MachineContents

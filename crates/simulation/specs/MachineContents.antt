@@ -1,11 +1,11 @@
 -- What a machine holds (this profile).
 use Rattle.std.specs.Prelude.{ℕ, ◌+◌, List}
-use Rattle.cil_model.specs.declared.trees.Tree.{Tree}
-use Rattle.cil_model.specs.declared.limits.Limits.{Limits}
-use Rattle.cil_model.specs.declared.limits.TheConstants.{MOST_ARGUMENTS, MOST_LOCALS}
-use Rattle.object_memory.specs.declared.values.Value.{Value}
-use Rattle.object_memory.specs.Objects.{Objects}
-use Rattle.threads_monitors.specs.declared.threads.Thread.{Thread}
+use Rattle.interpreter.specs.cil_model.declared.trees.Tree.{Tree}
+use Rattle.interpreter.specs.cil_model.declared.limits.Limits.{Limits}
+use Rattle.interpreter.specs.cil_model.declared.limits.TheConstants.{MOST_ARGUMENTS, MOST_LOCALS}
+use Rattle.interpreter.specs.object_memory.declared.values.Value.{Value}
+use Rattle.interpreter.specs.object_memory.Objects.{Objects}
+use Rattle.interpreter.specs.threads_monitors.declared.threads.Thread.{Thread}
 
 -- the program with the limits of its run, the threads by number, the objects, the static fields by number, and what was printed
 pub record Content : Type 0 where

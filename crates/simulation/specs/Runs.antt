@@ -1,12 +1,13 @@
 -- What a machine does on a list of events, and that the reference machine does the same (this profile).
 use Rattle.std.specs.Prelude.{◌≡◌, List, [], ◌∷◌, length}
 use Rattle.std.specs.List.{zip}
-use Rattle.cil_model.specs.declared.events.Event.{Event}
-use Rattle.cil_model.specs.declared.limits.Limits.{Limits}
-use Rattle.cil_model.specs.declared.reports.Report.{Report}
-use Rattle.cil_model.specs.declared.trees.Tree.{Tree}
-use Rattle.reference_machine.specs.States.{State}
-use Rattle.reference_machine.specs.Runs.{IsStateAfter, RunsTo, run, thread_part, step_reports}
+use Rattle.interpreter.specs.cil_model.declared.events.Event.{Event}
+use Rattle.interpreter.specs.cil_model.declared.limits.Limits.{Limits}
+use Rattle.interpreter.specs.cil_model.declared.reports.Report.{Report}
+use Rattle.interpreter.specs.cil_model.declared.trees.Tree.{Tree}
+use Rattle.interpreter.specs.reference_machine.States.{State}
+use Rattle.interpreter.specs.reference_machine.Rooms.{RefusesBeyondRoom}
+use Rattle.interpreter.specs.reference_machine.Runs.{IsStateAfter, RunsTo, run, thread_part, step_reports}
 use Rattle.simulation.specs.MachineContents.{Content}
 use Rattle.simulation.specs.StandsFor.{Represents}
 use Rattle.simulation.specs.Turns.{IsTurn}
@@ -19,10 +20,12 @@ AreTurns c (e ∷ es) after [] = ⊥
 AreTurns c (e ∷ es) after (r ∷ rs) = (next : Content) × IsTurn c e (next, r) × AreTurns next es after rs
 
 -- From a state that a machine represents: the run of the reference machine over the steps among these events is never stuck,
--- gives the steps' reports, and comes to a state that the machine represents afterwards. Threads keep their budgets.
+-- gives the steps' reports, refuses the same births, which are those beyond the room, and comes to a state that the machine represents
+-- afterwards. Threads keep their budgets.
 pub record RunsAlike (old new : Content) (events : List (Event × Report)) (s : State) : Type 0 where
   pub state : State
   pub comes : run old.tree old.limits s (thread_part events) ≡ RunsTo (step_reports events) state
+  pub refuses : RefusesBeyondRoom old.tree old.limits s (thread_part events)
   pub represents : Represents new state
   pub budgets : KeepsBudgets old new events
 
@@ -30,7 +33,8 @@ pub record RunsAlike (old new : Content) (events : List (Event × Report)) (s : 
 abbrev pub FollowsReference : Content → Content → List (Event × Report) → Type 0
 FollowsReference old new events = (s : State) → Represents old s → RunsAlike old new events s
 
--- With these reports, one an event, the reference machine's run over their steps is never stuck, gives the steps' reports, and comes to this state.
+-- With these reports, one an event, the reference machine's run over their steps is never stuck, gives the steps' reports, with a birth
+-- refused exactly where it exceeds the room, and comes to this state.
 pub record IsRunOf (tree : Tree) (limits : Limits) (events : List Event) (reports : List Report) (s : State) : Type 0 where
   pub each : length reports ≡ length events
   pub is_after : IsStateAfter tree limits (zip events reports) s

@@ -1,39 +1,40 @@
 -- When what a machine holds stands for a state of the reference machine: the same, with addresses in the place of names (this profile).
 use Rattle.std.specs.Prelude.{◌≡◌, ◌≤◌, ◌<◌, ℕ, suc, ℤ, if◌then◌else◌, List, [], ◌∷◌, ◌++◌, length, Option, Some, None, slice_get, FitsSigned, IsTrue}
 use Rattle.std.specs.Int.{w32, w64}
-use Rattle.cil_model.specs.declared.limits.Limits.{Limits}
-use Rattle.cil_model.specs.declared.limits.TheConstants.{MOST_WORDS}
-use Rattle.cil_model.specs.declared.trees.Tree.{Tree}
-use Rattle.cil_model.specs.declared.types.ClassName.{ClassName}
-use Rattle.cil_model.specs.declared.reports.End.{End}
-use Rattle.cil_model.specs.Same.{same_text}
-use Rattle.cil_model.specs.Chains.{is_thread_class}
-use Rattle.cil_model.specs.Ranges.{are_in_range}
-use Rattle.cil_model.specs.Typings.{IsAccepted}
-use Rattle.cil_model.specs.Fields.{FieldKey}
-use Rattle.cil_model.specs.Mentions.{literals_of}
-use Rattle.reference_machine.specs.Values.{ObjectName, Born, Literal, Value as StateValue, Int32 as Int32Value, Int64 as Int64Value, Native as NativeValue, Null, Reference}
-use Rattle.reference_machine.specs.States.{Monitor as StateMonitor, Free as IsFree, Held as IsHeld, Contents, Instance as IsInstance, Array as IsArray, HeapObject, Frame as StateFrame, Thread as StateThread, State, entry_at}
+use Rattle.interpreter.specs.cil_model.declared.limits.Limits.{Limits}
+use Rattle.interpreter.specs.cil_model.declared.limits.TheConstants.{MOST_WORDS}
+use Rattle.interpreter.specs.cil_model.declared.trees.Tree.{Tree}
+use Rattle.interpreter.specs.cil_model.declared.types.ClassName.{ClassName}
+use Rattle.interpreter.specs.cil_model.declared.reports.End.{End}
+use Rattle.interpreter.specs.cil_model.Same.{same_text}
+use Rattle.interpreter.specs.cil_model.Chains.{is_thread_class}
+use Rattle.interpreter.specs.cil_model.Ranges.{are_in_range}
+use Rattle.interpreter.specs.cil_model.Typings.{IsAccepted}
+use Rattle.interpreter.specs.cil_model.Fields.{FieldKey}
+use Rattle.interpreter.specs.cil_model.Mentions.{literals_of}
+use Rattle.interpreter.specs.reference_machine.Values.{ObjectName, Born, Literal, Value as StateValue, Int32 as Int32Value, Int64 as Int64Value, Native as NativeValue, Null, Reference}
+use Rattle.interpreter.specs.reference_machine.States.{Monitor as StateMonitor, Free as IsFree, Held as IsHeld, Contents, Instance as IsInstance, Array as IsArray, HeapObject, Frame as StateFrame, Thread as StateThread, State, entry_at}
+use Rattle.interpreter.specs.reference_machine.Rooms.{words_of_all}
 use Rattle.type_soundness.specs.TypedStates.{IsTyped}
 use Rattle.size_bounds.specs.Counts.{IsCounted}
-use Rattle.resolved_code.specs.Numbered.{class_name, type_at}
-use Rattle.object_memory.specs.declared.addresses.Addr.{Addr}
-use Rattle.object_memory.specs.declared.addresses.TheConstants.{ADDRESSES}
-use Rattle.object_memory.specs.declared.kinds.Kind.{Kind}
-use Rattle.object_memory.specs.declared.kinds.Kind.TheVariants.{Instance, Array}
-use Rattle.object_memory.specs.declared.monitors.Monitor.{Monitor}
-use Rattle.object_memory.specs.declared.monitors.Monitor.TheVariants.{Free, Held}
-use Rattle.object_memory.specs.declared.values.Value.{Value}
-use Rattle.object_memory.specs.declared.values.Value.TheVariants.{Int32, Int64, Native, Ref}
-use Rattle.object_memory.specs.Cells.{Cell, first, used_words, cell_at, literal, literal_number, null}
-use Rattle.object_memory.specs.Objects.{Objects}
-use Rattle.object_memory.specs.Values.{value_word}
-use Rattle.method_table.specs.AllMethods.{all_methods}
-use Rattle.instructions.specs.TypeTurns.{held_type}
-use Rattle.threads_monitors.specs.Frames.{Frame, Frames}
-use Rattle.threads_monitors.specs.declared.threads.Standing.{Standing}
-use Rattle.threads_monitors.specs.declared.threads.Standing.TheVariants.{Live, Ended}
-use Rattle.threads_monitors.specs.declared.threads.Thread.{Thread}
+use Rattle.interpreter.specs.resolved_code.Numbered.{class_name, type_at}
+use Rattle.interpreter.specs.object_memory.declared.addresses.Addr.{Addr}
+use Rattle.interpreter.specs.object_memory.declared.addresses.TheConstants.{ADDRESSES}
+use Rattle.interpreter.specs.object_memory.declared.kinds.Kind.{Kind}
+use Rattle.interpreter.specs.object_memory.declared.kinds.Kind.TheVariants.{Instance, Array}
+use Rattle.interpreter.specs.object_memory.declared.monitors.Monitor.{Monitor}
+use Rattle.interpreter.specs.object_memory.declared.monitors.Monitor.TheVariants.{Free, Held}
+use Rattle.interpreter.specs.object_memory.declared.values.Value.{Value}
+use Rattle.interpreter.specs.object_memory.declared.values.Value.TheVariants.{Int32, Int64, Native, Ref}
+use Rattle.interpreter.specs.object_memory.Cells.{Cell, first, used_words, cell_at, literal, literal_number, null}
+use Rattle.interpreter.specs.object_memory.Objects.{Objects}
+use Rattle.interpreter.specs.object_memory.Values.{value_word}
+use Rattle.interpreter.specs.method_table.AllMethods.{all_methods}
+use Rattle.interpreter.specs.instructions.TypeTurns.{held_type}
+use Rattle.interpreter.specs.threads_monitors.Frames.{Frame, Frames}
+use Rattle.interpreter.specs.threads_monitors.declared.threads.Standing.{Standing}
+use Rattle.interpreter.specs.threads_monitors.declared.threads.Standing.TheVariants.{Live, Ended}
+use Rattle.interpreter.specs.threads_monitors.declared.threads.Thread.{Thread}
 use Rattle.simulation.specs.MachineContents.{Content, frame_room}
 use Rattle.simulation.specs.Agreement.{Agree}
 
@@ -118,10 +119,12 @@ pub record IsLiteralAt (tree : Tree) (o : Objects) (s : State) (a : ℕ) (charac
   pub state_held : entry_at same_text characters s.literal_monitors ≡ Some state_monitor
   pub stands : IsMonitor monitor state_monitor
 
--- each named address has its object or its literal, and no two addresses one; the block is within its limits
+-- Each named address has its object or its literal, and no two addresses one. The block is within its limits, and has the cells of all
+-- objects that were born.
 pub record IsHeap (tree : Tree) (name : Names) (o : Objects) (s : State) : Type 0 where
   pub start : o.block.start ≡ first
   pub within : used_words o.block.cells ≤ o.block.words
+  pub full : used_words o.block.cells ≡ words_of_all tree s.objects
   pub words : o.block.words ≤ MOST_WORDS
   pub null_unnamed : name 0 ≡ None
   pub small : (a : ℕ) (n : ObjectName) → name a ≡ Some n → a < ADDRESSES
@@ -185,10 +188,12 @@ pub record StandsFor (c : Content) (s : State) : Type 0 where
   pub name : Names
   pub by : StandsBy name c s
 
--- Within limits that a run may have, an accepted program's machine stands for a typed state, whose monitors are counted.
+-- Within limits that a run may have, an accepted program's machine stands for a typed state, whose monitors are counted. Its heap has all
+-- words of its limit.
 pub record Represents (c : Content) (s : State) : Type 0 where
   pub accepted : IsAccepted c.tree
   pub limits : IsTrue (are_in_range c.limits)
   pub typed : IsTyped c.tree s
   pub counted : IsCounted c.limits s
+  pub space : c.objects.block.words ≡ c.limits.words
   pub stands : StandsFor c s

@@ -1,32 +1,32 @@
 -- What a machine does on each event (this profile). Each machine without a collector is proved to do exactly this.
 use Rattle.std.specs.Prelude.{◌≡◌, ◌⊎◌, ◌<◌, ℕ, ◌+◌, if◌then◌else◌, List, [], ◌∷◌, map, length, drop, Option, Some, None, option_map, option_and_then, slice_get, slice_set}
 use Rattle.std.specs.Option.{option_map_or}
-use Rattle.cil_model.specs.declared.types.ClassName.{ClassName}
-use Rattle.cil_model.specs.declared.types.DeclaredType.{DeclaredType}
-use Rattle.cil_model.specs.declared.trees.Tree.{Tree}
-use Rattle.cil_model.specs.declared.trees.Method.{Method}
-use Rattle.cil_model.specs.declared.limits.Limits.{Limits}
-use Rattle.cil_model.specs.declared.events.Event.{Event}
-use Rattle.cil_model.specs.declared.events.Event.TheVariants.{Step, Ack, Gc}
-use Rattle.cil_model.specs.declared.reports.Report.{Report}
-use Rattle.cil_model.specs.declared.reports.Report.TheVariants.{Absent, NothingPosted, Waiting}
-use Rattle.cil_model.specs.Bodies.{entry_points}
-use Rattle.cil_model.specs.Fields.{FieldKey, static_fields}
-use Rattle.cil_model.specs.Mentions.{literals_of}
-use Rattle.name_tables.specs.declared.lookups.MemberNumber.{MemberNumber}
-use Rattle.object_memory.specs.declared.addresses.Addr.{Addr}
-use Rattle.object_memory.specs.declared.values.Value.{Value}
-use Rattle.object_memory.specs.declared.values.Value.TheVariants.{Ref}
-use Rattle.object_memory.specs.Objects.{Objects, no_objects}
-use Rattle.method_table.specs.MethodNumbers.{number_of}
-use Rattle.method_table.specs.Prepared.{kind_of_type, local_kinds}
-use Rattle.threads_monitors.specs.Frames.{Frames, new_frame, with_place, with_stack, zero_value}
-use Rattle.threads_monitors.specs.Threads.{is_live_at, join_effect, settled, start_fault, with_start}
-use Rattle.threads_monitors.specs.declared.effects.Effect.{Effect}
-use Rattle.threads_monitors.specs.declared.effects.Effect.TheVariants.{GoesOn, Returns, Blocks, Raises}
-use Rattle.threads_monitors.specs.declared.threads.Standing.{Standing}
-use Rattle.threads_monitors.specs.declared.threads.Standing.TheVariants.{Live, Ended}
-use Rattle.threads_monitors.specs.declared.threads.Thread.{Thread}
+use Rattle.interpreter.specs.cil_model.declared.types.ClassName.{ClassName}
+use Rattle.interpreter.specs.cil_model.declared.types.DeclaredType.{DeclaredType}
+use Rattle.interpreter.specs.cil_model.declared.trees.Tree.{Tree}
+use Rattle.interpreter.specs.cil_model.declared.trees.Method.{Method}
+use Rattle.interpreter.specs.cil_model.declared.limits.Limits.{Limits}
+use Rattle.interpreter.specs.cil_model.declared.events.Event.{Event}
+use Rattle.interpreter.specs.cil_model.declared.events.Event.TheVariants.{Step, Ack, Gc}
+use Rattle.interpreter.specs.cil_model.declared.reports.Report.{Report}
+use Rattle.interpreter.specs.cil_model.declared.reports.Report.TheVariants.{Absent, NothingPosted, Waiting}
+use Rattle.interpreter.specs.cil_model.Bodies.{entry_points}
+use Rattle.interpreter.specs.cil_model.Fields.{FieldKey, static_fields}
+use Rattle.interpreter.specs.cil_model.Mentions.{literals_of}
+use Rattle.interpreter.specs.name_tables.declared.lookups.MemberNumber.{MemberNumber}
+use Rattle.interpreter.specs.object_memory.declared.addresses.Addr.{Addr}
+use Rattle.interpreter.specs.object_memory.declared.values.Value.{Value}
+use Rattle.interpreter.specs.object_memory.declared.values.Value.TheVariants.{Ref}
+use Rattle.interpreter.specs.object_memory.Objects.{Objects, no_objects}
+use Rattle.interpreter.specs.method_table.MethodNumbers.{number_of}
+use Rattle.interpreter.specs.method_table.Prepared.{kind_of_type, local_kinds}
+use Rattle.interpreter.specs.threads_monitors.Frames.{Frames, new_frame, with_place, with_stack, zero_value}
+use Rattle.interpreter.specs.threads_monitors.Threads.{is_live_at, join_effect, settled, start_fault, with_start}
+use Rattle.interpreter.specs.threads_monitors.declared.effects.Effect.{Effect}
+use Rattle.interpreter.specs.threads_monitors.declared.effects.Effect.TheVariants.{GoesOn, Returns, Blocks, Raises}
+use Rattle.interpreter.specs.threads_monitors.declared.threads.Standing.{Standing}
+use Rattle.interpreter.specs.threads_monitors.declared.threads.Standing.TheVariants.{Live, Ended}
+use Rattle.interpreter.specs.threads_monitors.declared.threads.Thread.{Thread}
 use Rattle.interpreter.specs.Calls.{chosen_at}
 use Rattle.interpreter.specs.Instructions.{IsDone}
 use Rattle.interpreter.specs.declared.outcomes.Outcome.{Outcome}

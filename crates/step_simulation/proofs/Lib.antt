@@ -1,7 +1,9 @@
-pub use Rattle.simulation.proofs as simulation
+pub use Rattle.object_simulation.proofs.simulation as simulation
 pub mod Settings
 pub mod Settling
 pub mod ThreadObjects
+pub mod Words
+pub mod Finished
 pub mod Requests
 pub mod Joins
 pub mod Beginnings
@@ -10,4 +12,5 @@ pub mod StartSteps
 pub mod Steps
 pub mod LiteralNames
 pub mod OpeningContents
+pub mod Refusals
 pub mod Whole

@@ -1,33 +1,33 @@
 -- What a machine holds at first stands for the opening state.
 use Rattle.std.proofs.Common.{◌≡◌, ℕ, IsTrue, [], ◌∷◌, length, Option, Some, None, option_map, option_and_then, slice_get, refl, sym, ap, ◌∙◌, arith}
-use Rattle.simulation.specs.cil_model.declared.limits.Limits.{Limits}
-use Rattle.simulation.specs.cil_model.declared.trees.Code.{Code}
-use Rattle.simulation.specs.cil_model.declared.trees.Method.{Method}
-use Rattle.simulation.specs.cil_model.declared.trees.Tree.{Tree}
-use Rattle.simulation.specs.cil_model.declared.types.ClassName.{ClassName}
-use Rattle.simulation.specs.cil_model.Bodies.{code_of, entry_points, is_entry_point, source_methods}
-use Rattle.simulation.specs.cil_model.Chains.{methods_in}
-use Rattle.simulation.specs.cil_model.Fields.{static_fields}
-use Rattle.simulation.specs.cil_model.Mentions.{literals_of}
-use Rattle.simulation.specs.cil_model.Ranges.{are_in_range}
-use Rattle.simulation.specs.cil_model.Typings.{IsAccepted}
-use Rattle.simulation.proofs.cil_model.BelowLaws.{none_is_some}
-use Rattle.simulation.proofs.cil_model.Legal.{entry_alone}
-use Rattle.simulation.specs.reference_machine.States.{Free as IsFree, State}
-use Rattle.simulation.specs.reference_machine.Runs.{opening, opening_at}
-use Rattle.simulation.proofs.type_soundness.Openings.{opens, opening_typed}
-use Rattle.simulation.proofs.type_soundness.SourceLaws.{kept_from, source_is_declared}
-use Rattle.simulation.proofs.size_bounds.CountedOpenings.{opening_counted}
-use Rattle.simulation.specs.method_table.AllMethods.{all_methods}
-use Rattle.simulation.specs.method_table.MethodNumbers.{number_of}
-use Rattle.simulation.proofs.method_table.NumberLaws.{declared_is_numbered}
-use Rattle.simulation.specs.object_memory.declared.monitors.Monitor.TheVariants.{Free}
-use Rattle.simulation.specs.object_memory.Objects.{no_objects}
-use Rattle.simulation.specs.MachineContents.{Content}
-use Rattle.simulation.specs.StandsFor.{IsHeap, StandsBy, Represents}
-use Rattle.simulation.specs.Turns.{content_at, opening_content}
-use Rattle.simulation.proofs.LimitRanges.{budget_is_some, depth_is_some, words_are_few}
-use Rattle.simulation.proofs.Zeros.{fields_stand}
+use Rattle.object_simulation.specs.simulation.cil_model.declared.limits.Limits.{Limits}
+use Rattle.object_simulation.specs.simulation.cil_model.declared.trees.Code.{Code}
+use Rattle.object_simulation.specs.simulation.cil_model.declared.trees.Method.{Method}
+use Rattle.object_simulation.specs.simulation.cil_model.declared.trees.Tree.{Tree}
+use Rattle.object_simulation.specs.simulation.cil_model.declared.types.ClassName.{ClassName}
+use Rattle.object_simulation.specs.simulation.cil_model.Bodies.{code_of, entry_points, is_entry_point, source_methods}
+use Rattle.object_simulation.specs.simulation.cil_model.Chains.{methods_in}
+use Rattle.object_simulation.specs.simulation.cil_model.Fields.{static_fields}
+use Rattle.object_simulation.specs.simulation.cil_model.Mentions.{literals_of}
+use Rattle.object_simulation.specs.simulation.cil_model.Ranges.{are_in_range}
+use Rattle.object_simulation.specs.simulation.cil_model.Typings.{IsAccepted}
+use Rattle.object_simulation.proofs.simulation.cil_model.BelowLaws.{none_is_some}
+use Rattle.object_simulation.proofs.simulation.cil_model.Legal.{entry_alone}
+use Rattle.object_simulation.specs.simulation.reference_machine.States.{Free as IsFree, State}
+use Rattle.object_simulation.specs.simulation.reference_machine.Runs.{opening, opening_at}
+use Rattle.object_simulation.proofs.simulation.type_soundness.Openings.{opens, opening_typed}
+use Rattle.object_simulation.proofs.simulation.type_soundness.SourceLaws.{kept_from, source_is_declared}
+use Rattle.object_simulation.proofs.simulation.size_bounds.CountedOpenings.{opening_counted}
+use Rattle.object_simulation.specs.simulation.method_table.AllMethods.{all_methods}
+use Rattle.object_simulation.specs.simulation.method_table.MethodNumbers.{number_of}
+use Rattle.object_simulation.proofs.simulation.method_table.NumberLaws.{declared_is_numbered}
+use Rattle.object_simulation.specs.simulation.object_memory.declared.monitors.Monitor.TheVariants.{Free}
+use Rattle.object_simulation.specs.simulation.object_memory.Objects.{no_objects}
+use Rattle.object_simulation.specs.simulation.MachineContents.{Content}
+use Rattle.object_simulation.specs.simulation.StandsFor.{IsHeap, StandsBy, Represents}
+use Rattle.object_simulation.specs.simulation.Turns.{content_at, opening_content}
+use Rattle.object_simulation.proofs.simulation.LimitRanges.{budget_is_some, depth_is_some, words_are_few}
+use Rattle.object_simulation.proofs.simulation.Zeros.{fields_stand}
 use Rattle.step_simulation.proofs.Beginnings.{beginning_stands}
 use Rattle.step_simulation.proofs.LiteralNames.{same_for_each, free_first, literal_names, IsNamedLiteral, named_literal, literal_named, literals_small, literals_apart}
 
@@ -37,6 +37,7 @@ module _ (tree : Tree) (limits : Limits) (accepted : IsAccepted tree) (in_range 
   first_heap entry code = record {
     start = refl;
     within = omega arith;
+    full = refl;
     words = words_are_few limits in_range;
     null_unnamed = refl;
     small = literals_small tree accepted.legal;
@@ -88,6 +89,7 @@ module _ (tree : Tree) (limits : Limits) (accepted : IsAccepted tree) (in_range 
             limits = in_range;
             typed = opening_typed tree limits accepted (opening_at tree limits entry code) opened;
             counted = opening_counted tree limits (budget_is_some limits in_range) (opening_at tree limits entry code) opened;
+            space = refl;
             stands = record { name = literal_names tree; by = first_stands entry code is numbered.0 numbered.2 };
           },
         )

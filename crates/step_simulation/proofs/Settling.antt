@@ -2,38 +2,38 @@
 use Rattle.std.proofs.Common.{◌≡◌, ◌-◌, ◌==◌, if◌then◌else◌, is_none, ℕ, zero, suc, Bool, false, List, [], ◌∷◌, Some, None, slice_get, slice_set, refl, sym, ap, ◌∙◌, subst, arith}
 use Rattle.std.proofs.lemmas.Bool.Decides.{nat_tests}
 use Rattle.std.specs.Option.{option_map_or}
-use Rattle.simulation.specs.cil_model.declared.reports.End.{End}
-use Rattle.simulation.specs.cil_model.declared.reports.End.TheVariants.{Done, Budget, Fault as ByFault}
-use Rattle.simulation.specs.cil_model.declared.reports.Fault.{Fault}
-use Rattle.simulation.specs.cil_model.declared.reports.Fault.TheVariants as Faults
-use Rattle.simulation.specs.cil_model.declared.reports.Report.{Report}
-use Rattle.simulation.specs.cil_model.declared.reports.Report.TheVariants.{Blocked, Ended as HasEnded, Absent}
-use Rattle.simulation.specs.reference_machine.States.{Frame as StateFrame, Thread as StateThread, State}
-use Rattle.simulation.specs.reference_machine.Effects.{Effect as StateEffect, Goes, Blocks as StateBlocks, Raises as StateRaises, given}
-use Rattle.simulation.specs.reference_machine.Steps.{Outcome, Answers, execute, effect_of, with_thread_at, ended_as, goes_on, settled as state_settled, step_of, step}
-use Rattle.simulation.specs.reference_machine.Runs.{is_refusal}
-use Rattle.simulation.specs.type_soundness.TypedStates.{IsTyped}
-use Rattle.simulation.proofs.type_soundness.WholeSteps.{step_typed}
-use Rattle.simulation.proofs.type_soundness.AllSteps.{instruction_typed}
-use Rattle.simulation.proofs.size_bounds.CountedSteps.{step_counted}
-use Rattle.simulation.specs.object_memory.declared.values.Value.{Value}
-use Rattle.simulation.specs.object_memory.Objects.{Objects}
-use Rattle.simulation.specs.threads_monitors.Frames.{Frames}
-use Rattle.simulation.specs.threads_monitors.Threads.{end_after, report_of, standing_after}
-use Rattle.simulation.specs.threads_monitors.declared.effects.Effect.{Effect}
-use Rattle.simulation.specs.threads_monitors.declared.effects.Effect.TheVariants.{GoesOn, Returns, Blocks, Raises}
-use Rattle.simulation.specs.threads_monitors.declared.threads.Standing.TheVariants.{Live, Ended}
-use Rattle.simulation.specs.threads_monitors.declared.threads.Thread.{Thread}
-use Rattle.simulation.specs.Agreement.{Agree}
-use Rattle.simulation.specs.MachineContents.{Content}
-use Rattle.simulation.specs.StandsFor.{Names, AreFrames, IsThread, IsMemory, StandsBy, StandsFor, Represents}
-use Rattle.simulation.specs.Turns.{Answer, counted}
-use Rattle.simulation.proofs.AgreeLaws.{agree_set, agree_weaken}
-use Rattle.simulation.proofs.Extending.{thread_extends}
-use Rattle.simulation.proofs.Memories.{memory_beside}
-use Rattle.simulation.specs.interpreter.declared.outcomes.Outcome.TheVariants.{Comes}
-use Rattle.simulation.proofs.Instructions.{LeavesMemory, ComesAlike, is_refused_fault, is_refused_effect}
-use Rattle.simulation.proofs.LimitRanges.{budget_is_some}
+use Rattle.object_simulation.specs.simulation.cil_model.declared.reports.End.{End}
+use Rattle.object_simulation.specs.simulation.cil_model.declared.reports.End.TheVariants.{Done, Budget, Fault as ByFault}
+use Rattle.object_simulation.specs.simulation.cil_model.declared.reports.Fault.{Fault}
+use Rattle.object_simulation.specs.simulation.cil_model.declared.reports.Fault.TheVariants as Faults
+use Rattle.object_simulation.specs.simulation.cil_model.declared.reports.Report.{Report}
+use Rattle.object_simulation.specs.simulation.cil_model.declared.reports.Report.TheVariants.{Blocked, Ended as HasEnded, Absent}
+use Rattle.object_simulation.specs.simulation.reference_machine.States.{Frame as StateFrame, Thread as StateThread, State}
+use Rattle.object_simulation.specs.simulation.reference_machine.Effects.{Effect as StateEffect, Goes, Blocks as StateBlocks, Raises as StateRaises, given}
+use Rattle.object_simulation.specs.simulation.reference_machine.Steps.{Outcome, Answers, execute, effect_of, with_thread_at, ended_as, goes_on, settled as state_settled, step_of, step}
+use Rattle.object_simulation.specs.simulation.reference_machine.Runs.{is_refusal}
+use Rattle.object_simulation.specs.simulation.type_soundness.TypedStates.{IsTyped}
+use Rattle.object_simulation.proofs.simulation.type_soundness.WholeSteps.{step_typed}
+use Rattle.object_simulation.proofs.simulation.type_soundness.AllSteps.{instruction_typed}
+use Rattle.object_simulation.proofs.simulation.size_bounds.CountedSteps.{step_counted}
+use Rattle.object_simulation.specs.simulation.object_memory.declared.values.Value.{Value}
+use Rattle.object_simulation.specs.simulation.object_memory.Objects.{Objects}
+use Rattle.object_simulation.specs.simulation.threads_monitors.Frames.{Frames}
+use Rattle.object_simulation.specs.simulation.threads_monitors.Threads.{end_after, report_of, standing_after}
+use Rattle.object_simulation.specs.simulation.threads_monitors.declared.effects.Effect.{Effect}
+use Rattle.object_simulation.specs.simulation.threads_monitors.declared.effects.Effect.TheVariants.{GoesOn, Returns, Blocks, Raises}
+use Rattle.object_simulation.specs.simulation.threads_monitors.declared.threads.Standing.TheVariants.{Live, Ended}
+use Rattle.object_simulation.specs.simulation.threads_monitors.declared.threads.Thread.{Thread}
+use Rattle.object_simulation.specs.simulation.Agreement.{Agree}
+use Rattle.object_simulation.specs.simulation.MachineContents.{Content}
+use Rattle.object_simulation.specs.simulation.StandsFor.{Names, AreFrames, IsThread, IsMemory, StandsBy, StandsFor, Represents}
+use Rattle.object_simulation.specs.simulation.Turns.{Answer, counted}
+use Rattle.object_simulation.proofs.simulation.AgreeLaws.{agree_set, agree_weaken}
+use Rattle.object_simulation.proofs.simulation.Extending.{thread_extends}
+use Rattle.object_simulation.proofs.simulation.Memories.{memory_beside}
+use Rattle.object_simulation.specs.simulation.interpreter.declared.outcomes.Outcome.TheVariants.{Comes}
+use Rattle.object_simulation.proofs.simulation.Instructions.{LeavesMemory, ComesAlike, is_refused_fault, is_refused_effect}
+use Rattle.object_simulation.proofs.simulation.LimitRanges.{budget_is_some}
 use Rattle.step_simulation.proofs.Settings.{setting_of, is_alive, is_running}
 
 -- a thread with a step left isn't spent
@@ -100,7 +100,7 @@ refusal_of_fault Faults.ArgumentNull = refl
 refusal_of_fault Faults.SynchronizationLock = refl
 refusal_of_fault Faults.ThreadState = refl
 
-refusal_of : (effect : Effect) (m : Frames) (left : ℕ) → is_refusal (standing_after (end_after effect left) m left effect).1 ≡ is_refused_effect effect
+pub refusal_of : (effect : Effect) (m : Frames) (left : ℕ) → is_refusal (standing_after (end_after effect left) m left effect).1 ≡ is_refused_effect effect
 refusal_of GoesOn m zero = refl
 refusal_of GoesOn m (suc left) = ap (λ b. is_refusal (standing_after (if b then Some Budget else None) m (suc left) GoesOn).1) (some_left left)
 refusal_of Returns m left = refl
@@ -113,16 +113,16 @@ refusal_of (Raises x) m left = refusal_of_fault x
 same_state : (o : Outcome) (x y : Report) (s s' : State) → o ≡ Answers x s → o ≡ Answers y s' → s ≡ s'
 same_state o x y s s' h k = cc
 
--- what the step of a thread comes to on both machines
+-- what the step of a thread comes to on both machines, where the heap keeps its size
 abbrev pub Follows : Content → State → ℕ → Content × Report → Type 0
-Follows c s t after = (s' : State) × (step c.tree c.limits s t (is_refusal after.1) ≡ Answers after.1 s') × Represents after.0 s'
+Follows c s t after = after.0.objects.block.words ≡ c.objects.block.words → (s' : State) × (step c.tree c.limits s t (is_refusal after.1) ≡ Answers after.1 s') × Represents after.0 s'
 
 -- a content that stands for the state after a step
 pub followed : (c : Content) (s : State) → Represents c s → (t : ℕ) (threads : List Thread) (o : Objects) (statics : List Value) (printed : List ℕ) (report : Report) (s' : State) →
     step c.tree c.limits s t (is_refusal report) ≡ Answers report s' → StandsFor (record c { threads = threads; objects = o; statics = statics; printed = printed }) s' →
     Follows c s t (record c { threads = threads; objects = o; statics = statics; printed = printed }, report)
 followed c s r t threads o statics printed report s' is stands =
-    let typed = step_typed instruction_typed c.tree c.limits r.accepted t (is_refusal report) s r.typed in (
+    λ kept. let typed = step_typed instruction_typed c.tree c.limits r.accepted t (is_refusal report) s r.typed in (
       s',
       is,
       record {
@@ -130,6 +130,7 @@ followed c s r t threads o statics printed report s' is stands =
         limits = r.limits;
         typed = subst (IsTyped c.tree) (same_state (step c.tree c.limits s t (is_refusal report)) typed.0 report typed.1 s' typed.2 is) typed.3;
         counted = step_counted c.tree c.limits (budget_is_some c.limits r.limits) t (is_refusal report) s r.counted report s' is;
+        space = kept ∙ r.space;
         stands = stands;
       },
     )
@@ -140,7 +141,7 @@ module _ (c : Content) (s : State) (r : Represents c s) (t left : ℕ) (m : Fram
   done refused = execute (setting_of c t refused) s (is_alive c s r t left m there).running (is_alive c s r t left m there).below (is_running c s r t left m there refused).0
 
   -- and so its step
-  step_is : (refused : Bool) → step c.tree c.limits s t refused ≡ state_settled s t (left - 1) (is_alive c s r t left m there).thread.frames (done refused)
+  pub step_is : (refused : Bool) → step c.tree c.limits s t refused ≡ state_settled s t (left - 1) (is_alive c s r t left m there).thread.frames (done refused)
   step_is refused =
       let u : StateThread = (is_alive c s r t left m there).thread in
       let f : StateFrame = (is_alive c s r t left m there).running in

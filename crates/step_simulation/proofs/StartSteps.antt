@@ -3,37 +3,37 @@ use Rattle.std.proofs.Common.{◌≡◌, ◌+◌, if◌then◌else◌, ℕ, suc,
 use Rattle.std.specs.Prelude.{IsSome}
 use Rattle.std.specs.Option.{option_map_or}
 use Rattle.std.proofs.lemmas.List.{length-set}
-use Rattle.simulation.specs.cil_model.declared.reports.Fault.{Fault}
-use Rattle.simulation.specs.cil_model.declared.reports.Fault.TheVariants.{NullReference}
-use Rattle.simulation.specs.cil_model.declared.reports.Report.{Report}
-use Rattle.simulation.proofs.cil_model.BelowLaws.{none_is_some, same_some}
-use Rattle.simulation.specs.reference_machine.Values.{Born, Value as StateValue}
-use Rattle.simulation.specs.reference_machine.States.{HeapObject, State, with_object}
-use Rattle.simulation.specs.reference_machine.Effects.{Raises as StateRaises, new_frame, after}
-use Rattle.simulation.specs.reference_machine.BuiltIn.{Start, start}
-use Rattle.simulation.specs.reference_machine.Values.{Reference}
-use Rattle.simulation.specs.resolved_code.declared.operations.Operation.{Operation}
-use Rattle.simulation.specs.object_memory.declared.addresses.Addr.{Addr}
-use Rattle.simulation.specs.object_memory.declared.kinds.Kind.TheVariants.{Instance}
-use Rattle.simulation.specs.object_memory.declared.values.Value.TheVariants.{Ref}
-use Rattle.simulation.specs.object_memory.Cells.{store_slot}
-use Rattle.simulation.specs.object_memory.Objects.{Objects, with_slot}
-use Rattle.simulation.specs.threads_monitors.Frames.{Frames}
-use Rattle.simulation.specs.threads_monitors.Threads.{start_fault, with_start}
-use Rattle.simulation.specs.threads_monitors.declared.effects.Effect.{Effect}
-use Rattle.simulation.specs.threads_monitors.declared.effects.Effect.TheVariants.{GoesOn, Raises}
-use Rattle.simulation.specs.threads_monitors.declared.threads.Standing.TheVariants.{Live}
-use Rattle.simulation.specs.threads_monitors.declared.threads.Thread.{Thread}
-use Rattle.simulation.specs.interpreter.Instructions.{HasSmallConstant, IsAt}
-use Rattle.simulation.specs.interpreter.declared.outcomes.Outcome.TheVariants.{Comes, Starts}
-use Rattle.simulation.specs.MachineContents.{Content}
-use Rattle.simulation.specs.StandsFor.{reference, thread_word, IsCell, IsOfContents, IsHeap, IsThread, StandsBy, Represents}
-use Rattle.simulation.specs.Turns.{Answer, after_request, counted, started, thread_at, thread_for}
-use Rattle.simulation.proofs.AgreeLaws.{agree_append, agree_length}
-use Rattle.simulation.proofs.Instructions.{is_refused_fault}
-use Rattle.simulation.proofs.Statements.{CellsMayChange}
-use Rattle.simulation.proofs.LimitRanges.{depth_is_some}
-use Rattle.simulation.proofs.Memories.{heap_beside}
+use Rattle.object_simulation.specs.simulation.cil_model.declared.reports.Fault.{Fault}
+use Rattle.object_simulation.specs.simulation.cil_model.declared.reports.Fault.TheVariants.{NullReference}
+use Rattle.object_simulation.specs.simulation.cil_model.declared.reports.Report.{Report}
+use Rattle.object_simulation.proofs.simulation.cil_model.BelowLaws.{none_is_some, same_some}
+use Rattle.object_simulation.specs.simulation.reference_machine.Values.{Born, Value as StateValue}
+use Rattle.object_simulation.specs.simulation.reference_machine.States.{HeapObject, State, with_object}
+use Rattle.object_simulation.specs.simulation.reference_machine.Effects.{Raises as StateRaises, new_frame, after}
+use Rattle.object_simulation.specs.simulation.reference_machine.BuiltIn.{Start, start}
+use Rattle.object_simulation.specs.simulation.reference_machine.Values.{Reference}
+use Rattle.object_simulation.specs.simulation.resolved_code.declared.operations.Operation.{Operation}
+use Rattle.object_simulation.specs.simulation.object_memory.declared.addresses.Addr.{Addr}
+use Rattle.object_simulation.specs.simulation.object_memory.declared.kinds.Kind.TheVariants.{Instance}
+use Rattle.object_simulation.specs.simulation.object_memory.declared.values.Value.TheVariants.{Ref}
+use Rattle.object_simulation.specs.simulation.object_memory.Cells.{store_slot}
+use Rattle.object_simulation.specs.simulation.object_memory.Objects.{Objects, with_slot}
+use Rattle.object_simulation.specs.simulation.threads_monitors.Frames.{Frames}
+use Rattle.object_simulation.specs.simulation.threads_monitors.Threads.{start_fault, with_start}
+use Rattle.object_simulation.specs.simulation.threads_monitors.declared.effects.Effect.{Effect}
+use Rattle.object_simulation.specs.simulation.threads_monitors.declared.effects.Effect.TheVariants.{GoesOn, Raises}
+use Rattle.object_simulation.specs.simulation.threads_monitors.declared.threads.Standing.TheVariants.{Live}
+use Rattle.object_simulation.specs.simulation.threads_monitors.declared.threads.Thread.{Thread}
+use Rattle.object_simulation.specs.simulation.interpreter.Instructions.{HasSmallConstant, IsAt}
+use Rattle.object_simulation.specs.simulation.interpreter.declared.outcomes.Outcome.TheVariants.{Comes, Starts}
+use Rattle.object_simulation.specs.simulation.MachineContents.{Content}
+use Rattle.object_simulation.specs.simulation.StandsFor.{reference, thread_word, IsCell, IsOfContents, IsHeap, IsThread, StandsBy, Represents}
+use Rattle.object_simulation.specs.simulation.Turns.{Answer, after_request, counted, started, thread_at, thread_for}
+use Rattle.object_simulation.proofs.simulation.AgreeLaws.{agree_append, agree_length}
+use Rattle.object_simulation.proofs.simulation.Instructions.{is_refused_fault}
+use Rattle.object_simulation.proofs.simulation.Statements.{CellsMayChange}
+use Rattle.object_simulation.proofs.simulation.LimitRanges.{depth_is_some}
+use Rattle.object_simulation.proofs.simulation.Memories.{heap_beside}
 use Rattle.step_simulation.proofs.Settling.{Follows, done, finish, comes}
 use Rattle.step_simulation.proofs.Beginnings.{beginning_stands}
 use Rattle.step_simulation.proofs.ThreadObjects.{IsThreadObject}

@@ -1,35 +1,36 @@
 -- Each step of a thread comes to the same on both machines.
 use Rattle.std.proofs.Common.{◌≡◌, ◌-◌, if◌then◌else◌, is_none, ℕ, zero, suc, Bool, false, List, [], ◌∷◌, Option, Some, None, slice_get, slice_set, refl, sym, ap, ◌∙◌, subst}
 use Rattle.std.specs.Option.{option_map_or}
-use Rattle.simulation.specs.cil_model.declared.events.Event.TheVariants.{Step}
-use Rattle.simulation.specs.cil_model.declared.reports.End.{End}
-use Rattle.simulation.specs.cil_model.declared.reports.Report.{Report}
-use Rattle.simulation.specs.cil_model.declared.reports.Report.TheVariants.{Absent}
-use Rattle.simulation.proofs.cil_model.BelowLaws.{none_is_some, same_some}
-use Rattle.simulation.specs.reference_machine.States.{Frame as StateFrame, Thread as StateThread, State}
-use Rattle.simulation.specs.reference_machine.Steps.{Answers, effect_of, settled, step, step_of}
-use Rattle.simulation.specs.reference_machine.Runs.{is_refusal}
-use Rattle.simulation.specs.object_memory.declared.addresses.Addr.{Addr}
-use Rattle.simulation.specs.threads_monitors.Frames.{Frames}
-use Rattle.simulation.specs.threads_monitors.declared.threads.Standing.{Standing}
-use Rattle.simulation.specs.threads_monitors.declared.threads.Standing.TheVariants.{Live, Ended}
-use Rattle.simulation.specs.threads_monitors.declared.threads.Thread.{Thread}
-use Rattle.simulation.specs.interpreter.Instructions.{IsDone}
-use Rattle.simulation.specs.interpreter.declared.outcomes.Outcome.{Outcome}
-use Rattle.simulation.specs.interpreter.declared.outcomes.Outcome.TheVariants.{Comes, Starts, Joins}
-use Rattle.simulation.specs.reference_machine.BuiltIn.{Action, Start, Join, start, join}
-use Rattle.simulation.specs.MachineContents.{Content}
-use Rattle.simulation.specs.StandsFor.{IsThread, StandsAlike, Represents}
-use Rattle.simulation.specs.Turns.{Answer, IsStandingTurn, IsThreadTurn, IsTurn, finished}
-use Rattle.simulation.proofs.AgreeLaws.{agree_at, agree_get}
-use Rattle.simulation.proofs.Instructions.{InstructionsAreAlike, ComesAlike, is_refused_effect, is_refused_outcome}
-use Rattle.simulation.proofs.Statements.{CellsMayChange}
-use Rattle.simulation.specs.Ready.{IsReady, IsAnswerable}
+use Rattle.object_simulation.specs.simulation.cil_model.declared.events.Event.TheVariants.{Step}
+use Rattle.object_simulation.specs.simulation.cil_model.declared.reports.End.{End}
+use Rattle.object_simulation.specs.simulation.cil_model.declared.reports.Report.{Report}
+use Rattle.object_simulation.specs.simulation.cil_model.declared.reports.Report.TheVariants.{Absent}
+use Rattle.object_simulation.proofs.simulation.cil_model.BelowLaws.{none_is_some, same_some}
+use Rattle.object_simulation.specs.simulation.reference_machine.States.{Frame as StateFrame, Thread as StateThread, State}
+use Rattle.object_simulation.specs.simulation.reference_machine.Steps.{Answers, effect_of, settled, step, step_of}
+use Rattle.object_simulation.specs.simulation.reference_machine.Runs.{is_refusal}
+use Rattle.object_simulation.specs.simulation.object_memory.declared.addresses.Addr.{Addr}
+use Rattle.object_simulation.specs.simulation.threads_monitors.Frames.{Frames}
+use Rattle.object_simulation.specs.simulation.threads_monitors.declared.threads.Standing.{Standing}
+use Rattle.object_simulation.specs.simulation.threads_monitors.declared.threads.Standing.TheVariants.{Live, Ended}
+use Rattle.object_simulation.specs.simulation.threads_monitors.declared.threads.Thread.{Thread}
+use Rattle.object_simulation.specs.simulation.interpreter.Instructions.{IsDone}
+use Rattle.object_simulation.specs.simulation.interpreter.declared.outcomes.Outcome.{Outcome}
+use Rattle.object_simulation.specs.simulation.interpreter.declared.outcomes.Outcome.TheVariants.{Comes, Starts, Joins}
+use Rattle.object_simulation.specs.simulation.reference_machine.BuiltIn.{Action, Start, Join, start, join}
+use Rattle.object_simulation.specs.simulation.MachineContents.{Content}
+use Rattle.object_simulation.specs.simulation.StandsFor.{IsThread, StandsAlike, Represents}
+use Rattle.object_simulation.specs.simulation.Turns.{Answer, IsStandingTurn, IsThreadTurn, IsTurn, finished}
+use Rattle.object_simulation.proofs.simulation.AgreeLaws.{agree_at, agree_get}
+use Rattle.object_simulation.proofs.simulation.Instructions.{InstructionsAreAlike, ComesAlike, is_refused_effect, is_refused_outcome}
+use Rattle.object_simulation.proofs.simulation.Statements.{CellsMayChange}
+use Rattle.object_simulation.specs.simulation.Ready.{IsReady, IsAnswerable}
 use Rattle.step_simulation.proofs.Settings.{setting_of, is_alive, does_alike, live_is_ready}
 use Rattle.step_simulation.proofs.Settling.{Follows, done, comes}
 use Rattle.step_simulation.proofs.Requests.{here, running, below, Asks, asked_of, has_operand, place_below}
 use Rattle.step_simulation.proofs.Joins.{joins}
 use Rattle.step_simulation.proofs.StartSteps.{start_asked, starts, start_has_thread}
+use Rattle.step_simulation.proofs.Finished.{turn_keeps_words}
 
 -- ---- lists
 
@@ -66,7 +67,7 @@ module _ (c : Content) (s : State) (r : Represents c s) (t left : ℕ) (m : Fram
 -- ---- threads that don't live
 
 absent : (c : Content) (s : State) (r : Represents c s) (t : ℕ) → step c.tree c.limits s t false ≡ Answers Absent s → Follows c s t (c, Absent)
-absent c s r t is = (s, is, r)
+absent c s r t is = λ kept. (s, is, r)
 
 none_absent : (c : Content) (s : State) (r : Represents c s) (t : ℕ) → slice_get c.threads t ≡ None → Follows c s t (c, Absent)
 none_absent c s r t none = by_thread (slice_get s.threads t) refl
@@ -138,7 +139,7 @@ module _ (each : InstructionsAreAlike) (cells_may_change : CellsMayChange) where
   -- a step comes to the same on both
   pub step_follows : (c : Content) (s : State) → Represents c s → (t : ℕ) (after : Content × Report) → IsTurn c (Step t) after →
       (s' : State) × (step c.tree c.limits s t (is_refusal after.1) ≡ Answers after.1 s') × Represents after.0 s'
-  step_follows c s r t after turn = by_thread (slice_get c.threads t) refl turn
+  step_follows c s r t after turn = by_thread (slice_get c.threads t) refl turn (turn_keeps_words c after (Step t) turn)
     where
       by_standing : (left : ℕ) (standing : Standing) → slice_get c.threads t ≡ Some (record { standing = standing; steps_left = left }) → IsStandingTurn c t left standing after → Follows c s t after
       by_standing left (Live m) there (a, d, is) = live_follows each c s r t left m there cells_may_change after a d is

@@ -1,1 +1,1 @@
-pub use Rattle.simulation.specs as simulation
+pub use Rattle.object_simulation.specs.simulation as simulation

@@ -1,22 +1,23 @@
 // Laws of machines. Each function has an empty body, and its contract is the law.
 
-ghost use Rattle.std.specs.Prelude.{◌≡◌, ℕ, IsTrue, Some, slice_get};
-ghost use Rattle.simulation.specs.cil_model.declared.trees.Tree.{Tree};
-ghost use Rattle.simulation.specs.cil_model.declared.limits.Limits.{Limits};
-ghost use Rattle.simulation.specs.cil_model.declared.events.Event.TheVariants.{Step};
-ghost use Rattle.simulation.specs.cil_model.declared.reports.Report.{Report};
-ghost use Rattle.simulation.specs.cil_model.Ranges.{are_in_range};
-ghost use Rattle.simulation.specs.cil_model.Typings.{IsAccepted};
-ghost use Rattle.simulation.specs.reference_machine.States.{State};
-ghost use Rattle.simulation.specs.reference_machine.Steps.{step, Answers};
-ghost use Rattle.simulation.specs.reference_machine.Runs.{is_refusal, opening};
-ghost use Rattle.simulation.specs.threads_monitors.Frames.{Frames};
-ghost use Rattle.simulation.specs.threads_monitors.declared.threads.Standing.TheVariants.{Live};
-ghost use Rattle.simulation.specs.interpreter.Instructions.{IsDone};
-ghost use Rattle.simulation.specs.MachineContents.{Content};
-ghost use Rattle.simulation.specs.StandsFor.{Represents};
-ghost use Rattle.simulation.specs.Turns.{Answer, IsTurn, opening_content};
-ghost use Rattle.simulation.specs.Ready.{IsReady, IsAnswerable};
+ghost use Rattle.std.specs.Prelude.{◌≡◌, ◌↔◌, ℕ, IsTrue, Some, slice_get};
+ghost use Rattle.object_simulation.specs.simulation.cil_model.declared.trees.Tree.{Tree};
+ghost use Rattle.object_simulation.specs.simulation.cil_model.declared.limits.Limits.{Limits};
+ghost use Rattle.object_simulation.specs.simulation.cil_model.declared.events.Event.TheVariants.{Step};
+ghost use Rattle.object_simulation.specs.simulation.cil_model.declared.reports.Report.{Report};
+ghost use Rattle.object_simulation.specs.simulation.cil_model.Ranges.{are_in_range};
+ghost use Rattle.object_simulation.specs.simulation.cil_model.Typings.{IsAccepted};
+ghost use Rattle.object_simulation.specs.simulation.reference_machine.Rooms.{ExceedsRoom};
+ghost use Rattle.object_simulation.specs.simulation.reference_machine.States.{State};
+ghost use Rattle.object_simulation.specs.simulation.reference_machine.Steps.{step, Answers};
+ghost use Rattle.object_simulation.specs.simulation.reference_machine.Runs.{is_refusal, opening};
+ghost use Rattle.object_simulation.specs.simulation.threads_monitors.Frames.{Frames};
+ghost use Rattle.object_simulation.specs.simulation.threads_monitors.declared.threads.Standing.TheVariants.{Live};
+ghost use Rattle.object_simulation.specs.simulation.interpreter.Instructions.{IsDone};
+ghost use Rattle.object_simulation.specs.simulation.MachineContents.{Content};
+ghost use Rattle.object_simulation.specs.simulation.StandsFor.{Represents};
+ghost use Rattle.object_simulation.specs.simulation.Turns.{Answer, IsTurn, opening_content};
+ghost use Rattle.object_simulation.specs.simulation.Ready.{IsReady, IsAnswerable};
 
 /// What a machine holds before its first event represents the opening state of its program.
 pub fn openings_represent()
@@ -40,4 +41,10 @@ pub fn what_is_asked_can_be_answered()
 pub fn steps_follow_the_reference_machine()
     ensures { (c : Content) (s : State) → Represents c s → (t : ℕ) (after : Content × Report) → IsTurn c (Step t) after →
         (s' : State) × (step c.tree c.limits s t (is_refusal after.1) ≡ Answers after.1 s') × Represents after.0 s' }
+{}
+
+/// A step is refused memory exactly where the object that it would make has more words than the space has left, when the words of all
+/// births so far are taken from it.
+pub fn births_are_refused_beyond_the_room()
+    ensures { (c : Content) (s : State) → Represents c s → (t : ℕ) (after : Content × Report) → IsTurn c (Step t) after → IsTrue (is_refusal after.1) ↔ ExceedsRoom c.tree c.limits s t }
 {}

@@ -1,9 +1,8 @@
-use Rattle.std.proofs.Common.{◌≡◌, ◌∙◌, ap, arith, subst, sym, true}
-use Rattle.cil_model.specs.declared.limits.Limits.{Limits}
+use Rattle.std.proofs.Common.{◌≡◌, ◌∙◌, arith, subst, sym, true}
 use Rattle.cil_model.specs.Ranges.{are_in_range}
 use Rattle.method_table.specs.Prepared.{IsMethodTable}
 use Rattle.interleaving_core.specs.Views.{content_of}
-use Rattle.interleaving_core.proofs.Sound.{opened_represents, opened_words}
+use Rattle.interleaving_core.proofs.Sound.{opened_represents}
 use Rattle.interleaving_core.proofs.machine.Machine.new.Goals as goal
 
 pub invariant_of-result : goal.invariant_of-result
@@ -16,8 +15,6 @@ invariant_of-result c =
       state = first.0;
       represents = first.2;
       few = omega (arith, c.in_ok-opened.ensures.alone);
-      words = opened_words c.args.program c.args.limits (content_of e) c.in_ok-opened.ensures.opening
-          ∙ sym (ap (λ (l : Limits). l.words) c.in_ok-opened.ensures.program.1);
     }
 
 pub returns-clause-opening : goal.returns-clause-opening

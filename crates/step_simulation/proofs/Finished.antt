@@ -1,35 +1,38 @@
 -- What a step leaves, by what its instruction comes to.
-use Rattle.std.proofs.Common.{◌≡◌, ◌⊎◌, ◌<◌, ◌≤◌, ◌+◌, ◌==◌, ℕ, zero, suc, Bool, true, false, nat_le, if◌then◌else◌, is_some, List, [], ◌∷◌, ◌++◌, length, Option, Some, None, option_map, option_and_then, slice_get, slice_set, refl, inl, inr, sym, ap, ◌∙◌, subst, arith}
+use Rattle.std.proofs.Common.{◌≡◌, ◌⊎◌, ◌<◌, ◌≤◌, ◌+◌, ◌==◌, ℕ, zero, suc, Bool, true, false, nat_le, if◌then◌else◌, is_some, List, [], ◌∷◌, ◌++◌, length, Option, Some, None, option_map, option_and_then, slice_get, slice_set, refl, inl, inr, sym, ap, ◌∙◌, subst, arith, ◌-◌}
 use Rattle.std.proofs.lemmas.Bool.Decides.{nat_tests}
 use Rattle.std.proofs.lemmas.List.{length-append}
 use Rattle.std.specs.Option.{option_map_or}
-use Rattle.cil_model.specs.declared.events.Event.{Event}
-use Rattle.cil_model.specs.declared.events.Event.TheVariants.{Step, Ack, Gc}
-use Rattle.cil_model.specs.declared.limits.TheConstants.{MOST_THREADS}
-use Rattle.cil_model.specs.declared.reports.Fault.{Fault}
-use Rattle.cil_model.specs.declared.reports.Fault.TheVariants.{NullReference, ThreadState, TooManyThreads}
-use Rattle.cil_model.specs.declared.reports.Report.{Report}
-use Rattle.cil_model.specs.declared.trees.Method.{Method}
-use Rattle.cil_model.specs.declared.types.ClassName.{ClassName}
-use Rattle.cil_model.proofs.BelowLaws.{none_is_some, same_some}
-use Rattle.object_memory.specs.declared.addresses.Addr.{Addr}
-use Rattle.object_memory.specs.declared.values.Value.TheVariants.{Ref}
-use Rattle.object_memory.specs.Objects.{Objects, with_slot}
-use Rattle.method_table.specs.MethodNumbers.{number_of}
-use Rattle.threads_monitors.specs.Frames.{Frames}
-use Rattle.threads_monitors.specs.Threads.{join_effect, start_fault, thread_on, with_start}
-use Rattle.threads_monitors.specs.declared.effects.Effect.{Effect}
-use Rattle.threads_monitors.specs.declared.effects.Effect.TheVariants.{GoesOn, Raises}
-use Rattle.threads_monitors.specs.declared.threads.Standing.{Standing}
-use Rattle.threads_monitors.specs.declared.threads.Standing.TheVariants.{Live, Ended}
-use Rattle.threads_monitors.specs.declared.threads.Thread.{Thread}
-use Rattle.interpreter.specs.Calls.{chosen_at}
-use Rattle.interpreter.specs.Instructions.{IsDone}
-use Rattle.interpreter.specs.declared.outcomes.Outcome.{Outcome}
-use Rattle.interpreter.specs.declared.outcomes.Outcome.TheVariants.{Comes, Starts, Joins}
-use Rattle.step_simulation.specs.simulation.MachineContents.{Content}
-use Rattle.step_simulation.specs.simulation.Turns.{Answer, IsStandingTurn, IsThreadTurn, IsTurn, after_request, counted, finished, left_by, run_member, started, thread_at, thread_for}
-use Rattle.interleaving_core.proofs.Words.{instruction_keeps_words}
+use Rattle.object_simulation.specs.simulation.cil_model.declared.events.Event.{Event}
+use Rattle.object_simulation.specs.simulation.cil_model.declared.events.Event.TheVariants.{Step, Ack, Gc}
+use Rattle.object_simulation.specs.simulation.cil_model.declared.limits.TheConstants.{MOST_THREADS}
+use Rattle.object_simulation.specs.simulation.cil_model.declared.reports.Fault.{Fault}
+use Rattle.object_simulation.specs.simulation.cil_model.declared.reports.Fault.TheVariants.{NullReference, ThreadState, TooManyThreads}
+use Rattle.object_simulation.specs.simulation.cil_model.declared.reports.Report.{Report}
+use Rattle.object_simulation.specs.simulation.cil_model.declared.trees.Method.{Method}
+use Rattle.object_simulation.specs.simulation.cil_model.declared.types.ClassName.{ClassName}
+use Rattle.object_simulation.proofs.simulation.cil_model.BelowLaws.{none_is_some, same_some}
+use Rattle.object_simulation.specs.simulation.object_memory.declared.addresses.Addr.{Addr}
+use Rattle.object_simulation.specs.simulation.object_memory.declared.values.Value.TheVariants.{Ref}
+use Rattle.object_simulation.specs.simulation.object_memory.Objects.{Objects, with_slot}
+use Rattle.object_simulation.specs.simulation.method_table.MethodNumbers.{number_of}
+use Rattle.object_simulation.specs.simulation.threads_monitors.Frames.{Frames}
+use Rattle.object_simulation.specs.simulation.threads_monitors.Threads.{join_effect, start_fault, thread_on, with_start, is_live_at, wait_for}
+use Rattle.object_simulation.specs.simulation.threads_monitors.declared.effects.Effect.{Effect}
+use Rattle.object_simulation.specs.simulation.threads_monitors.declared.effects.Effect.TheVariants.{GoesOn, Raises, Blocks}
+use Rattle.object_simulation.specs.simulation.threads_monitors.declared.threads.Standing.{Standing}
+use Rattle.object_simulation.specs.simulation.threads_monitors.declared.threads.Standing.TheVariants.{Live, Ended}
+use Rattle.object_simulation.specs.simulation.threads_monitors.declared.threads.Thread.{Thread}
+use Rattle.object_simulation.specs.simulation.interpreter.Calls.{chosen_at}
+use Rattle.object_simulation.specs.simulation.interpreter.Instructions.{IsDone}
+use Rattle.object_simulation.specs.simulation.interpreter.declared.outcomes.Outcome.{Outcome}
+use Rattle.object_simulation.specs.simulation.interpreter.declared.outcomes.Outcome.TheVariants.{Comes, Starts, Joins}
+use Rattle.object_simulation.specs.simulation.MachineContents.{Content}
+use Rattle.object_simulation.specs.simulation.Turns.{Answer, IsStandingTurn, IsThreadTurn, IsTurn, after_request, counted, finished, left_by, run_member, started, thread_at, thread_for}
+use Rattle.step_simulation.proofs.Words.{instruction_keeps_words}
+use Rattle.object_simulation.specs.simulation.reference_machine.Runs.{is_refusal}
+use Rattle.object_simulation.proofs.simulation.Instructions.{is_refused_effect, is_refused_fault, is_refused_outcome}
+use Rattle.step_simulation.proofs.Settling.{refusal_of}
 
 pub set_length : {X : Type 0} (xs : List X) (n : ℕ) (x : X) → length (slice_set xs n x) ≡ length xs
 set_length [] n x = refl
@@ -43,14 +46,15 @@ pub record HasBegun (budget : ℕ) (before threads : List Thread) : Type 0 where
   pub whole : new.steps_left ≡ budget
   pub room : length before < MOST_THREADS
 
--- a step was counted beside these threads and objects, with one thread more or none
-pub record IsFinished (c : Content) (t left : ℕ) (a : Answer) (after : Content × Report) : Type 0 where
+-- a step was counted beside these threads and objects, with one thread more or none; memory was refused to it where it was to its instruction
+pub record IsFinished (c : Content) (t left : ℕ) (a : Answer) (o : Outcome) (after : Content × Report) : Type 0 where
   pub threads : List Thread
   pub objects : Objects
   pub effect : Effect
   pub frames : Frames
   pub is : counted (record (left_by c t left a) { threads = threads; objects = objects }) t left effect frames ≡ after
   pub words : objects.block.words ≡ a.1.block.words
+  pub refused : is_refused_effect effect ≡ is_refused_outcome o
   pub are : (threads ≡ (left_by c t left a).threads) ⊎ HasBegun c.limits.budget (left_by c t left a).threads threads
 
 module _ (c : Content) (t left : ℕ) (a : Answer) (after : Content × Report) where
@@ -58,8 +62,8 @@ module _ (c : Content) (t left : ℕ) (a : Answer) (after : Content × Report) w
   threads = (left_by c t left a).threads
 
   -- no other thread begins
-  alone : (e : Effect) (m : Frames) → counted (left_by c t left a) t left e m ≡ after → IsFinished c t left a after
-  alone e m is = record { threads = threads; objects = a.1; effect = e; frames = m; is = is; words = refl; are = inl refl }
+  alone : (o : Outcome) (e : Effect) (m : Frames) → is_refused_effect e ≡ is_refused_outcome o → counted (left_by c t left a) t left e m ≡ after → IsFinished c t left a o after
+  alone o e m refused is = record { threads = threads; objects = a.1; effect = e; frames = m; is = is; words = refl; refused = refused; are = inl refl }
 
   module _ (object : Addr) where
     begins_whole : (new : Thread) → thread_for c.tree c.limits a.1 object ≡ Some new → new.steps_left ≡ c.limits.budget
@@ -84,15 +88,28 @@ module _ (c : Content) (t left : ℕ) (a : Answer) (after : Content × Report) w
         by_tests false false true is e = none_is_some TooManyThreads (sym e)
         by_tests false false false is e = grind (arith, nat_tests)
 
+    -- no start is refused memory
+    fault_plain : (x : Fault) → start_fault threads a.1 object ≡ Some x → is_refused_fault x ≡ false
+    fault_plain x fault = by_tests (object.number == 0) (is_some (thread_on a.1 object)) (nat_le MOST_THREADS (length threads)) fault
+      where
+        same : (y : Fault) → is_refused_fault y ≡ false → Some y ≡ Some x → is_refused_fault x ≡ false
+        same y plain e = ap is_refused_fault (sym (same_some y x e)) ∙ plain
+
+        by_tests : (null told full : Bool) → ◌≡◌ {A = Option Fault} (if null then Some NullReference else if told then Some ThreadState else if full then Some TooManyThreads else None) (Some x) → is_refused_fault x ≡ false
+        by_tests true told full e = same NullReference refl e
+        by_tests false true full e = same ThreadState refl e
+        by_tests false false true e = same TooManyThreads refl e
+        by_tests false false false e = none_is_some x e
+
     abbrev started_in : List Thread × Objects × Effect → Content × Report
     started_in x = counted (record (left_by c t left a) { threads = x.0; objects = x.1 }) t left x.2 (after_request x.2 a.0)
 
-    begins : option_map started_in (started c.tree c.limits threads a.1 object) ≡ Some after → IsFinished c t left a after
+    begins : option_map started_in (started c.tree c.limits threads a.1 object) ≡ Some after → IsFinished c t left a (Starts object) after
     begins is = by_fault (start_fault threads a.1 object) refl (thread_for c.tree c.limits a.1 object) refl is
       where
         by_fault : (f : Option Fault) → start_fault threads a.1 object ≡ f → (new : Option Thread) → thread_for c.tree c.limits a.1 object ≡ new →
-            option_map started_in (option_map_or {U = Option (List Thread × Objects × Effect)} (λ x. Some (threads, a.1, Raises x)) f (option_map (with_start threads a.1 object) new)) ≡ Some after → IsFinished c t left a after
-        by_fault (Some x) fault new told e = alone (Raises x) a.0 (same_some (started_in (threads, a.1, Raises x)) after e)
+            option_map started_in (option_map_or {U = Option (List Thread × Objects × Effect)} (λ x. Some (threads, a.1, Raises x)) f (option_map (with_start threads a.1 object) new)) ≡ Some after → IsFinished c t left a (Starts object) after
+        by_fault (Some x) fault new told e = alone (Starts object) (Raises x) a.0 (fault_plain x fault) (same_some (started_in (threads, a.1, Raises x)) after e)
         by_fault None fault None told e = none_is_some after e
         by_fault None fault (Some new) told e =
             let plain : with_start threads a.1 object new ≡ (threads ++ new ∷ [], with_slot a.1 object 0 (length threads + 1), GoesOn) =
@@ -104,22 +121,43 @@ module _ (c : Content) (t left : ℕ) (a : Answer) (after : Content × Report) w
               frames = after_request GoesOn a.0;
               is = ap started_in (sym plain) ∙ same_some (started_in (with_start threads a.1 object new)) after e;
               words = refl;
+              refused = refl;
               are = inr (record { new = new; are = refl; whole = begins_whole new told; room = room_left fault });
             }
 
-  pub finished_by : (o : Outcome) → finished c t left a o ≡ Some after → IsFinished c t left a after
-  finished_by (Comes e) is = alone e a.0 (same_some (counted (left_by c t left a) t left e a.0) after is)
+  -- nor is a join
+  join_plain : (object : Addr) → is_refused_effect (join_effect threads a.1 object) ≡ false
+  join_plain object = by_null (object.number == 0)
+    where
+      by_live : (live : Bool) → is_refused_effect (if live then Blocks else GoesOn) ≡ false
+      by_live true = refl
+      by_live false = refl
+
+      by_thread : (n : Option ℕ) → is_refused_effect (wait_for threads n) ≡ false
+      by_thread None = refl
+      by_thread (Some n) = by_live (is_live_at threads n)
+
+      by_null : (null : Bool) → is_refused_effect (if null then Raises NullReference else wait_for threads (thread_on a.1 object)) ≡ false
+      by_null true = refl
+      by_null false = by_thread (thread_on a.1 object)
+
+  pub finished_by : (o : Outcome) → finished c t left a o ≡ Some after → IsFinished c t left a o after
+  finished_by (Comes e) is = alone (Comes e) e a.0 refl (same_some (counted (left_by c t left a) t left e a.0) after is)
   finished_by (Joins object) is =
-      let effect = join_effect threads a.1 object in alone effect (after_request effect a.0) (same_some (counted (left_by c t left a) t left effect (after_request effect a.0)) after is)
+      let effect = join_effect threads a.1 object in alone (Joins object) effect (after_request effect a.0) (join_plain object) (same_some (counted (left_by c t left a) t left effect (after_request effect a.0)) after is)
   finished_by (Starts object) is = begins object is
 
   module _ (o : Outcome) (done : finished c t left a o ≡ Some after) where
-    way : IsFinished c t left a after
+    way : IsFinished c t left a o after
     way = finished_by o done
 
     -- what the instruction printed is there
     pub finished_printed : after.0.printed ≡ a.3
     finished_printed = sym (ap (λ (x : Content × Report). x.0.printed) way.is)
+
+    -- its report is a refusal where memory was refused to the instruction
+    pub finished_refusal : is_refusal after.1 ≡ is_refused_outcome o
+    finished_refusal = sym (ap (λ (x : Content × Report). is_refusal x.1) way.is) ∙ refusal_of way.effect way.frames (left - 1) ∙ way.refused
 
     -- the program and its limits stay
     pub finished_program : (after.0.tree ≡ c.tree) × (after.0.limits ≡ c.limits)

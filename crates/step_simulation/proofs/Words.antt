@@ -2,44 +2,44 @@
 use Rattle.std.proofs.Common.{◌≡◌, ℕ, ◌+◌, ℤ, pos, negsuc, Bool, true, false, nat_le, ◌==◌, ◌||◌, is_some, slice_get, if◌then◌else◌, List, [], ◌∷◌, ◌++◌, length, Option, Some, None, option_map, refl, sym, subst}
 use Rattle.std.specs.Prelude.{IfSome}
 use Rattle.std.specs.Option.{option_map_or}
-use Rattle.cil_model.specs.declared.types.ClassName.{ClassName}
-use Rattle.cil_model.specs.declared.trees.Tree.{Tree}
-use Rattle.cil_model.specs.declared.trees.Method.{Method}
-use Rattle.cil_model.specs.Bodies.{argument_types}
-use Rattle.cil_model.specs.Mentions.{literals_of}
-use Rattle.reference_machine.specs.BuiltIn.{Action, Construct, Write, Enter, Exit, Start, Join, action_of}
-use Rattle.name_tables.specs.declared.lookups.MemberNumber.{MemberNumber}
-use Rattle.name_tables.specs.Numbers.{method_at}
-use Rattle.resolved_code.specs.declared.types.NumberedType.{NumberedType}
-use Rattle.resolved_code.specs.declared.operations.Operation.{Operation}
-use Rattle.resolved_code.specs.declared.operations.Operation.TheVariants.{NoOperation, LoadInt32, LoadInt64, LoadNull, LoadString, LoadArgument, StoreArgument, LoadLocal, StoreLocal, Duplicate, Pop, Binary, Unary, Shift, Compare, ConvertInt32, ConvertInt64, Branch, BranchTrue, BranchFalse, BranchCompare, Switch, LoadField, StoreField, LoadStaticField, StoreStaticField, NewArray, LoadLength, LoadElementInt32, LoadElementInt64, LoadElementReference, StoreElementInt32, StoreElementInt64, StoreElementReference, CastClass, IsInstance, Call, CallVirtual, NewObject, Return}
-use Rattle.cil_model.specs.declared.reports.Fault.TheVariants.{ArrayTypeMismatch, InvalidCast}
-use Rattle.object_memory.specs.declared.addresses.Addr.{Addr}
-use Rattle.object_memory.specs.declared.kinds.ArrayElement.{ArrayElement}
-use Rattle.object_memory.specs.declared.kinds.Kind.{Kind}
-use Rattle.object_memory.specs.declared.kinds.Kind.TheVariants.{Instance, Array}
-use Rattle.object_memory.specs.declared.monitors.Monitor.{Monitor}
-use Rattle.object_memory.specs.declared.values.Value.{Value}
-use Rattle.object_memory.specs.declared.values.Value.TheVariants.{Int32, Int64, Native, Ref}
-use Rattle.object_memory.specs.declared.values.ValueKind.{ValueKind}
-use Rattle.object_memory.specs.declared.values.ValueKind.TheVariants.{Int32 as Int32Kind, Int64 as Int64Kind, Ref as RefKind}
-use Rattle.object_memory.specs.Cells.{Cells, free_words, literal_number, new_cell, next_address, null, store_monitor}
-use Rattle.object_memory.specs.Objects.{Objects, monitor_at, with_birth, with_cell, with_literal_monitor, with_monitor, with_slot}
-use Rattle.object_memory.specs.Values.{value_in, value_word}
-use Rattle.method_table.specs.MethodNumbers.{number_of}
-use Rattle.threads_monitors.specs.Frames.{Frames, with_stack}
-use Rattle.threads_monitors.specs.Monitors.{with_entry, with_exit, with_monitor_or}
-use Rattle.threads_monitors.specs.declared.effects.Effect.{Effect}
-use Rattle.threads_monitors.specs.declared.effects.Effect.TheVariants.{GoesOn, Returns, Blocks, Raises}
-use Rattle.instructions.specs.Frames.{Turn, given, leaves, onward, top_of}
-use Rattle.instructions.specs.ObjectTurns.{ObjectTurn, beside, born, in_range, index_in, leaves_born, load_element_turn, load_field_turn, load_length_turn, load_slot, new_array_of, new_array_turn, object_of, place_in, slots_of, store_element_turn, store_field_turn, store_slot}
-use Rattle.instructions.specs.Calls.{Called, call_turn, construct_turn, constructs, is_full, new_object_turn, new_plain_object_turn}
-use Rattle.instructions.specs.BuiltInTurns.{carried, enter_turn, is_countable, exit_turn, reference_from, write_turn}
-use Rattle.interpreter.specs.Operations.{array_held, array_rule, arithmetic_rule, branch_rule, constant_rule, held_at, slot_at, stack_rule, static_rule, type_rule}
-use Rattle.interpreter.specs.Instructions.{IsDone, MachineTurn, of_calls, of_frames, of_objects, of_statics, operation_turn}
-use Rattle.interpreter.specs.Calls.{CallTurn, act_turn, beside_console, call_rule, called_as, chosen_at, class_in, made, new_at, receiver, return_rule, run_chosen, run_turn, slots_at, top_reference, virtual_at}
-use Rattle.interpreter.specs.declared.outcomes.Outcome.{Outcome}
-use Rattle.step_simulation.specs.simulation.Turns.{Answer}
+use Rattle.object_simulation.specs.simulation.cil_model.declared.types.ClassName.{ClassName}
+use Rattle.object_simulation.specs.simulation.cil_model.declared.trees.Tree.{Tree}
+use Rattle.object_simulation.specs.simulation.cil_model.declared.trees.Method.{Method}
+use Rattle.object_simulation.specs.simulation.cil_model.Bodies.{argument_types}
+use Rattle.object_simulation.specs.simulation.cil_model.Mentions.{literals_of}
+use Rattle.object_simulation.specs.simulation.reference_machine.BuiltIn.{Action, Construct, Write, Enter, Exit, Start, Join, action_of}
+use Rattle.object_simulation.specs.simulation.name_tables.declared.lookups.MemberNumber.{MemberNumber}
+use Rattle.object_simulation.specs.simulation.name_tables.Numbers.{method_at}
+use Rattle.object_simulation.specs.simulation.resolved_code.declared.types.NumberedType.{NumberedType}
+use Rattle.object_simulation.specs.simulation.resolved_code.declared.operations.Operation.{Operation}
+use Rattle.object_simulation.specs.simulation.resolved_code.declared.operations.Operation.TheVariants.{NoOperation, LoadInt32, LoadInt64, LoadNull, LoadString, LoadArgument, StoreArgument, LoadLocal, StoreLocal, Duplicate, Pop, Binary, Unary, Shift, Compare, ConvertInt32, ConvertInt64, Branch, BranchTrue, BranchFalse, BranchCompare, Switch, LoadField, StoreField, LoadStaticField, StoreStaticField, NewArray, LoadLength, LoadElementInt32, LoadElementInt64, LoadElementReference, StoreElementInt32, StoreElementInt64, StoreElementReference, CastClass, IsInstance, Call, CallVirtual, NewObject, Return}
+use Rattle.object_simulation.specs.simulation.cil_model.declared.reports.Fault.TheVariants.{ArrayTypeMismatch, InvalidCast}
+use Rattle.object_simulation.specs.simulation.object_memory.declared.addresses.Addr.{Addr}
+use Rattle.object_simulation.specs.simulation.object_memory.declared.kinds.ArrayElement.{ArrayElement}
+use Rattle.object_simulation.specs.simulation.object_memory.declared.kinds.Kind.{Kind}
+use Rattle.object_simulation.specs.simulation.object_memory.declared.kinds.Kind.TheVariants.{Instance, Array}
+use Rattle.object_simulation.specs.simulation.object_memory.declared.monitors.Monitor.{Monitor}
+use Rattle.object_simulation.specs.simulation.object_memory.declared.values.Value.{Value}
+use Rattle.object_simulation.specs.simulation.object_memory.declared.values.Value.TheVariants.{Int32, Int64, Native, Ref}
+use Rattle.object_simulation.specs.simulation.object_memory.declared.values.ValueKind.{ValueKind}
+use Rattle.object_simulation.specs.simulation.object_memory.declared.values.ValueKind.TheVariants.{Int32 as Int32Kind, Int64 as Int64Kind, Ref as RefKind}
+use Rattle.object_simulation.specs.simulation.object_memory.Cells.{Cells, free_words, literal_number, new_cell, next_address, null, store_monitor}
+use Rattle.object_simulation.specs.simulation.object_memory.Objects.{Objects, monitor_at, with_birth, with_cell, with_literal_monitor, with_monitor, with_slot}
+use Rattle.object_simulation.specs.simulation.object_memory.Values.{value_in, value_word}
+use Rattle.object_simulation.specs.simulation.method_table.MethodNumbers.{number_of}
+use Rattle.object_simulation.specs.simulation.threads_monitors.Frames.{Frames, with_stack}
+use Rattle.object_simulation.specs.simulation.threads_monitors.Monitors.{with_entry, with_exit, with_monitor_or}
+use Rattle.object_simulation.specs.simulation.threads_monitors.declared.effects.Effect.{Effect}
+use Rattle.object_simulation.specs.simulation.threads_monitors.declared.effects.Effect.TheVariants.{GoesOn, Returns, Blocks, Raises}
+use Rattle.object_simulation.specs.simulation.instructions.Frames.{Turn, given, leaves, onward, top_of}
+use Rattle.object_simulation.specs.simulation.instructions.ObjectTurns.{ObjectTurn, beside, born, in_range, index_in, leaves_born, load_element_turn, load_field_turn, load_length_turn, load_slot, new_array_of, new_array_turn, object_of, place_in, slots_of, store_element_turn, store_field_turn, store_slot}
+use Rattle.object_simulation.specs.simulation.instructions.Calls.{Called, call_turn, construct_turn, constructs, is_full, new_object_turn, new_plain_object_turn}
+use Rattle.object_simulation.specs.simulation.instructions.BuiltInTurns.{carried, enter_turn, is_countable, exit_turn, reference_from, write_turn}
+use Rattle.object_simulation.specs.simulation.interpreter.Operations.{array_held, array_rule, arithmetic_rule, branch_rule, constant_rule, held_at, slot_at, stack_rule, static_rule, type_rule}
+use Rattle.object_simulation.specs.simulation.interpreter.Instructions.{IsDone, MachineTurn, of_calls, of_frames, of_objects, of_statics, operation_turn}
+use Rattle.object_simulation.specs.simulation.interpreter.Calls.{CallTurn, act_turn, beside_console, call_rule, called_as, chosen_at, class_in, made, new_at, receiver, return_rule, run_chosen, run_turn, slots_at, top_reference, virtual_at}
+use Rattle.object_simulation.specs.simulation.interpreter.declared.outcomes.Outcome.{Outcome}
+use Rattle.object_simulation.specs.simulation.Turns.{Answer}
 
 -- ---- what rules are put together from
 

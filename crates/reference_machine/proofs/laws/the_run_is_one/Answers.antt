@@ -1,0 +1,5 @@
+use Rattle.reference_machine.proofs.RoomLaws.{runs_are_one}
+use Rattle.reference_machine.proofs.laws.the_run_is_one.Goals as goal
+
+pub returns : goal.returns
+returns c = runs_are_one

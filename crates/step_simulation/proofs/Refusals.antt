@@ -1,0 +1,134 @@
+-- A step is refused memory exactly where the object that it would make exceeds the room.
+use Rattle.std.proofs.Common.{◌≡◌, ◌↔◌, ◌⊎◌, ◌≤◌, ◌<◌, ◌+◌, ◌-◌, if◌then◌else◌, ℕ, zero, suc, Bool, true, false, IsTrue, List, [], ◌∷◌, ◌++◌, Option, Some, None, slice_get, refl, inl, inr, sym, ap, ◌∙◌, subst, arith}
+use Rattle.std.specs.Prelude.{nat_le}
+use Rattle.std.proofs.lemmas.Bool.Decides.{nat_tests}
+use Rattle.std.proofs.lemmas.List.Sums.{sum_by_push}
+use Rattle.object_simulation.specs.simulation.cil_model.declared.events.Event.TheVariants.{Step}
+use Rattle.object_simulation.specs.simulation.cil_model.declared.reports.Report.{Report}
+use Rattle.object_simulation.specs.simulation.cil_model.declared.reports.Report.TheVariants.{Ran, Absent}
+use Rattle.object_simulation.specs.simulation.cil_model.declared.reports.Fault.TheVariants.{OutOfMemory}
+use Rattle.object_simulation.specs.simulation.cil_model.declared.trees.Tree.{Tree}
+use Rattle.object_simulation.specs.simulation.cil_model.declared.limits.Limits.{Limits}
+use Rattle.object_simulation.specs.simulation.reference_machine.Effects.{Effect as StateEffect, Goes, Raises as StateRaises}
+use Rattle.object_simulation.specs.simulation.reference_machine.Rooms.{ExceedsRoom, cell_words, words_of_all}
+use Rattle.object_simulation.specs.simulation.reference_machine.Runs.{is_refusal}
+use Rattle.object_simulation.specs.simulation.reference_machine.States.{Contents, Frame as StateFrame, HeapObject, State, Free, with_birth}
+use Rattle.object_simulation.specs.simulation.reference_machine.Steps.{Outcome, Answers, goes_on, settled, step}
+use Rattle.object_simulation.proofs.simulation.reference_machine.UnrefusedLaws.{memory_is_refused}
+use Rattle.object_simulation.specs.simulation.threads_monitors.Frames.{Frames}
+use Rattle.object_simulation.specs.simulation.threads_monitors.declared.threads.Standing.{Standing}
+use Rattle.object_simulation.specs.simulation.threads_monitors.declared.threads.Standing.TheVariants.{Live, Ended}
+use Rattle.object_simulation.specs.simulation.threads_monitors.declared.threads.Thread.{Thread}
+use Rattle.object_simulation.specs.simulation.interpreter.Instructions.{IsDone}
+use Rattle.object_simulation.specs.simulation.MachineContents.{Content}
+use Rattle.object_simulation.specs.simulation.StandsFor.{Represents}
+use Rattle.object_simulation.specs.simulation.Turns.{Answer, IsStandingTurn, IsThreadTurn, IsTurn, finished}
+use Rattle.object_simulation.proofs.simulation.Instructions.{ExceedsRoom as ExceedsFree, InstructionsAreAlike, is_refused_outcome, no_refusal}
+use Rattle.object_simulation.proofs.simulation.Statements.{CellsMayChange}
+use Rattle.object_simulation.proofs.simulation.cil_model.BelowLaws.{same_some}
+use Rattle.step_simulation.proofs.Finished.{finished_refusal, same_program, turn_keeps_words}
+use Rattle.step_simulation.proofs.Settings.{setting_of, is_alive, is_running, does_alike}
+use Rattle.step_simulation.proofs.Settling.{done, step_is}
+use Rattle.step_simulation.proofs.Steps.{step_follows}
+
+same_after : (q r : Report) (s t : State) → Answers q s ≡ Answers r t → s ≡ t
+same_after q r s t e = cc
+
+-- ---- a test of room
+
+beyond : (words left : ℕ) → left < words → (if nat_le words left then false else true) ≡ true
+beyond words left h = let test : nat_le words left ≡ false = grind (arith, nat_tests) in ap (λ b. if b then false else true) test
+
+is_beyond : (words left : ℕ) → (if nat_le words left then false else true) ≡ true → left < words
+is_beyond words left h = by_test (nat_le words left) refl h
+  where
+    by_test : (b : Bool) → nat_le words left ≡ b → (if b then false else true) ≡ true → left < words
+    by_test true test e = no_refusal e
+    by_test false test e = grind (arith, nat_tests)
+
+-- ---- where a step is refused, the object exceeds the room
+
+-- the answer of a step that makes an object
+record IsBorn (s : State) (contents : Contents) (outcome : Outcome) : Type 0 where
+  report : Report
+  after : State
+  is : outcome ≡ Answers report after
+  objects : after.objects ≡ (with_birth s contents).objects
+
+born_by : (s : State) (contents : Contents) (t left : ℕ) (frames : List StateFrame) → IsBorn s contents (goes_on Ran (with_birth s contents) t left frames)
+born_by s contents t zero frames = record { report = _; after = _; is = refl; objects = refl }
+born_by s contents t (suc left) frames = record { report = _; after = _; is = refl; objects = refl }
+
+module _ (each : InstructionsAreAlike) (c : Content) (s : State) (r : Represents c s) (t left : ℕ) (m : Frames) (there : slice_get c.threads t ≡ Some (record { standing = Live m; steps_left = left })) where
+  abbrev Exceeds : StateEffect → Type 0
+  Exceeds e = ExceedsFree (setting_of c t false) r.stands.name m c.objects c.statics c.printed s (is_alive c s r t left m there).running (is_alive c s r t left m there).below e
+
+  -- the instruction's object exceeds what is free
+  instruction_exceeds : (a : Answer) → IsDone c.tree t m c.objects c.statics c.printed a → is_refused_outcome a.4 ≡ true → Exceeds (done c s r t left m there false)
+  instruction_exceeds a d refused =
+      let x = does_alike each c s r t left m there false d.operation d.at d.constant in
+      let same : x.answer ≡ a = same_some x.answer a (sym x.is ∙ sym d.is) in
+      by_effect (x.refuses refl (ap (λ (y : Answer). is_refused_outcome y.4) same ∙ refused))
+    where
+      by_effect : Exceeds (done c s r t left m there false) ⊎ (done c s r t left m there false ≡ StateRaises OutOfMemory) → Exceeds (done c s r t left m there false)
+      by_effect (inl e) = e
+      by_effect (inr e) = no_refusal (memory_is_refused (setting_of c t false) s (is_alive c s r t left m there).running (is_alive c s r t left m there).below (is_running c s r t left m there false).0 e)
+
+  -- so its step leaves the object, were it not refused
+  step_exceeds : Exceeds (done c s r t left m there false) → ExceedsRoom c.tree c.limits s t
+  step_exceeds e =
+      let frames = (is_alive c s r t left m there).thread.frames in
+      let born : IsBorn s e.contents (goes_on Ran (with_birth s e.contents) t (left - 1) (e.running ∷ e.waiting)) = born_by s e.contents t (left - 1) (e.running ∷ e.waiting) in
+      record {
+        report = born.report;
+        after = born.after;
+        object = record { contents = e.contents; monitor = Free; thread = None };
+        unrefused = step_is c s r t left m there false ∙ ap (settled s t (left - 1) frames) e.is ∙ born.is;
+        is_born = born.objects;
+        exceeds = (let full = r.stands.by.memory.heap.full in let space = r.space in let more = e.exceeds in beyond (cell_words c.tree e.contents) (c.limits.words - words_of_all c.tree s.objects) (omega (arith, full, space, more)));
+      }
+
+-- ---- where the object exceeds the room, the step is refused
+
+-- the words of one object more
+one_more : (tree : Tree) (objects : List HeapObject) (object : HeapObject) → words_of_all tree (objects ++ object ∷ []) ≡ words_of_all tree objects + cell_words tree object.contents
+one_more tree objects object = sum_by_push (λ (x : HeapObject). cell_words tree x.contents) objects object
+
+module _ (each : InstructionsAreAlike) (cells_may_change : CellsMayChange) (c : Content) (s : State) (r : Represents c s) (t : ℕ) (after : Content × Report) (turn : IsTurn c (Step t) after) where
+  -- a state that the machine represents has no more words than the space
+  within : (s' : State) → Represents after.0 s' → words_of_all c.tree s'.objects ≤ c.limits.words
+  within s' h =
+      let same = same_program c after (Step t) turn in
+      let full : words_of_all c.tree s'.objects ≡ words_of_all after.0.tree s'.objects = ap (λ x. words_of_all x s'.objects) (sym same.0) in
+      let limit : after.0.limits.words ≡ c.limits.words = ap (λ (l : Limits). l.words) same.1 in
+      omega (arith, full, limit, h.stands.by.memory.heap.full, h.stands.by.memory.heap.within, h.space)
+
+  exceeding_is_refused : ExceedsRoom c.tree c.limits s t → IsTrue (is_refusal after.1)
+  exceeding_is_refused x = by_report (is_refusal after.1) refl (step_follows each cells_may_change c s r t after turn)
+    where
+      by_report : (b : Bool) → is_refusal after.1 ≡ b → (s' : State) × (step c.tree c.limits s t (is_refusal after.1) ≡ Answers after.1 s') × Represents after.0 s' → IsTrue b
+      by_report true is follows = refl
+      by_report false is follows =
+          let one : x.after ≡ follows.0 = same_after x.report after.1 x.after follows.0 (sym x.unrefused ∙ ap (step c.tree c.limits s t) (sym is) ∙ follows.1) in
+          let words : words_of_all c.tree follows.0.objects ≡ words_of_all c.tree s.objects + cell_words c.tree x.object.contents =
+          ap (λ (y : State). words_of_all c.tree y.objects) (sym one) ∙ ap (words_of_all c.tree) x.is_born ∙ one_more c.tree s.objects x.object in
+          let more : c.limits.words - words_of_all c.tree s.objects < cell_words c.tree x.object.contents = is_beyond (cell_words c.tree x.object.contents) (c.limits.words - words_of_all c.tree s.objects) x.exceeds in
+          absurd (omega (arith, words, within follows.0 follows.2, more))
+
+  refused_exceeds : IsTrue (is_refusal after.1) → ExceedsRoom c.tree c.limits s t
+  refused_exceeds refused = by_thread (slice_get c.threads t) refl turn
+    where
+      absent : after ≡ (c, Absent) → ExceedsRoom c.tree c.limits s t
+      absent e = no_refusal (sym (ap (λ (x : Content × Report). is_refusal x.1) e) ∙ refused)
+
+      by_standing : (left : ℕ) (standing : Standing) → slice_get c.threads t ≡ Some (record { standing = standing; steps_left = left }) → IsStandingTurn c t left standing after → ExceedsRoom c.tree c.limits s t
+      by_standing left (Live m) there (a, d, is) =
+          step_exceeds each c s r t left m there (instruction_exceeds each c s r t left m there a d (sym (finished_refusal c t left a after a.4 is) ∙ refused))
+      by_standing left (Ended e) there is = absent is
+
+      by_thread : (x : Option Thread) → slice_get c.threads t ≡ x → IsThreadTurn c t x after → ExceedsRoom c.tree c.limits s t
+      by_thread None is h = absent h
+      by_thread (Some x) is h = by_standing x.steps_left x.standing is h
+
+  pub refused_beyond_room : IsTrue (is_refusal after.1) ↔ ExceedsRoom c.tree c.limits s t
+  refused_beyond_room = (refused_exceeds, exceeding_is_refused)
