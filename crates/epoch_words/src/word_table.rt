@@ -21,6 +21,10 @@ pub struct HeraldView {
     pub dealt: u64,
     /// The number that each seat was last found to have seen.
     pub found: [u64; 0],
+    /// How many looks at a seat it took.
+    pub looks: u64,
+    /// The seat of its last look.
+    pub looked_at: u64,
 }
 
 /// What the holder of a token knows. It exists in proofs alone.

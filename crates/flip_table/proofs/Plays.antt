@@ -9,7 +9,7 @@ use Rattle.flip_table.specs.declared.slot_table.View.TheVariants.{OfWriter, OfCo
 use Rattle.flip_table.specs.declared.slot_table.WriterView.{WriterView}
 use Rattle.flip_table.specs.Rule.{retired_mark, forward, AllMarked, KeepsFlip}
 use Rattle.epoch_words.specs.Tokens.{FoundAll, IsPostedOrOneLess}
-use Rattle.flip_table.specs.Steps.{Holder, LoadsFirst, LoadsSecond, StoresFirst, StoresSecond, StoresAlone, PollsStage, TakesUp, LoadsToCopy, StoresCopy, LoadsToCheck, FindsStage, PostsStage, Retires}
+use Rattle.flip_table.specs.Steps.{Holder, looking_copier, LoadsFirst, LoadsSecond, StoresFirst, StoresSecond, StoresAlone, PollsStage, TakesUp, LoadsToCopy, StoresCopy, LoadsToCheck, FindsStage, PostsStage, Retires}
 use Rattle.flip_table.proofs.StepsKeep as keep
 
 -- a step that tells A tells what follows from A
@@ -82,10 +82,10 @@ module _ (plan : PlanView) where
   pub finds_stage : (slots id j word : ℕ) (me : Holder) (p : CopierView) → me ≡ (OfCopier p, []) → word ≡ m + m + j → p.plan ≡ plan → j < plan.seats
       → Allows (KeepsFlip plan) slots id me word (λ x. x) (FindsStage (step slots word 0 0 none) me)
   finds_stage slots id j word me p is word_is of l = subst (λ (z : Holder × ℕ). Allows (KeepsFlip plan) slots id z.0 z.1 (λ x. x) (FindsStage (step slots z.1 0 0 none) z.0)) (λ c. (sym is c, sym word_is c))
-      (allows_then (KeepsFlip plan) slots id (OfCopier p, []) (m + m + j) (λ x. x) (λ x (after : Holder). (after ≡ (OfCopier (record p { found = set p.found j x }), [])) × IsPostedOrOneLess x p.stage × (get_or p.found j 0 ≤ x)) (FindsStage (step slots (m + m + j) 0 0 none) (OfCopier p, []))
+      (allows_then (KeepsFlip plan) slots id (OfCopier p, []) (m + m + j) (λ x. x) (λ x (after : Holder). (after ≡ (OfCopier (looking_copier p j x), [])) × IsPostedOrOneLess x p.stage × (get_or p.found j 0 ≤ x)) (FindsStage (step slots (m + m + j) 0 0 none) (OfCopier p, []))
       (keep.finds plan slots id j p l)
       (λ x after t k e. let at : m + m + j ≡ m + m + k = e ∙ ap (λ (z : PlanView). length z.owners + length z.owners + k) of in let same : j ≡ k = omega (arith, at) in
-      (t.0 ∙ ap (λ (z : ℕ). (OfCopier (record p { found = set p.found z x }), [])) same, t.1, subst (λ (z : ℕ). get_or p.found z 0 ≤ x) same t.2)))
+      (t.0 ∙ ap (λ (z : ℕ). (OfCopier (looking_copier p z x), [])) same, t.1, subst (λ (z : ℕ). get_or p.found z 0 ≤ x) same t.2)))
 
   pub posts_stage : (slots id word x : ℕ) (me : Holder) (p : CopierView) → me ≡ (OfCopier p, []) → word ≡ m + m + plan.seats → x ≡ p.stage + 1 → FoundAll plan.seats p.stage p.found → p.stage < 2 → (p.stage ≡ 0 → AllMarked p.copied)
       → Allows (KeepsFlip plan) slots id me word (λ _. x) (λ _. PostsStage (step slots word x 0 none) me x)

@@ -16,7 +16,7 @@ use Rattle.flip_table.specs.declared.slot_table.WriterView.{WriterView}
 use Rattle.flip_table.specs.Rule.{retired_mark, forward, AllMarked, SaysWritten, IsAmong, IsSlot, IsTwin, IsWriterView, IsCopierView, Knows, KeepsFlip}
 use Rattle.epoch_words.specs.Tokens.{FoundAll, IsPostedOrOneLess}
 use Rattle.epoch_words.proofs.Views.{at_inside, changed}
-use Rattle.flip_table.specs.Steps.{Holder, writer_part, copier_part}
+use Rattle.flip_table.specs.Steps.{Holder, checking_copier, copier_part, looking_copier, writer_part}
 
 abbrev Table : Type 0
 Table = State (Unit {0}) View
@@ -510,9 +510,9 @@ module _ (plan : PlanView) where
 
   -- An equal second load: while the owner has stored nothing else, what it wrote is what was stored as the copy.
   pub loads_to_check : (slots id i : ℕ) (p : CopierView) → i < m → p.stage ≡ 0 → p.copying ≡ Some i → p.stored ≡ true
-      → Allows (KeepsFlip plan) slots id (OfCopier p, []) i (λ x. x) (λ x (me : Holder). (x ≡ p.value → me ≡ (OfCopier (record p { copying = None; checked = x; copied = set p.copied i true }), [])) × (x ≢ p.value → me ≡ (OfCopier (record p { copying = None; checked = x }), [])))
+      → Allows (KeepsFlip plan) slots id (OfCopier p, []) i (λ x. x) (λ x (me : Holder). (x ≡ p.value → me ≡ (OfCopier (record (checking_copier p i x) { copied = set p.copied i true }), [])) × (x ≢ p.value → me ≡ (OfCopier (checking_copier p i x), [])))
   loads_to_check slots id i p l zero_is busy done s r _ at _ = let o : IsCopierView s.words plan (length s.views) id p = r.known id (OfCopier p) at in let x : ℕ = first s.words i in dite (ℕ_discrete x p.value)
-      (λ found. let p' : CopierView = record p { copying = None; checked = x; copied = set p.copied i true } in (
+      (λ found. let p' : CopierView = record (checking_copier p i x) { copied = set p.copied i true } in (
         OfCopier p',
         keeps,
         tt,
@@ -544,7 +544,7 @@ module _ (plan : PlanView) where
             }),
         ((λ _. refl), λ ne. absurd (ne found)),
       ))
-      (λ lost. let p' : CopierView = record p { copying = None; checked = x } in (
+      (λ lost. let p' : CopierView = checking_copier p i x in (
         OfCopier p',
         keeps,
         tt,
@@ -573,8 +573,8 @@ module _ (plan : PlanView) where
 
   -- the stage that a seat has taken up
   pub finds : (slots id j : ℕ) (p : CopierView) → j < n
-      → Allows (KeepsFlip plan) slots id (OfCopier p, []) (m + m + j) (λ x. x) (λ x (me : Holder). (me ≡ (OfCopier (record p { found = set p.found j x }), [])) × IsPostedOrOneLess x p.stage × (get_or p.found j 0 ≤ x))
-  finds slots id j p l s r _ at _ = let o : IsCopierView s.words plan (length s.views) id p = r.known id (OfCopier p) at in let x : ℕ = taken s.words j in let c = r.paced j l in let p' : CopierView = record p { found = set p.found j x } in
+      → Allows (KeepsFlip plan) slots id (OfCopier p, []) (m + m + j) (λ x. x) (λ x (me : Holder). (me ≡ (OfCopier (looking_copier p j x), [])) × IsPostedOrOneLess x p.stage × (get_or p.found j 0 ≤ x))
+  finds slots id j p l s r _ at _ = let o : IsCopierView s.words plan (length s.views) id p = r.known id (OfCopier p) at in let x : ℕ = taken s.words j in let c = r.paced j l in let p' : CopierView = looking_copier p j x in
       let here : (a : ℕ) → a ≡ j → get_or (set p.found j x) a 0 ≡ x = λ a e. ap (λ (z : ℕ). get_or (set p.found j x) z 0) e ∙ get_or-set_same p.found j x 0 (omega (arith, o.found_each)) in (
         OfCopier p',
         keeps,

@@ -102,10 +102,15 @@ dealt_copier plan dealt = record {
   stage = 0;
   dealt = dealt;
   found = replicate plan.seats 0;
+  looks = 0;
+  looked_at = 0;
   copying = None;
   value = 0;
-  checked = 0;
   stored = false;
+  checks = 0;
+  checked_slot = 0;
+  first_load = 0;
+  second_load = 0;
   copied = replicate (length plan.owners) false;
   retired = replicate (length plan.owners) false;
 }

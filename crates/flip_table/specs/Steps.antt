@@ -25,7 +25,23 @@ writer_part (OfCopier p) = record { plan = no_plan; index = 0; taken_up = 0; pol
 
 -- what the copier knows (of a writer's view nothing is asked)
 abbrev pub copier_part : View → CopierView
-copier_part (OfWriter q) = record { plan = no_plan; stage = 0; dealt = 0; found = []; copying = None; value = 0; checked = 0; stored = false; copied = []; retired = [] }
+copier_part (OfWriter q) = record {
+  plan = no_plan;
+  stage = 0;
+  dealt = 0;
+  found = [];
+  looks = 0;
+  looked_at = 0;
+  copying = None;
+  value = 0;
+  stored = false;
+  checks = 0;
+  checked_slot = 0;
+  first_load = 0;
+  second_load = 0;
+  copied = [];
+  retired = [];
+}
 copier_part (OfCopier p) = p
 
 -- the copier's view once it gave out the next writer, and that writer's view
@@ -36,6 +52,14 @@ dealing_copier (OfCopier p) = OfCopier (record p { dealt = p.dealt + 1 })
 abbrev pub dealt_writer : View → View
 dealt_writer (OfWriter q) = OfWriter q
 dealt_writer (OfCopier p) = OfWriter (opening_writer p.plan p.dealt)
+
+-- the copier once it looked at seat j and found it to have taken up the stage x
+abbrev pub looking_copier : CopierView → ℕ → ℕ → CopierView
+looking_copier p j x = record p { found = slice_set p.found j x; looks = p.looks + 1; looked_at = j }
+
+-- the copier once it checked slot k, where its second load gave x
+abbrev pub checking_copier : CopierView → ℕ → ℕ → CopierView
+checking_copier p k x = record p { copying = None; checks = p.checks + 1; checked_slot = k; first_load = p.value; second_load = x }
 
 -- A load of a first copy, at stage 0. The seat has found a value below the limit, and in a slot of its own what it last wrote.
 abbrev pub LoadsFirst : WordStep → Holder → ℕ → Holder → Type 0
@@ -81,16 +105,16 @@ abbrev pub StoresCopy : WordStep → Holder → ℕ → Holder → Type 0
 StoresCopy step before y after = let p = copier_part before.0 in (k : ℕ) → p.copying ≡ Some k
     → after ≡ (OfCopier (record p { stored = true; copied = slice_set p.copied k false }), [])
 
--- The copier's second load of a first copy. The slot counts as copied where the value is the same.
+-- The copier's second load of a first copy, which is a check. The slot counts as copied where the value is the same.
 abbrev pub LoadsToCheck : WordStep → Holder → ℕ → Holder → Type 0
 LoadsToCheck step before x after = let p = copier_part before.0 in
-    (x ≡ p.value → after ≡ (OfCopier (record p { copying = None; checked = x; copied = slice_set p.copied step.word true }), []))
-    × (x ≢ p.value → after ≡ (OfCopier (record p { copying = None; checked = x }), []))
+    (x ≡ p.value → after ≡ (OfCopier (record (checking_copier p step.word x) { copied = slice_set p.copied step.word true }), []))
+    × (x ≢ p.value → after ≡ (OfCopier (checking_copier p step.word x), []))
 
--- The copier's load of the stage that a seat has taken up.
+-- The copier's load of the stage that a seat has taken up, which is a look.
 abbrev pub FindsStage : WordStep → Holder → ℕ → Holder → Type 0
 FindsStage step before x after = let p = copier_part before.0 in (j : ℕ) → step.word ≡ length p.plan.owners + length p.plan.owners + j
-    → (after ≡ (OfCopier (record p { found = slice_set p.found j x }), [])) × IsPostedOrOneLess x p.stage × (slice_index p.found j ≤ x)
+    → (after ≡ (OfCopier (looking_copier p j x), [])) × IsPostedOrOneLess x p.stage × (slice_index p.found j ≤ x)
 
 -- The copier's store of the next stage.
 abbrev pub PostsStage : WordStep → Holder → ℕ → Holder → Type 0

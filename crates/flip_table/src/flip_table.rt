@@ -5,6 +5,7 @@ ghost use Rattle.std.specs.Prelude.{All, IfOk, vec_len, true, false};
 ghost use Rattle.flip_table.specs.Plans.{plan_of};
 ghost use Rattle.epoch_words.specs.Tokens.{FoundAll, IsPostedOrOneLess};
 ghost use Rattle.flip_table.specs.Rule.{dealt_copier, forward, opening_view, AllMarked};
+ghost use Rattle.flip_table.specs.Steps.{checking_copier, looking_copier};
 ghost use Rattle.flip_table.specs.Tokens.{opening_seat, opening_writers, IsCopierOf, IsWriterOf};
 ghost use Rattle.flip_table.specs.declared.slot_table.View.TheVariants.{OfCopier};
 
@@ -322,12 +323,12 @@ impl FlipTable {
         copier
     }
 
-    /// Loads the first copy again. Where it has the same value, the slot counts as copied.
+    /// Loads the first copy again, which is a check. Where it has the same value, the slot counts as copied.
     pub fn load_to_check(&self, mut copier: Copier, slot: usize) -> (u64, Copier)
         requires table { IsCopierOf self.now copier × (slot < length self.now.plan.owners) }
         requires stage { (copier.knows.stage ≡ 0) × (copier.knows.copying ≡ Some slot) × (copier.knows.stored ≡ true) }
-        ensures same { result.0 ≡ copier.knows.value → result.1 ≡ record copier { knows = record copier.knows { copying = None; checked = result.0; copied = slice_set copier.knows.copied slot true } } }
-        ensures changed { result.0 ≢ copier.knows.value → result.1 ≡ record copier { knows = record copier.knows { copying = None; checked = result.0 } } }
+        ensures same { result.0 ≡ copier.knows.value → result.1 ≡ record copier { knows = record (checking_copier copier.knows slot result.0) { copied = slice_set copier.knows.copied slot true } } }
+        ensures changed { result.0 ≢ copier.knows.value → result.1 ≡ record copier { knows = checking_copier copier.knows slot result.0 } }
     {
         let value = self
             .words
@@ -336,10 +337,11 @@ impl FlipTable {
         (value, copier)
     }
 
-    /// Loads the stage that a seat has taken up: the stage or one less, and no less than was found before.
+    /// Loads the stage that a seat has taken up, which is a look: the stage or one less, and no less than was found
+    /// before.
     pub fn find(&self, mut copier: Copier, seat: usize) -> (u64, Copier)
         requires { IsCopierOf self.now copier × (seat < self.now.plan.seats) }
-        ensures copier { result.1 ≡ record copier { knows = record copier.knows { found = slice_set copier.knows.found seat result.0 } } }
+        ensures copier { result.1 ≡ record copier { knows = looking_copier copier.knows seat result.0 } }
         ensures paced { IsPostedOrOneLess result.0 copier.knows.stage }
         ensures rises { slice_index copier.knows.found seat ≤ result.0 }
     {

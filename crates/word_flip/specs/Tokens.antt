@@ -26,12 +26,17 @@ pub record WriterValue : Type 0 where
 abbrev pub writer_value : Table.WriterValue → WriterValue
 writer_value token = record { table = token.table; plan = token.knows.plan; seat = token.knows.index; stage = token.knows.taken_up; written = map object_of token.knows.written }
 
--- `found` has for each seat the stage that it was last found to have taken up. `first_load` and `second_load` are the words that the last copying loaded, before and after its store. `copied` and `retired` say it of each place.
+-- `found` has for each seat the stage that it was last found to have taken up. `looks` counts the looks at a seat, each a load of its stage, and `looked_at` is the seat of the last one.
+-- `checks` counts the second loads of a first copy. The last was of `checked_place`, where `first_load` was loaded before the copy was stored and `second_load` after it. `copied` and `retired` say it of each place.
 pub record CopierValue : Type 0 where
   pub table : TableId
   pub plan : PlanView
   pub stage : ℕ
   pub found : List ℕ
+  pub looks : ℕ
+  pub looked_at : ℕ
+  pub checks : ℕ
+  pub checked_place : ℕ
   pub first_load : ℕ
   pub second_load : ℕ
   pub copied : List Bool
@@ -55,6 +60,10 @@ place_of flip object slot = object * flip.slots + slot
 abbrev pub IsOwn : FlipValue → WriterValue → ℕ → ℕ → Type 0
 IsOwn flip writer object slot = slice_index flip.plan.owners (place_of flip object slot) ≡ writer.seat
 
+-- One check was made, at this place.
+abbrev pub HasChecked : CopierValue → ℕ → CopierValue → Type 0
+HasChecked before place after = (after.checks ≡ before.checks + 1) × (after.checked_place ≡ place)
+
 -- Some place is not copied.
 abbrev pub SomeUncopied : List Bool → Type 0
 SomeUncopied copied = (place : ℕ) × (place < length copied) × ¬ IsMarked copied place
@@ -74,6 +83,10 @@ opening_copier table plan = record {
   plan = plan;
   stage = 0;
   found = replicate plan.seats 0;
+  looks = 0;
+  looked_at = 0;
+  checks = 0;
+  checked_place = 0;
   first_load = 0;
   second_load = 0;
   copied = replicate (length plan.owners) false;
