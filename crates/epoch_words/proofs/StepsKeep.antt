@@ -6,7 +6,7 @@ use native.Mathlib.Decide.{ℕ_discrete}
 use lib.Seq.{set-get_or}
 use Rattle.atomic_table.specs.Table.{State, step, keeps, Allows, Splits}
 use Rattle.epoch_words.proofs.Views.{at_inside, changed, longer}
-use Rattle.epoch_words.specs.Rule.{seat_view, IsPaced, IsSeatView, IsHeraldView, Knows, KeepsEpochs}
+use Rattle.epoch_words.specs.Rule.{IsPaced, IsSeatView, IsHeraldView, Knows, KeepsEpochs}
 use Rattle.epoch_words.specs.Steps.{Holder, dealing_herald, dealt_seat, LoadsPosted, StoresSeen, LoadsSeen, StoresPosted}
 use Rattle.epoch_words.specs.Tokens.{FoundAll, IsPostedOrOneLess}
 use Rattle.epoch_words.specs.declared.word_table.HeraldView.{HeraldView}
@@ -37,24 +37,25 @@ loaded_keeps workers s rule i homes mover w mine = subst (λ (ws : List ℕ). Ke
     (stepped_keeps workers s rule s.words homes mover w refl rule.paced mine (λ j v _ k. k))
 
 loads_posted_at : (workers slots id : ℕ) (seat : SeatView) → Allows (KeepsEpochs workers) slots id (OfSeat seat, []) workers (λ n. n) (LoadsPosted (step slots workers 0 0 none) (OfSeat seat, []))
-loads_posted_at workers slots id seat s rule _ at _ = let k : IsSeatView s.words workers id seat = rule.known id (OfSeat seat) at in let n : ℕ = get_or s.words workers 0 in let near = rule.paced seat.index k.in_range in (
-  seat_view seat.index seat.seen n,
-  keeps,
-  tt,
-  loaded_keeps workers s rule workers s.homes id (seat_view seat.index seat.seen n) record {
-    place_is = k.place_is;
-    in_range = k.in_range;
-    seen_is = k.seen_is;
-    seen_polled = omega (arith, near.0, k.seen_is);
-    polled_posted = omega arith;
-  },
-  (refl, subst (λ (m : ℕ). IsPostedOrOneLess m n) k.seen_is near, k.polled_posted),
-)
+loads_posted_at workers slots id seat s rule _ at _ = let k : IsSeatView s.words workers id seat = rule.known id (OfSeat seat) at in let n : ℕ = get_or s.words workers 0 in let near = rule.paced seat.index k.in_range in
+    let after : View = OfSeat (record seat { polled = n; polls = seat.polls + 1 }) in (
+      after,
+      keeps,
+      tt,
+      loaded_keeps workers s rule workers s.homes id after record {
+        place_is = k.place_is;
+        in_range = k.in_range;
+        seen_is = k.seen_is;
+        seen_polled = omega (arith, near.0, k.seen_is);
+        polled_posted = omega arith;
+      },
+      (refl, subst (λ (m : ℕ). IsPostedOrOneLess m n) k.seen_is near, k.polled_posted),
+    )
 
-pub loads_posted : (key workers slots id : ℕ) (me : Holder) (index seen polled : ℕ) → key ≡ workers → me ≡ (seat_view index seen polled, [])
+pub loads_posted : (key workers slots id : ℕ) (me : Holder) (seat : SeatView) → key ≡ workers → me ≡ (OfSeat seat, [])
     → Allows (KeepsEpochs key) slots id me workers (λ n. n) (LoadsPosted (step slots workers 0 0 none) me)
-loads_posted key workers slots id me index seen polled key_is me_is = subst (λ (z : ℕ × Holder). Allows (KeepsEpochs z.0) slots id z.1 workers (λ n. n) (LoadsPosted (step slots workers 0 0 none) z.1)) (λ i. (sym key_is i, sym me_is i))
-    (loads_posted_at workers slots id (record { index = index; seen = seen; polled = polled }))
+loads_posted key workers slots id me seat key_is me_is = subst (λ (z : ℕ × Holder). Allows (KeepsEpochs z.0) slots id z.1 workers (λ n. n) (LoadsPosted (step slots workers 0 0 none) z.1)) (λ i. (sym key_is i, sym me_is i))
+    (loads_posted_at workers slots id seat)
 
 -- a store of x to the word of seat i
 module _ (workers : ℕ) (ws : List ℕ) (i x : ℕ) (in_range : i < workers) where
@@ -95,11 +96,11 @@ module _ (workers : ℕ) (ws : List ℕ) (i x : ℕ) (in_range : i < workers) wh
 stores_seen_at : (workers slots id : ℕ) (seat : SeatView)
     → Allows (KeepsEpochs workers) slots id (OfSeat seat, []) seat.index (λ _. seat.polled) (λ _. StoresSeen (step slots seat.index seat.polled 0 none) (OfSeat seat, []) seat.polled)
 stores_seen_at workers slots id seat s rule _ at _ = let k : IsSeatView s.words workers id seat = rule.known id (OfSeat seat) at in let near = rule.paced seat.index k.in_range in let last = at_inside s.views id (OfSeat seat) at in
-    let after : List ℕ = set s.words seat.index seat.polled in let posted_same = posted_stays workers s.words seat.index seat.polled k.in_range in (
-      seat_view seat.index seat.polled seat.polled,
+    let after : List ℕ = set s.words seat.index seat.polled in let posted_same = posted_stays workers s.words seat.index seat.polled k.in_range in let acked : View = OfSeat (record seat { seen = seat.polled }) in (
+      acked,
       keeps,
       tt,
-      stepped_keeps workers s rule after s.homes id (seat_view seat.index seat.polled seat.polled) (length-set s.words seat.index seat.polled)
+      stepped_keeps workers s rule after s.homes id acked (length-set s.words seat.index seat.polled)
           (seen_paced workers s.words seat.index seat.polled k.in_range rule.words_are rule.paced (k.polled_posted, omega (arith, near.1, k.seen_is, k.seen_polled)))
           record {
             place_is = k.place_is;
@@ -112,10 +113,11 @@ stores_seen_at workers slots id seat s rule _ at _ = let k : IsSeatView s.words 
       refl,
     )
 
-pub stores_seen : (key slots id : ℕ) (me : Holder) (index seen polled : ℕ) → me ≡ (seat_view index seen polled, [])
+pub stores_seen : (key slots id index polled : ℕ) (me : Holder) (seat : SeatView) → index ≡ seat.index → polled ≡ seat.polled → me ≡ (OfSeat seat, [])
     → Allows (KeepsEpochs key) slots id me index (λ _. polled) (λ _. StoresSeen (step slots index polled 0 none) me polled)
-stores_seen key slots id me index seen polled me_is = subst (λ (z : Holder). Allows (KeepsEpochs key) slots id z index (λ _. polled) (λ _. StoresSeen (step slots index polled 0 none) z polled)) (sym me_is)
-    (stores_seen_at key slots id (record { index = index; seen = seen; polled = polled }))
+stores_seen key slots id index polled me seat index_is polled_is me_is =
+    subst (λ (z : ℕ × ℕ × Holder). Allows (KeepsEpochs key) slots id z.2 z.0 (λ _. z.1) (λ _. StoresSeen (step slots z.0 z.1 0 none) z.2 z.1)) (λ i. (sym index_is i, sym polled_is i, sym me_is i))
+    (stores_seen_at key slots id seat)
 
 loads_seen_at : (workers slots id i : ℕ) (herald : HeraldView) → i < length herald.found
     → Allows (KeepsEpochs workers) slots id (OfHerald herald, []) i (λ n. n) (LoadsSeen (step slots i 0 0 none) (OfHerald herald, []))

@@ -9,9 +9,6 @@ use Rattle.epoch_words.specs.declared.word_table.SeatView.{SeatView}
 use Rattle.epoch_words.specs.declared.word_table.View.{View}
 use Rattle.epoch_words.specs.declared.word_table.View.TheVariants.{OfSeat, OfHerald}
 
-abbrev pub seat_view : ℕ → ℕ → ℕ → View
-seat_view index seen polled = OfSeat (record { index = index; seen = seen; polled = polled })
-
 -- the herald once so many seats are given out, before any step
 abbrev pub dealt_herald : ℕ → ℕ → HeraldView
 dealt_herald workers dealt = record { posted = 0; dealt = dealt; found = replicate workers 0; looks = 0; looked_at = 0 }

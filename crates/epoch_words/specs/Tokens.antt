@@ -8,11 +8,13 @@ pub record EpochsValue : Type 0 where
   pub table : TableId
   pub workers : ℕ
 
+-- `polls` counts the seat's loads of the posted number, and `polled` is what the last one gave.
 pub record SeatValue : Type 0 where
   pub table : TableId
   pub index : ℕ
   pub seen : ℕ
   pub polled : ℕ
+  pub polls : ℕ
 
 -- `found` has for each seat the number that the herald last found it to have seen. `looks` counts its looks, each a load of a seat's number, and `looked_at` is the seat of the last one.
 pub record HeraldValue : Type 0 where
@@ -27,7 +29,7 @@ abbrev pub IsPostedOrOneLess : ℕ → ℕ → Type 0
 IsPostedOrOneLess seen posted = (seen ≤ posted) × (posted ≤ seen + 1)
 
 abbrev pub opening_seat : TableId → ℕ → SeatValue
-opening_seat table index = record { table = table; index = index; seen = 0; polled = 0 }
+opening_seat table index = record { table = table; index = index; seen = 0; polled = 0; polls = 0 }
 
 -- the seats 0, 1, .. before any step
 abbrev pub opening_seats : TableId → ℕ → List SeatValue

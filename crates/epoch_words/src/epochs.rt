@@ -52,8 +52,8 @@ pub struct Seat {
 impl Model for Seat {
     ghost use Rattle.std.specs.Prelude.{◌≡◌, ◌+◌, ◌<◌, []};
     ghost use Rattle.epoch_words.specs.Tokens.{SeatValue};
-    ghost use Rattle.epoch_words.specs.Rule.{seat_view};
     ghost use Rattle.epoch_words.specs.Steps.{seat_part};
+    ghost use Rattle.epoch_words.specs.declared.word_table.View.TheVariants.{OfSeat};
 
     ghost Value = { SeatValue };
 
@@ -62,10 +62,13 @@ impl Model for Seat {
       index = s.index;
       seen = (seat_part s.token.me.0).seen;
       polled = s.polled;
+      polls = (seat_part s.token.me.0).polls;
     } };
 
-    ghost invariant = { λ s.
-        (s.token.me ≡ (seat_view s.index (seat_part s.token.me.0).seen s.polled, []))
+    ghost invariant = { λ s. let known = seat_part s.token.me.0 in
+        (s.token.me ≡ (OfSeat known, []))
+        × (s.index ≡ known.index)
+        × (s.polled ≡ known.polled)
         × (s.index + 1 < s.token.table_id.words) };
 }
 
@@ -153,7 +156,7 @@ impl Epochs {
     /// these epochs. This is one step: a load of the posted number.
     pub fn poll(&self, mut seat: Seat) -> (u64, Seat)
         requires { seat.table ≡ self.now.table }
-        ensures seat { result.1 ≡ record seat { polled = result.0 } }
+        ensures seat { result.1 ≡ record seat { polled = result.0; polls = seat.polls + 1 } }
         ensures paced { IsPostedOrOneLess seat.seen result.0 }
         ensures rises { seat.polled ≤ result.0 }
     {

@@ -12,6 +12,8 @@ pub struct SeatView {
     pub seen: u64,
     /// The number that the seat last polled.
     pub polled: u64,
+    /// How often it polled.
+    pub polls: u64,
 }
 
 /// What the herald knows. It exists in proofs alone, where the array is a list of any length.

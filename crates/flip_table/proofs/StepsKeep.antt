@@ -305,8 +305,8 @@ module _ (plan : PlanView) where
 
   -- the stage, as a seat polls it
   pub polls : (slots id : ℕ) (q : WriterView)
-      → Allows (KeepsFlip plan) slots id (OfWriter q, []) (m + m + n) (λ x. x) (λ x (me : Holder). (me ≡ (OfWriter (record q { polled = x }), [])) × IsPostedOrOneLess q.taken_up x × (q.polled ≤ x) × (x ≤ 2))
-  polls slots id q s r _ at _ = let w : IsWriterView s.words plan id q = r.known id (OfWriter q) at in let o : IsCopierView s.words plan (length s.views) 0 r.copier = r.known 0 (OfCopier r.copier) r.copier_is in let x : ℕ = stage s.words in let c = r.paced q.index w.in_range in let q' : WriterView = record q { polled = x } in (
+      → Allows (KeepsFlip plan) slots id (OfWriter q, []) (m + m + n) (λ x. x) (λ x (me : Holder). (me ≡ (OfWriter (record q { polled = x; polls = q.polls + 1 }), [])) × IsPostedOrOneLess q.taken_up x × (q.polled ≤ x) × (x ≤ 2))
+  polls slots id q s r _ at _ = let w : IsWriterView s.words plan id q = r.known id (OfWriter q) at in let o : IsCopierView s.words plan (length s.views) 0 r.copier = r.known 0 (OfCopier r.copier) r.copier_is in let x : ℕ = stage s.words in let c = r.paced q.index w.in_range in let q' : WriterView = record q { polled = x; polls = q.polls + 1 } in (
     OfWriter q',
     keeps,
     tt,

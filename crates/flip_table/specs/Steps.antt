@@ -21,7 +21,7 @@ no_plan = record { owners = []; seats = 0; limit = 0 }
 -- what a writer knows (of the copier's view nothing is asked)
 abbrev pub writer_part : View → WriterView
 writer_part (OfWriter q) = q
-writer_part (OfCopier p) = record { plan = no_plan; index = 0; taken_up = 0; polled = 0; written = []; wrote = []; pending = None }
+writer_part (OfCopier p) = record { plan = no_plan; index = 0; taken_up = 0; polled = 0; polls = 0; written = []; wrote = []; pending = None }
 
 -- what the copier knows (of a writer's view nothing is asked)
 abbrev pub copier_part : View → CopierView
@@ -86,10 +86,10 @@ abbrev pub StoresAlone : WordStep → Holder → ℕ → Holder → Type 0
 StoresAlone step before y after = let q = writer_part before.0 in (k x : ℕ) → step.word ≡ length q.plan.owners + k → y ≡ forward x
     → after ≡ (OfWriter (record q { written = slice_set q.written k x; wrote = q.wrote ++ (k, x) ∷ []; pending = None }), [])
 
--- A load of the stage by a seat.
+-- A load of the stage by a seat, which is a poll.
 abbrev pub PollsStage : WordStep → Holder → ℕ → Holder → Type 0
 PollsStage step before x after = let q = writer_part before.0 in
-    (after ≡ (OfWriter (record q { polled = x }), [])) × IsPostedOrOneLess q.taken_up x × (q.polled ≤ x) × (x ≤ 2)
+    (after ≡ (OfWriter (record q { polled = x; polls = q.polls + 1 }), [])) × IsPostedOrOneLess q.taken_up x × (q.polled ≤ x) × (x ≤ 2)
 
 -- A store of the stage that a seat takes up.
 abbrev pub TakesUp : WordStep → Holder → ℕ → Holder → Type 0

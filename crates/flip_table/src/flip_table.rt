@@ -272,7 +272,7 @@ impl FlipTable {
     /// polled before.
     pub fn poll(&self, mut writer: Writer) -> (u64, Writer)
         requires { IsWriterOf self.now writer }
-        ensures writer { result.1 ≡ record writer { knows = record writer.knows { polled = result.0 } } }
+        ensures writer { result.1 ≡ record writer { knows = record writer.knows { polled = result.0; polls = writer.knows.polls + 1 } } }
         ensures paced { IsPostedOrOneLess writer.knows.taken_up result.0 }
         ensures rises { writer.knows.polled ≤ result.0 }
         ensures last { result.0 ≤ 2 }

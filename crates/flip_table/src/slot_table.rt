@@ -34,6 +34,8 @@ pub struct WriterView {
     pub taken_up: u64,
     /// The stage that the seat last polled.
     pub polled: u64,
+    /// How often it polled.
+    pub polls: u64,
     /// The value that it last wrote to each slot of its own.
     pub written: [u64; 0],
     /// Every slot and value that it ever wrote.

@@ -14,17 +14,19 @@ pub record FlipValue : Type 0 where
   pub objects : ℕ
   pub slots : ℕ
 
--- `stage` is the stage that the seat has taken up. `written` has for each place what this seat last wrote there, or null.
+-- `stage` is the stage that the seat has taken up. `polls` counts its loads of the posted stage, and `polled` is what the last one gave. `written` has for each place what this seat last wrote there, or null.
 pub record WriterValue : Type 0 where
   pub table : TableId
   pub plan : PlanView
   pub seat : ℕ
   pub stage : ℕ
+  pub polled : ℕ
+  pub polls : ℕ
   pub written : List (Option ℕ)
 
 -- what callers see of a writer of the table
 abbrev pub writer_value : Table.WriterValue → WriterValue
-writer_value token = record { table = token.table; plan = token.knows.plan; seat = token.knows.index; stage = token.knows.taken_up; written = map object_of token.knows.written }
+writer_value token = record { table = token.table; plan = token.knows.plan; seat = token.knows.index; stage = token.knows.taken_up; polled = token.knows.polled; polls = token.knows.polls; written = map object_of token.knows.written }
 
 -- `found` has for each seat the stage that it was last found to have taken up. `looks` counts the looks at a seat, each a load of its stage, and `looked_at` is the seat of the last one.
 -- `checks` counts the second loads of a first copy. The last was of `checked_place`, where `first_load` was loaded before the copy was stored and `second_load` after it. `copied` and `retired` say it of each place.
@@ -70,7 +72,7 @@ SomeUncopied copied = (place : ℕ) × (place < length copied) × ¬ IsMarked co
 
 -- the writer of a seat before any call
 abbrev pub opening_writer : TableId → PlanView → ℕ → WriterValue
-opening_writer table plan seat = record { table = table; plan = plan; seat = seat; stage = 0; written = replicate (length plan.owners) None }
+opening_writer table plan seat = record { table = table; plan = plan; seat = seat; stage = 0; polled = 0; polls = 0; written = replicate (length plan.owners) None }
 
 -- the writers of the seats 0, 1, .. before any call
 abbrev pub opening_writers : TableId → PlanView → List WriterValue

@@ -88,6 +88,8 @@ impl Model for Writer {
       plan = w.token.knows.plan;
       seat = w.token.knows.index;
       stage = w.token.knows.taken_up;
+      polled = w.token.knows.polled;
+      polls = w.token.knows.polls;
       written = map object_of w.token.knows.written;
     } };
 
@@ -271,7 +273,7 @@ impl Flip {
     /// load of the posted stage and a store of the seat's.
     pub fn flip_ack(&self, writer: Writer) -> (u64, Writer)
         requires { IsWriterOf self.now writer }
-        ensures writer { result.1 ≡ record writer { stage = result.0 } }
+        ensures writer { result.1 ≡ record writer { stage = result.0; polled = result.0; polls = writer.polls + 1 } }
         ensures paced { IsPostedOrOneLess writer.stage result.0 }
         ensures last { result.0 ≤ 2 }
     {
