@@ -117,7 +117,19 @@ dealt_copier plan dealt = record {
 
 -- the writer of a seat before any step
 abbrev pub opening_writer : PlanView → ℕ → WriterView
-opening_writer plan index = record { plan = plan; index = index; taken_up = 0; polled = 0; polls = 0; written = replicate (length plan.owners) 0; wrote = []; pending = None }
+opening_writer plan index = record {
+  plan = plan;
+  index = index;
+  taken_up = 0;
+  polled = 0;
+  polls = 0;
+  loads = 0;
+  loaded_word = 0;
+  loaded = 0;
+  written = replicate (length plan.owners) 0;
+  wrote = [];
+  pending = None;
+}
 
 -- the copier before any writer is given out
 abbrev pub opening_view : PlanView → View

@@ -21,7 +21,7 @@ no_plan = record { owners = []; seats = 0; limit = 0 }
 -- what a writer knows (of the copier's view nothing is asked)
 abbrev pub writer_part : View → WriterView
 writer_part (OfWriter q) = q
-writer_part (OfCopier p) = record { plan = no_plan; index = 0; taken_up = 0; polled = 0; polls = 0; written = []; wrote = []; pending = None }
+writer_part (OfCopier p) = record { plan = no_plan; index = 0; taken_up = 0; polled = 0; polls = 0; loads = 0; loaded_word = 0; loaded = 0; written = []; wrote = []; pending = None }
 
 -- what the copier knows (of a writer's view nothing is asked)
 abbrev pub copier_part : View → CopierView
@@ -53,6 +53,10 @@ abbrev pub dealt_writer : View → View
 dealt_writer (OfWriter q) = OfWriter q
 dealt_writer (OfCopier p) = OfWriter (opening_writer p.plan p.dealt)
 
+-- the writer once a load of this word of a slot gave it the value x
+abbrev pub loading_writer : WriterView → ℕ → ℕ → WriterView
+loading_writer q word x = record q { loads = q.loads + 1; loaded_word = word; loaded = x }
+
 -- the copier once it looked at seat j and found it to have taken up the stage x
 abbrev pub looking_copier : CopierView → ℕ → ℕ → CopierView
 looking_copier p j x = record p { found = slice_set p.found j x; looks = p.looks + 1; looked_at = j }
@@ -64,12 +68,12 @@ checking_copier p k x = record p { copying = None; checks = p.checks + 1; checke
 -- A load of a first copy, at stage 0. The seat has found a value below the limit, and in a slot of its own what it last wrote.
 abbrev pub LoadsFirst : WordStep → Holder → ℕ → Holder → Type 0
 LoadsFirst step before x after = let q = writer_part before.0 in
-    (after ≡ (OfWriter q, [])) × (x < q.plan.limit) × (slice_index q.plan.owners step.word ≡ q.index → x ≡ slice_index q.written step.word)
+    (after ≡ (OfWriter (loading_writer q step.word x), [])) × (x < q.plan.limit) × (slice_index q.plan.owners step.word ≡ q.index → x ≡ slice_index q.written step.word)
 
 -- A load of a second copy, from stage 1 on. The seat has found the forward of such a value.
 abbrev pub LoadsSecond : WordStep → Holder → ℕ → Holder → Type 0
 LoadsSecond step before y after = let q = writer_part before.0 in
-    (after ≡ (OfWriter q, [])) × ((x : ℕ) × (x < q.plan.limit) × (y ≡ forward x))
+    ((x : ℕ) × (after ≡ (OfWriter (loading_writer q step.word x), [])) × (x < q.plan.limit) × (y ≡ forward x))
     × ((k : ℕ) → step.word ≡ length q.plan.owners + k → slice_index q.plan.owners k ≡ q.index → y ≡ forward (slice_index q.written k))
 
 -- A store to a first copy. The seat has written x, and has yet to store it in the second copy.

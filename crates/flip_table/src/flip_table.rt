@@ -5,7 +5,7 @@ ghost use Rattle.std.specs.Prelude.{All, IfOk, vec_len, true, false};
 ghost use Rattle.flip_table.specs.Plans.{plan_of};
 ghost use Rattle.epoch_words.specs.Tokens.{FoundAll, IsPostedOrOneLess};
 ghost use Rattle.flip_table.specs.Rule.{dealt_copier, forward, opening_view, AllMarked};
-ghost use Rattle.flip_table.specs.Steps.{checking_copier, looking_copier};
+ghost use Rattle.flip_table.specs.Steps.{checking_copier, loading_writer, looking_copier};
 ghost use Rattle.flip_table.specs.Tokens.{opening_seat, opening_writers, IsCopierOf, IsWriterOf};
 ghost use Rattle.flip_table.specs.declared.slot_table.View.TheVariants.{OfCopier};
 
@@ -203,7 +203,7 @@ impl FlipTable {
     pub fn load_first(&self, mut writer: Writer, slot: usize) -> (u64, Writer)
         requires table { IsWriterOf self.now writer × (slot < length self.now.plan.owners) }
         requires stage { writer.knows.taken_up ≡ 0 }
-        ensures writer { result.1 ≡ writer }
+        ensures writer { result.1 ≡ record writer { knows = loading_writer writer.knows slot result.0 } }
         ensures small { result.0 < self.now.plan.limit }
         ensures own { slice_index self.now.plan.owners slot ≡ writer.knows.index → result.0 ≡ slice_index writer.knows.written slot }
     {
@@ -216,7 +216,7 @@ impl FlipTable {
     pub fn load_second(&self, mut writer: Writer, slot: usize) -> (u64, Writer)
         requires table { IsWriterOf self.now writer × (slot < length self.now.plan.owners) }
         requires stage { (0 < writer.knows.taken_up) × (writer.knows.pending ≡ None) }
-        ensures writer { result.1 ≡ writer }
+        ensures writer { result.1 ≡ record writer { knows = loading_writer writer.knows (length self.now.plan.owners + slot) result.0 } }
         ensures small { result.0 < self.now.plan.limit }
         ensures own { slice_index self.now.plan.owners slot ≡ writer.knows.index → result.0 ≡ slice_index writer.knows.written slot }
     {

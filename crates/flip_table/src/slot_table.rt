@@ -36,6 +36,12 @@ pub struct WriterView {
     pub polled: u64,
     /// How often it polled.
     pub polls: u64,
+    /// How many loads of a slot it took.
+    pub loads: u64,
+    /// The word of its last load of a slot.
+    pub loaded_word: u64,
+    /// The value that this load gave.
+    pub loaded: u64,
     /// The value that it last wrote to each slot of its own.
     pub written: [u64; 0],
     /// Every slot and value that it ever wrote.

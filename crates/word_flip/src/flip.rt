@@ -5,7 +5,7 @@ ghost use Rattle.std.specs.Option.{ForSome};
 ghost use Rattle.epoch_words.specs.Tokens.{FindsNoLess, FoundAll, FoundLate, IsPostedOrOneLess};
 ghost use Rattle.flip_table.specs.Rule.{AllMarked};
 ghost use Rattle.word_flip.specs.Objects.{object_of};
-ghost use Rattle.word_flip.specs.Tokens.{writer_value, opening_copier, opening_writers, place_of, HasChecked, HasSlot, IsCopierOf, IsOwn, IsWriterOf, SomeUncopied};
+ghost use Rattle.word_flip.specs.Tokens.{writer_value, opening_copier, opening_writers, place_of, HasChecked, HasLoaded, HasSlot, IsCopierOf, IsOwn, IsWriterOf, SomeUncopied};
 
 use crate::objects::{object_of, word_of};
 use flip_table::{FlipTable, Plan};
@@ -90,6 +90,9 @@ impl Model for Writer {
       stage = w.token.knows.taken_up;
       polled = w.token.knows.polled;
       polls = w.token.knows.polls;
+      loads = w.token.knows.loads;
+      loaded_word = w.token.knows.loaded_word;
+      loaded = object_of w.token.knows.loaded;
       written = map object_of w.token.knows.written;
     } };
 
@@ -216,7 +219,8 @@ impl Flip {
     /// The word of a place, from the copy that goes with the seat's stage.
     fn load_word(&self, writer: Writer, place: usize) -> (u64, Writer)
         requires { IsWriterOf self.now writer × (place < length self.now.plan.owners) }
-        ensures writer { result.1 ≡ writer }
+        ensures loaded { HasLoaded self.now writer place result.1 × (result.1.loaded ≡ object_of result.0) }
+        ensures rest { result.1 ≡ record writer { loads = result.1.loads; loaded_word = result.1.loaded_word; loaded = result.1.loaded } }
         ensures small { (result.0 ≤ self.now.objects) × (result.0 ≤ 256) }
         ensures own { slice_index self.now.plan.owners place ≡ writer.seat → slice_get writer.written place ≡ Some (object_of result.0) }
     {
@@ -232,11 +236,13 @@ impl Flip {
     ///
     /// A seat at stage 0 loads the first copy, and at stage 1 or 2 the second. In a slot of the seat's own this is what
     /// it last wrote, whatever was copied and retired meanwhile. In another's it is null or an object number below the
-    /// number of objects. The writer has to be of this flip, and the slot one of its slots. This is one step.
+    /// number of objects. The writer has to be of this flip, and the slot one of its slots. This is one step, the load that
+    /// gives the answer.
     pub fn load(&self, writer: Writer, object: u16, slot: u8) -> (Option<u16>, Writer)
         requires writer { IsWriterOf self.now writer }
         requires slot { HasSlot self.now object slot }
-        ensures writer { result.1 ≡ writer }
+        ensures loaded { HasLoaded self.now writer (place_of self.now object slot) result.1 × (result.1.loaded ≡ result.0) }
+        ensures rest { result.1 ≡ record writer { loads = result.1.loads; loaded_word = result.1.loaded_word; loaded = result.1.loaded } }
         ensures named { IfSome result.0 (λ named. named < self.now.objects) }
         ensures own { IsOwn self.now writer object slot → slice_get writer.written (place_of self.now object slot) ≡ Some result.0 }
     {
