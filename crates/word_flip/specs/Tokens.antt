@@ -14,7 +14,7 @@ pub record FlipValue : Type 0 where
   pub objects : ℕ
   pub slots : ℕ
 
--- `stage` is the stage that the seat has taken up. `polls` counts its loads of the posted stage, and `polled` is what the last one gave. `loads` counts its loads of a slot; the last was of the word `loaded_word`, which named the object `loaded`. `written` has for each place what this seat last wrote there, or null.
+-- `stage` is the stage that the seat has taken up. `polls` counts its loads of the posted stage, and `polled` is what the last one gave. `loads` counts its loads of a slot; the last was of the word `loaded_word`, which named the object `loaded`. `stores` counts the objects that it wrote, and `written` has for each place what this seat last wrote there, or null.
 pub record WriterValue : Type 0 where
   pub table : TableId
   pub plan : PlanView
@@ -25,6 +25,7 @@ pub record WriterValue : Type 0 where
   pub loads : ℕ
   pub loaded_word : ℕ
   pub loaded : Option ℕ
+  pub stores : ℕ
   pub written : List (Option ℕ)
 
 -- what callers see of a writer of the table
@@ -39,6 +40,7 @@ writer_value token = record {
   loads = token.knows.loads;
   loaded_word = token.knows.loaded_word;
   loaded = object_of token.knows.loaded;
+  stores = length token.knows.wrote;
   written = map object_of token.knows.written;
 }
 
@@ -100,6 +102,7 @@ opening_writer table plan seat = record {
   loads = 0;
   loaded_word = 0;
   loaded = None;
+  stores = 0;
   written = replicate (length plan.owners) None;
 }
 

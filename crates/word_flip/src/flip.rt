@@ -93,6 +93,7 @@ impl Model for Writer {
       loads = w.token.knows.loads;
       loaded_word = w.token.knows.loaded_word;
       loaded = object_of w.token.knows.loaded;
+      stores = length w.token.knows.wrote;
       written = map object_of w.token.knows.written;
     } };
 
@@ -254,13 +255,12 @@ impl Flip {
     ///
     /// At stages 0 and 1 this is a store to the first copy and then one to the second, and at stage 2 one to the second.
     /// The writer has to be of this flip, and the object one of its objects.
-    #[tactic(auto, using(crate::proofs::ObjectWords::written_to))]
     pub fn store(&self, writer: Writer, object: u16, slot: u8, value: Option<u16>) -> Writer
         requires writer { IsWriterOf self.now writer }
         requires slot { HasSlot self.now object slot }
         requires own { IsOwn self.now writer object slot }
         requires value { ForSome value (λ named. named < self.now.objects) }
-        ensures { result ≡ record writer { written = slice_set writer.written (place_of self.now object slot) value } }
+        ensures { result ≡ record writer { stores = writer.stores + 1; written = slice_set writer.written (place_of self.now object slot) value } }
     {
         let place = self.place(object, slot);
         let word = word_of(value);
