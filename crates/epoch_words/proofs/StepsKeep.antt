@@ -6,7 +6,7 @@ use native.Mathlib.Decide.{ℕ_discrete}
 use lib.Seq.{set-get_or}
 use Rattle.atomic_table.specs.Table.{State, step, keeps, Allows, Splits}
 use Rattle.epoch_words.proofs.Views.{at_inside, changed, longer}
-use Rattle.epoch_words.specs.Rule.{seat_view, herald_view, IsPaced, IsSeatView, IsHeraldView, Knows, KeepsEpochs}
+use Rattle.epoch_words.specs.Rule.{IsPaced, IsSeatView, IsHeraldView, Knows, KeepsEpochs}
 use Rattle.epoch_words.specs.Steps.{Holder, dealing_herald, dealt_seat, LoadsPosted, StoresSeen, LoadsSeen, StoresPosted}
 use Rattle.epoch_words.specs.Tokens.{FoundAll, IsPostedOrOneLess}
 use Rattle.epoch_words.specs.declared.word_table.HeraldView.{HeraldView}
@@ -37,24 +37,25 @@ loaded_keeps workers s rule i homes mover w mine = subst (λ (ws : List ℕ). Ke
     (stepped_keeps workers s rule s.words homes mover w refl rule.paced mine (λ j v _ k. k))
 
 loads_posted_at : (workers slots id : ℕ) (seat : SeatView) → Allows (KeepsEpochs workers) slots id (OfSeat seat, []) workers (λ n. n) (LoadsPosted (step slots workers 0 0 none) (OfSeat seat, []))
-loads_posted_at workers slots id seat s rule _ at _ = let k : IsSeatView s.words workers id seat = rule.known id (OfSeat seat) at in let n : ℕ = get_or s.words workers 0 in let near = rule.paced seat.index k.in_range in (
-  seat_view seat.index seat.seen n,
-  keeps,
-  tt,
-  loaded_keeps workers s rule workers s.homes id (seat_view seat.index seat.seen n) record {
-    place_is = k.place_is;
-    in_range = k.in_range;
-    seen_is = k.seen_is;
-    seen_polled = omega (arith, near.0, k.seen_is);
-    polled_posted = omega arith;
-  },
-  (refl, subst (λ (m : ℕ). IsPostedOrOneLess m n) k.seen_is near, k.polled_posted),
-)
+loads_posted_at workers slots id seat s rule _ at _ = let k : IsSeatView s.words workers id seat = rule.known id (OfSeat seat) at in let n : ℕ = get_or s.words workers 0 in let near = rule.paced seat.index k.in_range in
+    let after : View = OfSeat (record seat { polled = n; polls = seat.polls + 1 }) in (
+      after,
+      keeps,
+      tt,
+      loaded_keeps workers s rule workers s.homes id after record {
+        place_is = k.place_is;
+        in_range = k.in_range;
+        seen_is = k.seen_is;
+        seen_polled = omega (arith, near.0, k.seen_is);
+        polled_posted = omega arith;
+      },
+      (refl, subst (λ (m : ℕ). IsPostedOrOneLess m n) k.seen_is near, k.polled_posted),
+    )
 
-pub loads_posted : (key workers slots id : ℕ) (me : Holder) (index seen polled : ℕ) → key ≡ workers → me ≡ (seat_view index seen polled, [])
+pub loads_posted : (key workers slots id : ℕ) (me : Holder) (seat : SeatView) → key ≡ workers → me ≡ (OfSeat seat, [])
     → Allows (KeepsEpochs key) slots id me workers (λ n. n) (LoadsPosted (step slots workers 0 0 none) me)
-loads_posted key workers slots id me index seen polled key_is me_is = subst (λ (z : ℕ × Holder). Allows (KeepsEpochs z.0) slots id z.1 workers (λ n. n) (LoadsPosted (step slots workers 0 0 none) z.1)) (λ i. (sym key_is i, sym me_is i))
-    (loads_posted_at workers slots id (record { index = index; seen = seen; polled = polled }))
+loads_posted key workers slots id me seat key_is me_is = subst (λ (z : ℕ × Holder). Allows (KeepsEpochs z.0) slots id z.1 workers (λ n. n) (LoadsPosted (step slots workers 0 0 none) z.1)) (λ i. (sym key_is i, sym me_is i))
+    (loads_posted_at workers slots id seat)
 
 -- a store of x to the word of seat i
 module _ (workers : ℕ) (ws : List ℕ) (i x : ℕ) (in_range : i < workers) where
@@ -95,11 +96,11 @@ module _ (workers : ℕ) (ws : List ℕ) (i x : ℕ) (in_range : i < workers) wh
 stores_seen_at : (workers slots id : ℕ) (seat : SeatView)
     → Allows (KeepsEpochs workers) slots id (OfSeat seat, []) seat.index (λ _. seat.polled) (λ _. StoresSeen (step slots seat.index seat.polled 0 none) (OfSeat seat, []) seat.polled)
 stores_seen_at workers slots id seat s rule _ at _ = let k : IsSeatView s.words workers id seat = rule.known id (OfSeat seat) at in let near = rule.paced seat.index k.in_range in let last = at_inside s.views id (OfSeat seat) at in
-    let after : List ℕ = set s.words seat.index seat.polled in let posted_same = posted_stays workers s.words seat.index seat.polled k.in_range in (
-      seat_view seat.index seat.polled seat.polled,
+    let after : List ℕ = set s.words seat.index seat.polled in let posted_same = posted_stays workers s.words seat.index seat.polled k.in_range in let acked : View = OfSeat (record seat { seen = seat.polled }) in (
+      acked,
       keeps,
       tt,
-      stepped_keeps workers s rule after s.homes id (seat_view seat.index seat.polled seat.polled) (length-set s.words seat.index seat.polled)
+      stepped_keeps workers s rule after s.homes id acked (length-set s.words seat.index seat.polled)
           (seen_paced workers s.words seat.index seat.polled k.in_range rule.words_are rule.paced (k.polled_posted, omega (arith, near.1, k.seen_is, k.seen_polled)))
           record {
             place_is = k.place_is;
@@ -112,19 +113,20 @@ stores_seen_at workers slots id seat s rule _ at _ = let k : IsSeatView s.words 
       refl,
     )
 
-pub stores_seen : (key slots id : ℕ) (me : Holder) (index seen polled : ℕ) → me ≡ (seat_view index seen polled, [])
+pub stores_seen : (key slots id index polled : ℕ) (me : Holder) (seat : SeatView) → index ≡ seat.index → polled ≡ seat.polled → me ≡ (OfSeat seat, [])
     → Allows (KeepsEpochs key) slots id me index (λ _. polled) (λ _. StoresSeen (step slots index polled 0 none) me polled)
-stores_seen key slots id me index seen polled me_is = subst (λ (z : Holder). Allows (KeepsEpochs key) slots id z index (λ _. polled) (λ _. StoresSeen (step slots index polled 0 none) z polled)) (sym me_is)
-    (stores_seen_at key slots id (record { index = index; seen = seen; polled = polled }))
+stores_seen key slots id index polled me seat index_is polled_is me_is =
+    subst (λ (z : ℕ × ℕ × Holder). Allows (KeepsEpochs key) slots id z.2 z.0 (λ _. z.1) (λ _. StoresSeen (step slots z.0 z.1 0 none) z.2 z.1)) (λ i. (sym index_is i, sym polled_is i, sym me_is i))
+    (stores_seen_at key slots id seat)
 
 loads_seen_at : (workers slots id i : ℕ) (herald : HeraldView) → i < length herald.found
     → Allows (KeepsEpochs workers) slots id (OfHerald herald, []) i (λ n. n) (LoadsSeen (step slots i 0 0 none) (OfHerald herald, []))
 loads_seen_at workers slots id i herald l s rule _ at _ = let k : IsHeraldView s.words workers (length s.views) id herald = rule.known id (OfHerald herald) at in let n : ℕ = get_or s.words i 0 in
-    let near : IsPostedOrOneLess n (get_or s.words workers 0) = rule.paced i (omega (arith, k.found_each)) in (
-      herald_view herald.posted herald.dealt (set herald.found i n),
+    let near : IsPostedOrOneLess n (get_or s.words workers 0) = rule.paced i (omega (arith, k.found_each)) in let after : HeraldView = record herald { found = set herald.found i n; looks = herald.looks + 1; looked_at = i } in (
+      OfHerald after,
       keeps,
       tt,
-      loaded_keeps workers s rule i s.homes id (herald_view herald.posted herald.dealt (set herald.found i n)) record {
+      loaded_keeps workers s rule i s.homes id (OfHerald after) record {
         place_is = k.place_is;
         places_are = k.places_are;
         found_each = length-set herald.found i n ∙ k.found_each;
@@ -137,10 +139,10 @@ loads_seen_at workers slots id i herald l s rule _ at _ = let k : IsHeraldView s
       (refl, subst (λ (m : ℕ). IsPostedOrOneLess n m) k.posted_is near, k.found_since i (omega (arith, k.found_each))),
     )
 
-pub loads_seen : (key slots id i : ℕ) (me : Holder) (posted dealt : ℕ) (found : List ℕ) → me ≡ (herald_view posted dealt found, []) → i < length found
+pub loads_seen : (key slots id i : ℕ) (me : Holder) (herald : HeraldView) → me ≡ (OfHerald herald, []) → i < length herald.found
     → Allows (KeepsEpochs key) slots id me i (λ n. n) (LoadsSeen (step slots i 0 0 none) me)
-loads_seen key slots id i me posted dealt found me_is l = subst (λ (z : Holder). Allows (KeepsEpochs key) slots id z i (λ n. n) (LoadsSeen (step slots i 0 0 none) z)) (sym me_is)
-    (loads_seen_at key slots id i (record { posted = posted; dealt = dealt; found = found }) l)
+loads_seen key slots id i me herald me_is l = subst (λ (z : Holder). Allows (KeepsEpochs key) slots id z i (λ n. n) (LoadsSeen (step slots i 0 0 none) z)) (sym me_is)
+    (loads_seen_at key slots id i herald l)
 
 -- a store of a greater number as posted
 raised_others : (workers : ℕ) (ws : List ℕ) (places n : ℕ) → get_or (set ws workers n) workers 0 ≡ n → ((j : ℕ) → j < workers → get_or (set ws workers n) j 0 ≡ get_or ws j 0) → get_or ws workers 0 ≤ n
@@ -157,12 +159,13 @@ raised_others workers ws places n raised there grows j (OfHerald herald) ne k = 
 stores_posted_at : (workers slots id : ℕ) (herald : HeraldView) → FoundAll workers herald.posted herald.found
     → Allows (KeepsEpochs workers) slots id (OfHerald herald, []) workers (λ _. herald.posted + 1) (λ _. StoresPosted (step slots workers (herald.posted + 1) 0 none) (OfHerald herald, []) (herald.posted + 1))
 stores_posted_at workers slots id herald all s rule _ at _ = let k : IsHeraldView s.words workers (length s.views) id herald = rule.known id (OfHerald herald) at in let n : ℕ = herald.posted + 1 in let after : List ℕ = set s.words workers n in
+    let next : View = OfHerald (record herald { posted = n }) in
     let raised : get_or after workers 0 ≡ n = get_or-set_same s.words workers n 0 (omega (arith, rule.words_are)) in
     let there : (j : ℕ) → j < workers → get_or after j 0 ≡ get_or s.words j 0 = λ j l. get_or-set_other s.words workers j n 0 (λ e. omega arith) in (
-      herald_view n herald.dealt herald.found,
+      next,
       keeps,
       tt,
-      stepped_keeps workers s rule after s.homes id (herald_view n herald.dealt herald.found) (length-set s.words workers n)
+      stepped_keeps workers s rule after s.homes id next (length-set s.words workers n)
           (λ j l. let old : IsPostedOrOneLess (get_or s.words j 0) (get_or s.words workers 0) = rule.paced j l in let since = k.found_since j l in
           let now : get_or herald.found j 0 ≡ herald.posted = all j l in (omega (arith, there j l, raised, old.0, k.posted_is), omega (arith, there j l, raised, since, now)))
           record {
@@ -177,11 +180,11 @@ stores_posted_at workers slots id herald all s rule _ at _ = let k : IsHeraldVie
       refl,
     )
 
-pub stores_posted : (key workers slots id : ℕ) (me : Holder) (posted dealt : ℕ) (found : List ℕ) → key ≡ workers → me ≡ (herald_view posted dealt found, []) → FoundAll workers posted found
-    → Allows (KeepsEpochs key) slots id me workers (λ _. posted + 1) (λ _. StoresPosted (step slots workers (posted + 1) 0 none) me (posted + 1))
-stores_posted key workers slots id me posted dealt found key_is me_is all =
-    subst (λ (z : ℕ × Holder). Allows (KeepsEpochs z.0) slots id z.1 workers (λ _. posted + 1) (λ _. StoresPosted (step slots workers (posted + 1) 0 none) z.1 (posted + 1))) (λ i. (sym key_is i, sym me_is i))
-    (stores_posted_at workers slots id (record { posted = posted; dealt = dealt; found = found }) all)
+pub stores_posted : (key workers slots id next : ℕ) (me : Holder) (herald : HeraldView) → key ≡ workers → next ≡ herald.posted + 1 → me ≡ (OfHerald herald, []) → FoundAll workers herald.posted herald.found
+    → Allows (KeepsEpochs key) slots id me workers (λ _. next) (λ _. StoresPosted (step slots workers next 0 none) me next)
+stores_posted key workers slots id next me herald key_is next_is me_is all =
+    subst (λ (z : ℕ × ℕ × Holder). Allows (KeepsEpochs z.0) slots id z.2 workers (λ _. z.1) (λ _. StoresPosted (step slots workers z.1 0 none) z.2 z.1)) (λ i. (sym key_is i, sym next_is i, sym me_is i))
+    (stores_posted_at workers slots id herald all)
 
 -- what others know, once there is one place more
 joined_others : (workers : ℕ) (ws : List ℕ) (places more j : ℕ) (v : View) → j ≢ 0 → Knows ws workers places j v → Knows ws workers more j v
@@ -214,5 +217,5 @@ deals_at workers id herald room s rule at = let k : IsHeraldView s.words workers
           (λ a b ne h. joined_others workers s.words (length s.views) places a b (λ e. ne (e ∙ sym k.place_is)) (rule.known a b h))) j v e);
     }
 
-pub deals : (key id : ℕ) (me : Holder) (posted dealt : ℕ) (found : List ℕ) → me ≡ (herald_view posted dealt found, []) → dealt < length found → Splits (KeepsEpochs key) id me.0 (dealing_herald me.0) (dealt_seat me.0)
-deals key id me posted dealt found me_is room = subst (λ (z : Holder). Splits (KeepsEpochs key) id z.0 (dealing_herald z.0) (dealt_seat z.0)) (sym me_is) (deals_at key id (record { posted = posted; dealt = dealt; found = found }) room)
+pub deals : (key id : ℕ) (me : Holder) (herald : HeraldView) → me ≡ (OfHerald herald, []) → herald.dealt < length herald.found → Splits (KeepsEpochs key) id me.0 (dealing_herald me.0) (dealt_seat me.0)
+deals key id me herald me_is room = subst (λ (z : Holder). Splits (KeepsEpochs key) id z.0 (dealing_herald z.0) (dealt_seat z.0)) (sym me_is) (deals_at key id herald room)

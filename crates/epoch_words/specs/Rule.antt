@@ -9,15 +9,13 @@ use Rattle.epoch_words.specs.declared.word_table.SeatView.{SeatView}
 use Rattle.epoch_words.specs.declared.word_table.View.{View}
 use Rattle.epoch_words.specs.declared.word_table.View.TheVariants.{OfSeat, OfHerald}
 
-abbrev pub seat_view : ℕ → ℕ → ℕ → View
-seat_view index seen polled = OfSeat (record { index = index; seen = seen; polled = polled })
-
-abbrev pub herald_view : ℕ → ℕ → List ℕ → View
-herald_view posted dealt found = OfHerald (record { posted = posted; dealt = dealt; found = found })
+-- the herald once so many seats are given out, before any step
+abbrev pub dealt_herald : ℕ → ℕ → HeraldView
+dealt_herald workers dealt = record { posted = 0; dealt = dealt; found = replicate workers 0; looks = 0; looked_at = 0 }
 
 -- the herald before any seat is given out
 abbrev pub opening_view : ℕ → View
-opening_view workers = herald_view 0 0 (replicate workers 0)
+opening_view workers = OfHerald (dealt_herald workers 0)
 
 -- Each seat's number keeps to the posted one.
 abbrev pub IsPaced : ℕ → List ℕ → Type 0

@@ -1,5 +1,5 @@
 -- What callers see of the epochs, the seats and the herald (this profile).
-use Rattle.std.specs.Prelude.{◌≡◌, ℕ, ◌+◌, ◌<◌, ◌≤◌, List, map, length, slice_index}
+use Rattle.std.specs.Prelude.{◌≡◌, ℕ, ◌+◌, ◌<◌, ◌≤◌, List, map, length, replicate, slice_index}
 use Rattle.std.specs.List.{range_with_len}
 use Rattle.atomic_table.specs.Seated.{TableId}
 
@@ -8,36 +8,44 @@ pub record EpochsValue : Type 0 where
   pub table : TableId
   pub workers : ℕ
 
+-- `polls` counts the seat's loads of the posted number, and `polled` is what the last one gave.
 pub record SeatValue : Type 0 where
   pub table : TableId
   pub index : ℕ
   pub seen : ℕ
   pub polled : ℕ
+  pub polls : ℕ
 
--- `found` has for each seat the number that the herald last found it to have seen.
+-- `found` has for each seat the number that the herald last found it to have seen. `looks` counts its looks, each a load of a seat's number, and `looked_at` is the seat of the last one.
 pub record HeraldValue : Type 0 where
   pub table : TableId
   pub posted : ℕ
   pub found : List ℕ
+  pub looks : ℕ
+  pub looked_at : ℕ
 
 -- THE RULE: every seen number is the posted one or one less.
 abbrev pub IsPostedOrOneLess : ℕ → ℕ → Type 0
 IsPostedOrOneLess seen posted = (seen ≤ posted) × (posted ≤ seen + 1)
 
 abbrev pub opening_seat : TableId → ℕ → SeatValue
-opening_seat table index = record { table = table; index = index; seen = 0; polled = 0 }
+opening_seat table index = record { table = table; index = index; seen = 0; polled = 0; polls = 0 }
 
 -- the seats 0, 1, .. before any step
 abbrev pub opening_seats : TableId → ℕ → List SeatValue
 opening_seats table workers = map (opening_seat table) (range_with_len 0 workers)
 
+-- the herald before any step
+abbrev pub opening_herald : TableId → ℕ → HeraldValue
+opening_herald table workers = record { table = table; posted = 0; found = replicate workers 0; looks = 0; looked_at = 0 }
+
 -- Each of so many seats was found to have seen the posted number.
 abbrev pub FoundAll : ℕ → ℕ → List ℕ → Type 0
 FoundAll workers posted found = (j : ℕ) → j < workers → slice_index found j ≡ posted
 
--- One of so many seats was found that had not seen the posted number.
-abbrev pub FoundLate : ℕ → ℕ → List ℕ → Type 0
-FoundLate workers posted found = (j : ℕ) × (j < workers) × (slice_index found j < posted)
+-- The seat of the last look is the first of so many that was found not to have seen the posted number.
+abbrev pub FoundLate : ℕ → ℕ → List ℕ → ℕ → Type 0
+FoundLate workers posted found looked_at = (looked_at < workers) × FoundAll looked_at posted found × (slice_index found looked_at < posted)
 
 -- No seat was found to have seen less than was found before.
 abbrev pub FindsNoLess : List ℕ → List ℕ → Type 0

@@ -1,8 +1,9 @@
 //! What the herald and the seats do.
 
 ghost use Rattle.std.specs.Prelude.{◌≡◌, ℕ, ◌+◌, ◌-◌, ◌^◌, ◌<◌, ◌≤◌, ◌↔◌, length, slice_index, slice_set, replicate, [], IfOk};
-ghost use Rattle.epoch_words.specs.Tokens.{opening_seat, opening_seats, FoundAll, FoundLate, FindsNoLess, IsPostedOrOneLess};
-ghost use Rattle.epoch_words.specs.Rule.{herald_view, opening_view};
+ghost use Rattle.epoch_words.specs.Tokens.{opening_herald, opening_seat, opening_seats, FoundAll, FoundLate, FindsNoLess, IsPostedOrOneLess};
+ghost use Rattle.epoch_words.specs.Rule.{dealt_herald, opening_view};
+ghost use Rattle.epoch_words.specs.declared.word_table.View.TheVariants.{OfHerald};
 
 use crate::word_table::{DealSeat, LoadPosted, LoadSeen, StorePosted, StoreSeen, Token, WordTable};
 use atomic_table::Table;
@@ -51,8 +52,8 @@ pub struct Seat {
 impl Model for Seat {
     ghost use Rattle.std.specs.Prelude.{◌≡◌, ◌+◌, ◌<◌, []};
     ghost use Rattle.epoch_words.specs.Tokens.{SeatValue};
-    ghost use Rattle.epoch_words.specs.Rule.{seat_view};
     ghost use Rattle.epoch_words.specs.Steps.{seat_part};
+    ghost use Rattle.epoch_words.specs.declared.word_table.View.TheVariants.{OfSeat};
 
     ghost Value = { SeatValue };
 
@@ -61,10 +62,13 @@ impl Model for Seat {
       index = s.index;
       seen = (seat_part s.token.me.0).seen;
       polled = s.polled;
+      polls = (seat_part s.token.me.0).polls;
     } };
 
-    ghost invariant = { λ s.
-        (s.token.me ≡ (seat_view s.index (seat_part s.token.me.0).seen s.polled, []))
+    ghost invariant = { λ s. let known = seat_part s.token.me.0 in
+        (s.token.me ≡ (OfSeat known, []))
+        × (s.index ≡ known.index)
+        × (s.polled ≡ known.polled)
         × (s.index + 1 < s.token.table_id.words) };
 }
 
@@ -78,8 +82,8 @@ pub struct Herald {
 impl Model for Herald {
     ghost use Rattle.std.specs.Prelude.{◌≡◌, ◌+◌, [], length};
     ghost use Rattle.epoch_words.specs.Tokens.{HeraldValue};
-    ghost use Rattle.epoch_words.specs.Rule.{herald_view};
     ghost use Rattle.epoch_words.specs.Steps.{herald_part};
+    ghost use Rattle.epoch_words.specs.declared.word_table.View.TheVariants.{OfHerald};
 
     ghost Value = { HeraldValue };
 
@@ -87,10 +91,13 @@ impl Model for Herald {
       table = h.token.table_id;
       posted = h.posted;
       found = (herald_part h.token.me.0).found;
+      looks = (herald_part h.token.me.0).looks;
+      looked_at = (herald_part h.token.me.0).looked_at;
     } };
 
     ghost invariant = { λ h. let known = herald_part h.token.me.0 in
-        (h.token.me ≡ (herald_view h.posted known.dealt known.found, []))
+        (h.token.me ≡ (OfHerald known, []))
+        × (h.posted ≡ known.posted)
         × (length known.found + 1 ≡ h.token.table_id.words) };
 }
 
@@ -107,8 +114,8 @@ fn lay_words(alloc: Global, workers: usize) -> Result<(WordTable, Token), AllocE
 /// The seat of this index, which is the next one to be given out.
 fn deal_seat(words: &WordTable, token: &mut Token, index: usize, workers: usize) -> Seat
     requires words { (token.old.table_id ≡ words.now.shared.table_id) × (words.now.shared.table_id.words ≡ workers + 1) × (words.now.shared.key ≡ workers) }
-    requires next { (token.old.me ≡ (herald_view 0 index (replicate workers 0), [])) × (index < workers) }
-    ensures token { (token.new.table_id ≡ token.old.table_id) × (token.new.me ≡ (herald_view 0 (index + 1) (replicate workers 0), [])) }
+    requires next { (token.old.me ≡ (OfHerald (dealt_herald workers index), [])) × (index < workers) }
+    ensures token { (token.new.table_id ≡ token.old.table_id) × (token.new.me ≡ (OfHerald (dealt_herald workers (index + 1)), [])) }
     ensures seat { result ≡ opening_seat token.old.table_id index }
 {
     Seat {
@@ -120,8 +127,8 @@ fn deal_seat(words: &WordTable, token: &mut Token, index: usize, workers: usize)
 
 /// The herald, once each seat was given out.
 fn herald_of(token: Token, workers: usize) -> Herald
-    requires { (token.me ≡ (herald_view 0 workers (replicate workers 0), [])) × (token.table_id.words ≡ workers + 1) }
-    ensures { result ≡ record { table = token.table_id; posted = 0; found = replicate workers 0 } }
+    requires { (token.me ≡ (OfHerald (dealt_herald workers workers), [])) × (token.table_id.words ≡ workers + 1) }
+    ensures { result ≡ opening_herald token.table_id workers }
 {
     Herald { token, posted: 0 }
 }
@@ -132,7 +139,7 @@ impl Epochs {
     /// Only want of memory is an error. No other call takes memory.
     pub fn new(alloc: Global, workers: usize) -> Result<(Epochs, Herald, Vec<Seat>), AllocError>
         ensures epochs { IfOk result (λ made. made.0.workers ≡ workers) }
-        ensures herald { IfOk result (λ made. made.1 ≡ record { table = made.0.table; posted = 0; found = replicate workers 0 }) }
+        ensures herald { IfOk result (λ made. made.1 ≡ opening_herald made.0.table workers) }
         ensures seats { IfOk result (λ made. made.2.items ≡ opening_seats made.0.table workers) }
     {
         let mut seats = Vec::with_capacity(alloc, workers)?;
@@ -149,7 +156,7 @@ impl Epochs {
     /// these epochs. This is one step: a load of the posted number.
     pub fn poll(&self, mut seat: Seat) -> (u64, Seat)
         requires { seat.table ≡ self.now.table }
-        ensures seat { result.1 ≡ record seat { polled = result.0 } }
+        ensures seat { result.1 ≡ record seat { polled = result.0; polls = seat.polls + 1 } }
         ensures paced { IsPostedOrOneLess seat.seen result.0 }
         ensures rises { seat.polled ≤ result.0 }
     {
@@ -176,10 +183,11 @@ impl Epochs {
     /// The number that the seat of this index has seen.
     ///
     /// It is the posted number or one less, and no less than that seat was found to have seen before. The index has to
-    /// be below the number of seats, and the herald of these epochs. This is one step: a load of that seat's number.
+    /// be below the number of seats, and the herald of these epochs. This is one step, a look: a load of that seat's
+    /// number.
     pub fn seen_by(&self, mut herald: Herald, index: usize) -> (u64, Herald)
         requires { (herald.table ≡ self.now.table) × (index < self.now.workers) }
-        ensures herald { result.1 ≡ record herald { found = slice_set herald.found index result.0 } }
+        ensures herald { result.1 ≡ record herald { found = slice_set herald.found index result.0; looks = herald.looks + 1; looked_at = index } }
         ensures paced { IsPostedOrOneLess result.0 herald.posted }
         ensures rises { slice_index herald.found index ≤ result.0 }
     {
@@ -205,13 +213,14 @@ impl Epochs {
     ///
     /// `Spent` is decided first: the posted number is 2^64 - 1. Then the seats are looked at in order, up to the first
     /// that hasn't seen the posted number: `Late`. In both cases the posted number stays. The herald has to be of these
-    /// epochs. The steps are a load of each number that is looked at, then perhaps a store of the posted number.
+    /// epochs. The steps are one look for each seat, up to the late one if there is one, then perhaps a store of the
+    /// posted number.
     pub fn post(&self, herald: Herald) -> (Post, Herald)
         requires { herald.table ≡ self.now.table }
         ensures spent { (result.0 ≡ Post.Spent) ↔ (herald.posted ≡ 2 ^ 64 - 1) }
         ensures unchanged { result.0 ≡ Post.Spent → result.1 ≡ herald }
-        ensures late { result.0 ≡ Post.Late → FoundLate self.now.workers herald.posted result.1.found × (result.1.posted ≡ herald.posted) }
-        ensures posted { result.0 ≡ Post.Posted → FoundAll self.now.workers herald.posted result.1.found × (result.1.posted ≡ herald.posted + 1) }
+        ensures late { result.0 ≡ Post.Late → FoundLate self.now.workers herald.posted result.1.found result.1.looked_at × (result.1.looks ≡ herald.looks + result.1.looked_at + 1) × (result.1.posted ≡ herald.posted) }
+        ensures posted { result.0 ≡ Post.Posted → FoundAll self.now.workers herald.posted result.1.found × (result.1.looks ≡ herald.looks + self.now.workers) × (result.1.posted ≡ herald.posted + 1) }
         ensures herald { (result.1.table ≡ herald.table) × FindsNoLess herald.found result.1.found }
     {
         let posted = herald.posted;

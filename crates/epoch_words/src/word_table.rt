@@ -12,6 +12,8 @@ pub struct SeatView {
     pub seen: u64,
     /// The number that the seat last polled.
     pub polled: u64,
+    /// How often it polled.
+    pub polls: u64,
 }
 
 /// What the herald knows. It exists in proofs alone, where the array is a list of any length.
@@ -21,6 +23,10 @@ pub struct HeraldView {
     pub dealt: u64,
     /// The number that each seat was last found to have seen.
     pub found: [u64; 0],
+    /// How many looks at a seat it took.
+    pub looks: u64,
+    /// The seat of its last look.
+    pub looked_at: u64,
 }
 
 /// What the holder of a token knows. It exists in proofs alone.

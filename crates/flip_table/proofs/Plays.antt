@@ -9,7 +9,7 @@ use Rattle.flip_table.specs.declared.slot_table.View.TheVariants.{OfWriter, OfCo
 use Rattle.flip_table.specs.declared.slot_table.WriterView.{WriterView}
 use Rattle.flip_table.specs.Rule.{retired_mark, forward, AllMarked, KeepsFlip}
 use Rattle.epoch_words.specs.Tokens.{FoundAll, IsPostedOrOneLess}
-use Rattle.flip_table.specs.Steps.{Holder, LoadsFirst, LoadsSecond, StoresFirst, StoresSecond, StoresAlone, PollsStage, TakesUp, LoadsToCopy, StoresCopy, LoadsToCheck, FindsStage, PostsStage, Retires}
+use Rattle.flip_table.specs.Steps.{Holder, loading_writer, looking_copier, LoadsFirst, LoadsSecond, StoresFirst, StoresSecond, StoresAlone, PollsStage, TakesUp, LoadsToCopy, StoresCopy, LoadsToCheck, FindsStage, PostsStage, Retires}
 use Rattle.flip_table.proofs.StepsKeep as keep
 
 -- a step that tells A tells what follows from A
@@ -23,19 +23,18 @@ module _ (plan : PlanView) where
   pub loads_first : (slots id i : ℕ) (me : Holder) (q : WriterView) → me ≡ (OfWriter q, []) → q.plan ≡ plan → i < m → q.taken_up ≡ 0
       → Allows (KeepsFlip plan) slots id me i (λ x. x) (LoadsFirst (step slots i 0 0 none) me)
   loads_first slots id i me q is of l low = subst (λ (z : Holder). Allows (KeepsFlip plan) slots id z i (λ x. x) (LoadsFirst (step slots i 0 0 none) z)) (sym is)
-      (allows_then (KeepsFlip plan) slots id (OfWriter q, []) i (λ x. x) (λ x (after : Holder). (after ≡ (OfWriter q, [])) × (x < plan.limit) × (get_or plan.owners i 0 ≡ q.index → x ≡ get_or q.written i 0)) (LoadsFirst (step slots i 0 0 none) (OfWriter q, [])) (keep.loads_first plan slots id i q l low)
+      (allows_then (KeepsFlip plan) slots id (OfWriter q, []) i (λ x. x) (λ x (after : Holder). (after ≡ (OfWriter (loading_writer q i x), [])) × (x < plan.limit) × (get_or plan.owners i 0 ≡ q.index → x ≡ get_or q.written i 0)) (LoadsFirst (step slots i 0 0 none) (OfWriter q, [])) (keep.loads_first plan slots id i q l low)
       (λ x after t. (t.0, subst (λ (z : PlanView). x < z.limit) (sym of) t.1, subst (λ (z : PlanView). get_or z.owners i 0 ≡ q.index → x ≡ get_or q.written i 0) (sym of) t.2)))
 
   pub loads_second : (slots id i word : ℕ) (me : Holder) (q : WriterView) → me ≡ (OfWriter q, []) → word ≡ m + i → q.plan ≡ plan → i < m → 0 < q.taken_up → q.pending ≡ None
       → Allows (KeepsFlip plan) slots id me word (λ x. x) (LoadsSecond (step slots word 0 0 none) me)
   loads_second slots id i word me q is word_is of l high calm = subst (λ (z : Holder × ℕ). Allows (KeepsFlip plan) slots id z.0 z.1 (λ x. x) (LoadsSecond (step slots z.1 0 0 none) z.0)) (λ c. (sym is c, sym word_is c))
-      (allows_then (KeepsFlip plan) slots id (OfWriter q, []) (m + i) (λ x. x) (λ y (after : Holder). (after ≡ (OfWriter q, [])) × ((x : ℕ) × (x < plan.limit) × (y ≡ forward x)) × (get_or plan.owners i 0 ≡ q.index → y ≡ forward (get_or q.written i 0))) (LoadsSecond (step slots (m + i) 0 0 none) (OfWriter q, []))
+      (allows_then (KeepsFlip plan) slots id (OfWriter q, []) (m + i) (λ x. x) (λ y (after : Holder). ((x : ℕ) × (after ≡ (OfWriter (loading_writer q (m + i) x), [])) × (x < plan.limit) × (y ≡ forward x)) × (get_or plan.owners i 0 ≡ q.index → y ≡ forward (get_or q.written i 0))) (LoadsSecond (step slots (m + i) 0 0 none) (OfWriter q, []))
       (keep.loads_second plan slots id i q l high calm)
       (λ y after t. (
-        t.0,
-        (t.1.0, subst (λ (z : PlanView). t.1.0 < z.limit) (sym of) t.1.1, t.1.2),
+        (t.0.0, t.0.1, subst (λ (z : PlanView). t.0.0 < z.limit) (sym of) t.0.2, t.0.3),
         subst (λ (z : PlanView). (k : ℕ) → m + i ≡ length z.owners + k → get_or z.owners k 0 ≡ q.index → y ≡ forward (get_or q.written k 0)) (sym of)
-            (λ k e. subst (λ (z : ℕ). get_or plan.owners z 0 ≡ q.index → y ≡ forward (get_or q.written z 0)) (let same : i ≡ k = omega (arith, e) in same) t.2),
+            (λ k e. subst (λ (z : ℕ). get_or plan.owners z 0 ≡ q.index → y ≡ forward (get_or q.written z 0)) (let same : i ≡ k = omega (arith, e) in same) t.1),
       )))
 
   pub stores_first : (slots id i x : ℕ) (me : Holder) (q : WriterView) → me ≡ (OfWriter q, []) → i < m → get_or plan.owners i 0 ≡ q.index → q.taken_up ≤ 1 → q.pending ≡ None → x < plan.limit
@@ -82,10 +81,10 @@ module _ (plan : PlanView) where
   pub finds_stage : (slots id j word : ℕ) (me : Holder) (p : CopierView) → me ≡ (OfCopier p, []) → word ≡ m + m + j → p.plan ≡ plan → j < plan.seats
       → Allows (KeepsFlip plan) slots id me word (λ x. x) (FindsStage (step slots word 0 0 none) me)
   finds_stage slots id j word me p is word_is of l = subst (λ (z : Holder × ℕ). Allows (KeepsFlip plan) slots id z.0 z.1 (λ x. x) (FindsStage (step slots z.1 0 0 none) z.0)) (λ c. (sym is c, sym word_is c))
-      (allows_then (KeepsFlip plan) slots id (OfCopier p, []) (m + m + j) (λ x. x) (λ x (after : Holder). (after ≡ (OfCopier (record p { found = set p.found j x }), [])) × IsPostedOrOneLess x p.stage × (get_or p.found j 0 ≤ x)) (FindsStage (step slots (m + m + j) 0 0 none) (OfCopier p, []))
+      (allows_then (KeepsFlip plan) slots id (OfCopier p, []) (m + m + j) (λ x. x) (λ x (after : Holder). (after ≡ (OfCopier (looking_copier p j x), [])) × IsPostedOrOneLess x p.stage × (get_or p.found j 0 ≤ x)) (FindsStage (step slots (m + m + j) 0 0 none) (OfCopier p, []))
       (keep.finds plan slots id j p l)
       (λ x after t k e. let at : m + m + j ≡ m + m + k = e ∙ ap (λ (z : PlanView). length z.owners + length z.owners + k) of in let same : j ≡ k = omega (arith, at) in
-      (t.0 ∙ ap (λ (z : ℕ). (OfCopier (record p { found = set p.found z x }), [])) same, t.1, subst (λ (z : ℕ). get_or p.found z 0 ≤ x) same t.2)))
+      (t.0 ∙ ap (λ (z : ℕ). (OfCopier (looking_copier p z x), [])) same, t.1, subst (λ (z : ℕ). get_or p.found z 0 ≤ x) same t.2)))
 
   pub posts_stage : (slots id word x : ℕ) (me : Holder) (p : CopierView) → me ≡ (OfCopier p, []) → word ≡ m + m + plan.seats → x ≡ p.stage + 1 → FoundAll plan.seats p.stage p.found → p.stage < 2 → (p.stage ≡ 0 → AllMarked p.copied)
       → Allows (KeepsFlip plan) slots id me word (λ _. x) (λ _. PostsStage (step slots word x 0 none) me x)

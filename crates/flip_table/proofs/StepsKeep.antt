@@ -7,7 +7,7 @@ use native.Mathlib.Decide.{ℕ_discrete}
 use lib.ListN.{get_elem?}
 use lib.Seq.{set-get_or}
 use Rattle.atomic_table.specs.Table.{State, keeps, Allows}
-use Rattle.atomic_table.proofs.Lists.{at_set, set_here, set_else, set_again}
+use Rattle.atomic_table.proofs.Lists.{at_set, set_here, set_else}
 use Rattle.flip_table.specs.declared.slot_table.CopierView.{CopierView}
 use Rattle.flip_table.specs.declared.slot_table.PlanView.{PlanView}
 use Rattle.flip_table.specs.declared.slot_table.View.{View}
@@ -16,7 +16,7 @@ use Rattle.flip_table.specs.declared.slot_table.WriterView.{WriterView}
 use Rattle.flip_table.specs.Rule.{retired_mark, forward, AllMarked, SaysWritten, IsAmong, IsSlot, IsTwin, IsWriterView, IsCopierView, Knows, KeepsFlip}
 use Rattle.epoch_words.specs.Tokens.{FoundAll, IsPostedOrOneLess}
 use Rattle.epoch_words.proofs.Views.{at_inside, changed}
-use Rattle.flip_table.specs.Steps.{Holder, writer_part, copier_part}
+use Rattle.flip_table.specs.Steps.{Holder, checking_copier, copier_part, loading_writer, looking_copier, writer_part}
 
 abbrev Table : Type 0
 Table = State (Unit {0}) View
@@ -144,8 +144,27 @@ module _ (plan : PlanView) where
   unretired : (ws : List ℕ) (places j c : ℕ) (q : WriterView) (p : CopierView) → IsWriterView ws plan j q → IsCopierView ws plan places c p → q.taken_up ≤ 1 → (k : ℕ) → get_or p.retired k false ≢ true
   unretired ws places j c q p w o low k gone = let two : get_or p.found q.index 0 ≡ 2 = o.all_found k gone q.index w.in_range in let least = o.found_since q.index w.in_range in omega (arith, w.taken_up_is)
 
-  same_state : (s : Table) → KeepsFlip plan s → (i id : ℕ) (v : View) → get_elem? s.views id ≡ some v → KeepsFlip plan record { words = set s.words i (get_or s.words i 0); homes = s.homes; views = set s.views id v }
-  same_state s r i id v at = subst (λ (z : List ℕ × List View). KeepsFlip plan record { words = z.0; homes = s.homes; views = z.1 }) (λ c. (sym (set-get_or s.words i 0) c, sym (set_again s.views id v at) c)) r
+  -- a load, after which the writer knows what it did before, and what it polled or loaded besides
+  writer_loads : (s : Table) (r : KeepsFlip plan s) (i id : ℕ) (q q' : WriterView) → get_elem? s.views id ≡ some (OfWriter q) → IsWriterView s.words plan id q' → ((k : ℕ) → Twin s.words k q r.copier → Twin s.words k q' r.copier)
+      → KeepsFlip plan record { words = set s.words i (get_or s.words i 0); homes = s.homes; views = set s.views id (OfWriter q') }
+  writer_loads s r i id q q' at knows twin = subst (λ (ws : List ℕ). KeepsFlip plan record { words = ws; homes = s.homes; views = set s.views id (OfWriter q') }) (sym (set-get_or s.words i 0))
+      (writer_steps s r s.words s.homes id q q' at refl r.paced knows (λ j v _ k. k) (λ k _ t. t) (λ k _ _ t. twin k t) (λ k a _ _ t. t))
+
+  slot_loads : (s : Table) (r : KeepsFlip plan s) (i id x : ℕ) (q : WriterView) → get_elem? s.views id ≡ some (OfWriter q)
+      → KeepsFlip plan record { words = set s.words i (get_or s.words i 0); homes = s.homes; views = set s.views id (OfWriter (loading_writer q i x)) }
+  slot_loads s r i id x q at = let w : IsWriterView s.words plan id q = r.known id (OfWriter q) at in writer_loads s r i id q (loading_writer q i x) at
+      record {
+        plan_is = w.plan_is;
+        place_is = w.place_is;
+        in_range = w.in_range;
+        taken_up_is = w.taken_up_is;
+        taken_up_polled = w.taken_up_polled;
+        polled_stage = w.polled_stage;
+        written_each = w.written_each;
+        wrote_written = w.wrote_written;
+        settled = w.settled;
+      }
+      (λ k t. record { first_is = t.first_is; same = t.same; checked = t.checked; wrote_first = t.wrote_first; wrote_second = t.wrote_second; wrote_value = t.wrote_value })
 
   own_place : (s : Table) (r : KeepsFlip plan s) (id i : ℕ) (q : WriterView) → get_elem? s.views id ≡ some (OfWriter q) → owner i ≡ q.index → get_elem? s.views (owner i + 1) ≡ some (OfWriter q)
   own_place s r id i q at own = ap (λ (x : ℕ). get_elem? s.views x) (ap (λ (x : ℕ). x + 1) own ∙ sym (r.known id (OfWriter q) at).place_is) ∙ at
@@ -157,25 +176,27 @@ module _ (plan : PlanView) where
 
   -- at stage 0 a load of any slot gives no mark, and of an own slot what was written
   pub loads_first : (slots id i : ℕ) (q : WriterView) → i < m → q.taken_up ≡ 0
-      → Allows (KeepsFlip plan) slots id (OfWriter q, []) i (λ x. x) (λ x (me : Holder). (me ≡ (OfWriter q, [])) × (x < plan.limit) × (owner i ≡ q.index → x ≡ get_or q.written i 0))
-  loads_first slots id i q l low s r _ at _ = let w : IsWriterView s.words plan id q = r.known id (OfWriter q) at in let o : IsCopierView s.words plan (length s.views) 0 r.copier = r.known 0 (OfCopier r.copier) r.copier_is in (
-    OfWriter q,
+      → Allows (KeepsFlip plan) slots id (OfWriter q, []) i (λ x. x) (λ x (me : Holder). (me ≡ (OfWriter (loading_writer q i x), [])) × (x < plan.limit) × (owner i ≡ q.index → x ≡ get_or q.written i 0))
+  loads_first slots id i q l low s r _ at _ = let w : IsWriterView s.words plan id q = r.known id (OfWriter q) at in let o : IsCopierView s.words plan (length s.views) 0 r.copier = r.known 0 (OfCopier r.copier) r.copier_is in let x : ℕ = first s.words i in (
+    OfWriter (loading_writer q i x),
     keeps,
     tt,
-    same_state s r i id (OfWriter q) at,
+    slot_loads s r i id x q at,
     (refl, (r.slots i l).live (unretired s.words (length s.views) id 0 q r.copier w o (omega (arith, low)) i), λ own. (r.twins i q l (own_place s r id i q at own)).first_is (omega (arith, low))),
   )
 
   -- from stage 1 on a load of any slot gives a forward, and of an own slot that of what was written
   pub loads_second : (slots id i : ℕ) (q : WriterView) → i < m → 0 < q.taken_up → q.pending ≡ None
-      → Allows (KeepsFlip plan) slots id (OfWriter q, []) (m + i) (λ x. x) (λ y (me : Holder). (me ≡ (OfWriter q, [])) × ((x : ℕ) × (x < plan.limit) × (y ≡ forward x)) × (owner i ≡ q.index → y ≡ forward (get_or q.written i 0)))
+      → Allows (KeepsFlip plan) slots id (OfWriter q, []) (m + i) (λ x. x)
+      (λ y (me : Holder). ((x : ℕ) × (me ≡ (OfWriter (loading_writer q (m + i) x), [])) × (x < plan.limit) × (y ≡ forward x)) × (owner i ≡ q.index → y ≡ forward (get_or q.written i 0)))
   loads_second slots id i q l high calm s r _ at _ = let w : IsWriterView s.words plan id q = r.known id (OfWriter q) at in let o : IsCopierView s.words plan (length s.views) 0 r.copier = r.known 0 (OfCopier r.copier) r.copier_is in
+      let small = (r.slots i l).small in let x : ℕ = small.0 in
       let done : get_or r.copier.copied i false ≡ true = o.all_copied (omega (arith, w.taken_up_polled, w.polled_stage, o.stage_is)) i (omega (arith, o.copied_each)) in (
-        OfWriter q,
+        OfWriter (loading_writer q (m + i) x),
         keeps,
         tt,
-        same_state s r (m + i) id (OfWriter q) at,
-        (refl, (r.slots i l).small, λ own. ⊎_elim (λ b. absurd (cc)) (λ e. e) ((r.twins i q l (own_place s r id i q at own)).same done)),
+        slot_loads s r (m + i) id x q at,
+        ((x, refl, small.1, small.2), λ own. ⊎_elim (λ b. absurd (cc)) (λ e. e) ((r.twins i q l (own_place s r id i q at own)).same done)),
       )
 
   -- at stages 0 and 1: the first copy of an own slot
@@ -305,12 +326,12 @@ module _ (plan : PlanView) where
 
   -- the stage, as a seat polls it
   pub polls : (slots id : ℕ) (q : WriterView)
-      → Allows (KeepsFlip plan) slots id (OfWriter q, []) (m + m + n) (λ x. x) (λ x (me : Holder). (me ≡ (OfWriter (record q { polled = x }), [])) × IsPostedOrOneLess q.taken_up x × (q.polled ≤ x) × (x ≤ 2))
-  polls slots id q s r _ at _ = let w : IsWriterView s.words plan id q = r.known id (OfWriter q) at in let o : IsCopierView s.words plan (length s.views) 0 r.copier = r.known 0 (OfCopier r.copier) r.copier_is in let x : ℕ = stage s.words in let c = r.paced q.index w.in_range in let q' : WriterView = record q { polled = x } in (
+      → Allows (KeepsFlip plan) slots id (OfWriter q, []) (m + m + n) (λ x. x) (λ x (me : Holder). (me ≡ (OfWriter (record q { polled = x; polls = q.polls + 1 }), [])) × IsPostedOrOneLess q.taken_up x × (q.polled ≤ x) × (x ≤ 2))
+  polls slots id q s r _ at _ = let w : IsWriterView s.words plan id q = r.known id (OfWriter q) at in let o : IsCopierView s.words plan (length s.views) 0 r.copier = r.known 0 (OfCopier r.copier) r.copier_is in let x : ℕ = stage s.words in let c = r.paced q.index w.in_range in let q' : WriterView = record q { polled = x; polls = q.polls + 1 } in (
     OfWriter q',
     keeps,
     tt,
-    subst (λ (ws : List ℕ). KeepsFlip plan record { words = ws; homes = s.homes; views = set s.views id (OfWriter q') }) (sym (set-get_or s.words (m + m + n) 0)) (writer_steps s r s.words s.homes id q q' at refl r.paced
+    writer_loads s r (m + m + n) id q q' at
         record {
           plan_is = w.plan_is;
           place_is = w.place_is;
@@ -322,8 +343,7 @@ module _ (plan : PlanView) where
           wrote_written = w.wrote_written;
           settled = w.settled;
         }
-        (λ j v _ k. k) (λ k _ t. t)
-        (λ k _ _ t. record { first_is = t.first_is; same = t.same; checked = t.checked; wrote_first = t.wrote_first; wrote_second = t.wrote_second; wrote_value = t.wrote_value }) (λ k a _ _ t. t)),
+        (λ k t. record { first_is = t.first_is; same = t.same; checked = t.checked; wrote_first = t.wrote_first; wrote_second = t.wrote_second; wrote_value = t.wrote_value }),
     (refl, (omega (arith, c.0, w.taken_up_is), omega (arith, c.1, w.taken_up_is)), w.polled_stage, omega (arith, o.stage_is, o.last)),
   )
 
@@ -510,9 +530,9 @@ module _ (plan : PlanView) where
 
   -- An equal second load: while the owner has stored nothing else, what it wrote is what was stored as the copy.
   pub loads_to_check : (slots id i : ℕ) (p : CopierView) → i < m → p.stage ≡ 0 → p.copying ≡ Some i → p.stored ≡ true
-      → Allows (KeepsFlip plan) slots id (OfCopier p, []) i (λ x. x) (λ x (me : Holder). (x ≡ p.value → me ≡ (OfCopier (record p { copying = None; checked = x; copied = set p.copied i true }), [])) × (x ≢ p.value → me ≡ (OfCopier (record p { copying = None; checked = x }), [])))
+      → Allows (KeepsFlip plan) slots id (OfCopier p, []) i (λ x. x) (λ x (me : Holder). (x ≡ p.value → me ≡ (OfCopier (record (checking_copier p i x) { copied = set p.copied i true }), [])) × (x ≢ p.value → me ≡ (OfCopier (checking_copier p i x), [])))
   loads_to_check slots id i p l zero_is busy done s r _ at _ = let o : IsCopierView s.words plan (length s.views) id p = r.known id (OfCopier p) at in let x : ℕ = first s.words i in dite (ℕ_discrete x p.value)
-      (λ found. let p' : CopierView = record p { copying = None; checked = x; copied = set p.copied i true } in (
+      (λ found. let p' : CopierView = record (checking_copier p i x) { copied = set p.copied i true } in (
         OfCopier p',
         keeps,
         tt,
@@ -544,7 +564,7 @@ module _ (plan : PlanView) where
             }),
         ((λ _. refl), λ ne. absurd (ne found)),
       ))
-      (λ lost. let p' : CopierView = record p { copying = None; checked = x } in (
+      (λ lost. let p' : CopierView = checking_copier p i x in (
         OfCopier p',
         keeps,
         tt,
@@ -573,8 +593,8 @@ module _ (plan : PlanView) where
 
   -- the stage that a seat has taken up
   pub finds : (slots id j : ℕ) (p : CopierView) → j < n
-      → Allows (KeepsFlip plan) slots id (OfCopier p, []) (m + m + j) (λ x. x) (λ x (me : Holder). (me ≡ (OfCopier (record p { found = set p.found j x }), [])) × IsPostedOrOneLess x p.stage × (get_or p.found j 0 ≤ x))
-  finds slots id j p l s r _ at _ = let o : IsCopierView s.words plan (length s.views) id p = r.known id (OfCopier p) at in let x : ℕ = taken s.words j in let c = r.paced j l in let p' : CopierView = record p { found = set p.found j x } in
+      → Allows (KeepsFlip plan) slots id (OfCopier p, []) (m + m + j) (λ x. x) (λ x (me : Holder). (me ≡ (OfCopier (looking_copier p j x), [])) × IsPostedOrOneLess x p.stage × (get_or p.found j 0 ≤ x))
+  finds slots id j p l s r _ at _ = let o : IsCopierView s.words plan (length s.views) id p = r.known id (OfCopier p) at in let x : ℕ = taken s.words j in let c = r.paced j l in let p' : CopierView = looking_copier p j x in
       let here : (a : ℕ) → a ≡ j → get_or (set p.found j x) a 0 ≡ x = λ a e. ap (λ (z : ℕ). get_or (set p.found j x) z 0) e ∙ get_or-set_same p.found j x 0 (omega (arith, o.found_each)) in (
         OfCopier p',
         keeps,

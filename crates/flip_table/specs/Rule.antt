@@ -102,17 +102,34 @@ dealt_copier plan dealt = record {
   stage = 0;
   dealt = dealt;
   found = replicate plan.seats 0;
+  looks = 0;
+  looked_at = 0;
   copying = None;
   value = 0;
-  checked = 0;
   stored = false;
+  checks = 0;
+  checked_slot = 0;
+  first_load = 0;
+  second_load = 0;
   copied = replicate (length plan.owners) false;
   retired = replicate (length plan.owners) false;
 }
 
 -- the writer of a seat before any step
 abbrev pub opening_writer : PlanView → ℕ → WriterView
-opening_writer plan index = record { plan = plan; index = index; taken_up = 0; polled = 0; written = replicate (length plan.owners) 0; wrote = []; pending = None }
+opening_writer plan index = record {
+  plan = plan;
+  index = index;
+  taken_up = 0;
+  polled = 0;
+  polls = 0;
+  loads = 0;
+  loaded_word = 0;
+  loaded = 0;
+  written = replicate (length plan.owners) 0;
+  wrote = [];
+  pending = None;
+}
 
 -- the copier before any writer is given out
 abbrev pub opening_view : PlanView → View

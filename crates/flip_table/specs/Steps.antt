@@ -21,11 +21,27 @@ no_plan = record { owners = []; seats = 0; limit = 0 }
 -- what a writer knows (of the copier's view nothing is asked)
 abbrev pub writer_part : View → WriterView
 writer_part (OfWriter q) = q
-writer_part (OfCopier p) = record { plan = no_plan; index = 0; taken_up = 0; polled = 0; written = []; wrote = []; pending = None }
+writer_part (OfCopier p) = record { plan = no_plan; index = 0; taken_up = 0; polled = 0; polls = 0; loads = 0; loaded_word = 0; loaded = 0; written = []; wrote = []; pending = None }
 
 -- what the copier knows (of a writer's view nothing is asked)
 abbrev pub copier_part : View → CopierView
-copier_part (OfWriter q) = record { plan = no_plan; stage = 0; dealt = 0; found = []; copying = None; value = 0; checked = 0; stored = false; copied = []; retired = [] }
+copier_part (OfWriter q) = record {
+  plan = no_plan;
+  stage = 0;
+  dealt = 0;
+  found = [];
+  looks = 0;
+  looked_at = 0;
+  copying = None;
+  value = 0;
+  stored = false;
+  checks = 0;
+  checked_slot = 0;
+  first_load = 0;
+  second_load = 0;
+  copied = [];
+  retired = [];
+}
 copier_part (OfCopier p) = p
 
 -- the copier's view once it gave out the next writer, and that writer's view
@@ -37,15 +53,27 @@ abbrev pub dealt_writer : View → View
 dealt_writer (OfWriter q) = OfWriter q
 dealt_writer (OfCopier p) = OfWriter (opening_writer p.plan p.dealt)
 
+-- the writer once a load of this word of a slot gave it the value x
+abbrev pub loading_writer : WriterView → ℕ → ℕ → WriterView
+loading_writer q word x = record q { loads = q.loads + 1; loaded_word = word; loaded = x }
+
+-- the copier once it looked at seat j and found it to have taken up the stage x
+abbrev pub looking_copier : CopierView → ℕ → ℕ → CopierView
+looking_copier p j x = record p { found = slice_set p.found j x; looks = p.looks + 1; looked_at = j }
+
+-- the copier once it checked slot k, where its second load gave x
+abbrev pub checking_copier : CopierView → ℕ → ℕ → CopierView
+checking_copier p k x = record p { copying = None; checks = p.checks + 1; checked_slot = k; first_load = p.value; second_load = x }
+
 -- A load of a first copy, at stage 0. The seat has found a value below the limit, and in a slot of its own what it last wrote.
 abbrev pub LoadsFirst : WordStep → Holder → ℕ → Holder → Type 0
 LoadsFirst step before x after = let q = writer_part before.0 in
-    (after ≡ (OfWriter q, [])) × (x < q.plan.limit) × (slice_index q.plan.owners step.word ≡ q.index → x ≡ slice_index q.written step.word)
+    (after ≡ (OfWriter (loading_writer q step.word x), [])) × (x < q.plan.limit) × (slice_index q.plan.owners step.word ≡ q.index → x ≡ slice_index q.written step.word)
 
 -- A load of a second copy, from stage 1 on. The seat has found the forward of such a value.
 abbrev pub LoadsSecond : WordStep → Holder → ℕ → Holder → Type 0
 LoadsSecond step before y after = let q = writer_part before.0 in
-    (after ≡ (OfWriter q, [])) × ((x : ℕ) × (x < q.plan.limit) × (y ≡ forward x))
+    ((x : ℕ) × (after ≡ (OfWriter (loading_writer q step.word x), [])) × (x < q.plan.limit) × (y ≡ forward x))
     × ((k : ℕ) → step.word ≡ length q.plan.owners + k → slice_index q.plan.owners k ≡ q.index → y ≡ forward (slice_index q.written k))
 
 -- A store to a first copy. The seat has written x, and has yet to store it in the second copy.
@@ -62,10 +90,10 @@ abbrev pub StoresAlone : WordStep → Holder → ℕ → Holder → Type 0
 StoresAlone step before y after = let q = writer_part before.0 in (k x : ℕ) → step.word ≡ length q.plan.owners + k → y ≡ forward x
     → after ≡ (OfWriter (record q { written = slice_set q.written k x; wrote = q.wrote ++ (k, x) ∷ []; pending = None }), [])
 
--- A load of the stage by a seat.
+-- A load of the stage by a seat, which is a poll.
 abbrev pub PollsStage : WordStep → Holder → ℕ → Holder → Type 0
 PollsStage step before x after = let q = writer_part before.0 in
-    (after ≡ (OfWriter (record q { polled = x }), [])) × IsPostedOrOneLess q.taken_up x × (q.polled ≤ x) × (x ≤ 2)
+    (after ≡ (OfWriter (record q { polled = x; polls = q.polls + 1 }), [])) × IsPostedOrOneLess q.taken_up x × (q.polled ≤ x) × (x ≤ 2)
 
 -- A store of the stage that a seat takes up.
 abbrev pub TakesUp : WordStep → Holder → ℕ → Holder → Type 0
@@ -81,16 +109,16 @@ abbrev pub StoresCopy : WordStep → Holder → ℕ → Holder → Type 0
 StoresCopy step before y after = let p = copier_part before.0 in (k : ℕ) → p.copying ≡ Some k
     → after ≡ (OfCopier (record p { stored = true; copied = slice_set p.copied k false }), [])
 
--- The copier's second load of a first copy. The slot counts as copied where the value is the same.
+-- The copier's second load of a first copy, which is a check. The slot counts as copied where the value is the same.
 abbrev pub LoadsToCheck : WordStep → Holder → ℕ → Holder → Type 0
 LoadsToCheck step before x after = let p = copier_part before.0 in
-    (x ≡ p.value → after ≡ (OfCopier (record p { copying = None; checked = x; copied = slice_set p.copied step.word true }), []))
-    × (x ≢ p.value → after ≡ (OfCopier (record p { copying = None; checked = x }), []))
+    (x ≡ p.value → after ≡ (OfCopier (record (checking_copier p step.word x) { copied = slice_set p.copied step.word true }), []))
+    × (x ≢ p.value → after ≡ (OfCopier (checking_copier p step.word x), []))
 
--- The copier's load of the stage that a seat has taken up.
+-- The copier's load of the stage that a seat has taken up, which is a look.
 abbrev pub FindsStage : WordStep → Holder → ℕ → Holder → Type 0
 FindsStage step before x after = let p = copier_part before.0 in (j : ℕ) → step.word ≡ length p.plan.owners + length p.plan.owners + j
-    → (after ≡ (OfCopier (record p { found = slice_set p.found j x }), [])) × IsPostedOrOneLess x p.stage × (slice_index p.found j ≤ x)
+    → (after ≡ (OfCopier (looking_copier p j x), [])) × IsPostedOrOneLess x p.stage × (slice_index p.found j ≤ x)
 
 -- The copier's store of the next stage.
 abbrev pub PostsStage : WordStep → Holder → ℕ → Holder → Type 0

@@ -5,6 +5,7 @@ ghost use Rattle.std.specs.Prelude.{All, IfOk, vec_len, true, false};
 ghost use Rattle.flip_table.specs.Plans.{plan_of};
 ghost use Rattle.epoch_words.specs.Tokens.{FoundAll, IsPostedOrOneLess};
 ghost use Rattle.flip_table.specs.Rule.{dealt_copier, forward, opening_view, AllMarked};
+ghost use Rattle.flip_table.specs.Steps.{checking_copier, loading_writer, looking_copier};
 ghost use Rattle.flip_table.specs.Tokens.{opening_seat, opening_writers, IsCopierOf, IsWriterOf};
 ghost use Rattle.flip_table.specs.declared.slot_table.View.TheVariants.{OfCopier};
 
@@ -202,7 +203,7 @@ impl FlipTable {
     pub fn load_first(&self, mut writer: Writer, slot: usize) -> (u64, Writer)
         requires table { IsWriterOf self.now writer × (slot < length self.now.plan.owners) }
         requires stage { writer.knows.taken_up ≡ 0 }
-        ensures writer { result.1 ≡ writer }
+        ensures writer { result.1 ≡ record writer { knows = loading_writer writer.knows slot result.0 } }
         ensures small { result.0 < self.now.plan.limit }
         ensures own { slice_index self.now.plan.owners slot ≡ writer.knows.index → result.0 ≡ slice_index writer.knows.written slot }
     {
@@ -215,7 +216,7 @@ impl FlipTable {
     pub fn load_second(&self, mut writer: Writer, slot: usize) -> (u64, Writer)
         requires table { IsWriterOf self.now writer × (slot < length self.now.plan.owners) }
         requires stage { (0 < writer.knows.taken_up) × (writer.knows.pending ≡ None) }
-        ensures writer { result.1 ≡ writer }
+        ensures writer { result.1 ≡ record writer { knows = loading_writer writer.knows (length self.now.plan.owners + slot) result.0 } }
         ensures small { result.0 < self.now.plan.limit }
         ensures own { slice_index self.now.plan.owners slot ≡ writer.knows.index → result.0 ≡ slice_index writer.knows.written slot }
     {
@@ -271,7 +272,7 @@ impl FlipTable {
     /// polled before.
     pub fn poll(&self, mut writer: Writer) -> (u64, Writer)
         requires { IsWriterOf self.now writer }
-        ensures writer { result.1 ≡ record writer { knows = record writer.knows { polled = result.0 } } }
+        ensures writer { result.1 ≡ record writer { knows = record writer.knows { polled = result.0; polls = writer.knows.polls + 1 } } }
         ensures paced { IsPostedOrOneLess writer.knows.taken_up result.0 }
         ensures rises { writer.knows.polled ≤ result.0 }
         ensures last { result.0 ≤ 2 }
@@ -322,12 +323,12 @@ impl FlipTable {
         copier
     }
 
-    /// Loads the first copy again. Where it has the same value, the slot counts as copied.
+    /// Loads the first copy again, which is a check. Where it has the same value, the slot counts as copied.
     pub fn load_to_check(&self, mut copier: Copier, slot: usize) -> (u64, Copier)
         requires table { IsCopierOf self.now copier × (slot < length self.now.plan.owners) }
         requires stage { (copier.knows.stage ≡ 0) × (copier.knows.copying ≡ Some slot) × (copier.knows.stored ≡ true) }
-        ensures same { result.0 ≡ copier.knows.value → result.1 ≡ record copier { knows = record copier.knows { copying = None; checked = result.0; copied = slice_set copier.knows.copied slot true } } }
-        ensures changed { result.0 ≢ copier.knows.value → result.1 ≡ record copier { knows = record copier.knows { copying = None; checked = result.0 } } }
+        ensures same { result.0 ≡ copier.knows.value → result.1 ≡ record copier { knows = record (checking_copier copier.knows slot result.0) { copied = slice_set copier.knows.copied slot true } } }
+        ensures changed { result.0 ≢ copier.knows.value → result.1 ≡ record copier { knows = checking_copier copier.knows slot result.0 } }
     {
         let value = self
             .words
@@ -336,10 +337,11 @@ impl FlipTable {
         (value, copier)
     }
 
-    /// Loads the stage that a seat has taken up: the stage or one less, and no less than was found before.
+    /// Loads the stage that a seat has taken up, which is a look: the stage or one less, and no less than was found
+    /// before.
     pub fn find(&self, mut copier: Copier, seat: usize) -> (u64, Copier)
         requires { IsCopierOf self.now copier × (seat < self.now.plan.seats) }
-        ensures copier { result.1 ≡ record copier { knows = record copier.knows { found = slice_set copier.knows.found seat result.0 } } }
+        ensures copier { result.1 ≡ record copier { knows = looking_copier copier.knows seat result.0 } }
         ensures paced { IsPostedOrOneLess result.0 copier.knows.stage }
         ensures rises { slice_index copier.knows.found seat ≤ result.0 }
     {

@@ -34,6 +34,14 @@ pub struct WriterView {
     pub taken_up: u64,
     /// The stage that the seat last polled.
     pub polled: u64,
+    /// How often it polled.
+    pub polls: u64,
+    /// How many loads of a slot it took.
+    pub loads: u64,
+    /// The word of its last load of a slot.
+    pub loaded_word: u64,
+    /// The value that this load gave.
+    pub loaded: u64,
     /// The value that it last wrote to each slot of its own.
     pub written: [u64; 0],
     /// Every slot and value that it ever wrote.
@@ -50,14 +58,24 @@ pub struct CopierView {
     pub dealt: u64,
     /// The stage that each seat was last found to have taken up.
     pub found: [u64; 0],
+    /// How many looks at a seat's stage it took.
+    pub looks: u64,
+    /// The seat of its last look.
+    pub looked_at: u64,
     /// The slot that it copies.
     pub copying: Option<u64>,
     /// The value that it loaded for this.
     pub value: u64,
-    /// The value that it last loaded to check a copy.
-    pub checked: u64,
     /// Whether that value is stored in the second copy.
     pub stored: bool,
+    /// How many copies it checked.
+    pub checks: u64,
+    /// The slot of its last check.
+    pub checked_slot: u64,
+    /// The value that it loaded there before the copy was stored.
+    pub first_load: u64,
+    /// The value that it loaded there again, after the copy was stored.
+    pub second_load: u64,
     /// Of each slot, whether it was copied.
     pub copied: [bool; 0],
     /// Of each slot, whether it was retired.

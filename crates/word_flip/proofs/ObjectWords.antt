@@ -1,5 +1,5 @@
 -- What a word names.
-use Rattle.std.proofs.Common.{◌≡◌, ℕ, zero, suc, ◌+◌, ◌<◌, Option, Some, None, IfSome, List, map, set, ap, ◌∙◌, arith}
+use Rattle.std.proofs.Common.{◌≡◌, ℕ, zero, suc, ◌+◌, ◌<◌, Option, Some, None, IfSome, List, [], ◌∷◌, ◌++◌, length, length-append, map, set, ap, ◌∙◌, arith}
 use Rattle.std.proofs.lemmas.List.{map-set}
 use Rattle.word_flip.specs.Objects.{object_of}
 
@@ -15,6 +15,10 @@ null word e = ap object_of e
 pub named_below : (word objects : ℕ) → word < objects + 1 → IfSome (object_of word) (λ object. object < objects)
 named_below zero objects l = tt
 named_below (suc n) objects l = omega arith
+
+-- one more is written
+pub one_more : (wrote : List (ℕ × ℕ)) (slot value : ℕ) → length (wrote ++ (slot, value) ∷ []) ≡ length wrote + 1
+one_more wrote slot value = length-append wrote ((slot, value) ∷ [])
 
 -- what the words name, once an object was written
 pub written_to : (words : List ℕ) (place word : ℕ) (object : Option ℕ) → object_of word ≡ object → map object_of (set words place word) ≡ set (map object_of words) place object

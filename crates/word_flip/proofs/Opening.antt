@@ -19,7 +19,7 @@ nulls (suc count) = λ k. None ∷ nulls count k
 
 pub opened : (table : TableId) (plan : PlanView) → map writer_value (Table.opening_writers table plan) ≡ opening_writers table plan
 opened table plan = map_twice writer_value (Table.opening_seat table plan) (opening_writer table plan)
-    (λ seat. ap (λ (written : List (Option ℕ)). record { table = table; plan = plan; seat = seat; stage = 0; written = written }) (nulls (length plan.owners))) (range_with_len 0 plan.seats)
+    (λ seat. ap (λ (written : List (Option ℕ)). record { table = table; plan = plan; seat = seat; stage = 0; polled = 0; polls = 0; loads = 0; loaded_word = 0; loaded = None; stores = 0; written = written }) (nulls (length plan.owners))) (range_with_len 0 plan.seats)
 
 pub opened_idle : (table : TableId) (plan : PlanView) → All (λ token. (token.knows.pending ≡ None) × (length token.knows.written ≡ length token.knows.plan.owners)) (Table.opening_writers table plan)
 opened_idle table plan = All-map (λ (token : Table.WriterValue). (token.knows.pending ≡ None) × (length token.knows.written ≡ length token.knows.plan.owners)) (Table.opening_seat table plan) (range_with_len 0 plan.seats)

@@ -14,24 +14,47 @@ pub record FlipValue : Type 0 where
   pub objects : ℕ
   pub slots : ℕ
 
--- `stage` is the stage that the seat has taken up. `written` has for each place what this seat last wrote there, or null.
+-- `stage` is the stage that the seat has taken up. `polls` counts its loads of the posted stage, and `polled` is what the last one gave. `loads` counts its loads of a slot; the last was of the word `loaded_word`, which named the object `loaded`. `stores` counts the objects that it wrote, and `written` has for each place what this seat last wrote there, or null.
 pub record WriterValue : Type 0 where
   pub table : TableId
   pub plan : PlanView
   pub seat : ℕ
   pub stage : ℕ
+  pub polled : ℕ
+  pub polls : ℕ
+  pub loads : ℕ
+  pub loaded_word : ℕ
+  pub loaded : Option ℕ
+  pub stores : ℕ
   pub written : List (Option ℕ)
 
 -- what callers see of a writer of the table
 abbrev pub writer_value : Table.WriterValue → WriterValue
-writer_value token = record { table = token.table; plan = token.knows.plan; seat = token.knows.index; stage = token.knows.taken_up; written = map object_of token.knows.written }
+writer_value token = record {
+  table = token.table;
+  plan = token.knows.plan;
+  seat = token.knows.index;
+  stage = token.knows.taken_up;
+  polled = token.knows.polled;
+  polls = token.knows.polls;
+  loads = token.knows.loads;
+  loaded_word = token.knows.loaded_word;
+  loaded = object_of token.knows.loaded;
+  stores = length token.knows.wrote;
+  written = map object_of token.knows.written;
+}
 
--- `found` has for each seat the stage that it was last found to have taken up. `first_load` and `second_load` are the words that the last copying loaded, before and after its store. `copied` and `retired` say it of each place.
+-- `found` has for each seat the stage that it was last found to have taken up. `looks` counts the looks at a seat, each a load of its stage, and `looked_at` is the seat of the last one.
+-- `checks` counts the second loads of a first copy. The last was of `checked_place`, where `first_load` was loaded before the copy was stored and `second_load` after it. `copied` and `retired` say it of each place.
 pub record CopierValue : Type 0 where
   pub table : TableId
   pub plan : PlanView
   pub stage : ℕ
   pub found : List ℕ
+  pub looks : ℕ
+  pub looked_at : ℕ
+  pub checks : ℕ
+  pub checked_place : ℕ
   pub first_load : ℕ
   pub second_load : ℕ
   pub copied : List Bool
@@ -55,13 +78,33 @@ place_of flip object slot = object * flip.slots + slot
 abbrev pub IsOwn : FlipValue → WriterValue → ℕ → ℕ → Type 0
 IsOwn flip writer object slot = slice_index flip.plan.owners (place_of flip object slot) ≡ writer.seat
 
+-- One load was made of this place: of its first copy by a seat at stage 0, of its second copy from stage 1 on.
+abbrev pub HasLoaded : FlipValue → WriterValue → ℕ → WriterValue → Type 0
+HasLoaded flip before place after = (after.loads ≡ before.loads + 1) × (before.stage ≡ 0 → after.loaded_word ≡ place) × (0 < before.stage → after.loaded_word ≡ length flip.plan.owners + place)
+
+-- One check was made, at this place.
+abbrev pub HasChecked : CopierValue → ℕ → CopierValue → Type 0
+HasChecked before place after = (after.checks ≡ before.checks + 1) × (after.checked_place ≡ place)
+
 -- Some place is not copied.
 abbrev pub SomeUncopied : List Bool → Type 0
 SomeUncopied copied = (place : ℕ) × (place < length copied) × ¬ IsMarked copied place
 
 -- the writer of a seat before any call
 abbrev pub opening_writer : TableId → PlanView → ℕ → WriterValue
-opening_writer table plan seat = record { table = table; plan = plan; seat = seat; stage = 0; written = replicate (length plan.owners) None }
+opening_writer table plan seat = record {
+  table = table;
+  plan = plan;
+  seat = seat;
+  stage = 0;
+  polled = 0;
+  polls = 0;
+  loads = 0;
+  loaded_word = 0;
+  loaded = None;
+  stores = 0;
+  written = replicate (length plan.owners) None;
+}
 
 -- the writers of the seats 0, 1, .. before any call
 abbrev pub opening_writers : TableId → PlanView → List WriterValue
@@ -74,6 +117,10 @@ opening_copier table plan = record {
   plan = plan;
   stage = 0;
   found = replicate plan.seats 0;
+  looks = 0;
+  looked_at = 0;
+  checks = 0;
+  checked_place = 0;
   first_load = 0;
   second_load = 0;
   copied = replicate (length plan.owners) false;

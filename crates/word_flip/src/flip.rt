@@ -5,7 +5,7 @@ ghost use Rattle.std.specs.Option.{ForSome};
 ghost use Rattle.epoch_words.specs.Tokens.{FindsNoLess, FoundAll, FoundLate, IsPostedOrOneLess};
 ghost use Rattle.flip_table.specs.Rule.{AllMarked};
 ghost use Rattle.word_flip.specs.Objects.{object_of};
-ghost use Rattle.word_flip.specs.Tokens.{writer_value, opening_copier, opening_writers, place_of, HasSlot, IsCopierOf, IsOwn, IsWriterOf, SomeUncopied};
+ghost use Rattle.word_flip.specs.Tokens.{writer_value, opening_copier, opening_writers, place_of, HasChecked, HasLoaded, HasSlot, IsCopierOf, IsOwn, IsWriterOf, SomeUncopied};
 
 use crate::objects::{object_of, word_of};
 use flip_table::{FlipTable, Plan};
@@ -88,6 +88,12 @@ impl Model for Writer {
       plan = w.token.knows.plan;
       seat = w.token.knows.index;
       stage = w.token.knows.taken_up;
+      polled = w.token.knows.polled;
+      polls = w.token.knows.polls;
+      loads = w.token.knows.loads;
+      loaded_word = w.token.knows.loaded_word;
+      loaded = object_of w.token.knows.loaded;
+      stores = length w.token.knows.wrote;
       written = map object_of w.token.knows.written;
     } };
 
@@ -113,7 +119,7 @@ pub struct Copier {
 }
 
 impl Model for Copier {
-    ghost use Rattle.std.specs.Prelude.{◌≡◌, ◌≤◌, length};
+    ghost use Rattle.std.specs.Prelude.{◌≡◌, ◌≤◌, None, length};
     ghost use Rattle.word_flip.specs.Tokens.{CopierValue};
 
     ghost Value = { CopierValue };
@@ -123,14 +129,19 @@ impl Model for Copier {
       plan = c.token.knows.plan;
       stage = c.token.knows.stage;
       found = c.token.knows.found;
-      first_load = c.token.knows.value;
-      second_load = c.token.knows.checked;
+      looks = c.token.knows.looks;
+      looked_at = c.token.knows.looked_at;
+      checks = c.token.knows.checks;
+      checked_place = c.token.knows.checked_slot;
+      first_load = c.token.knows.first_load;
+      second_load = c.token.knows.second_load;
       copied = c.token.knows.copied;
       retired = c.token.knows.retired;
     } };
 
     ghost invariant = { λ c.
         (c.copied.items ≡ c.token.knows.copied)
+        × (c.token.knows.copying ≡ None)
         × (length c.token.knows.copied ≡ length c.token.knows.plan.owners)
         × (length c.token.knows.found ≡ c.token.knows.plan.seats)
         × (c.token.knows.stage ≤ 2) };
@@ -209,7 +220,8 @@ impl Flip {
     /// The word of a place, from the copy that goes with the seat's stage.
     fn load_word(&self, writer: Writer, place: usize) -> (u64, Writer)
         requires { IsWriterOf self.now writer × (place < length self.now.plan.owners) }
-        ensures writer { result.1 ≡ writer }
+        ensures loaded { HasLoaded self.now writer place result.1 × (result.1.loaded ≡ object_of result.0) }
+        ensures rest { result.1 ≡ record writer { loads = result.1.loads; loaded_word = result.1.loaded_word; loaded = result.1.loaded } }
         ensures small { (result.0 ≤ self.now.objects) × (result.0 ≤ 256) }
         ensures own { slice_index self.now.plan.owners place ≡ writer.seat → slice_get writer.written place ≡ Some (object_of result.0) }
     {
@@ -225,11 +237,13 @@ impl Flip {
     ///
     /// A seat at stage 0 loads the first copy, and at stage 1 or 2 the second. In a slot of the seat's own this is what
     /// it last wrote, whatever was copied and retired meanwhile. In another's it is null or an object number below the
-    /// number of objects. The writer has to be of this flip, and the slot one of its slots. This is one step.
+    /// number of objects. The writer has to be of this flip, and the slot one of its slots. This is one step, the load that
+    /// gives the answer.
     pub fn load(&self, writer: Writer, object: u16, slot: u8) -> (Option<u16>, Writer)
         requires writer { IsWriterOf self.now writer }
         requires slot { HasSlot self.now object slot }
-        ensures writer { result.1 ≡ writer }
+        ensures loaded { HasLoaded self.now writer (place_of self.now object slot) result.1 × (result.1.loaded ≡ result.0) }
+        ensures rest { result.1 ≡ record writer { loads = result.1.loads; loaded_word = result.1.loaded_word; loaded = result.1.loaded } }
         ensures named { IfSome result.0 (λ named. named < self.now.objects) }
         ensures own { IsOwn self.now writer object slot → slice_get writer.written (place_of self.now object slot) ≡ Some result.0 }
     {
@@ -241,13 +255,12 @@ impl Flip {
     ///
     /// At stages 0 and 1 this is a store to the first copy and then one to the second, and at stage 2 one to the second.
     /// The writer has to be of this flip, and the object one of its objects.
-    #[tactic(auto, using(crate::proofs::ObjectWords::written_to))]
     pub fn store(&self, writer: Writer, object: u16, slot: u8, value: Option<u16>) -> Writer
         requires writer { IsWriterOf self.now writer }
         requires slot { HasSlot self.now object slot }
         requires own { IsOwn self.now writer object slot }
         requires value { ForSome value (λ named. named < self.now.objects) }
-        ensures { result ≡ record writer { written = slice_set writer.written (place_of self.now object slot) value } }
+        ensures { result ≡ record writer { stores = writer.stores + 1; written = slice_set writer.written (place_of self.now object slot) value } }
     {
         let place = self.place(object, slot);
         let word = word_of(value);
@@ -266,7 +279,7 @@ impl Flip {
     /// load of the posted stage and a store of the seat's.
     pub fn flip_ack(&self, writer: Writer) -> (u64, Writer)
         requires { IsWriterOf self.now writer }
-        ensures writer { result.1 ≡ record writer { stage = result.0 } }
+        ensures writer { result.1 ≡ record writer { stage = result.0; polled = result.0; polls = writer.polls + 1 } }
         ensures paced { IsPostedOrOneLess writer.stage result.0 }
         ensures last { result.0 ≤ 2 }
     {
@@ -280,7 +293,7 @@ impl Flip {
         requires copier { IsCopierOf self.now copier × (copier.stage ≡ 0) }
         requires place { place < length self.now.plan.owners }
         ensures same { IsTrue result.0 ↔ (result.1.first_load ≡ result.1.second_load) }
-        ensures copier { result.1 ≡ record copier { first_load = result.1.first_load; second_load = result.1.second_load; copied = slice_set copier.copied place result.0 } }
+        ensures copier { result.1 ≡ record copier { checks = copier.checks + 1; checked_place = place; first_load = result.1.first_load; second_load = result.1.second_load; copied = slice_set copier.copied place result.0 } }
     {
         let mut copied = copier.copied;
         let (value, token) = self.table.load_to_copy(copier.token, place);
@@ -298,16 +311,16 @@ impl Flip {
     ///
     /// `Past`: stage 0 is over, and nothing is done. `Copied`: from now on the second copy says what the first says,
     /// whatever its writer stores. `Again`: the two loads of the first copy differ, so the slot is to be copied again,
-    /// also where it was copied before. The copier has to be of this flip, and the slot one of its slots. These are up to
-    /// three steps: a load of the first copy, a store to the second, and a load of the first.
+    /// also where it was copied before. The copier has to be of this flip, and the slot one of its slots. These are no
+    /// steps or three: a load of the first copy, a store to the second, and a load of the first, which is the check.
     pub fn copy_word(&self, copier: Copier, object: u16, slot: u8) -> (Copy, Copier)
         requires copier { IsCopierOf self.now copier }
         requires slot { HasSlot self.now object slot }
         ensures past { (result.0 ≡ Copy.Past) ↔ (0 < copier.stage) }
         ensures unchanged { result.0 ≡ Copy.Past → result.1 ≡ copier }
-        ensures copied { result.0 ≡ Copy.Copied → (result.1.first_load ≡ result.1.second_load) × (result.1.copied ≡ slice_set copier.copied (place_of self.now object slot) true) }
-        ensures again { result.0 ≡ Copy.Again → (result.1.first_load ≢ result.1.second_load) × (result.1.copied ≡ slice_set copier.copied (place_of self.now object slot) false) }
-        ensures rest { result.1 ≡ record copier { first_load = result.1.first_load; second_load = result.1.second_load; copied = result.1.copied } }
+        ensures copied { result.0 ≡ Copy.Copied → HasChecked copier (place_of self.now object slot) result.1 × (result.1.first_load ≡ result.1.second_load) × (result.1.copied ≡ slice_set copier.copied (place_of self.now object slot) true) }
+        ensures again { result.0 ≡ Copy.Again → HasChecked copier (place_of self.now object slot) result.1 × (result.1.first_load ≢ result.1.second_load) × (result.1.copied ≡ slice_set copier.copied (place_of self.now object slot) false) }
+        ensures rest { result.1 ≡ record copier { checks = result.1.checks; checked_place = result.1.checked_place; first_load = result.1.first_load; second_load = result.1.second_load; copied = result.1.copied } }
     {
         if copier.token.stage() > 0 {
             return (Copy::Past, copier);
@@ -318,10 +331,10 @@ impl Flip {
         }
     }
 
-    /// Finds the stage that a seat has taken up.
+    /// Finds the stage that a seat has taken up, by one look.
     fn find(&self, copier: Copier, seat: usize) -> (u64, Copier)
         requires { IsCopierOf self.now copier × (seat < self.now.plan.seats) }
-        ensures copier { result.1 ≡ record copier { found = slice_set copier.found seat result.0 } }
+        ensures copier { result.1 ≡ record copier { found = slice_set copier.found seat result.0; looks = copier.looks + 1; looked_at = seat } }
         ensures paced { IsPostedOrOneLess result.0 copier.stage }
         ensures rises { slice_index copier.found seat ≤ result.0 }
     {
@@ -333,9 +346,9 @@ impl Flip {
     /// Looks at the seats in order, up to the first that has not taken up this stage, and answers whether all have.
     fn find_all(&self, copier: Copier, stage: u64) -> (bool, Copier)
         requires { IsCopierOf self.now copier × (copier.stage ≤ stage) }
-        ensures all { result.0 ≡ true → FoundAll self.now.plan.seats stage result.1.found }
-        ensures late { result.0 ≡ false → FoundLate self.now.plan.seats stage result.1.found }
-        ensures copier { result.1 ≡ record copier { found = result.1.found } }
+        ensures all { result.0 ≡ true → FoundAll self.now.plan.seats stage result.1.found × (result.1.looks ≡ copier.looks + self.now.plan.seats) }
+        ensures late { result.0 ≡ false → FoundLate self.now.plan.seats stage result.1.found result.1.looked_at × (result.1.looks ≡ copier.looks + result.1.looked_at + 1) }
+        ensures copier { result.1 ≡ record copier { found = result.1.found; looks = result.1.looks; looked_at = result.1.looked_at } }
         ensures rises { FindsNoLess copier.found result.1.found }
     {
         let mut copier = copier;
@@ -353,16 +366,16 @@ impl Flip {
     ///
     /// Decided in this order: `Last`, at stage 2; `Unfinished`, at stage 0 while a slot is not copied; `Late`, where a
     /// seat was found that has not taken up the stage. In these cases the stage stays. The copier has to be of this flip.
-    /// The steps are a load of each stage that is looked at, then perhaps a store of the posted stage.
+    /// The steps are one look for each seat, up to the late one if there is one, then perhaps a store of the posted stage.
     pub fn advance(&self, copier: Copier) -> (Advance, Copier)
         requires { IsCopierOf self.now copier }
         ensures last { (result.0 ≡ Advance.Last) ↔ (copier.stage ≡ 2) }
         ensures unfinished { result.0 ≡ Advance.Unfinished → (copier.stage ≡ 0) × SomeUncopied copier.copied }
         ensures unchanged { (result.0 ≡ Advance.Last) ⊎ (result.0 ≡ Advance.Unfinished) → result.1 ≡ copier }
         ensures finished { (result.0 ≡ Advance.Late) ⊎ (result.0 ≡ Advance.Posted) → copier.stage ≡ 0 → AllMarked copier.copied }
-        ensures late { result.0 ≡ Advance.Late → FoundLate self.now.plan.seats copier.stage result.1.found × (result.1.stage ≡ copier.stage) }
-        ensures posted { result.0 ≡ Advance.Posted → FoundAll self.now.plan.seats copier.stage result.1.found × (result.1.stage ≡ copier.stage + 1) }
-        ensures rest { result.1 ≡ record copier { stage = result.1.stage; found = result.1.found } }
+        ensures late { result.0 ≡ Advance.Late → FoundLate self.now.plan.seats copier.stage result.1.found result.1.looked_at × (result.1.looks ≡ copier.looks + result.1.looked_at + 1) × (result.1.stage ≡ copier.stage) }
+        ensures posted { result.0 ≡ Advance.Posted → FoundAll self.now.plan.seats copier.stage result.1.found × (result.1.looks ≡ copier.looks + self.now.plan.seats) × (result.1.stage ≡ copier.stage + 1) }
+        ensures rest { result.1 ≡ record copier { stage = result.1.stage; found = result.1.found; looks = result.1.looks; looked_at = result.1.looked_at } }
         ensures rises { FindsNoLess copier.found result.1.found }
     {
         let stage = copier.token.stage();
@@ -393,14 +406,14 @@ impl Flip {
     /// Writes the retired mark over the first copy of a slot, once each seat was found at stage 2.
     ///
     /// The mark stays for good. `Late`: a seat was found that has not taken up stage 2, and nothing is written. The copier
-    /// has to be of this flip, and the slot one of its slots. The steps are a load of each stage that is looked at, then
-    /// perhaps a store to the first copy.
+    /// has to be of this flip, and the slot one of its slots. The steps are one look for each seat, up to the late one if
+    /// there is one, then perhaps a store to the first copy.
     pub fn retire(&self, copier: Copier, object: u16, slot: u8) -> (Retire, Copier)
         requires copier { IsCopierOf self.now copier }
         requires slot { HasSlot self.now object slot }
-        ensures retired { result.0 ≡ Retire.Retired → FoundAll self.now.plan.seats 2 result.1.found × (result.1.retired ≡ slice_set copier.retired (place_of self.now object slot) true) }
-        ensures late { result.0 ≡ Retire.Late → FoundLate self.now.plan.seats 2 result.1.found × (result.1.retired ≡ copier.retired) }
-        ensures rest { result.1 ≡ record copier { found = result.1.found; retired = result.1.retired } }
+        ensures retired { result.0 ≡ Retire.Retired → FoundAll self.now.plan.seats 2 result.1.found × (result.1.looks ≡ copier.looks + self.now.plan.seats) × (result.1.retired ≡ slice_set copier.retired (place_of self.now object slot) true) }
+        ensures late { result.0 ≡ Retire.Late → FoundLate self.now.plan.seats 2 result.1.found result.1.looked_at × (result.1.looks ≡ copier.looks + result.1.looked_at + 1) × (result.1.retired ≡ copier.retired) }
+        ensures rest { result.1 ≡ record copier { found = result.1.found; looks = result.1.looks; looked_at = result.1.looked_at; retired = result.1.retired } }
         ensures rises { FindsNoLess copier.found result.1.found }
     {
         match self.find_all(copier, RECLAIM) {

@@ -3,4 +3,4 @@ use Rattle.epoch_words.proofs.StepsKeep.{stores_seen}
 use Rattle.epoch_words.proofs.epochs.Epochs.ack.Goals as goal
 
 pub store-requires : goal.store-requires
-store-requires c = (search rules, search rules, stores_seen _ _ _ _ _ _ _ c.seat.invariant.0)
+store-requires c = (search rules, search rules, stores_seen _ _ _ _ _ _ _ (search rules) (search rules) c.seat.invariant.0)
