@@ -43,6 +43,10 @@ pub if_err : {T E : Type 0} {P Q : E → Type 0} (r : Result T E) → IfErr r P 
 if_err (Ok x) h f = tt
 if_err (Err e) h f = f e h
 
+pub for_err : {T E : Type 0} {P : Type 0} (r : Result T E) → P → IfErr r (λ _. P)
+for_err (Ok x) p = tt
+for_err (Err e) p = p
+
 pub on_err : {T E : Type 0} {P : Type 0} (r : Result T E) → P → OnErr r P
 on_err (Ok x) p = tt
 on_err (Err e) p = p

@@ -63,7 +63,7 @@ pub fn carry_out<W: Write, E: Write>(
 ) -> Result<u8, NotWritten>
     ensures told { IfOk result (IsOutcome order.now source.now schedule.now (W.contents out.old)
         (W.contents out.new) (E.contents err.old) (E.contents err.new)) }
-    ensures cut { OnErr result (IsTellingCut order.now source.now schedule.now (W.contents out.old)
+    ensures cut { IfErr result (λ _. IsTellingCut order.now source.now schedule.now (W.contents out.old)
         (W.contents out.new) (E.contents err.old) (E.contents err.new)) }
 {
     match perform(rt, alloc, order, source, schedule, out, err) {

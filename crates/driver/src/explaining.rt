@@ -1,6 +1,6 @@
 //! What a person needs where an order is refused.
 
-ghost use Rattle.std.specs.Prelude.{◌≡◌, ◌++◌, IfOk, List, ℕ, OnErr, OnOk};
+ghost use Rattle.std.specs.Prelude.{◌≡◌, ◌++◌, IfErr, IfOk, List, ℕ, OnErr, OnOk};
 ghost use Rattle.std.specs.Io.KnownBytes.{Appends};
 ghost use Rattle.outputs.specs.Beginnings.{AppendsBeginning};
 ghost use Rattle.driver.specs.Failures.{message_of, status_of_failure};
@@ -29,7 +29,7 @@ pub(crate) fn tell_failure<E: Write>(
 ) -> Result<u8, NotWritten>
     ensures told { IfOk result (λ status. (status ≡ status_of_failure failure) × ((text : List ℕ)
         × IsExplanation (is_told_why order.now failure) text × Appends (E.contents err.old) (E.contents err.new) (message_of failure ++ text))) }
-    ensures begun { OnErr result ((text : List ℕ)
+    ensures begun { IfErr result (λ _. (text : List ℕ)
         × IsExplanation (is_told_why order.now failure) text × AppendsBeginning (E.contents err.old) (E.contents err.new) (message_of failure ++ text)) }
 {
     tell(failure, err)?;
