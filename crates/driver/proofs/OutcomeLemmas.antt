@@ -1,8 +1,8 @@
 -- What an error that a `?` hands on is.
-use Rattle.std.proofs.Common.{◌≡◌, ◌↔◌, ◌<◌, nat_le, ℕ, Bool, true, false, List, map, Option, Some, Result, Ok, Err, refl, ap, sym, ◌∙◌, subst, arith, inl, inr}
+use Rattle.std.proofs.Common.{◌≡◌, ◌↔◌, ◌<◌, nat_le, ℕ, Bool, true, false, List, [], map, Option, Some, Result, Ok, Err, refl, ap, sym, ◌∙◌, subst, arith, inl, inr}
 use Rattle.std.proofs.lemmas.Bool.{and_parts}
 use Rattle.std.proofs.lemmas.Bool.Decides.{nat_tests}
-use Rattle.std.specs.Prelude.{IfErr, IfOk, IsErrAnd}
+use Rattle.std.specs.Prelude.{IfErr, IfOk, IsErrAnd, OnErr}
 use Rattle.shared_machine.proofs.simulation.StandsLaws.{ends_stand, printed_stands, stands_after}
 use Rattle.cil_model.specs.Legality.{IsLegal}
 use Rattle.shared_machine.specs.simulation.MachineContents.{Content}
@@ -22,13 +22,14 @@ use Rattle.shared_machine.specs.interleaving_core.declared.machine.Refused.TheVa
 use Rattle.cil_model.specs.Typings.{IsAccepted}
 use Rattle.verifier.specs.Verdicts.{IsVerdict}
 use Rattle.verifier.specs.declared.refusals.VerifyError.{VerifyError}
-use Rattle.driver.specs.Failures.{failure_of_tracing, failure_of_verifying, is_refusal}
+use Rattle.driver.specs.Failures.{IsOfWriting, failure_of_tracing, failure_of_verifying, is_refusal}
 use Rattle.driver.specs.declared.failure.Failure.{Failure}
 use Rattle.event_trace.specs.Traces.{IsTraced}
 use Rattle.event_trace.specs.declared.errors.TraceError.{TraceError}
 use Rattle.event_trace.specs.declared.errors.TraceError.TheVariants.{Memory as WantsMemory, Device as CantWrite}
-use Rattle.driver.specs.Outcomes.{HasRun, HasTraced, IsAcceptedSource, IsNotAccepted, IsOfWriting, IsReady, IsRun, IsRunBy, IsShown}
-use Rattle.driver.specs.Threads.{ends_of}
+use Rattle.driver.specs.Outcomes.{ComesTo, HasRun, HasTraced, IsAcceptedSource, IsExplanation, IsNotAccepted, IsReady, IsRun, IsRunBy, IsRunInPart, IsShown, IsTracedThenInPart}
+use Rattle.driver.specs.Threads.{ends_of, lines_from}
+use Rattle.outputs.specs.Beginnings.{AppendsBeginning}
 
 pub handed_on : {T E : Type 0} {P gives : E → Type 0} (r : Result T E) → IsErrAnd r gives → ((e : E) → gives e → P e) → IfErr r P
 handed_on (Ok x) h f = tt
@@ -41,6 +42,23 @@ if_ok (Err e) h f = tt
 pub if_err : {T E : Type 0} {P Q : E → Type 0} (r : Result T E) → IfErr r P → ((e : E) → P e → Q e) → IfErr r Q
 if_err (Ok x) h f = tt
 if_err (Err e) h f = f e h
+
+pub for_err : {T E : Type 0} {P : Type 0} (r : Result T E) → P → IfErr r (λ _. P)
+for_err (Ok x) p = tt
+for_err (Err e) p = p
+
+pub on_err : {T E : Type 0} {P : Type 0} (r : Result T E) → P → OnErr r P
+on_err (Ok x) p = tt
+on_err (Err e) p = p
+
+pub on_err_of : {T E : Type 0} {P Q : Type 0} (r : Result T E) → OnErr r P → (P → Q) → OnErr r Q
+on_err_of (Ok x) p f = tt
+on_err_of (Err e) p f = f p
+
+-- nothing explains a failure, whether that is asked for or not
+pub no_explanation : (told : Bool) → IsExplanation told []
+no_explanation true = tt
+no_explanation false = refl
 
 -- limits that a machine was made with are in range
 pub made_in_range : {M : Type 0} (limits : Limits) (m : M) → (Ok m ≡ Err BadLimits) ↔ (are_in_range limits ≡ false) → are_in_range limits ≡ true
@@ -65,32 +83,48 @@ pub ran : (tree : Tree) (limits : Limits) (m d : Content) (events : List Event) 
 ran tree limits m d events reports in_range first same_tree same_limits run =
     (in_range, stands_after tree limits m d events reports first.0 first.1 first.2 same_tree same_limits run.limits (some_budget limits in_range) run.each run.follows)
 
+-- what a machine shows is what the state shows that it represents
+shown_of : (c : Content) (state : State) (out out' err err' : Option (List ℕ)) (status : ℕ) → Represents c state → IsShown c.printed (map end_of c.threads) out out' err err' status
+    → IsShown state.printed (ends_of state) out out' err err' status
+shown_of c state out out' err err' status represents shown =
+    subst (λ p. IsShown p (ends_of state) out out' err err' status) (printed_stands c state represents)
+    (subst (λ es. IsShown c.printed es out out' err err' status) (ends_stand c state represents) shown)
+
 -- what the machine that was run shows
-pub has_run : (source : List ℕ) (limits : Limits) (text : List ℕ) (reports : List Report) (c : Content) (out out' err err' : Option (List ℕ)) (status : ℕ) → IsRunBy source limits text reports c
+pub has_run : (source : List ℕ) (limits : Limits) (text : List ℕ) (events : List Event) (reports : List Report) (c : Content) (out out' err err' : Option (List ℕ)) (status : ℕ) → IsRunBy source limits text events reports c
     → IsShown c.printed (map end_of c.threads) out out' err err' status → HasRun source limits text out out' err err' status
-has_run source limits text reports c out out' err err' status by shown =
-    let after : StandsAfter by.2.0 limits by.0 reports c = by.2.2.1 in
+has_run source limits text events reports c out out' err err' status by shown =
+    let after : StandsAfter by.1.0 limits events reports c = by.1.2.1 in
     record {
-      tree = by.2.0;
-      is_accepted = by.2.1;
-      in_range = by.2.2.0;
-      events = by.0;
-      are_read = by.1;
+      events = events;
       reports = reports;
       state = after.state;
-      is_run = after.is_run;
-      budgets = after.budgets;
-      shown = subst (λ p. IsShown p (ends_of after.state) out out' err err' status) (printed_stands c after.state after.represents)
-          (subst (λ es. IsShown c.printed es out out' err err' status) (ends_stand c after.state after.represents) shown);
+      comes_to = record { tree = by.1.0; is_accepted = by.1.1; in_range = by.1.2.0; are_read = by.0; is_run = after.is_run; budgets = after.budgets };
+      shown = shown_of c after.state out out' err err' status after.represents shown;
     }
 
--- what the machine that was traced shows
-pub has_traced : (source : List ℕ) (limits : Limits) (text : List ℕ) (events : List Event) (begins after : Content) (reports : List Report) (out between out' err err' : Option (List ℕ)) (status : ℕ)
+-- what the machine that was run shows in part
+pub run_in_part : (source : List ℕ) (limits : Limits) (text : List ℕ) (events : List Event) (reports : List Report) (c : Content) (out out' err err' : Option (List ℕ)) → IsRunBy source limits text events reports c
+    → AppendsBeginning out out' c.printed × AppendsBeginning err err' (lines_from 0 (map end_of c.threads)) → IsRunInPart source limits text out out' err err'
+run_in_part source limits text events reports c out out' err err' by shown =
+    let after : StandsAfter by.1.0 limits events reports c = by.1.2.1 in
+    record {
+      events = events;
+      reports = reports;
+      state = after.state;
+      comes_to = record { tree = by.1.0; is_accepted = by.1.1; in_range = by.1.2.0; are_read = by.0; is_run = after.is_run; budgets = after.budgets };
+      output = subst (AppendsBeginning out out') (printed_stands c after.state after.represents) shown.0;
+      errors = subst (λ es. AppendsBeginning err err' (lines_from 0 es)) (ends_stand c after.state after.represents) shown.1;
+    }
+
+-- what the machine that was traced shows in part
+pub traced_in_part : (source : List ℕ) (limits : Limits) (text : List ℕ) (events : List Event) (begins after : Content) (reports : List Report) (out between out' err err' : Option (List ℕ))
     → IsReady source limits text events begins → IsTraced begins events after reports out between → after.limits ≡ begins.limits
-    → IsShown after.printed (map end_of after.threads) between out' err err' status → HasTraced source limits text out out' err err' status
-has_traced source limits text events begins after reports out between out' err err' status ready traced kept shown =
+    → AppendsBeginning between out' after.printed × AppendsBeginning err err' (lines_from 0 (map end_of after.threads)) → IsTracedThenInPart source limits text out out' err err'
+traced_in_part source limits text events begins after reports out between out' err err' ready traced kept shown =
     let first = ready.opened.represents in
-    let stands = stands_after ready.tree limits begins after events reports first.0 first.1 first.2 ready.opened.same_program ready.opened.same_limits kept (some_budget limits ready.in_range) traced.each traced.follows in
+    let stands : StandsAfter ready.tree limits events reports after =
+    stands_after ready.tree limits begins after events reports first.0 first.1 first.2 ready.opened.same_program ready.opened.same_limits kept (some_budget limits ready.in_range) traced.each traced.follows in
     record {
       events = events;
       begins = begins;
@@ -99,7 +133,29 @@ has_traced source limits text events begins after reports out between out' err e
       reports = reports;
       between = between;
       traced = traced;
-      run = has_run source limits text reports after between out' err err' status (events, ready.are_read, (ready.tree, ready.is_accepted, (ready.in_range, stands))) shown;
+      shown = run_in_part source limits text events reports after between out' err err' (ready.are_read, (ready.tree, ready.is_accepted, (ready.in_range, stands))) shown;
+    }
+
+-- what the machine that was traced shows
+pub has_traced : (source : List ℕ) (limits : Limits) (text : List ℕ) (events : List Event) (begins after : Content) (reports : List Report) (out between out' err err' : Option (List ℕ)) (status : ℕ)
+    → IsReady source limits text events begins → IsTraced begins events after reports out between → after.limits ≡ begins.limits
+    → IsShown after.printed (map end_of after.threads) between out' err err' status → HasTraced source limits text out out' err err' status
+has_traced source limits text events begins after reports out between out' err err' status ready traced kept shown =
+    let first = ready.opened.represents in
+    let stands : StandsAfter ready.tree limits events reports after =
+    stands_after ready.tree limits begins after events reports first.0 first.1 first.2 ready.opened.same_program ready.opened.same_limits kept (some_budget limits ready.in_range) traced.each traced.follows in
+    record {
+      events = events;
+      reports = reports;
+      state = stands.state;
+      comes_to = record { tree = ready.tree; is_accepted = ready.is_accepted; in_range = ready.in_range; are_read = ready.are_read; is_run = stands.is_run; budgets = stands.budgets };
+      begins = begins;
+      opened = ready.opened;
+      after = after;
+      between = between;
+      traced = traced;
+      represents = stands.represents;
+      shown = shown_of after stands.state between out' err err' status stands.represents shown;
     }
 
 -- a program that was verified

@@ -1,7 +1,9 @@
 -- Why an order is not carried out, and what is told of it (this profile).
 use Rattle.std.specs.Fmt.{decimal}
 use Rattle.std.specs.IoError.{error_kind}
-use Rattle.std.specs.Prelude.{◌≡◌, ◌≢◌, ◌⊎◌, ◌++◌, ◌∷◌, [], ℕ, Bool, true, false, List, codes}
+use Rattle.std.specs.Prelude.{◌≡◌, ◌≢◌, ◌⊎◌, ◌++◌, ◌∷◌, [], ℕ, Bool, true, false, List, Option, codes}
+use Rattle.std.specs.Io.KnownBytes.{Appends}
+use Rattle.outputs.specs.Beginnings.{AppendsBeginning}
 use Rattle.std.specs.declared.io.Error.{Error}
 use Rattle.std.specs.declared.io.ErrorKind.TheVariants.{OutOfMemory}
 use Rattle.ilasm_reader.specs.Answers.{numbered as reading_number_of}
@@ -56,6 +58,10 @@ abbrev pub IsFailureOfDevice : Error → Failure → Type 0
 IsFailureOfDevice error failure = (error_kind error ≡ OutOfMemory → failure ≡ Memory)
     × (error_kind error ≢ OutOfMemory → failure ≡ Device)
 
+-- an output fails, or memory for it
+abbrev pub IsOfWriting : Failure → Type 0
+IsOfWriting failure = (failure ≡ Memory) ⊎ (failure ≡ Device)
+
 -- ---- what is told of a failure
 
 -- of the source, the limits or the schedule
@@ -70,13 +76,18 @@ status_of_failure (OutOfRange number) = 2
 status_of_failure Memory = 5
 status_of_failure Device = 5
 
--- a failure that can't be written is a failed write
-abbrev pub IsStatusOf : Failure → ℕ → Type 0
-IsStatusOf failure n = (n ≡ status_of_failure failure) ⊎ (n ≡ 5)
+-- the line of a refusal's number
+abbrev pub number_line : ℕ → List ℕ
+number_line number = codes "error " ++ decimal number ++ 10 ∷ []
 
 -- the line that a failure is printed as
 abbrev pub message_of : Failure → List ℕ
-message_of (Refused number) = codes "error " ++ decimal number ++ 10 ∷ []
-message_of (OutOfRange number) = codes "error " ++ decimal number ++ 10 ∷ []
+message_of (Refused number) = number_line number
+message_of (OutOfRange number) = number_line number
 message_of Memory = codes "memory" ++ 10 ∷ []
 message_of Device = codes "device" ++ 10 ∷ []
+
+-- the line of a failure is written, and the status is the failure's; or a beginning of it, and the status is that of a failed write
+abbrev pub IsReported : Failure → Option (List ℕ) → Option (List ℕ) → ℕ → Type 0
+IsReported failure err err' status = ((status ≡ status_of_failure failure) × Appends err err' (message_of failure))
+    ⊎ ((status ≡ 5) × AppendsBeginning err err' (message_of failure))

@@ -1,14 +1,14 @@
 -- What comes of an order: what is printed, and the status that the program ends with (this profile).
 use Rattle.std.specs.Io.KnownBytes.{Appends}
 use Rattle.std.specs.Fmt.{decimal}
-use Rattle.std.specs.Prelude.{◌≡◌, ◌≢◌, ◌⊎◌, ◌*◌, ◌++◌, ◌∷◌, [], ℕ, Bool, true, false, List, Option, Some, None, Err, codes}
+use Rattle.std.specs.Prelude.{◌≡◌, ◌≢◌, ◌⊎◌, ◌*◌, ◌++◌, ◌∷◌, [], ℕ, Bool, true, false, List, Option, Some, None, Err, codes, if◌then◌else◌}
 use Rattle.std.specs.List.{zip}
 use Rattle.shared_machine.specs.simulation.Budgets.{AreWithinBudget}
 use Rattle.cil_model.specs.Ranges.{are_in_range}
 use Rattle.flip_trial.specs.Trial.{place_count}
 use Rattle.flip_trial.specs.declared.sizes.Sizes.{Sizes}
 use Rattle.cil_model.specs.Sources.{HasTree, IsAnswer}
-use Rattle.event_trace.specs.Traces.{IsTraced}
+use Rattle.event_trace.specs.Traces.{IsTraced, IsTracedInPart}
 use Rattle.shared_machine.specs.simulation.StandsFor.{Represents}
 use Rattle.reference_machine.specs.Runs.{opening}
 use Rattle.cil_model.specs.declared.events.Event.{Event}
@@ -34,11 +34,12 @@ use Rattle.schedule_text.specs.Readings.{AreRead, IsFirstFault}
 use Rattle.schedule_text.specs.declared.errors.ScheduleError.{ScheduleError}
 use Rattle.driver.specs.Failures.{failure_of_making, failure_of_reading, failure_of_resolving}
 use Rattle.driver.specs.Failures.{failure_of_schedule, failure_of_verifying, is_refusal, message_of}
-use Rattle.driver.specs.Failures.{IsStatusOf, status_of_failure}
+use Rattle.driver.specs.Failures.{IsOfWriting, status_of_failure}
+use Rattle.outputs.specs.Beginnings.{AppendsBeginning}
 use Rattle.orders.specs.Orders.{is_explained}
 use Rattle.driver.specs.Threads.{ends_of, lines_from, status_of}
 use Rattle.driver.specs.declared.failure.Failure.{Failure}
-use Rattle.driver.specs.declared.failure.Failure.TheVariants.{Memory, Device}
+use Rattle.driver.specs.declared.failure.Failure.TheVariants.{Memory}
 use Rattle.orders.specs.declared.order.Order.{Order}
 use Rattle.orders.specs.declared.order.Order.TheVariants.{Check, Run, Replay, Trace, Flip}
 
@@ -88,8 +89,8 @@ abbrev pub IsNotRun : List ℕ → Limits → Failure → Type 0
 IsNotRun source limits failure = IsNotAccepted source failure ⊎ (IsLetIn source × IsNotRunWithin limits failure)
 
 -- a machine has run by a text: the text writes the events that it has run
-abbrev pub IsRunBy : List ℕ → Limits → List ℕ → List Report → Content → Type 0
-IsRunBy source limits text reports content = (events : List Event) × AreRead (words text) events × HasRunTo source limits events reports content
+abbrev pub IsRunBy : List ℕ → Limits → List ℕ → List Event → List Report → Content → Type 0
+IsRunBy source limits text events reports content = AreRead (words text) events × HasRunTo source limits events reports content
 
 -- the text of a schedule writes no events: this is its first fault
 abbrev pub IsBadSchedule : List ℕ → Failure → Type 0
@@ -119,10 +120,6 @@ IsTried sizes out out' status = (retired : ℕ) × Appends out out' (trial_text 
 
 -- ---- an order
 
--- an output fails, or memory for it
-abbrev pub IsOfWriting : Failure → Type 0
-IsOfWriting failure = (failure ≡ Memory) ⊎ (failure ≡ Device)
-
 -- a check is done: the one line that it prints
 abbrev pub IsChecked : List ℕ → Option (List ℕ) → Option (List ℕ) → ℕ → Type 0
 IsChecked source out out' status =
@@ -133,19 +130,22 @@ abbrev pub IsNotChecked : List ℕ → Failure → Type 0
 IsNotChecked source failure =
     IsNotAccepted source failure ⊎ (IsLetIn source × IsOfWriting failure)
 
--- A run is done. The bytes have a tree that is an accepted program, the text writes events, and the reference machine's run
--- over their steps is never stuck: what it printed, and how its threads stand, is shown. No thread made more steps than its
--- budget has, and one that made as many has ended.
-pub record HasRun (source : List ℕ) (limits : Limits) (text : List ℕ) (out out' err err' : Option (List ℕ)) (status : ℕ) : Type 0 where
+-- A run comes to a state. The bytes have a tree that is an accepted program, the text writes events, and the reference machine's run
+-- over their steps is never stuck. No thread made more steps than its budget has, and one that made as many has ended.
+pub record ComesTo (source : List ℕ) (limits : Limits) (text : List ℕ) (events : List Event) (reports : List Report) (state : State) : Type 0 where
   pub tree : Tree
   pub is_accepted : IsAcceptedSource source tree
   pub in_range : are_in_range limits ≡ true
-  pub events : List Event
   pub are_read : AreRead (words text) events
-  pub reports : List Report
-  pub state : State
   pub is_run : IsRunOf tree limits events reports state
   pub budgets : AreWithinBudget limits (zip events reports) state
+
+-- a run is done: what the state that it comes to has printed, and how its threads stand, is shown
+pub record HasRun (source : List ℕ) (limits : Limits) (text : List ℕ) (out out' err err' : Option (List ℕ)) (status : ℕ) : Type 0 where
+  pub events : List Event
+  pub reports : List Report
+  pub state : State
+  pub comes_to : ComesTo source limits text events reports state
   pub shown : IsShown state.printed (ends_of state) out out' err err' status
 
 -- why a run is not done
@@ -166,17 +166,21 @@ pub record IsReady (source : List ℕ) (limits : Limits) (text : List ℕ) (even
   pub opened : IsOpened tree limits machine
   pub are_read : AreRead (words text) events
 
--- A run is traced: the text writes events, a line of each is shown of the turns that a machine makes which holds what the program begins
--- with, and then what the run leaves, as if it were not traced.
+-- A run is traced. A machine that holds what the program begins with makes the turns of the events, with the reports of the run, and a
+-- line of each is shown. It represents then the state that the run comes to, and what that has printed, and how its threads stand, is
+-- shown as if it were not traced.
 pub record HasTraced (source : List ℕ) (limits : Limits) (text : List ℕ) (out out' err err' : Option (List ℕ)) (status : ℕ) : Type 0 where
   pub events : List Event
-  pub begins : Content
-  pub ready : IsReady source limits text events begins
-  pub after : Content
   pub reports : List Report
+  pub state : State
+  pub comes_to : ComesTo source limits text events reports state
+  pub begins : Content
+  pub opened : IsOpened comes_to.tree limits begins
+  pub after : Content
   pub between : Option (List ℕ)
   pub traced : IsTraced begins events after reports out between
-  pub run : HasRun source limits text between out' err err' status
+  pub represents : Represents after state
+  pub shown : IsShown state.printed (ends_of state) between out' err err' status
 
 -- an order is carried out: a run takes its schedule from the command line, a replay from the file
 abbrev pub IsDone : Order → List ℕ → List ℕ → Option (List ℕ) → Option (List ℕ) → Option (List ℕ) → Option (List ℕ) → ℕ → Type 0
@@ -202,20 +206,90 @@ IsNotDone (Trace file name limits) source schedule failure =
     HasNotRun source limits schedule failure
 IsNotDone (Flip sizes) source schedule failure = IsOfWriting failure
 
--- what is told of a failure on the standard error: its line alone, or its line and a text that explains it
-abbrev pub IsTelling : Bool → Failure → Option (List ℕ) → Option (List ℕ) → Type 0
-IsTelling false failure err err' = Appends err err' (message_of failure)
-IsTelling true failure err err' = (text : List ℕ) × Appends err err' (message_of failure ++ text)
+-- ---- an order that is not carried out
 
--- what is told of a failure of an order: nothing is printed of a refusal but its telling
-abbrev pub IsTold : Order → Failure → Option (List ℕ) → Option (List ℕ) → Option (List ℕ) → Option (List ℕ) → ℕ → Type 0
-IsTold order failure out out' err err' status = IsStatusOf failure status
-    × (is_refusal failure ≡ true → (out' ≡ out)
-    × (status ≡ status_of_failure failure → IsTelling (is_explained order) failure err err'))
+-- a run is shown in part: a beginning of what its state has printed, and of how its threads stand
+pub record IsRunInPart (source : List ℕ) (limits : Limits) (text : List ℕ) (out out' err err' : Option (List ℕ)) : Type 0 where
+  pub events : List Event
+  pub reports : List Report
+  pub state : State
+  pub comes_to : ComesTo source limits text events reports state
+  pub output : AppendsBeginning out out' state.printed
+  pub errors : AppendsBeginning err err' (lines_from 0 (ends_of state))
+
+-- a run is traced in part: a beginning of the lines of its first events is shown
+pub record IsTraceInPart (source : List ℕ) (limits : Limits) (text : List ℕ) (out out' : Option (List ℕ)) : Type 0 where
+  pub events : List Event
+  pub begins : Content
+  pub ready : IsReady source limits text events begins
+  pub after : Content
+  pub traced : IsTracedInPart begins events after out out'
+
+-- a run is traced to its end, and shown in part
+pub record IsTracedThenInPart (source : List ℕ) (limits : Limits) (text : List ℕ) (out out' err err' : Option (List ℕ)) : Type 0 where
+  pub events : List Event
+  pub begins : Content
+  pub ready : IsReady source limits text events begins
+  pub after : Content
+  pub reports : List Report
+  pub between : Option (List ℕ)
+  pub traced : IsTraced begins events after reports out between
+  pub shown : IsRunInPart source limits text between out' err err'
+
+-- a beginning of what the order shows where it is carried out
+abbrev pub IsDoneInPart : Order → List ℕ → List ℕ → Option (List ℕ) → Option (List ℕ) → Option (List ℕ) → Option (List ℕ) → Type 0
+IsDoneInPart (Check file explain) source schedule out out' err err' =
+    IsLetIn source × AppendsBeginning out out' (codes "accepted" ++ 10 ∷ []) × (err' ≡ err)
+IsDoneInPart (Run file text limits explain) source schedule out out' err err' =
+    IsRunInPart source limits text.now out out' err err'
+IsDoneInPart (Replay file name limits explain) source schedule out out' err err' =
+    IsRunInPart source limits schedule out out' err err'
+IsDoneInPart (Trace file name limits) source schedule out out' err err' =
+    (IsTraceInPart source limits schedule out out' × (err' ≡ err)) ⊎ IsTracedThenInPart source limits schedule out out' err err'
+IsDoneInPart (Flip sizes) source schedule out out' err err' =
+    ((retired : ℕ) × AppendsBeginning out out' (trial_text (sizes.rounds * place_count sizes) retired)) × (err' ≡ err)
+
+-- an order is given up for this failure: nothing is printed of a refusal, and else nothing, or a beginning of what it shows
+pub record IsGivenUp (order : Order) (source schedule : List ℕ) (failure : Failure) (out out' err err' : Option (List ℕ)) : Type 0 where
+  pub reason : IsNotDone order source schedule failure
+  pub untouched : is_refusal failure ≡ true → (out' ≡ out) × (err' ≡ err)
+  pub in_part : ((out' ≡ out) × (err' ≡ err)) ⊎ IsDoneInPart order source schedule out out' err err'
+
+-- a failure is told with what explains it: a refusal, where the order asks for that
+abbrev pub is_told_why : Order → Failure → Bool
+is_told_why order failure = if is_refusal failure then is_explained order else false
+
+-- what stands behind the line of a failure: a text that explains it, where that is asked for, else nothing
+abbrev pub IsExplanation : Bool → List ℕ → Type 0
+IsExplanation false text = text ≡ []
+IsExplanation true text = Unit {0}
+
+-- an order is given up for a failure, and all that is to be told of it is written: the status is the failure's
+pub record IsTold (order : Order) (source schedule : List ℕ) (out out' err err' : Option (List ℕ)) (status : ℕ) : Type 0 where
+  pub failure : Failure
+  pub before : Option (List ℕ)
+  pub given_up : IsGivenUp order source schedule failure out out' err before
+  pub text : List ℕ
+  pub explains : IsExplanation (is_told_why order failure) text
+  pub written : Appends before err' (message_of failure ++ text)
+  pub status_is : status ≡ status_of_failure failure
+
+-- an order is given up for a failure, and a beginning of what is to be told of it is written
+pub record IsTellingCut (order : Order) (source schedule : List ℕ) (out out' err err' : Option (List ℕ)) : Type 0 where
+  pub failure : Failure
+  pub before : Option (List ℕ)
+  pub given_up : IsGivenUp order source schedule failure out out' err before
+  pub text : List ℕ
+  pub explains : IsExplanation (is_told_why order failure) text
+  pub begun : AppendsBeginning before err' (message_of failure ++ text)
 
 -- the order is carried out, or it is told why it is not
 abbrev pub IsOutcome : Order → List ℕ → List ℕ → Option (List ℕ) → Option (List ℕ) → Option (List ℕ) → Option (List ℕ) → ℕ → Type 0
 IsOutcome order source schedule out out' err err' status =
-    IsDone order source schedule out out' err err' status
-    ⊎ ((failure : Failure) × IsNotDone order source schedule failure
-    × IsTold order failure out out' err err' status)
+    IsDone order source schedule out out' err err' status ⊎ IsTold order source schedule out out' err err' status
+
+-- that, or a write failed that was to tell it: the status is 5
+abbrev pub IsOutcomeOrCut : Order → List ℕ → List ℕ → Option (List ℕ) → Option (List ℕ) → Option (List ℕ) → Option (List ℕ) → ℕ → Type 0
+IsOutcomeOrCut order source schedule out out' err err' status =
+    IsOutcome order source schedule out out' err err' status
+    ⊎ ((status ≡ 5) × IsTellingCut order source schedule out out' err err')

@@ -1,9 +1,12 @@
 //! Does what an order asks for.
 
-ghost use Rattle.std.specs.Prelude.{◌≡◌, IfErr, IfOk, true};
-ghost use Rattle.driver.specs.Failures.{is_refusal};
+ghost use Rattle.std.specs.Prelude.{◌≡◌, ◌⊎◌, ◌*◌, ◌++◌, ◌∷◌, [], ℕ, codes, IfErr, IfOk, OnErr, true};
+ghost use Rattle.flip_trial.specs.Trial.{place_count};
+ghost use Rattle.outputs.specs.Beginnings.{AppendsBeginning};
+ghost use Rattle.driver.specs.Failures.{IsOfWriting, is_refusal};
 ghost use Rattle.driver.specs.Outcomes.{HasNotRun, HasRun, HasTraced, IsChecked, IsDone, IsNotChecked};
-ghost use Rattle.driver.specs.Outcomes.{IsNotDone, IsOfWriting, IsOutcome, IsTried};
+ghost use Rattle.driver.specs.Outcomes.{IsNotDone, IsDoneInPart, IsLetIn, IsOutcome, IsOutcomeOrCut};
+ghost use Rattle.driver.specs.Outcomes.{IsRunInPart, IsTellingCut, IsTraceInPart, IsTracedThenInPart, IsTried, trial_text};
 
 use crate::explaining::tell_failure;
 use crate::failure::Failure;
@@ -13,6 +16,7 @@ use cil_model::limits::Limits;
 use event_trace::trace;
 use flip_trial::Sizes;
 use orders::Order;
+use outputs::NotWritten;
 use std::alloc::Global;
 use std::io::Write;
 use std::sync::Wait;
@@ -24,8 +28,9 @@ use std::thread::Threads;
 ///
 /// What a run prints goes to `out` and how its threads stand to `err`, once the run has ended; a trace has
 /// printed a line of each event to `out` before. A refusal prints `error` and its number to `err`, and what
-/// explains it where the order asks for that; want of memory prints `memory`, a failed write `device`. No
-/// command has a record yet, so `record` stays as it was.
+/// explains it where the order asks for that; want of memory prints `memory`, a failed write `device`. Where
+/// that can't be written either, the status is 5, and a beginning of it is written. No command has a record
+/// yet, so `record` stays as it was.
 pub fn drive<W: Write, E: Write>(
     rt: &(impl Threads + Wait),
     alloc: Global,
@@ -36,12 +41,33 @@ pub fn drive<W: Write, E: Write>(
     err: &mut E,
     record: &mut Vec<u8>,
 ) -> u8
-    ensures outcome { IsOutcome order.now source.now schedule.now (W.contents out.old) (W.contents out.new)
+    ensures outcome { IsOutcomeOrCut order.now source.now schedule.now (W.contents out.old) (W.contents out.new)
         (E.contents err.old) (E.contents err.new) result }
     ensures kept { «record».new ≡ «record».old }
 {
-    match perform(rt, alloc, order, source, schedule, out, err) {
+    match carry_out(rt, alloc, order, source, schedule, out, err) {
         Ok(status) => status,
+        Err(_) => 5,
+    }
+}
+
+/// Does a command as `drive` does, and answers the status. An error is a write that failed and was to tell why the command is not done.
+pub fn carry_out<W: Write, E: Write>(
+    rt: &(impl Threads + Wait),
+    alloc: Global,
+    order: &Order<'_>,
+    source: &[u8],
+    schedule: &[u8],
+    out: &mut W,
+    err: &mut E,
+) -> Result<u8, NotWritten>
+    ensures told { IfOk result (IsOutcome order.now source.now schedule.now (W.contents out.old)
+        (W.contents out.new) (E.contents err.old) (E.contents err.new)) }
+    ensures cut { IfErr result (λ _. IsTellingCut order.now source.now schedule.now (W.contents out.old)
+        (W.contents out.new) (E.contents err.old) (E.contents err.new)) }
+{
+    match perform(rt, alloc, order, source, schedule, out, err) {
+        Ok(status) => Ok(status),
         Err(failure) => tell_failure(alloc, order, failure, source, schedule, err),
     }
 }
@@ -60,6 +86,8 @@ fn perform<W: Write, E: Write>(
     ensures failed { IfErr result (IsNotDone order.now source.now schedule.now) }
     ensures untouched { IfErr result (λ failure. is_refusal failure ≡ true
         → (W.contents out.new ≡ W.contents out.old) × (E.contents err.new ≡ E.contents err.old)) }
+    ensures in_part { OnErr result (((W.contents out.new ≡ W.contents out.old) × (E.contents err.new ≡ E.contents err.old))
+        ⊎ IsDoneInPart order.now source.now schedule.now (W.contents out.old) (W.contents out.new) (E.contents err.old) (E.contents err.new)) }
 {
     match *order {
         Order::Check { .. } => check(alloc, source, out),
@@ -83,9 +111,11 @@ fn try_flip<W: Write>(
 ) -> Result<u8, Failure>
     ensures done { IfOk result (IsTried sizes (W.contents out.old) (W.contents out.new)) }
     ensures failed { IfErr result IsOfWriting }
+    ensures in_part { OnErr result ((W.contents out.new ≡ W.contents out.old)
+        ⊎ ((retired : ℕ) × AppendsBeginning (W.contents out.old) (W.contents out.new) (trial_text (sizes.rounds * place_count sizes) retired))) }
 {
     let outcome = flip_trial::run(rt, alloc, sizes)?;
-    show_trial(outcome, out)?;
+    show_trial(alloc, outcome, out)?;
     Ok(if outcome.finished { 0 } else { 3 })
 }
 
@@ -95,6 +125,8 @@ fn check<W: Write>(alloc: Global, source: &[u8], out: &mut W) -> Result<u8, Fail
     ensures failed { IfErr result (IsNotChecked source.now) }
     ensures untouched { IfErr result (λ failure. is_refusal failure ≡ true
         → W.contents out.new ≡ W.contents out.old) }
+    ensures in_part { OnErr result ((W.contents out.new ≡ W.contents out.old)
+        ⊎ (IsLetIn source.now × AppendsBeginning (W.contents out.old) (W.contents out.new) (codes "accepted" ++ 10 ∷ []))) }
 {
     accept(alloc, source)?;
     say_accepted(out)?;
@@ -116,6 +148,8 @@ fn show_run<W: Write, E: Write>(
     ensures failed { IfErr result (HasNotRun source.now limits text.now) }
     ensures untouched { IfErr result (λ failure. is_refusal failure ≡ true
         → (W.contents out.new ≡ W.contents out.old) × (E.contents err.new ≡ E.contents err.old)) }
+    ensures in_part { OnErr result (((W.contents out.new ≡ W.contents out.old) × (E.contents err.new ≡ E.contents err.old))
+        ⊎ IsRunInPart source.now limits text.now (W.contents out.old) (W.contents out.new) (E.contents err.old) (E.contents err.new)) }
 {
     let outcome = run_source(rt, alloc, source, limits, text)?;
     show(alloc, &outcome.machine, out, err)
@@ -135,6 +169,9 @@ fn show_trace<W: Write, E: Write>(
     ensures failed { IfErr result (HasNotRun source.now limits text.now) }
     ensures untouched { IfErr result (λ failure. is_refusal failure ≡ true
         → (W.contents out.new ≡ W.contents out.old) × (E.contents err.new ≡ E.contents err.old)) }
+    ensures in_part { OnErr result (((W.contents out.new ≡ W.contents out.old) × (E.contents err.new ≡ E.contents err.old))
+        ⊎ ((IsTraceInPart source.now limits text.now (W.contents out.old) (W.contents out.new) × (E.contents err.new ≡ E.contents err.old))
+        ⊎ IsTracedThenInPart source.now limits text.now (W.contents out.old) (W.contents out.new) (E.contents err.old) (E.contents err.new))) }
 {
     let (mut machine, events) = open(alloc, source, limits, text)?;
     trace(alloc, &mut machine, events.as_slice(), out)?;

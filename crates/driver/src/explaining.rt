@@ -1,22 +1,24 @@
 //! What a person needs where an order is refused.
 
-ghost use Rattle.std.specs.Prelude.{◌≡◌, ◌≢◌, List, ℕ, OnOk};
+ghost use Rattle.std.specs.Prelude.{◌≡◌, ◌++◌, IfErr, IfOk, List, ℕ, OnErr, OnOk};
 ghost use Rattle.std.specs.Io.KnownBytes.{Appends};
-ghost use Rattle.driver.specs.Failures.{IsStatusOf};
-ghost use Rattle.orders.specs.Orders.{is_explained};
-ghost use Rattle.driver.specs.Outcomes.{IsTelling};
+ghost use Rattle.outputs.specs.Beginnings.{AppendsBeginning};
+ghost use Rattle.driver.specs.Failures.{message_of, status_of_failure};
+ghost use Rattle.driver.specs.Outcomes.{IsExplanation, is_told_why};
 
-use crate::failure::{Failure, report};
+use crate::failure::{Failure, status_of_failure, tell};
 use cil_model::limits::Limits;
 use cil_model::memory::NoMemory;
 use diagnostics::{explain, explain_limits, explain_schedule};
 use orders::Order;
+use outputs::{NotWritten, write_whole};
 use schedule_text::read_schedule;
 use std::alloc::Global;
 use std::io::Write;
 
-/// Writes a failure to the standard error, and a text that explains it where the order asks for one. It answers the failure's status,
-/// or 5 where something can't be written.
+/// Writes a failure to the standard error, and behind a refusal a text that explains it, where the order asks for one. It answers the
+/// failure's status. An error is a write that failed, and a beginning of the telling is written then. Where the explanation wants memory,
+/// the refusal is told without it.
 pub(crate) fn tell_failure<E: Write>(
     alloc: Global,
     order: &Order<'_>,
@@ -24,33 +26,63 @@ pub(crate) fn tell_failure<E: Write>(
     source: &[u8],
     schedule: &[u8],
     err: &mut E,
-) -> u8
-    ensures status { IsStatusOf failure result }
-    ensures written { result ≢ 5 → IsTelling (is_explained order.now) failure (E.contents err.old) (E.contents err.new) }
+) -> Result<u8, NotWritten>
+    ensures told { IfOk result (λ status. (status ≡ status_of_failure failure) × ((text : List ℕ)
+        × IsExplanation (is_told_why order.now failure) text × Appends (E.contents err.old) (E.contents err.new) (message_of failure ++ text))) }
+    ensures begun { IfErr result (λ _. (text : List ℕ)
+        × IsExplanation (is_told_why order.now failure) text × AppendsBeginning (E.contents err.old) (E.contents err.new) (message_of failure ++ text)) }
 {
-    let status = report(failure, err);
-    if status == 5 || !order.is_explained() {
-        return status;
-    }
-    match show_explanation(alloc, order, source, schedule, err) {
-        Ok(()) => status,
-        Err(_) => 5,
+    tell(failure, err)?;
+    tell_why(
+        alloc,
+        order,
+        is_told_why(order, failure),
+        source,
+        schedule,
+        err,
+    )?;
+    Ok(status_of_failure(failure))
+}
+
+/// Whether a failure is told with what explains it.
+fn is_told_why(order: &Order<'_>, failure: Failure) -> bool
+    ensures { result ≡ is_told_why order.now failure }
+{
+    failure.is_refusal() && order.is_explained()
+}
+
+/// Writes what explains the refusal of an order, where it is to be told.
+fn tell_why<E: Write>(
+    alloc: Global,
+    order: &Order<'_>,
+    is_told: bool,
+    source: &[u8],
+    schedule: &[u8],
+    err: &mut E,
+) -> Result<(), NotWritten>
+    ensures shown { OnOk result ((text : List ℕ) × IsExplanation is_told text × Appends (E.contents err.old) (E.contents err.new) text) }
+    ensures begun { OnErr result ((text : List ℕ) × IsExplanation is_told text × AppendsBeginning (E.contents err.old) (E.contents err.new) text) }
+{
+    if is_told {
+        show_explanation(alloc, order, source, schedule, err)
+    } else {
+        Ok(())
     }
 }
 
-/// Writes what explains the refusal of an order.
+/// Writes what explains the refusal of an order, or nothing where memory is wanted.
 fn show_explanation<E: Write>(
     alloc: Global,
     order: &Order<'_>,
     source: &[u8],
     schedule: &[u8],
     err: &mut E,
-) -> Result<(), Failure>
-    ensures { OnOk result ((text : List ℕ) × Appends (E.contents err.old) (E.contents err.new) text) }
+) -> Result<(), NotWritten>
+    ensures shown { OnOk result ((text : List ℕ) × Appends (E.contents err.old) (E.contents err.new) text) }
+    ensures begun { OnErr result ((text : List ℕ) × AppendsBeginning (E.contents err.old) (E.contents err.new) text) }
 {
-    let text = explanation(alloc, order, source, schedule)?;
-    err.write_all(text.as_bytes())?;
-    Ok(())
+    let text = explanation(alloc, order, source, schedule).unwrap_or(String::new(alloc));
+    write_whole(err, text.as_bytes())
 }
 
 /// What explains the refusal of an order: of its source, else of its limits, else of its schedule. Empty where none of them is refused.

@@ -1,17 +1,20 @@
 //! Why an order is not carried out, and what is told of it.
 
-ghost use Rattle.std.specs.Prelude.{◌≡◌, ◌≢◌, OnOk};
+ghost use Rattle.std.specs.Prelude.{◌≡◌, OnErr, OnOk};
 ghost use Rattle.std.specs.Io.KnownBytes.{Appends};
-ghost use Rattle.driver.specs.Failures.{IsFailureOfDevice, IsStatusOf, failure_of_making};
+ghost use Rattle.outputs.specs.Beginnings.{AppendsBeginning};
+ghost use Rattle.driver.specs.Failures.{IsFailureOfDevice, IsOfWriting, IsReported, failure_of_making};
 ghost use Rattle.driver.specs.Failures.{failure_of_reading, failure_of_resolving};
 ghost use Rattle.driver.specs.Failures.{failure_of_schedule, failure_of_tracing, failure_of_verifying};
-ghost use Rattle.driver.specs.Failures.{message_of, status_of_failure};
+ghost use Rattle.driver.specs.Failures.{is_refusal, message_of, number_line, status_of_failure};
 ghost use Rattle.driver.specs.declared.failure.Failure.TheVariants.{Memory};
 
 use cil_model::memory::NoMemory;
 use event_trace::TraceError;
 use ilasm_reader::ReadError;
+use itoa::Buffer;
 use metadata::MetaError;
+use outputs::{NotWritten, write_whole};
 use schedule_text::ScheduleError;
 use shared_machine::Refused;
 use std::alloc::AllocError;
@@ -30,6 +33,18 @@ pub enum Failure {
     Memory,
     /// A read or a write failed.
     Device,
+}
+
+impl Failure {
+    /// Whether the source, the limits or the schedule were refused.
+    pub(crate) fn is_refusal(self) -> bool
+        ensures { result ≡ is_refusal self }
+    {
+        match self {
+            Failure::Refused(_) | Failure::OutOfRange(_) => true,
+            Failure::Memory | Failure::Device => false,
+        }
+    }
 }
 
 impl From<AllocError> for Failure {
@@ -53,6 +68,18 @@ impl From<io::Error> for Failure {
 
     fn from(error: io::Error) -> Failure {
         if error.kind() == ErrorKind::OutOfMemory {
+            Failure::Memory
+        } else {
+            Failure::Device
+        }
+    }
+}
+
+impl From<NotWritten> for Failure {
+    ghost from_gives = { λ _ failure. IsOfWriting failure };
+
+    fn from(error: NotWritten) -> Failure {
+        if error.wants_memory() {
             Failure::Memory
         } else {
             Failure::Device
@@ -126,10 +153,10 @@ impl From<ScheduleError> for Failure {
     }
 }
 
-/// Writes a failure to the standard error, and answers its status, or 5 where it can't be written.
+/// Writes the line of a failure to the standard error, and answers its status. Where a write fails, the answer is 5, and a beginning of
+/// the line is written.
 pub fn report<E: Write>(failure: Failure, err: &mut E) -> u8
-    ensures status { IsStatusOf failure result }
-    ensures written { result ≢ 5 → Appends (E.contents err.old) (E.contents err.new) (message_of failure) }
+    ensures { IsReported failure (E.contents err.old) (E.contents err.new) result }
 {
     match tell(failure, err) {
         Ok(()) => status_of_failure(failure),
@@ -137,18 +164,30 @@ pub fn report<E: Write>(failure: Failure, err: &mut E) -> u8
     }
 }
 
-/// Writes the line of a failure.
-fn tell<E: Write>(failure: Failure, err: &mut E) -> io::Result<()>
-    ensures { OnOk result (Appends (E.contents err.old) (E.contents err.new) (message_of failure)) }
+/// Writes the line of a failure. Takes no memory.
+pub(crate) fn tell<E: Write>(failure: Failure, err: &mut E) -> Result<(), NotWritten>
+    ensures told { OnOk result (Appends (E.contents err.old) (E.contents err.new) (message_of failure)) }
+    ensures begun { OnErr result (AppendsBeginning (E.contents err.old) (E.contents err.new) (message_of failure)) }
 {
     match failure {
-        Failure::Refused(number) | Failure::OutOfRange(number) => writeln!(err, "error {number}"),
-        Failure::Memory => writeln!(err, "memory"),
-        Failure::Device => writeln!(err, "device"),
+        Failure::Refused(number) | Failure::OutOfRange(number) => tell_number(number, err),
+        Failure::Memory => write_whole(err, b"memory\n"),
+        Failure::Device => write_whole(err, b"device\n"),
     }
 }
 
-fn status_of_failure(failure: Failure) -> u8
+/// Writes the line of a refusal's number.
+fn tell_number<E: Write>(number: u16, err: &mut E) -> Result<(), NotWritten>
+    ensures told { OnOk result (Appends (E.contents err.old) (E.contents err.new) (number_line number)) }
+    ensures begun { OnErr result (AppendsBeginning (E.contents err.old) (E.contents err.new) (number_line number)) }
+{
+    let mut digits = Buffer::new();
+    write_whole(err, b"error ")?;
+    write_whole(err, digits.format(number).as_bytes())?;
+    write_whole(err, b"\n")
+}
+
+pub(crate) fn status_of_failure(failure: Failure) -> u8
     ensures { result ≡ status_of_failure failure }
 {
     match failure {

@@ -1,7 +1,7 @@
 //! From the bytes of a source to what its run leaves.
 
 ghost use Rattle.std.specs.Prelude.{◌≡◌, IfErr, IfOk};
-ghost use Rattle.shared_machine.specs.Histories.{reports_of};
+ghost use Rattle.shared_machine.specs.Histories.{events_of, reports_of};
 ghost use Rattle.driver.specs.Outcomes.{HasRunTo, IsAcceptedSource, IsNotAccepted};
 ghost use Rattle.driver.specs.Outcomes.{IsNotRun, IsNotRunBy, IsNotRunWithin, IsReady, IsRun, IsRunBy};
 
@@ -27,7 +27,7 @@ pub fn run_source(
     limits: Limits,
     text: &[u8],
 ) -> Result<Outcome, Failure>
-    ensures ran { IfOk result (λ outcome. IsRunBy source.now limits text.now (reports_of outcome.history.entries) outcome.machine) }
+    ensures ran { IfOk result (λ outcome. IsRunBy source.now limits text.now (events_of outcome.history.entries) (reports_of outcome.history.entries) outcome.machine) }
     ensures refused { IfErr result (IsNotRunBy source.now limits text.now) }
 {
     match read_schedule(alloc, text) {
@@ -56,6 +56,7 @@ pub fn run_events(
     limits: Limits,
     events: &[Event],
 ) -> Result<Outcome, Failure>
+    ensures events { IfOk result (λ outcome. events_of outcome.history.entries ≡ events.now) }
     ensures ran { IfOk result (λ outcome. HasRunTo source.now limits events.now (reports_of outcome.history.entries) outcome.machine) }
     ensures refused { IfErr result (IsNotRun source.now limits) }
 {
@@ -82,6 +83,7 @@ fn run(
     limits: Limits,
     events: &[Event],
 ) -> Result<Outcome, Failure>
+    ensures events { IfOk result (λ outcome. events_of outcome.history.entries ≡ events.now) }
     ensures ran { IfOk result (λ outcome. IsRun program limits events.now (reports_of outcome.history.entries) outcome.machine) }
     ensures refused { IfErr result (IsNotRunWithin limits) }
 {

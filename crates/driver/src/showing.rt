@@ -1,37 +1,54 @@
 //! What is printed of an order that is carried out.
 
-ghost use Rattle.std.specs.Prelude.{◌≡◌, ◌++◌, ◌∷◌, [], codes, map, IfErr, IfOk, OnOk};
+ghost use Rattle.std.specs.Prelude.{◌≡◌, ◌++◌, ◌∷◌, [], codes, map, IfErr, IfOk, OnErr, OnOk};
 ghost use Rattle.std.specs.List.{list_all, list_any};
 ghost use Rattle.std.specs.Io.KnownBytes.{Appends};
 ghost use Rattle.threads_monitors.specs.Threads.{end_of};
-ghost use Rattle.driver.specs.Outcomes.{IsOfWriting, IsShown, trial_text};
+ghost use Rattle.outputs.specs.Beginnings.{AppendsBeginning};
+ghost use Rattle.driver.specs.Failures.{IsOfWriting};
+ghost use Rattle.driver.specs.Outcomes.{IsShown, trial_text};
 ghost use Rattle.driver.specs.Threads.{is_done, is_live, line_of, lines_from, status_of};
 
 use crate::failure::Failure;
 use cil_model::reports::End;
 use flip_trial::Outcome;
+use outputs::{NotWritten, write_whole};
 use shared_machine::Machine;
 use std::alloc::Global;
 use std::io;
 use std::io::Write;
 
 /// Writes the one line of a check.
-pub(crate) fn say_accepted<W: Write>(out: &mut W) -> Result<(), Failure>
+pub(crate) fn say_accepted<W: Write>(out: &mut W) -> Result<(), NotWritten>
     ensures said { OnOk result (Appends (W.contents out.old) (W.contents out.new) (codes "accepted" ++ 10 ∷ [])) }
-    ensures failed { IfErr result IsOfWriting }
+    ensures begun { OnErr result (AppendsBeginning (W.contents out.old) (W.contents out.new) (codes "accepted" ++ 10 ∷ [])) }
 {
-    writeln!(out, "accepted")?;
-    Ok(())
+    write_whole(out, b"accepted\n")
 }
 
 /// Prints what came of a trial.
-pub(crate) fn show_trial<W: Write>(outcome: Outcome, out: &mut W) -> io::Result<()>
-    ensures { OnOk result (Appends (W.contents out.old) (W.contents out.new) (trial_text outcome.kept outcome.retired)) }
+pub(crate) fn show_trial<W: Write>(
+    alloc: Global,
+    outcome: Outcome,
+    out: &mut W,
+) -> Result<(), Failure>
+    ensures shown { OnOk result (Appends (W.contents out.old) (W.contents out.new) (trial_text outcome.kept outcome.retired)) }
+    ensures begun { OnErr result (AppendsBeginning (W.contents out.old) (W.contents out.new) (trial_text outcome.kept outcome.retired)) }
+    ensures failed { IfErr result IsOfWriting }
 {
-    writeln!(out, "kept {}\nretired {}", outcome.kept, outcome.retired)
+    let mut text = Vec::new(alloc);
+    write_trial(outcome, &mut text)?;
+    write_whole(out, text.as_slice())?;
+    Ok(())
 }
 
-/// Prints what a run leaves, and answers its status.
+fn write_trial(outcome: Outcome, text: &mut Vec<u8>) -> io::Result<()>
+    ensures { OnOk result (text.new.items ≡ text.old.items ++ trial_text outcome.kept outcome.retired) }
+{
+    writeln!(text, "kept {}\nretired {}", outcome.kept, outcome.retired)
+}
+
+/// Prints what a run leaves, and answers its status. The lines of its threads are made before anything is written.
 pub(crate) fn show<W: Write, E: Write>(
     alloc: Global,
     machine: &Machine,
@@ -40,12 +57,24 @@ pub(crate) fn show<W: Write, E: Write>(
 ) -> Result<u8, Failure>
     ensures shown { IfOk result (IsShown machine.now.printed (map end_of machine.now.threads) (W.contents out.old) (W.contents out.new)
         (E.contents err.old) (E.contents err.new)) }
+    ensures begun { OnErr result (AppendsBeginning (W.contents out.old) (W.contents out.new) machine.now.printed
+        × AppendsBeginning (E.contents err.old) (E.contents err.new) (lines_from 0 (map end_of machine.now.threads))) }
     ensures failed { IfErr result IsOfWriting }
 {
     let ends = machine.ends(alloc)?;
-    out.write_all(machine.console())?;
-    show_ends(ends.as_slice(), err)?;
+    let lines = lines_of(alloc, ends.as_slice())?;
+    write_whole(out, machine.console())?;
+    write_whole(err, lines.as_slice())?;
     Ok(status_of(ends.as_slice()))
+}
+
+/// The lines of the threads of a run.
+fn lines_of(alloc: Global, ends: &[Option<End>]) -> io::Result<Vec<u8>>
+    ensures { IfOk result (λ lines. lines.items ≡ lines_from 0 ends.now) }
+{
+    let mut lines = Vec::new(alloc);
+    show_ends(ends, &mut lines)?;
+    Ok(lines)
 }
 
 /// Writes a line for each thread, in the order of their numbers.

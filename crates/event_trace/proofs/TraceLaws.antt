@@ -9,7 +9,9 @@ use Rattle.interleaving_core.specs.simulation.Runs.{AreTurns}
 use Rattle.interleaving_core.specs.simulation.Turns.{IsTurn}
 use Rattle.interleaving_core.proofs.Following.{SameProgram, turns_follow, turns_length, turns_more, turns_program}
 use Rattle.event_trace.specs.Columns.{line_of}
-use Rattle.event_trace.specs.Traces.{AreTraced, IsTraced}
+use Rattle.event_trace.specs.Traces.{AreTraced, IsTraced, IsTracedInPart}
+use Rattle.outputs.specs.Beginnings.{AppendsBeginning}
+use Rattle.outputs.proofs.BeginningLaws.{begins_nothing, begins_second, begins_whole}
 
 -- ---- bytes behind bytes
 
@@ -71,19 +73,25 @@ pub record TracedSoFar (c : Content) (es : List Event) (d : Content) (out out' :
 pub trace_begun : (c : Content) (out : Option (List ℕ)) → TracedSoFar c [] c out out
 trace_begun c out = record { reports = []; text = []; traced = (refl, refl, refl); appended = appends_nothing out }
 
-pub trace_step : (c d after : Content) (es : List Event) (i : ℕ) (x : Event) (r : Report) (out so_far new : Option (List ℕ)) → i < length es → TracedSoFar c (take i es) d out so_far →
-    IsTurn d (get_or es i x) (after, r) → Appends so_far new (line_of (i + 1) (get_or es i x) r d after) → TracedSoFar c (take (i + 1) es) after out new
-trace_step c d after es i x r out so_far new below h turn wrote =
+-- the lines with one more
+line_more : (c d after : Content) (es : List Event) (i : ℕ) (x : Event) (r : Report) (reports : List Report) (text : List ℕ) → i < length es → AreTraced 1 c (take i es) d reports text → IsTurn d (get_or es i x) (after, r) →
+    AreTraced 1 c (take (i + 1) es) after (reports ++ r ∷ []) (text ++ line_of (i + 1) (get_or es i x) r d after)
+line_more c d after es i x r reports text below traced turn =
     let e = get_or es i x in
     let many : length (take i es) ≡ i = length-take-le i es (omega (arith, below)) in
     let number : 1 + length (take i es) ≡ i + 1 = omega (arith, many) in
+    subst (λ l. AreTraced 1 c l after (reports ++ r ∷ []) (text ++ line_of (i + 1) e r d after)) (sym (take_more es i x below))
+    (subst (λ m. AreTraced 1 c (take i es ++ e ∷ []) after (reports ++ r ∷ []) (text ++ line_of m e r d after)) number (traced_more 1 c d after (take i es) reports text e r traced turn))
+
+pub trace_step : (c d after : Content) (es : List Event) (i : ℕ) (x : Event) (r : Report) (out so_far new : Option (List ℕ)) → i < length es → TracedSoFar c (take i es) d out so_far →
+    IsTurn d (get_or es i x) (after, r) → Appends so_far new (line_of (i + 1) (get_or es i x) r d after) → TracedSoFar c (take (i + 1) es) after out new
+trace_step c d after es i x r out so_far new below h turn wrote =
+    let line = line_of (i + 1) (get_or es i x) r d after in
     record {
       reports = h.reports ++ r ∷ [];
-      text = h.text ++ line_of (i + 1) e r d after;
-      traced = subst (λ l. AreTraced 1 c l after (h.reports ++ r ∷ []) (h.text ++ line_of (i + 1) e r d after)) (sym (take_more es i x below))
-          (subst (λ m. AreTraced 1 c (take i es ++ e ∷ []) after (h.reports ++ r ∷ []) (h.text ++ line_of m e r d after)) number
-          (traced_more 1 c d after (take i es) h.reports h.text e r h.traced turn));
-      appended = appends_more out so_far new h.text (line_of (i + 1) e r d after) h.appended wrote;
+      text = h.text ++ line;
+      traced = line_more c d after es i x r h.reports h.text below h.traced turn;
+      appended = appends_more out so_far new h.text line h.appended wrote;
     }
 
 -- all events are done
@@ -97,21 +105,34 @@ all_traced c d es out new h =
 pub same_so_far : (c d : Content) (es : List Event) (out new : Option (List ℕ)) → TracedSoFar c es d out new → SameProgram c d
 same_so_far c d es out new h = turns_program c d es h.reports (traced_turns 1 c d es h.reports h.text h.traced)
 
--- some of the events are done
-abbrev pub IsStopped : Content → List Event → Content → Type 0
-IsStopped c es d = (count : ℕ) × (count ≤ length es) × ((reports : List Report) × AreTurns c (take count es) d reports)
+-- no event is done
+pub nothing_traced : (c : Content) (es : List Event) (out : Option (List ℕ)) → IsTracedInPart c es c out out
+nothing_traced c es out = record { count = 0; within = omega arith; reports = []; turns = (refl, refl); text = []; lines = (refl, refl, refl); begun = begins_nothing out [] }
 
--- the next event isn't done, or its line isn't written
-pub stopped_at : (c d after : Content) (es : List Event) (i : ℕ) (x : Event) (out so_far : Option (List ℕ)) → i < length es → TracedSoFar c (take i es) d out so_far →
-    (after ≡ d) ⊎ ((r : Report) × IsTurn d (get_or es i x) (after, r)) → IsStopped c es after
-stopped_at c d after es i x out so_far below h (inl same) =
-    (i, omega (arith, below), (h.reports, subst (λ y. AreTurns c (take i es) y h.reports) (sym same) (traced_turns 1 c d (take i es) h.reports h.text h.traced)))
-stopped_at c d after es i x out so_far below h (inr done) = (
-  i + 1,
-  omega (arith, below),
-  (
-    h.reports ++ done.0 ∷ [],
-    subst (λ l. AreTurns c l after (h.reports ++ done.0 ∷ [])) (sym (take_more es i x below))
-        (turns_more c d after (take i es) h.reports (get_or es i x) done.0 (traced_turns 1 c d (take i es) h.reports h.text h.traced) done.1),
-  ),
-)
+-- the next event isn't done, or a beginning of its line is written
+pub stopped_at : (c d after : Content) (es : List Event) (i : ℕ) (x : Event) (out so_far new : Option (List ℕ)) → i < length es → TracedSoFar c (take i es) d out so_far →
+    ((after ≡ d) × (new ≡ so_far)) ⊎ ((r : Report) × IsTurn d (get_or es i x) (after, r) × AppendsBeginning so_far new (line_of (i + 1) (get_or es i x) r d after)) → IsTracedInPart c es after out new
+stopped_at c d after es i x out so_far new below h (inl kept) =
+    let lines = subst (λ y. AreTraced 1 c (take i es) y h.reports h.text) (sym kept.0) h.traced in
+    record {
+      count = i;
+      within = omega (arith, below);
+      reports = h.reports;
+      turns = traced_turns 1 c after (take i es) h.reports h.text lines;
+      text = h.text;
+      lines = lines;
+      begun = subst (λ o. AppendsBeginning out o h.text) (sym kept.1) (begins_whole out so_far h.text h.appended);
+    }
+stopped_at c d after es i x out so_far new below h (inr done) =
+    let r = done.0 in
+    let line = line_of (i + 1) (get_or es i x) r d after in
+    let lines = line_more c d after es i x r h.reports h.text below h.traced done.1 in
+    record {
+      count = i + 1;
+      within = omega (arith, below);
+      reports = h.reports ++ r ∷ [];
+      turns = traced_turns 1 c after (take (i + 1) es) (h.reports ++ r ∷ []) (h.text ++ line) lines;
+      text = h.text ++ line;
+      lines = lines;
+      begun = begins_second out so_far new h.text line h.appended done.2;
+    }

@@ -1,7 +1,8 @@
 -- A run with the text of its events (this profile).
-use Rattle.std.specs.Prelude.{◌≡◌, ◌+◌, ◌++◌, ℕ, List, [], ◌∷◌, length, Option}
+use Rattle.std.specs.Prelude.{◌≡◌, ◌≤◌, ◌+◌, ◌++◌, ℕ, List, [], ◌∷◌, length, take, Option}
 use Rattle.std.specs.Io.KnownBytes.{Appends}
 use Rattle.std.specs.List.{zip}
+use Rattle.outputs.specs.Beginnings.{AppendsBeginning}
 use Rattle.cil_model.specs.declared.events.Event.{Event}
 use Rattle.cil_model.specs.declared.reports.Report.{Report}
 use Rattle.interleaving_core.specs.simulation.MachineContents.{Content}
@@ -25,3 +26,13 @@ pub record IsTraced (old : Content) (events : List Event) (new : Content) (repor
   pub turns : AreTurns old events new reports
   pub each : length reports ≡ length events
   pub follows : FollowsReference old new (zip events reports)
+
+-- The first of the events, so many, are done in order, each with a report, and a writer has taken a beginning of their lines.
+pub record IsTracedInPart (old : Content) (events : List Event) (new : Content) (out out' : Option (List ℕ)) : Type 0 where
+  pub count : ℕ
+  pub within : count ≤ length events
+  pub reports : List Report
+  pub turns : AreTurns old (take count events) new reports
+  pub text : List ℕ
+  pub lines : AreTraced 1 old (take count events) new reports text
+  pub begun : AppendsBeginning out out' text

@@ -5,6 +5,7 @@ ghost use Rattle.event_trace.specs.Errors.{IsErrorOfWriting};
 ghost use Rattle.event_trace.specs.declared.errors.TraceError.TheVariants.{Memory};
 
 use cil_model::memory::NoMemory;
+use outputs::NotWritten;
 use std::alloc::AllocFailed;
 use std::io;
 use std::io::ErrorKind;
@@ -34,6 +35,16 @@ impl<T: Drop> From<AllocFailed<T>> for TraceError {
 
     fn from(_error: AllocFailed<T>) -> TraceError {
         TraceError::Memory
+    }
+}
+
+impl From<NotWritten> for TraceError {
+    fn from(error: NotWritten) -> TraceError {
+        if error.wants_memory() {
+            TraceError::Memory
+        } else {
+            TraceError::Device
+        }
     }
 }
 

@@ -1,14 +1,14 @@
 //! Runs a machine by a list of events, and writes a line of each.
 
-ghost use Rattle.std.specs.Prelude.{◌≡◌, ◌≤◌, ◌⊎◌, ℕ, IfOk, OnErr, OnOk, List, length, option_and_then, option_map, take};
+ghost use Rattle.std.specs.Prelude.{◌≡◌, ◌⊎◌, IfOk, OnErr, OnOk, List, option_and_then, option_map};
 ghost use Rattle.std.specs.Io.KnownBytes.{Appends};
 ghost use Rattle.cil_model.specs.declared.reports.Report.{Report as AnyReport};
-ghost use Rattle.interleaving_core.specs.simulation.Runs.{AreTurns};
 ghost use Rattle.interleaving_core.specs.simulation.Turns.{IsTurn};
 ghost use Rattle.event_trace.specs.Columns.{found_at, line_of, position_for};
 ghost use Rattle.event_trace.specs.Lines.{seen};
 ghost use Rattle.event_trace.specs.Places.{ArePlacesOf};
-ghost use Rattle.event_trace.specs.Traces.{IsTraced};
+ghost use Rattle.event_trace.specs.Traces.{IsTraced, IsTracedInPart};
+ghost use Rattle.outputs.specs.Beginnings.{AppendsBeginning};
 
 use crate::errors::TraceError;
 use crate::lines::TraceLine;
@@ -16,6 +16,7 @@ use crate::method_places::MethodPlaces;
 use crate::owned_methods::InstructionPlace;
 use cil_model::events::Event;
 use interleaving_core::{Machine, Position};
+use outputs::write_whole;
 use std::alloc::Global;
 use std::io::Write;
 
@@ -26,8 +27,9 @@ use std::io::Write;
 /// that runs then; and the words that objects take then. Where there is no such thread, a column is a hyphen. Each byte of a column is
 /// printable ASCII.
 ///
-/// It takes memory for a list of where each method is declared, and no more than the machine itself for events. It stops at the first want
-/// of memory, whose event is not done, and at the first write that fails, whose event is done.
+/// It takes memory for a list of where each method is declared, for one line at a time, and no more than the machine itself for events. It
+/// stops at the first want of memory and at the first write that fails. So many events are done then, and a beginning of their lines is
+/// written.
 pub fn trace<W: Write>(
     alloc: Global,
     machine: &mut Machine,
@@ -36,7 +38,7 @@ pub fn trace<W: Write>(
 ) -> Result<(), TraceError>
     ensures traced { OnOk result ((reports : List AnyReport) × IsTraced machine.old events.now machine.new reports (W.contents out.old) (W.contents out.new)) }
     ensures same { (machine.new.tree ≡ machine.old.tree) × (machine.new.limits ≡ machine.old.limits) }
-    ensures stopped { OnErr result ((count : ℕ) × (count ≤ length events.now) × ((reports : List AnyReport) × AreTurns machine.old (take count events.now) machine.new reports)) }
+    ensures stopped { OnErr result (IsTracedInPart machine.old events.now machine.new (W.contents out.old) (W.contents out.new)) }
 {
     let methods = MethodPlaces::new(alloc, machine.tree())?;
     for (index, event) in events.iter().enumerate() {
@@ -58,7 +60,9 @@ fn trace_event<W: Write>(
     ensures traced { OnOk result ((report : AnyReport) × IsTurn machine.old event (machine.new, report)
         × Appends (W.contents out.old) (W.contents out.new) (line_of number event report machine.old machine.new)) }
     ensures same { (machine.new.tree ≡ machine.old.tree) × (machine.new.limits ≡ machine.old.limits) }
-    ensures stopped { OnErr result ((machine.new ≡ machine.old) ⊎ ((report : AnyReport) × IsTurn machine.old event (machine.new, report))) }
+    ensures stopped { OnErr result (((machine.new ≡ machine.old) × (W.contents out.new ≡ W.contents out.old)) ⊎ ((report : AnyReport)
+        × IsTurn machine.old event (machine.new, report)
+        × AppendsBeginning (W.contents out.old) (W.contents out.new) (line_of number event report machine.old machine.new))) }
 {
     let before = position_for(machine, event);
     let report = machine.step(alloc, event)?;
@@ -70,7 +74,9 @@ fn trace_event<W: Write>(
         after: position_for(machine, event),
         words: machine.used().0,
     };
-    write!(out, "{line}")?;
+    let mut text = Vec::new(alloc);
+    write!(text, "{line}")?;
+    write_whole(out, text.as_slice())?;
     Ok(())
 }
 

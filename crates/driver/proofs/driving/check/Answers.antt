@@ -10,5 +10,5 @@ returns-in_err-accept-clause-failed g c =
 
 pub returns-in_err-say_accepted-clause-failed : goal.returns-in_err-say_accepted-clause-failed
 returns-in_err-say_accepted-clause-failed g c =
-    handed_on c.from_residual-in_err-say_accepted.result c.from_residual-in_err-say_accepted.ensures.1 (λ failure same.
-    subst (IsNotChecked c.args.source.now) (sym same) (inr ((c.in_ok-accept.field-0, c.in_ok-accept.ensures.accepted), c.in_err-say_accepted.ensures.failed)))
+    handed_on c.from_residual-in_err-say_accepted.result c.from_residual-in_err-say_accepted.ensures.1 (λ failure writing.
+    inr ((c.in_ok-accept.field-0, c.in_ok-accept.ensures.accepted), writing))

@@ -1,7 +1,7 @@
 use Rattle.std.proofs.Common.{inl, inr, subst, sym}
 use Rattle.event_trace.specs.Traces.{IsTraced}
 use Rattle.driver.specs.Outcomes.{HasNotRun}
-use Rattle.driver.proofs.OutcomeLemmas.{handed_on, has_traced, if_err, if_ok, no_refusal, tracing_writes}
+use Rattle.driver.proofs.OutcomeLemmas.{handed_on, has_traced, if_err, if_ok, no_refusal, on_err_of, traced_in_part, tracing_writes}
 use Rattle.driver.proofs.driving.show_trace.Goals as goal
 
 pub returns-in_err-machine-clause-failed : goal.returns-in_err-machine-clause-failed
@@ -39,3 +39,15 @@ returns-clause-failed g c =
 
 pub returns-clause-untouched : goal.returns-clause-untouched
 returns-clause-untouched g c = if_err c.show.result c.show.ensures.failed (λ failure writing refused. absurd (no_refusal failure writing refused))
+
+pub returns-clause-in_part : goal.returns-clause-in_part
+returns-clause-in_part g c =
+    let machine = c.in_ok-machine.machine in
+    let after = c.trace.new.machine in
+    let begun = g.W.Write.contents c.args.out.now in
+    let between = g.W.Write.contents c.trace.new.out in
+    let traced = c.in_ok-trace.ensures.traced in
+    on_err_of c.show.result c.show.ensures.begun (λ shown.
+    inr (inr (traced_in_part c.args.source.now c.args.limits c.args.text.now c.in_ok-machine.events.items machine after traced.0 begun between (g.W.Write.contents c.show.new.out)
+    (g.E.Write.contents c.args.err.now) (g.E.Write.contents c.show.new.err) c.in_ok-machine.ensures.opened
+    (subst (λ es. IsTraced machine es after traced.0 begun between) c.as_slice.ensures.value traced.1) c.in_ok-trace.ensures.same.1 shown)))

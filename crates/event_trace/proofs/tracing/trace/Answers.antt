@@ -3,7 +3,7 @@ use Rattle.std.proofs.lemmas.List.{take_all}
 use Rattle.cil_model.specs.declared.trees.Tree.{Tree}
 use Rattle.interleaving_core.proofs.Refusing.{on_err}
 use Rattle.event_trace.specs.Places.{ArePlacesOf}
-use Rattle.event_trace.proofs.TraceLaws.{TracedSoFar, all_traced, same_so_far, stopped_at, trace_step}
+use Rattle.event_trace.proofs.TraceLaws.{TracedSoFar, all_traced, nothing_traced, same_so_far, stopped_at, trace_step}
 use Rattle.event_trace.proofs.tracing.trace.Goals as goal
 
 pub loop-index-preserved : goal.loop-index-preserved
@@ -33,5 +33,8 @@ returns-in_err-trace_event-clause-same g c =
 pub returns-in_err-trace_event-clause-stopped : goal.returns-in_err-trace_event-clause-stopped
 returns-in_err-trace_event-clause-stopped g c =
     on_err c.from_residual-in_err-trace_event.result
-    (stopped_at c.args.machine.now c.loop-index.machine c.trace_event.new.machine c.args.events.now c.loop-index.index _ (g.W.Write.contents c.args.out.now) (g.W.Write.contents c.loop-index.out) c.loop-index-test.true
-    c.loop-index.invariant.so_far c.in_err-trace_event.ensures.stopped)
+    (stopped_at c.args.machine.now c.loop-index.machine c.trace_event.new.machine c.args.events.now c.loop-index.index _ (g.W.Write.contents c.args.out.now) (g.W.Write.contents c.loop-index.out)
+    (g.W.Write.contents c.trace_event.new.out) c.loop-index-test.true c.loop-index.invariant.so_far c.in_err-trace_event.ensures.stopped)
+
+pub returns-in_err-methods-clause-stopped : goal.returns-in_err-methods-clause-stopped
+returns-in_err-methods-clause-stopped g c = on_err c.from_residual.result (nothing_traced c.args.machine.now c.args.events.now (g.W.Write.contents c.args.out.now))

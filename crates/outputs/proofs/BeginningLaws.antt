@@ -1,0 +1,53 @@
+-- Bytes that were taken, one piece after another.
+use Rattle.std.proofs.Common.{◌≡◌, ◌-◌, ℕ, List, [], ◌++◌, Option, refl, sym, ap, subst, ◌∙◌, length, take, drop, append_assoc, append-nil, take-append-drop}
+use Rattle.std.proofs.lemmas.List.{take_rest}
+use Rattle.std.proofs.KnownBytes.{Appends-kept, Appends-nil, Appends-trans}
+use Rattle.std.specs.Io.KnownBytes.{Appends, Keeps}
+use Rattle.outputs.specs.Beginnings.{AppendsBeginning}
+
+-- a writer has taken all but the rest of these bytes
+pub record TakenButFor (old new : Option (List ℕ)) (whole rest : List ℕ) : Type 0 where
+  pub done : List ℕ
+  pub split : whole ≡ done ++ rest
+  pub appended : Appends old new done
+
+pub nothing_taken : (old : Option (List ℕ)) (whole : List ℕ) → TakenButFor old old whole whole
+nothing_taken old whole = record { done = []; split = refl; appended = Appends-nil old }
+
+pub taken_more : (a b c : Option (List ℕ)) (whole rest : List ℕ) (n : ℕ) → TakenButFor a b whole rest → Appends b c (take n rest) → TakenButFor a c whole (take (length rest - n) (drop n rest))
+taken_more a b c whole rest n h more =
+    record {
+      done = h.done ++ take n rest;
+      split = h.split ∙ ap (λ l. h.done ++ l) (sym (take-append-drop n rest)) ∙ sym (append_assoc h.done (take n rest) (drop n rest))
+          ∙ ap (λ l. (h.done ++ take n rest) ++ l) (sym (take_rest rest n));
+      appended = Appends-trans a b c h.done (take n rest) h.appended more;
+    }
+
+pub taken_kept : (a b c : Option (List ℕ)) (whole rest : List ℕ) → TakenButFor a b whole rest → Keeps b c → TakenButFor a c whole rest
+taken_kept a b c whole rest h kept = record { done = h.done; split = h.split; appended = Appends-kept a b c h.done h.appended kept }
+
+pub taken_whole : (a b : Option (List ℕ)) (whole rest : List ℕ) → TakenButFor a b whole rest → rest ≡ [] → Appends a b whole
+taken_whole a b whole rest h empty = subst (Appends a b) (sym (h.split ∙ ap (λ l. h.done ++ l) empty ∙ append-nil h.done)) h.appended
+
+pub taken_begins : (a b : Option (List ℕ)) (whole rest : List ℕ) → TakenButFor a b whole rest → AppendsBeginning a b whole
+taken_begins a b whole rest h = (h.done, (rest, h.split), h.appended)
+
+-- ---- beginnings
+
+pub begins_nothing : (old : Option (List ℕ)) (whole : List ℕ) → AppendsBeginning old old whole
+begins_nothing old whole = ([], (whole, refl), Appends-nil old)
+
+pub begins_whole : (old new : Option (List ℕ)) (whole : List ℕ) → Appends old new whole → AppendsBeginning old new whole
+begins_whole old new whole h = (whole, ([], sym (append-nil whole)), h)
+
+-- a beginning of the first piece begins both
+pub begins_first : (old new : Option (List ℕ)) (first more : List ℕ) → AppendsBeginning old new first → AppendsBeginning old new (first ++ more)
+begins_first old new first more h =
+    let (part, (rest, split), appended) = h in
+    (part, (rest ++ more, ap (λ l. l ++ more) split ∙ append_assoc part rest more), appended)
+
+-- so do the first piece and a beginning of the second
+pub begins_second : (a b c : Option (List ℕ)) (first more : List ℕ) → Appends a b first → AppendsBeginning b c more → AppendsBeginning a c (first ++ more)
+begins_second a b c first more h k =
+    let (part, (rest, split), appended) = k in
+    (first ++ part, (rest, ap (λ l. first ++ l) split ∙ sym (append_assoc first part rest)), Appends-trans a b c first part h appended)
