@@ -10,6 +10,7 @@ use Rattle.flip_trial.specs.declared.sizes.Sizes.{Sizes}
 use Rattle.cil_model.specs.Sources.{HasTree, IsAnswer}
 use Rattle.event_trace.specs.Traces.{IsTraced, IsTracedInPart}
 use Rattle.shared_machine.specs.simulation.StandsFor.{Represents}
+use Rattle.shared_machine.specs.simulation.Turns.{opening_content}
 use Rattle.reference_machine.specs.Runs.{opening}
 use Rattle.cil_model.specs.declared.events.Event.{Event}
 use Rattle.cil_model.specs.declared.limits.Limits.{Limits}
@@ -152,10 +153,11 @@ pub record HasRun (source : List ℕ) (limits : Limits) (text : List ℕ) (out o
 abbrev pub HasNotRun : List ℕ → Limits → List ℕ → Failure → Type 0
 HasNotRun source limits text failure = IsNotRunBy source limits text failure ⊎ (IsLetIn source × IsOfWriting failure)
 
--- a machine holds what a program begins with
+-- a machine holds exactly what a program begins with, which represents the opening state
 pub record IsOpened (tree : Tree) (limits : Limits) (machine : Content) : Type 0 where
   pub same_program : machine.tree ≡ tree
   pub same_limits : machine.limits ≡ limits
+  pub begins : opening_content tree limits ≡ Some machine
   pub represents : (state : State) × (opening tree limits ≡ Some state) × Represents machine state
 
 -- the bytes have a tree that is an accepted program, whose machine has its limits in range and has run nothing, and the text writes events

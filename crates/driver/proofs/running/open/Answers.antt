@@ -13,6 +13,7 @@ returns-clause-opened c =
       opened = record {
         same_program = c.in_ok-machine.ensures.program.0;
         same_limits = c.in_ok-machine.ensures.program.1;
+        begins = c.in_ok-machine.ensures.begins;
         represents = c.in_ok-machine.ensures.opening;
       };
       are_read = c.in_ok-events.ensures;
