@@ -4,6 +4,7 @@
 mod driving;
 mod explaining;
 mod failure;
+pub mod laws;
 mod running;
 mod showing;
 

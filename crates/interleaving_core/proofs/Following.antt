@@ -99,10 +99,6 @@ turns_follow c d (e ∷ es) (r ∷ rs) h =
     joined c h.0 d ((e, r) ∷ []) (zip es rs) (same_program c (h.0, r) e h.1) (turn_follows c (h.0, r) e h.1) (turns_follow h.0 d es rs h.2)
 turns_follow c d (e ∷ es) [] h = elim h [ ]
 
--- the turns, and that they are followed
-pub turns_and_more : (c d : Content) (es : List Event) (rs : List Report) → AreTurns c es d rs → AreTurns c es d rs × FollowsReference c d (zip es rs)
-turns_and_more c d es rs h = (h, turns_follow c d es rs h)
-
 -- the reports before a run, and those of the run so far
 pub record RunSoFar (c : Content) (before : List Report) (es : List Event) (d : Content) (reports : List Report) : Type 0 where
   pub own : List Report

@@ -1,7 +1,7 @@
 use Rattle.std.proofs.Common.{◌≡◌, ◌+◌, ◌++◌, ◌∷◌, ◌∙◌, [], arith, ap, drop, length, subst, sym, take}
 use Rattle.std.proofs.lemmas.List.{append-nil, take_all}
 use Rattle.step_simulation.specs.simulation.Runs.{AreTurns}
-use Rattle.interleaving_core.proofs.Following.{RunSoFar, SameProgram, all_reported, run_begun, run_follows, run_program, run_step, run_turns, turns_and_more}
+use Rattle.interleaving_core.proofs.Following.{RunSoFar, SameProgram, all_reported, run_begun, run_follows, run_program, run_step, run_turns, turns_follow}
 use Rattle.interleaving_core.proofs.Refusing.{on_err}
 use Rattle.interleaving_core.proofs.machine.Machine.run.Goals as goal
 
@@ -38,12 +38,8 @@ pub returns-in_err-reserve-clause-stopped : goal.returns-in_err-reserve-clause-s
 returns-in_err-reserve-clause-stopped c =
     let events = take c.loop-event.event-index c.args.events.now in
     let turns = run_turns c.args.self.now c.loop-event.self c.args.reports.now.items c.loop-event.reports.items events c.loop-event.invariant in
-    on_err c.from_residual.result (
-      c.loop-event.event-index,
-      omega arith,
-      turns_and_more c.args.self.now c.loop-event.self events _
-          (subst (λ rs. AreTurns c.args.self.now events c.loop-event.self (drop (length c.args.reports.now.items) rs)) (sym c.in_err-reserve.ensures.items) turns),
-    )
+    let own = subst (λ rs. AreTurns c.args.self.now events c.loop-event.self (drop (length c.args.reports.now.items) rs)) (sym c.in_err-reserve.ensures.items) turns in
+    on_err c.from_residual.result (c.loop-event.event-index, omega arith, own, turns_follow _ _ events _ own)
 
 pub returns-in_err-step-clause-same : goal.returns-in_err-step-clause-same
 returns-in_err-step-clause-same c =
@@ -54,10 +50,6 @@ pub returns-in_err-step-clause-stopped : goal.returns-in_err-step-clause-stopped
 returns-in_err-step-clause-stopped c =
     let events = take c.loop-event.event-index c.args.events.now in
     let turns = run_turns c.args.self.now c.loop-event.self c.args.reports.now.items c.loop-event.reports.items events c.loop-event.invariant in
-    on_err c.from_residual-in_err-step.result (
-      c.loop-event.event-index,
-      omega arith,
-      turns_and_more c.args.self.now _ events _
-          (subst (λ x. AreTurns c.args.self.now events x (drop (length c.args.reports.now.items) c.reserve.new.self.items)) (sym c.in_err-step.ensures.refused)
-          (subst (λ rs. AreTurns c.args.self.now events c.loop-event.self (drop (length c.args.reports.now.items) rs)) (sym c.in_ok-reserve.ensures.items) turns)),
-    )
+    let own = subst (λ x. AreTurns c.args.self.now events x (drop (length c.args.reports.now.items) c.reserve.new.self.items)) (sym c.in_err-step.ensures.refused)
+        (subst (λ rs. AreTurns c.args.self.now events c.loop-event.self (drop (length c.args.reports.now.items) rs)) (sym c.in_ok-reserve.ensures.items) turns) in
+    on_err c.from_residual-in_err-step.result (c.loop-event.event-index, omega arith, own, turns_follow _ _ events _ own)
