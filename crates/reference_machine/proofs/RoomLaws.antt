@@ -1,5 +1,5 @@
 -- Refusals along runs: one list of steps behind another; and the same events have one run.
-use Rattle.std.proofs.Common.{◌≡◌, ◌↔◌, ℕ, zero, suc, Bool, true, false, IsTrue, List, [], ◌∷◌, ◌++◌, length, Some, None, refl, sym, ap, ◌∙◌, subst, arith}
+use Rattle.std.proofs.Common.{◌≡◌, ◌↔◌, ℕ, Bool, true, false, IsTrue, List, [], ◌∷◌, ◌++◌, length, refl, sym, ap, ◌∙◌, subst, arith}
 use Rattle.std.specs.List.{zip}
 use Rattle.cil_model.specs.declared.events.Event.{Event}
 use Rattle.cil_model.specs.declared.events.Event.TheVariants.{Step, Ack, Gc}
@@ -7,11 +7,11 @@ use Rattle.cil_model.specs.declared.limits.Limits.{Limits}
 use Rattle.cil_model.specs.declared.reports.Report.{Report}
 use Rattle.cil_model.specs.declared.trees.Tree.{Tree}
 use Rattle.cil_model.proofs.BelowLaws.{same_some}
-use Rattle.reference_machine.specs.Rooms.{ExceedsRoom, RefusesBeyondRoom}
-use Rattle.reference_machine.specs.Runs.{IsStateAfter, StepRequest, RunsTo, followed_by, is_refusal, preceded_by, run, step_reports, thread_part}
+use Rattle.reference_machine.specs.Rooms.{RefusesBeyondRoom}
+use Rattle.reference_machine.specs.Runs.{IsStateAfter, StepRequest, RunsTo, followed_by, is_refusal, run, step_reports, thread_part}
 use Rattle.reference_machine.specs.States.{State}
 use Rattle.reference_machine.specs.Steps.{Outcome, Answers, Stuck, step}
-use Rattle.reference_machine.proofs.RunLaws.{behind_run, clash, same_reports, same_state}
+use Rattle.reference_machine.proofs.RunLaws.{behind_run, clash, same_state}
 
 -- two tests of one thing are equal
 same_test : {P : Type 0} (b c : Bool) → IsTrue b ↔ P → IsTrue c ↔ P → b ≡ c

@@ -1,5 +1,5 @@
 -- What an instruction may do: it takes nothing back, and raises listed faults alone.
-use Rattle.std.proofs.Common.{◌≡◌, ◌==◌, ◌-◌, ℕ, zero, suc, ℤ, pos, negsuc, Bool, true, false, if◌then◌else◌, nat_le, List, [], ◌∷◌, length, reverse, take, drop, replicate, Option, Some, None, Result, Ok, Err, is_some, slice_get, Contains, refl, subst, lit<}
+use Rattle.std.proofs.Common.{◌≡◌, ◌==◌, ◌-◌, ℕ, zero, suc, ℤ, pos, negsuc, Bool, true, false, if◌then◌else◌, nat_le, List, [], ◌∷◌, length, reverse, take, drop, replicate, Option, Some, None, Result, Ok, Err, is_some, slice_get, Contains, refl, subst, lit<, ◌⊎◌, inl, inr, sym, option_and_then}
 use Rattle.std.specs.Option.{option_map_or}
 use Rattle.cil_model.specs.declared.types.ClassName.{ClassName}
 use Rattle.cil_model.specs.declared.types.DeclaredType.{DeclaredType}
@@ -17,7 +17,8 @@ use Rattle.cil_model.specs.declared.reports.End.{End}
 use Rattle.cil_model.specs.declared.reports.End.TheVariants.{Done, Budget, Fault as ByFault}
 use Rattle.std.specs.Int.{w32, cast_unsigned}
 use Rattle.cil_model.specs.Declarations.{thread_name, run_method}
-use Rattle.cil_model.specs.Chains.{find_field, find_method, is_thread_class}
+use Rattle.cil_model.specs.Chains.{find_field, find_method, is_thread_class, is_virtual}
+use Rattle.cil_model.proofs.BelowLaws.{none_is_some, same_some}
 use Rattle.cil_model.specs.Fields.{same_key}
 use Rattle.cil_model.specs.Slots.{target}
 use Rattle.cil_model.specs.Assignable.{is_reference}
@@ -204,18 +205,28 @@ module _ (here : Setting) (s : State) (f : Frame) (below : List Frame) (F : Faul
   frame_ok : (c : ClassName) (m : Method) (arguments : List Value) (constructed : Option ObjectName) (s' : State) (rest : List Value) → Follows s s' → Allowed s F (frame_for here s f below c m arguments constructed s' rest)
   frame_ok c m arguments constructed s' rest h = given_ok s F (code_of m.kind) (λ code e. goes _ s' h)
 
-  run_ok : (found : ClassName × Method) (arguments rest : List Value) → ((a : Action) (x : Fault) → Contains (faults_of_action a) x → F x) → F StackOverflow → Allowed s F (run_found here s f below found arguments rest)
+  run_ok : (found : ClassName × Method) (arguments rest : List Value) → ((a : Action) (x : Fault) → action_of found.0 found.1 ≡ Some a → Contains (faults_of_action a) x → F x) → F StackOverflow → Allowed s F (run_found here s f below found arguments rest)
   run_ok found arguments rest may h =
-      or_ok s F (action_of found.0 found.1) (λ a e. act_ok a arguments rest (may a))
+      or_ok s F (action_of found.0 found.1) (λ a e. act_ok a arguments rest (λ x. may a x e))
       (if_ok s F (is_too_deep here s f below) (raises StackOverflow h) (frame_ok found.0 found.1 arguments None s rest (follows_itself s)))
 
   pub operands_ok : {go : List Value → List Value → Effect} (types : List DeclaredType) → ((arguments rest : List Value) → Allowed s F (go arguments rest)) → Allowed s F (operands here s f below types go)
   operands_ok types each = many_ok s F (length types) f.stack (λ arguments rest. if_ok s F (are_of_kinds types arguments) (each arguments rest) sticks)
 
-  virtual_ok : (found : ClassName × Method) (arguments rest : List Value) → ((a : Action) (x : Fault) → Contains (faults_of_action a) x → F x) → F NullReference → F StackOverflow → Allowed s F (run_virtual here s f below found arguments rest)
+  virtual_ok : (found : ClassName × Method) (arguments rest : List Value) →
+      ((chosen : ClassName × Method) (a : Action) (x : Fault) → (chosen ≡ found) ⊎ ((d : ClassName) × (target here.tree d found.0 found.1 ≡ Some chosen)) → action_of chosen.0 chosen.1 ≡ Some a → Contains (faults_of_action a) x → F x) → F NullReference → F StackOverflow → Allowed s F (run_virtual here s f below found arguments rest)
   virtual_ok found [] rest may h k = sticks
   virtual_ok found (this ∷ arguments) rest may h k =
-      null_ok s F this NullReference h (λ n. given_ok s F (method_for here s f below n found) (λ chosen e. run_ok chosen (this ∷ arguments) rest may k))
+      null_ok s F this NullReference h (λ n. given_ok s F (method_for here s f below n found) (λ chosen e. run_ok chosen (this ∷ arguments) rest (λ a x. may chosen a x (chosen_from n chosen (is_virtual found.1.kind) e)) k))
+    where
+      by_class : (chosen : ClassName × Method) (c : Option ClassName) → option_and_then (λ d. target here.tree d found.0 found.1) c ≡ Some chosen → (d : ClassName) × (target here.tree d found.0 found.1 ≡ Some chosen)
+      by_class chosen None e = none_is_some chosen e
+      by_class chosen (Some d) e = (d, e)
+
+      chosen_from : (n : ObjectName) (chosen : ClassName × Method) (b : Bool) → (if b then option_and_then (λ d. target here.tree d found.0 found.1) (class_of s n) else Some found) ≡ Some chosen →
+          (chosen ≡ found) ⊎ ((d : ClassName) × (target here.tree d found.0 found.1 ≡ Some chosen))
+      chosen_from n chosen true e = inr (by_class chosen (class_of s n) e)
+      chosen_from n chosen false e = inl (sym (same_some found chosen e))
 
   pub construct_ok : (c : ClassName) (found : ClassName × Method) (arguments rest : List Value) → F StackOverflow → (here.is_refused ≡ true → F OutOfMemory) → Allowed s F (construct here s f below c found arguments rest)
   construct_ok c found arguments rest h k =
@@ -233,63 +244,63 @@ module _ (here : Setting) (s : State) (f : Frame) (below : List Frame) (F : Faul
 -- ---- one instruction
 
 module _ (here : Setting) (s : State) (f : Frame) (below : List Frame) where
-  next_ok : (i : Instruction) (stack : List Value) → Allowed s (MayRaise i) (onward f below s stack)
-  next_ok i = onward_ok here s f below (MayRaise i)
+  next_ok : (i : Instruction) (stack : List Value) → Allowed s (MayRaise here.tree i) (onward f below s stack)
+  next_ok i = onward_ok here s f below (MayRaise here.tree i)
 
   -- each instruction takes nothing back, and raises faults alone that are listed for it
-  pub instruction_ok : (i : Instruction) → Allowed s (MayRaise i) (execute here s f below i)
+  pub instruction_ok : (i : Instruction) → Allowed s (MayRaise here.tree i) (execute here s f below i)
   instruction_ok NoOperation = next_ok NoOperation f.stack
   instruction_ok (LoadInt32 z) = next_ok (LoadInt32 z) _
   instruction_ok (LoadInt64 z) = next_ok (LoadInt64 z) _
   instruction_ok LoadNull = next_ok LoadNull _
   instruction_ok (LoadString characters) = next_ok (LoadString characters) _
-  instruction_ok (LoadArgument n) = given_ok s (MayRaise (LoadArgument n)) (at_place f.arguments n) (λ v e. next_ok (LoadArgument n) _)
-  instruction_ok (LoadLocal n) = given_ok s (MayRaise (LoadLocal n)) (at_place f.locals n) (λ v e. next_ok (LoadLocal n) _)
-  instruction_ok (StoreArgument n) = one_ok s (MayRaise (StoreArgument n)) f.stack (λ v rest. given_ok s (MayRaise (StoreArgument n)) (stored here s f below n v f.arguments) (λ arguments e. on s (MayRaise (StoreArgument n)) _))
-  instruction_ok (StoreLocal n) = one_ok s (MayRaise (StoreLocal n)) f.stack (λ v rest. given_ok s (MayRaise (StoreLocal n)) (stored here s f below n v f.locals) (λ locals e. on s (MayRaise (StoreLocal n)) _))
-  instruction_ok Duplicate = one_ok s (MayRaise Duplicate) f.stack (λ v rest. next_ok Duplicate _)
-  instruction_ok Pop = one_ok s (MayRaise Pop) f.stack (λ v rest. next_ok Pop _)
-  instruction_ok (Binary op) = two_ok s (MayRaise (Binary op)) f.stack (λ v w rest. given_ok s (MayRaise (Binary op)) (binary_value op v w) (λ result e.
-      fault_ok s (MayRaise (Binary op)) result (λ x h. itself (Binary op) x (operation_faults op v w result x e h)) (λ u. next_ok (Binary op) _)))
-  instruction_ok (Unary op) = one_ok s (MayRaise (Unary op)) f.stack (λ v rest. given_ok s (MayRaise (Unary op)) (unary_value op v) (λ u e. next_ok (Unary op) _))
-  instruction_ok (Shift op) = two_ok s (MayRaise (Shift op)) f.stack (λ v amount rest. given_ok s (MayRaise (Shift op)) (shift_value op v amount) (λ u e. next_ok (Shift op) _))
-  instruction_ok (Compare op) = two_ok s (MayRaise (Compare op)) f.stack (λ v w rest. given_ok s (MayRaise (Compare op)) (compare_values op v w) (λ holds e. next_ok (Compare op) _))
-  instruction_ok ConvertInt32 = one_ok s (MayRaise ConvertInt32) f.stack (λ v rest. given_ok s (MayRaise ConvertInt32) (convert_32 v) (λ u e. next_ok ConvertInt32 _))
-  instruction_ok ConvertInt64 = one_ok s (MayRaise ConvertInt64) f.stack (λ v rest. given_ok s (MayRaise ConvertInt64) (convert_64 v) (λ u e. next_ok ConvertInt64 _))
-  instruction_ok (Branch label) = jump_ok here s f below (MayRaise (Branch label)) label f.stack
-  instruction_ok (BranchTrue label) = one_ok s (MayRaise (BranchTrue label)) f.stack (λ v rest. given_ok s (MayRaise (BranchTrue label)) (is_set v) (λ holds e. branch_ok here s f below (MayRaise (BranchTrue label)) holds label rest))
-  instruction_ok (BranchFalse label) = one_ok s (MayRaise (BranchFalse label)) f.stack (λ v rest. given_ok s (MayRaise (BranchFalse label)) (not_option (is_set v)) (λ holds e. branch_ok here s f below (MayRaise (BranchFalse label)) holds label rest))
-  instruction_ok (BranchCompare op label) = two_ok s (MayRaise (BranchCompare op label)) f.stack (λ v w rest. given_ok s (MayRaise (BranchCompare op label)) (branch_values op v w) (λ holds e. branch_ok here s f below (MayRaise (BranchCompare op label)) holds label rest))
-  instruction_ok (Switch labels) = one_ok s (MayRaise (Switch labels)) f.stack (switch_ok here s f below (MayRaise (Switch labels)) labels)
-  instruction_ok (LoadField r) = one_ok s (MayRaise (LoadField r)) f.stack (λ object rest. given_ok s (MayRaise (LoadField r)) (find_field here.tree false r) (λ found e.
-      null_ok s (MayRaise (LoadField r)) object NullReference (itself (LoadField r) NullReference (0, lit< tt, refl)) (λ n. given_ok s (MayRaise (LoadField r)) (field_value s n (key_of found)) (λ v e'. next_ok (LoadField r) _))))
-  instruction_ok (StoreField r) = two_ok s (MayRaise (StoreField r)) f.stack (λ object v rest. given_ok s (MayRaise (StoreField r)) (find_field here.tree false r) (λ found e.
-      null_ok s (MayRaise (StoreField r)) object NullReference (itself (StoreField r) NullReference (0, lit< tt, refl)) (λ n.
-      given_ok s (MayRaise (StoreField r)) (with_field s n (key_of found) v) (λ s' e'. goes _ s' (follows_field s n (key_of found) v s' e')))))
-  instruction_ok (LoadStaticField r) = given_ok s (MayRaise (LoadStaticField r)) (find_field here.tree true r) (λ found e. given_ok s (MayRaise (LoadStaticField r)) (entry_at same_key (key_of found) s.statics) (λ v e'. next_ok (LoadStaticField r) _))
-  instruction_ok (StoreStaticField r) = one_ok s (MayRaise (StoreStaticField r)) f.stack (λ v rest. given_ok s (MayRaise (StoreStaticField r)) (find_field here.tree true r) (λ found e.
-      given_ok s (MayRaise (StoreStaticField r)) (replaced_entry (key_of found) v s.statics) (λ statics e'. goes _ _ (follows_statics s (key_of found) v statics e'))))
-  instruction_ok (NewArray t) = one_ok s (MayRaise (NewArray t)) f.stack (λ v rest. given_ok s (MayRaise (NewArray t)) (as_index v) (λ z e.
-      array_ok here s f below (MayRaise (NewArray t)) t z rest (itself (NewArray t) Overflow (0, lit< tt, refl)) (λ r. itself (NewArray t) OutOfMemory (1, lit< tt, refl))))
-  instruction_ok LoadLength = one_ok s (MayRaise LoadLength) f.stack (λ array rest. null_ok s (MayRaise LoadLength) array NullReference (itself LoadLength NullReference (0, lit< tt, refl)) (λ n.
-      given_ok s (MayRaise LoadLength) (array_at s n) (λ held e. next_ok LoadLength _)))
-  instruction_ok LoadElementInt32 = load_ok here s f below (MayRaise LoadElementInt32) _ (itself LoadElementInt32 NullReference (0, lit< tt, refl)) (itself LoadElementInt32 IndexOutOfRange (1, lit< tt, refl))
-  instruction_ok LoadElementInt64 = load_ok here s f below (MayRaise LoadElementInt64) _ (itself LoadElementInt64 NullReference (0, lit< tt, refl)) (itself LoadElementInt64 IndexOutOfRange (1, lit< tt, refl))
-  instruction_ok LoadElementReference = load_ok here s f below (MayRaise LoadElementReference) _ (itself LoadElementReference NullReference (0, lit< tt, refl)) (itself LoadElementReference IndexOutOfRange (1, lit< tt, refl))
-  instruction_ok StoreElementInt32 = store_ok here s f below (MayRaise StoreElementInt32) _ (itself StoreElementInt32 NullReference (0, lit< tt, refl)) (itself StoreElementInt32 IndexOutOfRange (1, lit< tt, refl))
-  instruction_ok StoreElementInt64 = store_ok here s f below (MayRaise StoreElementInt64) _ (itself StoreElementInt64 NullReference (0, lit< tt, refl)) (itself StoreElementInt64 IndexOutOfRange (1, lit< tt, refl))
-  instruction_ok StoreElementReference = reference_ok here s f below (MayRaise StoreElementReference) (itself StoreElementReference NullReference (0, lit< tt, refl)) (itself StoreElementReference IndexOutOfRange (1, lit< tt, refl)) (itself StoreElementReference ArrayTypeMismatch (2, lit< tt, refl))
-  instruction_ok (CastClass t) = cast_ok here s f below (MayRaise (CastClass t)) t (λ rest. raises InvalidCast (itself (CastClass t) InvalidCast (0, lit< tt, refl)))
-  instruction_ok (IsInstance t) = cast_ok here s f below (MayRaise (IsInstance t)) t (λ rest. next_ok (IsInstance t) _)
-  instruction_ok (Call is_instance r) = given_ok s (MayRaise (Call is_instance r)) (find_method here.tree is_instance r) (λ found e. operands_ok here s f below (MayRaise (Call is_instance r)) (reference_operands is_instance r) (λ arguments rest.
-      run_ok here s f below (MayRaise (Call is_instance r)) found arguments rest (λ a x h. member (Call is_instance r) a x refl h) (itself (Call is_instance r) StackOverflow (0, lit< tt, refl))))
-  instruction_ok (CallVirtual owner name signature) = given_ok s (MayRaise (CallVirtual owner name signature)) (find_method here.tree true (virtual_reference owner name signature)) (λ found e.
-      operands_ok here s f below (MayRaise (CallVirtual owner name signature)) (reference_operands true (virtual_reference owner name signature)) (λ arguments rest.
-      virtual_ok here s f below (MayRaise (CallVirtual owner name signature)) found arguments rest (λ a x h. member (CallVirtual owner name signature) a x refl h) (itself (CallVirtual owner name signature) NullReference (0, lit< tt, refl)) (itself (CallVirtual owner name signature) StackOverflow (1, lit< tt, refl))))
-  instruction_ok (NewObject c parameters) = given_ok s (MayRaise (NewObject c parameters)) (find_method here.tree true (constructor_reference c parameters)) (λ found e.
-      operands_ok here s f below (MayRaise (NewObject c parameters)) parameters (λ arguments rest.
-      construct_ok here s f below (MayRaise (NewObject c parameters)) c found arguments rest (itself (NewObject c parameters) StackOverflow (0, lit< tt, refl)) (λ r. itself (NewObject c parameters) OutOfMemory (1, lit< tt, refl))))
-  instruction_ok Return = return_ok here s f below (MayRaise Return)
+  instruction_ok (LoadArgument n) = given_ok s (MayRaise here.tree (LoadArgument n)) (at_place f.arguments n) (λ v e. next_ok (LoadArgument n) _)
+  instruction_ok (LoadLocal n) = given_ok s (MayRaise here.tree (LoadLocal n)) (at_place f.locals n) (λ v e. next_ok (LoadLocal n) _)
+  instruction_ok (StoreArgument n) = one_ok s (MayRaise here.tree (StoreArgument n)) f.stack (λ v rest. given_ok s (MayRaise here.tree (StoreArgument n)) (stored here s f below n v f.arguments) (λ arguments e. on s (MayRaise here.tree (StoreArgument n)) _))
+  instruction_ok (StoreLocal n) = one_ok s (MayRaise here.tree (StoreLocal n)) f.stack (λ v rest. given_ok s (MayRaise here.tree (StoreLocal n)) (stored here s f below n v f.locals) (λ locals e. on s (MayRaise here.tree (StoreLocal n)) _))
+  instruction_ok Duplicate = one_ok s (MayRaise here.tree Duplicate) f.stack (λ v rest. next_ok Duplicate _)
+  instruction_ok Pop = one_ok s (MayRaise here.tree Pop) f.stack (λ v rest. next_ok Pop _)
+  instruction_ok (Binary op) = two_ok s (MayRaise here.tree (Binary op)) f.stack (λ v w rest. given_ok s (MayRaise here.tree (Binary op)) (binary_value op v w) (λ result e.
+      fault_ok s (MayRaise here.tree (Binary op)) result (λ x h. itself (Binary op) x (operation_faults op v w result x e h)) (λ u. next_ok (Binary op) _)))
+  instruction_ok (Unary op) = one_ok s (MayRaise here.tree (Unary op)) f.stack (λ v rest. given_ok s (MayRaise here.tree (Unary op)) (unary_value op v) (λ u e. next_ok (Unary op) _))
+  instruction_ok (Shift op) = two_ok s (MayRaise here.tree (Shift op)) f.stack (λ v amount rest. given_ok s (MayRaise here.tree (Shift op)) (shift_value op v amount) (λ u e. next_ok (Shift op) _))
+  instruction_ok (Compare op) = two_ok s (MayRaise here.tree (Compare op)) f.stack (λ v w rest. given_ok s (MayRaise here.tree (Compare op)) (compare_values op v w) (λ holds e. next_ok (Compare op) _))
+  instruction_ok ConvertInt32 = one_ok s (MayRaise here.tree ConvertInt32) f.stack (λ v rest. given_ok s (MayRaise here.tree ConvertInt32) (convert_32 v) (λ u e. next_ok ConvertInt32 _))
+  instruction_ok ConvertInt64 = one_ok s (MayRaise here.tree ConvertInt64) f.stack (λ v rest. given_ok s (MayRaise here.tree ConvertInt64) (convert_64 v) (λ u e. next_ok ConvertInt64 _))
+  instruction_ok (Branch label) = jump_ok here s f below (MayRaise here.tree (Branch label)) label f.stack
+  instruction_ok (BranchTrue label) = one_ok s (MayRaise here.tree (BranchTrue label)) f.stack (λ v rest. given_ok s (MayRaise here.tree (BranchTrue label)) (is_set v) (λ holds e. branch_ok here s f below (MayRaise here.tree (BranchTrue label)) holds label rest))
+  instruction_ok (BranchFalse label) = one_ok s (MayRaise here.tree (BranchFalse label)) f.stack (λ v rest. given_ok s (MayRaise here.tree (BranchFalse label)) (not_option (is_set v)) (λ holds e. branch_ok here s f below (MayRaise here.tree (BranchFalse label)) holds label rest))
+  instruction_ok (BranchCompare op label) = two_ok s (MayRaise here.tree (BranchCompare op label)) f.stack (λ v w rest. given_ok s (MayRaise here.tree (BranchCompare op label)) (branch_values op v w) (λ holds e. branch_ok here s f below (MayRaise here.tree (BranchCompare op label)) holds label rest))
+  instruction_ok (Switch labels) = one_ok s (MayRaise here.tree (Switch labels)) f.stack (switch_ok here s f below (MayRaise here.tree (Switch labels)) labels)
+  instruction_ok (LoadField r) = one_ok s (MayRaise here.tree (LoadField r)) f.stack (λ object rest. given_ok s (MayRaise here.tree (LoadField r)) (find_field here.tree false r) (λ found e.
+      null_ok s (MayRaise here.tree (LoadField r)) object NullReference (itself (LoadField r) NullReference (0, lit< tt, refl)) (λ n. given_ok s (MayRaise here.tree (LoadField r)) (field_value s n (key_of found)) (λ v e'. next_ok (LoadField r) _))))
+  instruction_ok (StoreField r) = two_ok s (MayRaise here.tree (StoreField r)) f.stack (λ object v rest. given_ok s (MayRaise here.tree (StoreField r)) (find_field here.tree false r) (λ found e.
+      null_ok s (MayRaise here.tree (StoreField r)) object NullReference (itself (StoreField r) NullReference (0, lit< tt, refl)) (λ n.
+      given_ok s (MayRaise here.tree (StoreField r)) (with_field s n (key_of found) v) (λ s' e'. goes _ s' (follows_field s n (key_of found) v s' e')))))
+  instruction_ok (LoadStaticField r) = given_ok s (MayRaise here.tree (LoadStaticField r)) (find_field here.tree true r) (λ found e. given_ok s (MayRaise here.tree (LoadStaticField r)) (entry_at same_key (key_of found) s.statics) (λ v e'. next_ok (LoadStaticField r) _))
+  instruction_ok (StoreStaticField r) = one_ok s (MayRaise here.tree (StoreStaticField r)) f.stack (λ v rest. given_ok s (MayRaise here.tree (StoreStaticField r)) (find_field here.tree true r) (λ found e.
+      given_ok s (MayRaise here.tree (StoreStaticField r)) (replaced_entry (key_of found) v s.statics) (λ statics e'. goes _ _ (follows_statics s (key_of found) v statics e'))))
+  instruction_ok (NewArray t) = one_ok s (MayRaise here.tree (NewArray t)) f.stack (λ v rest. given_ok s (MayRaise here.tree (NewArray t)) (as_index v) (λ z e.
+      array_ok here s f below (MayRaise here.tree (NewArray t)) t z rest (itself (NewArray t) Overflow (0, lit< tt, refl)) (λ r. itself (NewArray t) OutOfMemory (1, lit< tt, refl))))
+  instruction_ok LoadLength = one_ok s (MayRaise here.tree LoadLength) f.stack (λ array rest. null_ok s (MayRaise here.tree LoadLength) array NullReference (itself LoadLength NullReference (0, lit< tt, refl)) (λ n.
+      given_ok s (MayRaise here.tree LoadLength) (array_at s n) (λ held e. next_ok LoadLength _)))
+  instruction_ok LoadElementInt32 = load_ok here s f below (MayRaise here.tree LoadElementInt32) _ (itself LoadElementInt32 NullReference (0, lit< tt, refl)) (itself LoadElementInt32 IndexOutOfRange (1, lit< tt, refl))
+  instruction_ok LoadElementInt64 = load_ok here s f below (MayRaise here.tree LoadElementInt64) _ (itself LoadElementInt64 NullReference (0, lit< tt, refl)) (itself LoadElementInt64 IndexOutOfRange (1, lit< tt, refl))
+  instruction_ok LoadElementReference = load_ok here s f below (MayRaise here.tree LoadElementReference) _ (itself LoadElementReference NullReference (0, lit< tt, refl)) (itself LoadElementReference IndexOutOfRange (1, lit< tt, refl))
+  instruction_ok StoreElementInt32 = store_ok here s f below (MayRaise here.tree StoreElementInt32) _ (itself StoreElementInt32 NullReference (0, lit< tt, refl)) (itself StoreElementInt32 IndexOutOfRange (1, lit< tt, refl))
+  instruction_ok StoreElementInt64 = store_ok here s f below (MayRaise here.tree StoreElementInt64) _ (itself StoreElementInt64 NullReference (0, lit< tt, refl)) (itself StoreElementInt64 IndexOutOfRange (1, lit< tt, refl))
+  instruction_ok StoreElementReference = reference_ok here s f below (MayRaise here.tree StoreElementReference) (itself StoreElementReference NullReference (0, lit< tt, refl)) (itself StoreElementReference IndexOutOfRange (1, lit< tt, refl)) (itself StoreElementReference ArrayTypeMismatch (2, lit< tt, refl))
+  instruction_ok (CastClass t) = cast_ok here s f below (MayRaise here.tree (CastClass t)) t (λ rest. raises InvalidCast (itself (CastClass t) InvalidCast (0, lit< tt, refl)))
+  instruction_ok (IsInstance t) = cast_ok here s f below (MayRaise here.tree (IsInstance t)) t (λ rest. next_ok (IsInstance t) _)
+  instruction_ok (Call is_instance r) = given_ok s (MayRaise here.tree (Call is_instance r)) (find_method here.tree is_instance r) (λ found e. operands_ok here s f below (MayRaise here.tree (Call is_instance r)) (reference_operands is_instance r) (λ arguments rest.
+      run_ok here s f below (MayRaise here.tree (Call is_instance r)) found arguments rest (λ a x acts h. member (Call is_instance r) found a x e acts h) (itself (Call is_instance r) StackOverflow (0, lit< tt, refl))))
+  instruction_ok (CallVirtual owner name signature) = given_ok s (MayRaise here.tree (CallVirtual owner name signature)) (find_method here.tree true (virtual_reference owner name signature)) (λ found e.
+      operands_ok here s f below (MayRaise here.tree (CallVirtual owner name signature)) (reference_operands true (virtual_reference owner name signature)) (λ arguments rest.
+      virtual_ok here s f below (MayRaise here.tree (CallVirtual owner name signature)) found arguments rest (λ chosen a x runs acts h. member (CallVirtual owner name signature) chosen a x (found, e, runs) acts h) (itself (CallVirtual owner name signature) NullReference (0, lit< tt, refl)) (itself (CallVirtual owner name signature) StackOverflow (1, lit< tt, refl))))
+  instruction_ok (NewObject c parameters) = given_ok s (MayRaise here.tree (NewObject c parameters)) (find_method here.tree true (constructor_reference c parameters)) (λ found e.
+      operands_ok here s f below (MayRaise here.tree (NewObject c parameters)) parameters (λ arguments rest.
+      construct_ok here s f below (MayRaise here.tree (NewObject c parameters)) c found arguments rest (itself (NewObject c parameters) StackOverflow (0, lit< tt, refl)) (λ r. itself (NewObject c parameters) OutOfMemory (1, lit< tt, refl))))
+  instruction_ok Return = return_ok here s f below (MayRaise here.tree Return)
 
 -- ---- steps and runs
 
@@ -335,7 +346,7 @@ loosely s F Sticks a = sticks
 
 effect_ok : (here : Setting) (s : State) (frames : List Frame) → Allowed s AnyFault (effect_of here s frames)
 effect_ok here s [] = sticks
-effect_ok here s (f ∷ below) = given_ok s AnyFault (instruction_at f) (λ i e. loosely s (MayRaise i) (execute here s f below i) (instruction_ok here s f below i))
+effect_ok here s (f ∷ below) = given_ok s AnyFault (instruction_at f) (λ i e. loosely s (MayRaise here.tree i) (execute here s f below i) (instruction_ok here s f below i))
 
 -- a step takes nothing back
 pub step_follows : (tree : Tree) (limits : Limits) (s : State) (t : ℕ) (refused : Bool) (r : Report) (s' : State) → step tree limits s t refused ≡ Answers r s' → Follows s s'
@@ -366,11 +377,11 @@ pub no_raise : {A : Type 0} (e : Effect) (x : Fault) → e ≡ Raises x → Rais
 no_raise {A} e x k h = absurd (subst RaisesNothing k h)
 
 -- the faults that an instruction raises are listed
-pub raised_is_listed : (here : Setting) (s : State) (f : Frame) (below : List Frame) (i : Instruction) (x : Fault) → execute here s f below i ≡ Raises x → MayRaise i x
+pub raised_is_listed : (here : Setting) (s : State) (f : Frame) (below : List Frame) (i : Instruction) (x : Fault) → execute here s f below i ≡ Raises x → MayRaise here.tree i x
 raised_is_listed here s f below i x e = by_effect (execute here s f below i) (instruction_ok here s f below i) e
   where
-    by_effect : (e : Effect) → Allowed s (MayRaise i) e → e ≡ Raises x → MayRaise i x
-    by_effect (Raises y) (raises _ h) k = let P : Fault → Type 0 = λ z. MayRaise i z in subst P (same_raised y x k) h
+    by_effect : (e : Effect) → Allowed s (MayRaise here.tree i) e → e ≡ Raises x → MayRaise here.tree i x
+    by_effect (Raises y) (raises _ h) k = let P : Fault → Type 0 = λ z. MayRaise here.tree i z in subst P (same_raised y x k) h
     by_effect (Goes fs s') a k = no_raise (Goes fs s') x k tt
     by_effect Blocks a k = no_raise Blocks x k tt
     by_effect Sticks a k = no_raise Sticks x k tt

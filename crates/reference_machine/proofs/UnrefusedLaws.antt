@@ -1,11 +1,11 @@
 -- Memory is wanting only where a birth is refused.
-use Rattle.std.proofs.Common.{◌≡◌, ◌<◌, ℕ, zero, suc, Bool, true, false, List, [], ◌∷◌, length, Some, Contains, refl, sym, ap, ◌∙◌, subst, arith, lit<}
+use Rattle.std.proofs.Common.{◌≡◌, zero, suc, Bool, true, false, List, [], ◌∷◌, Contains, refl, sym, ap, ◌∙◌, arith}
 use Rattle.cil_model.specs.declared.instructions.BinaryOperation.{BinaryOperation}
 use Rattle.cil_model.specs.declared.instructions.BinaryOperation.TheVariants.{Add, Subtract, Multiply, AddOverflow, SubtractOverflow, MultiplyOverflow, Divide, Remainder, And, Or, ExclusiveOr}
 use Rattle.cil_model.specs.declared.instructions.Instruction.{Instruction}
 use Rattle.cil_model.specs.declared.instructions.Instruction.TheVariants.{NoOperation, LoadInt32, LoadInt64, LoadNull, LoadString, LoadArgument, StoreArgument, LoadLocal, StoreLocal, Duplicate, Pop, Unary, Shift, Compare, ConvertInt32, ConvertInt64, Branch, BranchTrue, BranchFalse, BranchCompare, Switch, LoadField, StoreField, LoadStaticField, StoreStaticField, LoadLength, LoadElementInt32, LoadElementInt64, LoadElementReference, StoreElementInt32, StoreElementInt64, StoreElementReference, CastClass, IsInstance, Call, CallVirtual, Return, Binary, NewArray, NewObject}
 use Rattle.cil_model.specs.declared.reports.Fault.{Fault}
-use Rattle.cil_model.specs.declared.reports.Fault.TheVariants.{NullReference, IndexOutOfRange, ArrayTypeMismatch, InvalidCast, DivideByZero, Arithmetic, Overflow, OutOfMemory, TooManyThreads, StackOverflow, ArgumentNull, SynchronizationLock, ThreadState}
+use Rattle.cil_model.specs.declared.reports.Fault.TheVariants.{Overflow, OutOfMemory, StackOverflow}
 use Rattle.cil_model.specs.Bodies.{constructor_reference}
 use Rattle.cil_model.specs.Chains.{find_method}
 use Rattle.reference_machine.specs.Arithmetic.{as_index}
@@ -117,9 +117,9 @@ module _ (here : Setting) (s : State) (f : Frame) (below : List Frame) where
   listed (CallVirtual owner name signature) h = lacks (faults_of (CallVirtual owner name signature)) (refl, (refl, tt)) h
   listed Return h = lacks (faults_of Return) tt h
 
-  by_listing : (i : Instruction) → MayRaise i OutOfMemory → execute here s f below i ≡ Raises OutOfMemory → here.is_refused ≡ true
+  by_listing : (i : Instruction) → MayRaise here.tree i OutOfMemory → execute here s f below i ≡ Raises OutOfMemory → here.is_refused ≡ true
   by_listing i (itself _ _ h) = listed i h
-  by_listing i (member _ a _ called h) = lacks (faults_of_action a) (without_action a) h
+  by_listing i (member _ chosen a _ runs acts h) = lacks (faults_of_action a) (without_action a) h
 
   -- an instruction whose birth isn't refused has memory
   pub memory_is_refused : (i : Instruction) → execute here s f below i ≡ Raises OutOfMemory → here.is_refused ≡ true

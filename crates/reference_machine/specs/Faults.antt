@@ -1,12 +1,18 @@
 -- Which faults an instruction may raise, in the order of their checks (the exceptions of each entry of III.3 and III.4; the order is this profile's).
-use Rattle.std.specs.Prelude.{Bool, true, false, IsTrue, List, [], ◌∷◌, Contains}
+use Rattle.std.specs.Prelude.{◌≡◌, ◌⊎◌, true, List, [], ◌∷◌, Some, Contains}
 use Rattle.cil_model.specs.declared.instructions.BinaryOperation.{BinaryOperation}
 use Rattle.cil_model.specs.declared.instructions.BinaryOperation.TheVariants.{AddOverflow, SubtractOverflow, MultiplyOverflow, Divide, Remainder}
 use Rattle.cil_model.specs.declared.instructions.Instruction.{Instruction}
 use Rattle.cil_model.specs.declared.instructions.Instruction.TheVariants.{Binary, LoadField, StoreField, NewArray, LoadLength, LoadElementInt32, LoadElementInt64, LoadElementReference, StoreElementInt32, StoreElementInt64, StoreElementReference, CastClass, Call, CallVirtual, NewObject}
+use Rattle.cil_model.specs.declared.types.ClassName.{ClassName}
+use Rattle.cil_model.specs.declared.trees.Method.{Method}
+use Rattle.cil_model.specs.declared.trees.Tree.{Tree}
 use Rattle.cil_model.specs.declared.reports.Fault.{Fault}
 use Rattle.cil_model.specs.declared.reports.Fault.TheVariants.{NullReference, IndexOutOfRange, ArrayTypeMismatch, InvalidCast, DivideByZero, Arithmetic, Overflow, OutOfMemory, TooManyThreads, StackOverflow, ArgumentNull, SynchronizationLock, ThreadState}
-use Rattle.reference_machine.specs.BuiltIn.{Action, Construct, Write, Enter, Exit, Start, Join}
+use Rattle.cil_model.specs.Bodies.{virtual_reference}
+use Rattle.cil_model.specs.Chains.{find_method}
+use Rattle.cil_model.specs.Slots.{target}
+use Rattle.reference_machine.specs.BuiltIn.{Action, Construct, Write, Enter, Exit, Start, Join, action_of}
 
 -- those of an operation on two integers (III.3.2, III.3.31, III.3.49, III.3.55, III.3.65)
 abbrev pub faults_of_operation : BinaryOperation → List Fault
@@ -45,13 +51,15 @@ faults_of_action Exit = ArgumentNull ∷ SynchronizationLock ∷ []
 faults_of_action Start = NullReference ∷ ThreadState ∷ TooManyThreads ∷ []
 faults_of_action Join = NullReference ∷ ThreadState ∷ []
 
--- whether it calls a member
-abbrev pub is_call : Instruction → Bool
-is_call (Call is_instance r) = true
-is_call (CallVirtual owner name signature) = true
-is_call _ = false
+-- the method that a call may run: the one that it names, or what a class of the object has in its place
+abbrev pub MayRun : Tree → Instruction → ClassName × Method → Type 0
+MayRun tree (Call is_instance r) chosen = find_method tree is_instance r ≡ Some chosen
+MayRun tree (CallVirtual owner name signature) chosen =
+    (found : ClassName × Method) × (find_method tree true (virtual_reference owner name signature) ≡ Some found)
+    × ((chosen ≡ found) ⊎ ((d : ClassName) × (target tree d found.0 found.1 ≡ Some chosen)))
+MayRun tree _ chosen = ⊥
 
--- the fault is one of the instruction's own, or one of a built-in member's that it calls
-pub data MayRaise : Instruction → Fault → Type 0 where
-  itself : (i : Instruction) (x : Fault) → Contains (faults_of i) x → MayRaise i x
-  member : (i : Instruction) (a : Action) (x : Fault) → IsTrue (is_call i) → Contains (faults_of_action a) x → MayRaise i x
+-- the fault is one of the instruction's own, or one of the built-in member's that it runs
+pub data MayRaise (tree : Tree) : Instruction → Fault → Type 0 where
+  itself : (i : Instruction) (x : Fault) → Contains (faults_of i) x → MayRaise tree i x
+  member : (i : Instruction) (chosen : ClassName × Method) (a : Action) (x : Fault) → MayRun tree i chosen → action_of chosen.0 chosen.1 ≡ Some a → Contains (faults_of_action a) x → MayRaise tree i x

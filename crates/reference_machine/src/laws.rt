@@ -54,9 +54,9 @@ pub fn types_stay()
     ensures classes { (s s' : State) → Follows s s' → (n : ObjectName) (c : ClassName) → class_of s n ≡ Some c → class_of s' n ≡ Some c }
 {}
 
-/// An instruction raises faults alone that are listed for it, or for the built-in member that it calls.
+/// An instruction raises faults alone that are listed for it, or for the built-in member that it runs.
 pub fn raised_faults_are_listed()
-    ensures { (here : Setting) (s : State) (f : Frame) (below : List Frame) (i : Instruction) (x : Fault) → execute here s f below i ≡ Raises x → MayRaise i x }
+    ensures { (here : Setting) (s : State) (f : Frame) (below : List Frame) (i : Instruction) (x : Fault) → execute here s f below i ≡ Raises x → MayRaise here.tree i x }
 {}
 
 /// The steps of two lists, one behind the other, are the run of the first and then that of the second from there; none
