@@ -58,14 +58,14 @@ impl Layout {
         })
     }
 
-    /// The number of the base of a class (ECMA-335 II.10.1); none where it has none, or where no class has the number.
+    /// The number of the base of a class (ECMA-335 II.10.1); none where it has none. The number has to be that of a class.
     pub fn base(&self, class: usize) -> Option<usize>
         ensures { (tree : Tree) → IsLayout tree self.now → (c : ClassName) → class_name tree class ≡ Some c → result ≡ base_number tree c }
     {
         self.ancestry.base(class)
     }
 
-    /// Whether a class is an interface (ECMA-335 II.12).
+    /// Whether a class is an interface (ECMA-335 II.12). The number has to be that of a class.
     pub fn is_interface(&self, class: usize) -> bool
         ensures { (tree : Tree) → IsLayout tree self.now → (c : ClassName) → class_name tree class ≡ Some c → result ≡ is_interface tree c }
     {
@@ -102,7 +102,7 @@ impl Layout {
     }
 
     /// The slot of an instance field, the same in objects of its class and of every class below, or the number of a static field among
-    /// all static fields (this profile). None where no field has the number.
+    /// all static fields (this profile). The number has to be that of a field, which has one.
     pub fn slot(&self, field: MemberNumber) -> Option<usize>
         ensures instance { (tree : Tree) → IsLayout tree self.now → (c : ClassName) (f : Field) → field_at tree (field.class, field.place) ≡ Some (c, f) → f.is_static ≡ false → result ≡ instance_slot tree (record { declared_in = c; name = f.name }) }
         ensures static_field { (tree : Tree) → IsLayout tree self.now → (c : ClassName) (f : Field) → field_at tree (field.class, field.place) ≡ Some (c, f) → f.is_static ≡ true → result ≡ static_slot tree (record { declared_in = c; name = f.name }) }
@@ -111,8 +111,8 @@ impl Layout {
     }
 
     /// The method that runs where a method is called on an object of a class (ECMA-335 II.10.3, II.12.2; where an interface is listed
-    /// again, this profile); a method that is not virtual is its own. None where no class or method has the number, or no method of
-    /// the class fills the slot.
+    /// again, this profile); a method that is not virtual is its own. None where no method of the class fills the slot. The numbers
+    /// have to be those of a class and of a method.
     pub fn target(&self, class: usize, method: MemberNumber) -> Option<MemberNumber>
         ensures { (tree : Tree) → IsLayout tree self.now → (c d : ClassName) (m : Method) → class_name tree class ≡ Some d → method_at tree (method.class, method.place) ≡ Some (c, m) → option_map (λ n. method_at tree (n.class, n.place)) result ≡ option_map Some (target tree d c m) }
     {
