@@ -8,3 +8,4 @@ pub mod MemberRules
 pub mod OperationLaws
 pub mod BracketLaws
 pub mod ChainNumbers
+pub mod ObjectLaws

@@ -4,6 +4,7 @@
 pub mod arrays;
 pub mod entries;
 pub mod flow;
+pub mod laws;
 pub mod members;
 pub mod method_types;
 pub mod mismatches;
