@@ -51,5 +51,5 @@ returns-in_err-step-clause-stopped c =
     let events = take c.loop-event.event-index c.args.events.now in
     let turns = run_turns c.args.self.now c.loop-event.self c.args.reports.now.items c.loop-event.reports.items events c.loop-event.invariant in
     let own = subst (λ x. AreTurns c.args.self.now events x (drop (length c.args.reports.now.items) c.reserve.new.self.items)) (sym c.in_err-step.ensures.refused)
-        (subst (λ rs. AreTurns c.args.self.now events c.loop-event.self (drop (length c.args.reports.now.items) rs)) (sym c.in_ok-reserve.ensures.items) turns) in
+    (subst (λ rs. AreTurns c.args.self.now events c.loop-event.self (drop (length c.args.reports.now.items) rs)) (sym c.in_ok-reserve.ensures.items) turns) in
     on_err c.from_residual-in_err-step.result (c.loop-event.event-index, omega arith, own, turns_follow _ _ events _ own)
