@@ -27,7 +27,7 @@ use Rattle.driver.specs.declared.failure.Failure.{Failure}
 use Rattle.event_trace.specs.Traces.{IsTraced}
 use Rattle.event_trace.specs.declared.errors.TraceError.{TraceError}
 use Rattle.event_trace.specs.declared.errors.TraceError.TheVariants.{Memory as WantsMemory, Device as CantWrite}
-use Rattle.driver.specs.Outcomes.{ComesTo, HasRun, HasTraced, IsAcceptedSource, IsExplanation, IsNotAccepted, IsReady, IsRun, IsRunBy, IsRunInPart, IsShown, IsTracedThenInPart}
+use Rattle.driver.specs.Outcomes.{HasRun, HasTraced, IsAcceptedSource, IsExplanation, IsNotAccepted, IsReady, IsRun, IsRunBy, IsRunInPart, IsShown, IsTracedThenInPart}
 use Rattle.driver.specs.Threads.{ends_of, lines_from}
 use Rattle.outputs.specs.Beginnings.{AppendsBeginning}
 

@@ -1,5 +1,5 @@
 -- A step is refused memory exactly where the object that it would make exceeds the room.
-use Rattle.std.proofs.Common.{◌≡◌, ◌↔◌, ◌⊎◌, ◌≤◌, ◌<◌, ◌+◌, ◌-◌, if◌then◌else◌, ℕ, zero, suc, Bool, true, false, IsTrue, List, [], ◌∷◌, ◌++◌, Option, Some, None, slice_get, refl, inl, inr, sym, ap, ◌∙◌, subst, arith}
+use Rattle.std.proofs.Common.{◌≡◌, ◌↔◌, ◌⊎◌, ◌≤◌, ◌<◌, ◌+◌, ◌-◌, if◌then◌else◌, ℕ, zero, suc, Bool, true, false, IsTrue, List, [], ◌∷◌, ◌++◌, Option, Some, None, slice_get, refl, inl, inr, sym, ap, ◌∙◌, arith}
 use Rattle.std.specs.Prelude.{nat_le}
 use Rattle.std.proofs.lemmas.Bool.Decides.{nat_tests}
 use Rattle.std.proofs.lemmas.List.Sums.{sum_by_push}
@@ -9,7 +9,7 @@ use Rattle.object_simulation.specs.simulation.cil_model.declared.reports.Report.
 use Rattle.object_simulation.specs.simulation.cil_model.declared.reports.Fault.TheVariants.{OutOfMemory}
 use Rattle.object_simulation.specs.simulation.cil_model.declared.trees.Tree.{Tree}
 use Rattle.object_simulation.specs.simulation.cil_model.declared.limits.Limits.{Limits}
-use Rattle.object_simulation.specs.simulation.reference_machine.Effects.{Effect as StateEffect, Goes, Raises as StateRaises}
+use Rattle.object_simulation.specs.simulation.reference_machine.Effects.{Effect as StateEffect, Raises as StateRaises}
 use Rattle.object_simulation.specs.simulation.reference_machine.Rooms.{ExceedsRoom, cell_words, words_of_all}
 use Rattle.object_simulation.specs.simulation.reference_machine.Runs.{is_refusal}
 use Rattle.object_simulation.specs.simulation.reference_machine.States.{Contents, Frame as StateFrame, HeapObject, State, Free, with_birth}
@@ -22,11 +22,11 @@ use Rattle.object_simulation.specs.simulation.threads_monitors.declared.threads.
 use Rattle.object_simulation.specs.simulation.interpreter.Instructions.{IsDone}
 use Rattle.object_simulation.specs.simulation.MachineContents.{Content}
 use Rattle.object_simulation.specs.simulation.StandsFor.{Represents}
-use Rattle.object_simulation.specs.simulation.Turns.{Answer, IsStandingTurn, IsThreadTurn, IsTurn, finished}
+use Rattle.object_simulation.specs.simulation.Turns.{Answer, IsStandingTurn, IsThreadTurn, IsTurn}
 use Rattle.object_simulation.proofs.simulation.Instructions.{ExceedsRoom as ExceedsFree, InstructionsAreAlike, is_refused_outcome, no_refusal}
 use Rattle.object_simulation.proofs.simulation.Statements.{CellsMayChange}
 use Rattle.object_simulation.proofs.simulation.cil_model.BelowLaws.{same_some}
-use Rattle.step_simulation.proofs.Finished.{finished_refusal, same_program, turn_keeps_words}
+use Rattle.step_simulation.proofs.Finished.{finished_refusal, same_program}
 use Rattle.step_simulation.proofs.Settings.{setting_of, is_alive, is_running, does_alike}
 use Rattle.step_simulation.proofs.Settling.{done, step_is}
 use Rattle.step_simulation.proofs.Steps.{step_follows}

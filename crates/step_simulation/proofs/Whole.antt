@@ -1,5 +1,5 @@
 -- Each instruction does the same on a machine as on the reference machine; so does each step, from the opening on.
-use Rattle.std.proofs.Common.{◌≡◌, ℕ, IsTrue, List, [], ◌∷◌, Option, Some, None, slice_get, refl, ◌↔◌}
+use Rattle.std.proofs.Common.{◌≡◌, ℕ, IsTrue, List, Some, slice_get, ◌↔◌}
 use Rattle.object_simulation.specs.simulation.cil_model.declared.instructions.Instruction.{Instruction}
 use Rattle.object_simulation.specs.simulation.cil_model.declared.limits.Limits.{Limits}
 use Rattle.object_simulation.specs.simulation.cil_model.declared.trees.Tree.{Tree}
