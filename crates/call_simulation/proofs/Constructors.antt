@@ -13,7 +13,7 @@ use Rattle.simulation.specs.cil_model.Same.{same_flag, same_method_name, same_si
 use Rattle.simulation.specs.cil_model.Declarations.{Declaration}
 use Rattle.simulation.specs.cil_model.Assignable.{type_of_class}
 use Rattle.simulation.specs.cil_model.Bodies.{argument_types, constructor_reference}
-use Rattle.simulation.specs.cil_model.Chains.{is_static, methods_in, find_method}
+use Rattle.simulation.specs.cil_model.Chains.{is_static, methods_declared, find_method}
 use Rattle.simulation.specs.cil_model.Fields.{slot_types}
 use Rattle.simulation.specs.cil_model.Legality.{IsLegal}
 use Rattle.simulation.proofs.cil_model.BelowLaws.{none_is_some, same_some}
@@ -52,7 +52,7 @@ class_of_number tree class place c m h = by_entry (slice_get (declarations tree)
 
 -- a constructor is looked for in its owner alone
 own_class : (tree : Tree) (c k : ClassName) (parameters : List DeclaredType) (m : Method) → find_method tree true (constructor_reference c parameters) ≡ Some (k, m) → c ≡ k
-own_class tree c k parameters m h = by_found (find (λ (y : Method). same_method_name y.name Constructor && same_signature y.signature (constructor_reference c parameters).signature && same_flag (is_static y.kind) (not true)) (methods_in tree c)) h
+own_class tree c k parameters m h = by_found (find (λ (y : Method). same_method_name y.name Constructor && same_signature y.signature (constructor_reference c parameters).signature && same_flag (is_static y.kind) (not true)) (methods_declared tree c)) h
   where
     by_found : (o : Option Method) → option_map_or {U = Option Owned} (λ x. Some (c, x)) o None ≡ Some (k, m) → c ≡ k
     by_found None e = none_is_some (k, m) e

@@ -8,7 +8,7 @@ use Rattle.cil_model.specs.declared.types.ClassName.{ClassName}
 use Rattle.cil_model.specs.declared.trees.Tree.{Tree}
 use Rattle.cil_model.specs.Same.{same_class}
 use Rattle.cil_model.specs.Declarations.{Declaration}
-use Rattle.cil_model.specs.Chains.{chain_of, interfaces_in, listed_by}
+use Rattle.cil_model.specs.Chains.{chain_of, interfaces_declared, listed_by}
 use Rattle.cil_model.specs.Assignable.{is_class_assignable}
 use Rattle.cil_model.specs.Legality.{IsLegal}
 use Rattle.cil_model.proofs.SameLaws.{class_equivalence}
@@ -38,7 +38,7 @@ module _ (tree : Tree) where
   marked_of rows n m c d e h k = answer_of (is_class_assignable tree c) (unwrap_or (slice_get rows n) []) m d false (answer_of (assignable_row tree) rows n c [] e h) k
 
   abbrev links : ClassName → ClassName → Bool
-  links d k = same_class k d || list_any (same_class d) (interfaces_in tree k)
+  links d k = same_class k d || list_any (same_class d) (interfaces_declared tree k)
 
   among_links : (d : ClassName) (j : ℕ) → class_number tree d ≡ Some j → (cs : List ClassName) →
       list_any (λ m. m == j) (flat_map (with_interfaces listed) (filter_map (class_number tree) cs)) ≡ list_any (links d) cs
@@ -48,14 +48,14 @@ module _ (tree : Tree) where
       by_number : (o : Option ℕ) → class_number tree k ≡ o → list_any (λ m. m == j) (flat_map (with_interfaces listed) (cons_option o (filter_map (class_number tree) cs))) ≡ links d k || list_any (λ m. m == j) (flat_map (with_interfaces listed) (filter_map (class_number tree) cs))
       by_number None p =
           let apart : same_class k d ≡ false = class_equivalence.symm k d ∙ known_apart tree d k j e p in
-          let none : list_any (same_class d) (interfaces_in tree k) ≡ false = ap (λ o. list_any (same_class d) (listed_by (λ (x : Declaration). x.interfaces) o)) (not_declared tree k p) in
-          sym (ap (λ b. (b || list_any (same_class d) (interfaces_in tree k)) || list_any (λ m. m == j) (flat_map (with_interfaces listed) (filter_map (class_number tree) cs))) apart ∙ ap (λ b. b || list_any (λ m. m == j) (flat_map (with_interfaces listed) (filter_map (class_number tree) cs))) none)
+          let none : list_any (same_class d) (interfaces_declared tree k) ≡ false = ap (λ o. list_any (same_class d) (listed_by (λ (x : Declaration). x.interfaces) o)) (not_declared tree k p) in
+          sym (ap (λ b. (b || list_any (same_class d) (interfaces_declared tree k)) || list_any (λ m. m == j) (flat_map (with_interfaces listed) (filter_map (class_number tree) cs))) apart ∙ ap (λ b. b || list_any (λ m. m == j) (flat_map (with_interfaces listed) (filter_map (class_number tree) cs))) none)
       by_number (Some n) p =
           let row : unwrap_or (slice_get listed n) [] ≡ interface_numbers tree k = ap (λ o. unwrap_or o []) (answer_at (interface_numbers tree) k n p) in
           list_any-append (λ m. m == j) (with_interfaces listed n) (flat_map (with_interfaces listed) (filter_map (class_number tree) cs)) ∙
           ap (λ ms. ((n == j) || list_any (λ m. m == j) ms) || list_any (λ m. m == j) (flat_map (with_interfaces listed) (filter_map (class_number tree) cs))) row ∙
-          ap (λ b. ((n == j) || b) || list_any (λ m. m == j) (flat_map (with_interfaces listed) (filter_map (class_number tree) cs))) (among_numbers tree d j e (interfaces_in tree k)) ∙
-          ap (λ b. (b || list_any (same_class d) (interfaces_in tree k)) || list_any (λ m. m == j) (flat_map (with_interfaces listed) (filter_map (class_number tree) cs))) (number_equal tree d k j n e p ∙ class_equivalence.symm d k)
+          ap (λ b. ((n == j) || b) || list_any (λ m. m == j) (flat_map (with_interfaces listed) (filter_map (class_number tree) cs))) (among_numbers tree d j e (interfaces_declared tree k)) ∙
+          ap (λ b. (b || list_any (same_class d) (interfaces_declared tree k)) || list_any (λ m. m == j) (flat_map (with_interfaces listed) (filter_map (class_number tree) cs))) (number_equal tree d k j n e p ∙ class_equivalence.symm d k)
 
   -- the marks of a class's ancestors are its row
   pub row_of_marks : IsLegal tree → (c : ClassName) (bits : List Bool) (count : ℕ) (numbers : List ℕ) → numbers ≡ flat_map (with_interfaces listed) (chain_numbers tree c) → count ≡ length (declarations tree) → length bits ≡ count →

@@ -14,9 +14,9 @@ use Rattle.cil_model.specs.declared.trees.Tree.{Tree}
 use Rattle.cil_model.specs.declared.trees.Field.{Field}
 use Rattle.cil_model.specs.Same.{same_flag}
 use Rattle.cil_model.specs.Declarations.{Declaration, thread_name}
-use Rattle.cil_model.specs.Chains.{chain_of, is_thread_class, fields_in, listed_by}
+use Rattle.cil_model.specs.Chains.{chain_of, is_thread_class, fields_declared, listed_by}
 use Rattle.cil_model.specs.Assignable.{is_reference, is_reference_element}
-use Rattle.cil_model.specs.Fields.{FieldKey, own_fields, instance_fields, hidden_slots, slot_types, is_reference_slot}
+use Rattle.cil_model.specs.Fields.{FieldKey, keyed_fields, instance_fields, hidden_slots, slot_types, is_reference_slot}
 use Rattle.name_tables.specs.Numbers.{class_number, chain_numbers}
 use Rattle.name_tables.proofs.Lists.{map_of_map}
 use Rattle.class_layout.specs.declared.kinds.SlotKind.{SlotKind}
@@ -63,16 +63,16 @@ module _ (tree : Tree) where
   own_table = by_class tree (own_kinds tree)
 
   abbrev of_chain : List ClassName → List SlotKind
-  of_chain ks = kinds_of_keyed (flat_map (own_fields tree false) ks)
+  of_chain ks = kinds_of_keyed (flat_map (keyed_fields tree false) ks)
 
   of_chain_append : (xs ys : List ClassName) → of_chain (xs ++ ys) ≡ of_chain xs ++ of_chain ys
-  of_chain_append xs ys = ap kinds_of_keyed (flat_map-append (own_fields tree false) xs ys) ∙ keyed_append (flat_map (own_fields tree false) xs) (flat_map (own_fields tree false) ys)
+  of_chain_append xs ys = ap kinds_of_keyed (flat_map-append (keyed_fields tree false) xs ys) ∙ keyed_append (flat_map (keyed_fields tree false) xs) (flat_map (keyed_fields tree false) ys)
 
   of_one : (k : ClassName) → of_chain (k ∷ []) ≡ own_kinds tree k
   of_one k =
-      let fields = filter (λ (f : Field). same_flag f.is_static false) (fields_in tree k) in
+      let fields = filter (λ (f : Field). same_flag f.is_static false) (fields_declared tree k) in
       let key : Field → FieldKey × DeclaredType = λ f. (record { declared_in = k; name = f.name }, f.field_type) in
-      ap kinds_of_keyed (append-nil (own_fields tree false k)) ∙ ap (map kind_of) (map_of_map key (λ (f : FieldKey × DeclaredType). Some f.1) fields) ∙ map_of_map (λ (f : Field). Some f.field_type) kind_of fields ∙ sym (filtered (fields_in tree k))
+      ap kinds_of_keyed (append-nil (keyed_fields tree false k)) ∙ ap (map kind_of) (map_of_map key (λ (f : FieldKey × DeclaredType). Some f.1) fields) ∙ map_of_map (λ (f : Field). Some f.field_type) kind_of fields ∙ sym (filtered (fields_declared tree k))
 
   along : (cs : List ClassName) → flat_map (λ n. unwrap_or (slice_get own_table n) []) (reverse (filter_map (class_number tree) cs)) ≡ of_chain (reverse cs)
   along [] = refl

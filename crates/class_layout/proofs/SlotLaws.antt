@@ -16,9 +16,9 @@ use Rattle.cil_model.specs.declared.trees.ClassKind.{ClassKind}
 use Rattle.cil_model.specs.declared.trees.ClassKind.TheVariants.{Interface, Class as PlainClass}
 use Rattle.cil_model.specs.declared.trees.Field.{Field}
 use Rattle.cil_model.specs.Same.{same_text, same_flag, same_class}
-use Rattle.cil_model.specs.Declarations.{Declaration, source_name, fields_of, fields_of_kind}
-use Rattle.cil_model.specs.Chains.{base_of, chain_within, fields_in, listed_by}
-use Rattle.cil_model.specs.Fields.{FieldKey, same_key, own_fields, instance_fields, static_fields, hidden_slots, slot_types, instance_slot, static_slot}
+use Rattle.cil_model.specs.Declarations.{Declaration, source_name, field_members, fields_unless_interface}
+use Rattle.cil_model.specs.Chains.{base_of, chain_within, fields_declared, listed_by}
+use Rattle.cil_model.specs.Fields.{FieldKey, same_key, keyed_fields, instance_fields, static_fields, hidden_slots, slot_types, instance_slot, static_slot}
 use Rattle.cil_model.specs.Legality.{IsLegal, has_repeat, doubles_name, class_doubles, has_cycle, is_own_base}
 use Rattle.cil_model.proofs.SameLaws.{same_text_itself, same_class_itself, class_equivalence}
 use Rattle.metadata.proofs.Repeats.{has_repeat-map}
@@ -107,13 +107,13 @@ module _ (tree : Tree) (c : ClassName) (f : Field) where
   none_of_other x h [] = refl
   none_of_other x h (g ∷ gs) = or_from _ _ (ap (λ b. b && same_text g.name f.name) h) (none_of_other x h gs)
 
-  none_along : (flag : Bool) (cs : List ClassName) → list_any (same_class c) cs ≡ false → list_any (keyed c f) (flat_map (own_fields tree flag) (reverse cs)) ≡ false
+  none_along : (flag : Bool) (cs : List ClassName) → list_any (same_class c) cs ≡ false → list_any (keyed c f) (flat_map (keyed_fields tree flag) (reverse cs)) ≡ false
   none_along flag [] h = refl
   none_along flag (x ∷ xs) h =
       let apart : same_class x c ≡ false = class_equivalence.symm x c ∙ (or_parts _ _ h).0 in
-      ap (λ z. list_any (keyed c f) (flat_map (own_fields tree flag) z)) (reverse-append (x ∷ []) xs) ∙ ap (list_any (keyed c f)) (flat_map-append (own_fields tree flag) (reverse xs) (x ∷ [])) ∙
-      list_any-append (keyed c f) (flat_map (own_fields tree flag) (reverse xs)) (own_fields tree flag x ++ []) ∙
-      or_from _ _ (none_along flag xs (or_parts _ _ h).1) (ap (list_any (keyed c f)) (append-nil (own_fields tree flag x)) ∙ none_of_other x apart (of_flag flag (fields_in tree x)))
+      ap (λ z. list_any (keyed c f) (flat_map (keyed_fields tree flag) z)) (reverse-append (x ∷ []) xs) ∙ ap (list_any (keyed c f)) (flat_map-append (keyed_fields tree flag) (reverse xs) (x ∷ [])) ∙
+      list_any-append (keyed c f) (flat_map (keyed_fields tree flag) (reverse xs)) (keyed_fields tree flag x ++ []) ∙
+      or_from _ _ (none_along flag xs (or_parts _ _ h).1) (ap (list_any (keyed c f)) (append-nil (keyed_fields tree flag x)) ∙ none_of_other x apart (of_flag flag (fields_declared tree x)))
 
 -- ---- instance fields
 
@@ -122,15 +122,15 @@ module _ (tree : Tree) where
   above c = chain_within tree (suc (suc (length tree.classes))) (base_of tree c)
 
   abbrev inherited : ClassName → List (FieldKey × DeclaredType)
-  inherited c = flat_map (own_fields tree false) (reverse (above c))
+  inherited c = flat_map (keyed_fields tree false) (reverse (above c))
 
-  own_last : (c : ClassName) → instance_fields tree c ≡ inherited c ++ (own_fields tree false c ++ [])
-  own_last c = ap (flat_map (own_fields tree false)) (reverse-append (c ∷ []) (above c)) ∙ flat_map-append (own_fields tree false) (reverse (above c)) (c ∷ [])
+  own_last : (c : ClassName) → instance_fields tree c ≡ inherited c ++ (keyed_fields tree false c ++ [])
+  own_last c = ap (flat_map (keyed_fields tree false)) (reverse-append (c ∷ []) (above c)) ∙ flat_map-append (keyed_fields tree false) (reverse (above c)) (c ∷ [])
 
-  own_counted : (c : ClassName) → length (own_kinds tree c) ≡ length (own_fields tree false c)
+  own_counted : (c : ClassName) → length (own_kinds tree c) ≡ length (keyed_fields tree false c)
   own_counted c =
-      ap length (filtered (fields_in tree c)) ∙ length-map (of_flag false (fields_in tree c)) (λ (g : Field). kind_of (Some g.field_type)) ∙
-      sym (length-map (of_flag false (fields_in tree c)) (key_in c))
+      ap length (filtered (fields_declared tree c)) ∙ length-map (of_flag false (fields_declared tree c)) (λ (g : Field). kind_of (Some g.field_type)) ∙
+      sym (length-map (of_flag false (fields_declared tree c)) (key_in c))
 
   first_counted : (c : ClassName) → first_slot tree c ≡ length (hidden_slots tree c) + length (inherited c)
   first_counted c =
@@ -138,17 +138,17 @@ module _ (tree : Tree) where
       let split : length (slot_types tree c) ≡ length (hidden_slots tree c) + length (map (λ (y : FieldKey × DeclaredType). Some y.1) (instance_fields tree c)) =
       length-append (hidden_slots tree c) (map (λ (y : FieldKey × DeclaredType). Some y.1) (instance_fields tree c)) in
       let mapped : length (map (λ (y : FieldKey × DeclaredType). Some y.1) (instance_fields tree c)) ≡ length (instance_fields tree c) = length-map (instance_fields tree c) (λ (y : FieldKey × DeclaredType). Some y.1) in
-      let whole : length (instance_fields tree c) ≡ length (inherited c) + length (own_fields tree false c) =
-      ap length (own_last c) ∙ ap (λ z. length (inherited c ++ z)) (append-nil (own_fields tree false c)) ∙ length-append (inherited c) (own_fields tree false c) in
-      let own : length (own_kinds tree c) ≡ length (own_fields tree false c) = own_counted c in
+      let whole : length (instance_fields tree c) ≡ length (inherited c) + length (keyed_fields tree false c) =
+      ap length (own_last c) ∙ ap (λ z. length (inherited c ++ z)) (append-nil (keyed_fields tree false c)) ∙ length-append (inherited c) (keyed_fields tree false c) in
+      let own : length (own_kinds tree c) ≡ length (keyed_fields tree false c) = own_counted c in
       omega (arith, all, split, mapped, whole, own)
 
-  instance_placed : (c : ClassName) (f : Field) (s p : ℕ) → list_any (same_class c) (above c) ≡ false → has_repeat same_name (fields_in tree c) ≡ false → slice_get (fields_in tree c) p ≡ Some f → f.is_static ≡ false →
-      slice_get (numbered_fields s (first_slot tree c) (fields_in tree c)) p ≡ instance_slot tree (record { declared_in = c; name = f.name })
+  instance_placed : (c : ClassName) (f : Field) (s p : ℕ) → list_any (same_class c) (above c) ≡ false → has_repeat same_name (fields_declared tree c) ≡ false → slice_get (fields_declared tree c) p ≡ Some f → f.is_static ≡ false →
+      slice_get (numbered_fields s (first_slot tree c) (fields_declared tree c)) p ≡ instance_slot tree (record { declared_in = c; name = f.name })
   instance_placed c f s p lone once at flagged =
-      placed false (key_in c) (keyed c f) [] f (own_alike c f) flagged (fields_in tree c) s (first_slot tree c) p once at ∙
-      ap (λ n. position_from (keyed c f) n (own_fields tree false c ++ [])) (first_counted c) ∙
-      sym (position_past (keyed c f) (length (hidden_slots tree c)) (inherited c) (own_fields tree false c ++ []) (none_along tree c f false (above c) lone)) ∙
+      placed false (key_in c) (keyed c f) [] f (own_alike c f) flagged (fields_declared tree c) s (first_slot tree c) p once at ∙
+      ap (λ n. position_from (keyed c f) n (keyed_fields tree false c ++ [])) (first_counted c) ∙
+      sym (position_past (keyed c f) (length (hidden_slots tree c)) (inherited c) (keyed_fields tree false c ++ []) (none_along tree c f false (above c) lone)) ∙
       ap (position_from (keyed c f) (length (hidden_slots tree c))) (sym (own_last c))
 
   -- ---- static fields
@@ -156,35 +156,35 @@ module _ (tree : Tree) where
   abbrev static_start : ℕ → List ClassName → ℕ → ℕ
   static_start s [] n = s
   static_start s (c ∷ cs) zero = s
-  static_start s (c ∷ cs) (suc n) = static_start (statics_after s (fields_in tree c)) cs n
+  static_start s (c ∷ cs) (suc n) = static_start (statics_after s (fields_declared tree c)) cs n
 
-  row_found : (cs : List ClassName) (s n : ℕ) (c : ClassName) → slice_get cs n ≡ Some c → slice_get (field_rows tree s cs) n ≡ Some (numbered_fields (static_start s cs n) (first_slot tree c) (fields_in tree c))
+  row_found : (cs : List ClassName) (s n : ℕ) (c : ClassName) → slice_get cs n ≡ Some c → slice_get (field_rows tree s cs) n ≡ Some (numbered_fields (static_start s cs n) (first_slot tree c) (fields_declared tree c))
   row_found [] s n c e = absurd (none_is_some c e)
-  row_found (x ∷ xs) s zero c e = let q : x ≡ c = cc in ap (λ y. Some (numbered_fields s (first_slot tree y) (fields_in tree y))) q
-  row_found (x ∷ xs) s (suc n) c e = row_found xs (statics_after s (fields_in tree x)) n c e
+  row_found (x ∷ xs) s zero c e = let q : x ≡ c = cc in ap (λ y. Some (numbered_fields s (first_slot tree y) (fields_declared tree y))) q
+  row_found (x ∷ xs) s (suc n) c e = row_found xs (statics_after s (fields_declared tree x)) n c e
 
-  static_placed : (c : ClassName) (f : Field) (i p : ℕ) → has_repeat same_name (fields_in tree c) ≡ false → slice_get (fields_in tree c) p ≡ Some f → f.is_static ≡ true →
+  static_placed : (c : ClassName) (f : Field) (i p : ℕ) → has_repeat same_name (fields_declared tree c) ≡ false → slice_get (fields_declared tree c) p ≡ Some f → f.is_static ≡ true →
       (cs : List ClassName) (s n : ℕ) → has_repeat same_class cs ≡ false → slice_get cs n ≡ Some c →
-      slice_get (numbered_fields (static_start s cs n) i (fields_in tree c)) p ≡ position_from (keyed c f) s (flat_map (own_fields tree true) cs)
+      slice_get (numbered_fields (static_start s cs n) i (fields_declared tree c)) p ≡ position_from (keyed c f) s (flat_map (keyed_fields tree true) cs)
   static_placed c f i p once at flagged [] s n h e = absurd (none_is_some c e)
   static_placed c f i p once at flagged (x ∷ xs) s zero h e =
       let q : x ≡ c = cc in
-      placed true (key_in c) (keyed c f) (flat_map (own_fields tree true) xs) f (own_alike c f) flagged (fields_in tree c) s i p once at ∙
-      ap (λ y. position_from (keyed c f) s (own_fields tree true y ++ flat_map (own_fields tree true) xs)) (sym q)
+      placed true (key_in c) (keyed c f) (flat_map (keyed_fields tree true) xs) f (own_alike c f) flagged (fields_declared tree c) s i p once at ∙
+      ap (λ y. position_from (keyed c f) s (keyed_fields tree true y ++ flat_map (keyed_fields tree true) xs)) (sym q)
   static_placed c f i p once at flagged (x ∷ xs) s (suc n) h e =
       let apart : same_class x c ≡ false = passes_not (same_class x) xs n c (or_parts _ _ h).0 e in
-      let count : statics_after s (fields_in tree x) ≡ s + length (own_fields tree true x) = statics_counted s (fields_in tree x) ∙ ap (λ m. s + m) (sym (length-map (of_flag true (fields_in tree x)) (key_in x))) in
-      static_placed c f i p once at flagged xs (statics_after s (fields_in tree x)) n (or_parts _ _ h).1 e ∙
-      ap (λ m. position_from (keyed c f) m (flat_map (own_fields tree true) xs)) count ∙
-      sym (position_past (keyed c f) s (own_fields tree true x) (flat_map (own_fields tree true) xs) (none_of_other tree c f x apart (of_flag true (fields_in tree x))))
+      let count : statics_after s (fields_declared tree x) ≡ s + length (keyed_fields tree true x) = statics_counted s (fields_declared tree x) ∙ ap (λ m. s + m) (sym (length-map (of_flag true (fields_declared tree x)) (key_in x))) in
+      static_placed c f i p once at flagged xs (statics_after s (fields_declared tree x)) n (or_parts _ _ h).1 e ∙
+      ap (λ m. position_from (keyed c f) m (flat_map (keyed_fields tree true) xs)) count ∙
+      sym (position_past (keyed c f) s (keyed_fields tree true x) (flat_map (keyed_fields tree true) xs) (none_of_other tree c f x apart (of_flag true (fields_declared tree x))))
 
   -- ---- the rules of a legal tree
 
-  of_source : (cs : List Class) → flat_map (own_fields tree true) (map (λ (e : ClassName × Declaration). e.0) (map source_entry cs)) ≡ flat_map (λ (k : Class). own_fields tree true (source_name k)) cs
+  of_source : (cs : List Class) → flat_map (keyed_fields tree true) (map (λ (e : ClassName × Declaration). e.0) (map source_entry cs)) ≡ flat_map (λ (k : Class). keyed_fields tree true (source_name k)) cs
   of_source [] = refl
-  of_source (k ∷ ks) = ap (λ z. own_fields tree true (source_name k) ++ z) (of_source ks)
+  of_source (k ∷ ks) = ap (λ z. keyed_fields tree true (source_name k) ++ z) (of_source ks)
 
-  all_statics : flat_map (own_fields tree true) (class_names tree) ≡ static_fields tree
+  all_statics : flat_map (keyed_fields tree true) (class_names tree) ≡ static_fields tree
   all_statics = of_source tree.classes
 
   later : (b : Bool) (n : ℕ) (rest : Option ℕ) → (if b then Some n else rest) ≡ None → rest ≡ None
@@ -226,13 +226,13 @@ module _ (tree : Tree) where
       by_number (suc (suc (suc (suc zero)))) k = without_fields (slice_get (declarations tree) 4) k refl
       by_number (suc (suc (suc (suc (suc m))))) k = by_class m (slice_get tree.classes m) refl (sym (slice_get-map source_entry tree.classes m) ∙ k)
 
-  once_in : IsLegal tree → (k : Class) (m : ℕ) → slice_get tree.classes m ≡ Some k → has_repeat same_name (fields_of_kind k.kind (fields_of k)) ≡ false
+  once_in : IsLegal tree → (k : Class) (m : ℕ) → slice_get tree.classes m ≡ Some k → has_repeat same_name (fields_unless_interface k.kind (field_members k)) ≡ false
   once_in legal k m e = by_kind k.kind
     where
-      among : has_repeat same_name (fields_of k) ≡ false
+      among : has_repeat same_name (field_members k) ≡ false
       among = (or_parts _ _ (or_parts _ _ (or_parts _ _ (passes_not class_doubles tree.classes m k (no_double legal) e)).0).0).0
 
-      by_kind : (kind : ClassKind) → has_repeat same_name (fields_of_kind kind (fields_of k)) ≡ false
+      by_kind : (kind : ClassKind) → has_repeat same_name (fields_unless_interface kind (field_members k)) ≡ false
       by_kind Interface = refl
       by_kind (PlainClass is_abstract base interfaces) = among
 
@@ -251,7 +251,7 @@ module _ (tree : Tree) where
       source : IsOfSource c d
       source = of_the_source n p c d f h at
 
-      declared : fields_in tree c ≡ d.fields
+      declared : fields_declared tree c ≡ d.fields
       declared =
           let found : FoundAt tree c n = found_at tree c n (number_of_place tree legal n (c, d) h) in
           let both : Some (c, found.0) ≡ Some (c, d) = sym found.2 ∙ h in
@@ -259,10 +259,10 @@ module _ (tree : Tree) where
           let same : found.0 ≡ d = ap (λ (y : ClassName × Declaration). y.1) pairs in
           ap (listed_by (λ (x : Declaration). x.fields)) found.1 ∙ ap (λ (x : Declaration). x.fields) same
 
-      at_place : slice_get (fields_in tree c) p ≡ Some f
+      at_place : slice_get (fields_declared tree c) p ≡ Some f
       at_place = ap (λ xs. slice_get xs p) declared ∙ at
 
-      once : has_repeat same_name (fields_in tree c) ≡ false
+      once : has_repeat same_name (fields_declared tree c) ≡ false
       once = ap (has_repeat same_name) (declared ∙ ap (λ (y : ClassName × Declaration). y.1.fields) source.3) ∙ once_in legal source.0 source.1 source.2
 
       named : slice_get (class_names tree) n ≡ Some c
@@ -274,10 +274,10 @@ module _ (tree : Tree) where
           let apart : is_own_base tree c ≡ false = subst P (sym (ap (λ (y : ClassName × Declaration). y.0) source.3)) (passes_not (λ (k : Class). is_own_base tree (source_name k)) tree.classes source.1 source.0 (no_cycle legal) source.2) in
           shorter (same_class c) (suc (suc (length tree.classes))) (base_of tree c) apart
 
-      row : slice_get (unwrap_or (slice_get (field_rows tree 0 (class_names tree)) n) []) p ≡ slice_get (numbered_fields (static_start 0 (class_names tree) n) (first_slot tree c) (fields_in tree c)) p
+      row : slice_get (unwrap_or (slice_get (field_rows tree 0 (class_names tree)) n) []) p ≡ slice_get (numbered_fields (static_start 0 (class_names tree) n) (first_slot tree c) (fields_declared tree c)) p
       row = ap (λ o. slice_get (unwrap_or o []) p) (row_found (class_names tree) 0 n c named)
 
-      by_flag : (b : Bool) → f.is_static ≡ b → slice_get (numbered_fields (static_start 0 (class_names tree) n) (first_slot tree c) (fields_in tree c)) p ≡ slot_of b (record { declared_in = c; name = f.name })
+      by_flag : (b : Bool) → f.is_static ≡ b → slice_get (numbered_fields (static_start 0 (class_names tree) n) (first_slot tree c) (fields_declared tree c)) p ≡ slot_of b (record { declared_in = c; name = f.name })
       by_flag false e = instance_placed c f (static_start 0 (class_names tree) n) p lone once at_place e
       by_flag true e = static_placed c f (first_slot tree c) p once at_place e (class_names tree) 0 n (names_stand_once_too legal) named ∙ ap (position_from (keyed c f) 0) all_statics
 

@@ -11,7 +11,7 @@ use Rattle.cil_model.specs.declared.trees.MethodKind.{MethodKind}
 use Rattle.cil_model.specs.declared.trees.MethodKind.TheVariants.{Static, Instance, Virtual, Abstract}
 use Rattle.cil_model.specs.Same.{same_class, same_options, same_flag}
 use Rattle.cil_model.specs.Declarations.{Declaration}
-use Rattle.cil_model.specs.Chains.{listed_by, chain_of, methods_in, method_in, interfaces_in, is_interface, nearest, is_static, is_virtual, is_new_slot_method}
+use Rattle.cil_model.specs.Chains.{listed_by, chain_of, methods_declared, method_declared, interfaces_declared, is_interface, nearest, is_static, is_virtual, is_new_slot_method}
 use Rattle.cil_model.specs.Slots.{slot_filled, slot_along, filler_along, class_target, virtual_in, lister_along, interface_target, target}
 use Rattle.cil_model.specs.Legality.{IsLegal}
 use Rattle.name_tables.specs.Sameness.{MethodIdentity, same_identity, identity_of, same_called, called_of}
@@ -80,11 +80,11 @@ module _ (tree : Tree) where
     -- a method that fills a slot, and the number of its class, or neither
     abbrev IsFiller : Option (ClassName × Method) → Option ℕ → Type 0
     IsFiller None None = Unit {0}
-    IsFiller (Some f) (Some n) = (class_number tree f.0 ≡ Some n) × (method_in tree k.name k.signature f.0 ≡ Some f.1) × (is_virtual f.1.kind ≡ true)
+    IsFiller (Some f) (Some n) = (class_number tree f.0 ≡ Some n) × (method_declared tree k.name k.signature f.0 ≡ Some f.1) × (is_virtual f.1.kind ≡ true)
     IsFiller None (Some n) = ⊥
     IsFiller (Some f) None = ⊥
 
-    filler_here : (c : ClassName) (n : ℕ) (f : Option Method) (fills : Bool) (rest : Option (ClassName × Method)) (below : Option ℕ) → class_number tree c ≡ Some n → method_in tree k.name k.signature c ≡ f →
+    filler_here : (c : ClassName) (n : ℕ) (f : Option Method) (fills : Bool) (rest : Option (ClassName × Method)) (below : Option ℕ) → class_number tree c ≡ Some n → method_declared tree k.name k.signature c ≡ f →
         ((m : Method) → f ≡ Some m → fills ≡ true → is_virtual m.kind ≡ true) → IsFiller rest below →
         IsFiller (option_map_or (λ (m : Method). if fills then Some (c, m) else rest) f rest) (if fills then option_map_or (λ (m : Method). Some n) f below else below)
     filler_here c n None true rest below e g v h = h
@@ -107,7 +107,7 @@ module _ (tree : Tree) where
     filler_known s i e [] = tt
     filler_known s i e (c ∷ cs) = by_number (class_number tree c) refl (filler_known s i e cs) (tied tree k (c ∷ cs))
       where
-        virtually : (m : Method) → method_in tree k.name k.signature c ≡ Some m → fills_slot s c cs ≡ true → is_virtual m.kind ≡ true
+        virtually : (m : Method) → method_declared tree k.name k.signature c ≡ Some m → fills_slot s c cs ≡ true → is_virtual m.kind ≡ true
         virtually m g h =
             fills_as_virtual s c (slot_along tree k.name k.signature cs) m (
             sym (ap (λ f. same_options same_class (option_map_or (slot_filled c (slot_along tree k.name k.signature cs)) f (slot_along tree k.name k.signature cs)) (Some s)) g) ∙ h)
@@ -122,19 +122,19 @@ module _ (tree : Tree) where
             let one : fills_slot s c cs ≡ option_map_or (λ x. x == i) (slot_numbered tree k (n ∷ numbers cs)) false = same_slot tree k s i e _ _ (subst T g h) in
             let P : Option Method → Type 0 = λ f. IsFiller (fillers s (c ∷ cs)) (if fills_slot s c cs then option_map_or (λ (m : Method). Some n) f (filler_numbered tree k i (numbers cs)) else filler_numbered tree k i (numbers cs)) in
             let here : IsFiller (fillers s (c ∷ cs)) (if fills_slot s c cs then option_map_or (λ (m : Method). Some n) (method_found tree k n) (filler_numbered tree k i (numbers cs)) else filler_numbered tree k i (numbers cs)) =
-            subst P (sym (found_by_number tree k c n g)) (filler_here c n (method_in tree k.name k.signature c) (fills_slot s c cs) (fillers s cs) (filler_numbered tree k i (numbers cs)) g refl virtually further) in
+            subst P (sym (found_by_number tree k c n g)) (filler_here c n (method_declared tree k.name k.signature c) (fills_slot s c cs) (fillers s cs) (filler_numbered tree k i (numbers cs)) g refl virtually further) in
             let Q : Bool → Type 0 = λ b. IsFiller (fillers s (c ∷ cs)) (filler_over tree k n b (filler_numbered tree k i (numbers cs))) in
             subst Q one here
 
     -- the number of a virtual method that a class declares
-    own_known : (c : ClassName) (n : ℕ) (m : Method) → class_number tree c ≡ Some n → method_in tree k.name k.signature c ≡ Some m → is_virtual m.kind ≡ true → option_map stands_at (own_method tree k n) ≡ Some (Some (c, m))
+    own_known : (c : ClassName) (n : ℕ) (m : Method) → class_number tree c ≡ Some n → method_declared tree k.name k.signature c ≡ Some m → is_virtual m.kind ≡ true → option_map stands_at (own_method tree k n) ≡ Some (Some (c, m))
     own_known c n m e g v =
         let found : FoundAt tree c n = found_at tree c n e in
         let own : Method → Bool = λ x. same_called (k, false) (called_of x) in
-        let numbered : option_map (λ p. method_at tree (n, p)) (place_in (λ d. d.methods) own tree n) ≡ option_map (λ x. Some (c, x)) (find own (methods_in tree c)) =
+        let numbered : option_map (λ p. method_at tree (n, p)) (place_in (λ d. d.methods) own tree n) ≡ option_map (λ x. Some (c, x)) (find own (methods_declared tree c)) =
         in_present tree (λ d. d.methods) own own (λ x. refl) c found.0 n found.1 found.2 in
         option_map_of_map (λ p. let r : MemberNumber = record { class = n; place = p } in r) stands_at (place_in (λ d. d.methods) own tree n) ∙ numbered ∙
-        ap (option_map (λ x. Some (c, x))) (find_own k (methods_in tree c) m g (virtual_not_static m.kind v))
+        ap (option_map (λ x. Some (c, x))) (find_own k (methods_declared tree c) m g (virtual_not_static m.kind v))
 
     -- a class's method
     class_known : (d c : ClassName) → option_map stands_at (class_filler tree k (chain_numbers tree d) (chain_numbers tree c)) ≡ option_map Some (class_target tree k.name k.signature d c)
@@ -167,14 +167,14 @@ module _ (tree : Tree) where
 
         by_number : (o : Option ℕ) → class_number tree c ≡ o → IsTied tree (lister_along tree k.name k.signature i cs) (find (is_lister listed j) (numbers cs)) → IsTied tree (lister_along tree k.name k.signature i (c ∷ cs)) (find (is_lister listed j) (cons_option o (numbers cs)))
         by_number None g further =
-            let none : list_any (same_class i) (interfaces_in tree c) ≡ false = ap (λ z. list_any (same_class i) (listed_by (λ (x : Declaration). x.interfaces) z)) (not_declared tree c g) in
+            let none : list_any (same_class i) (interfaces_declared tree c) ≡ false = ap (λ z. list_any (same_class i) (listed_by (λ (x : Declaration). x.interfaces) z)) (not_declared tree c g) in
             let P : Bool → Type 0 = λ b. IsTied tree (cond b (Some c) (lister_along tree k.name k.signature i cs)) (find (is_lister listed j) (numbers cs)) in
             subst P (sym none) further
         by_number (Some n) g further =
-            let row : is_lister listed j n ≡ list_any (same_class i) (interfaces_in tree c) =
-            ap (λ o. list_any (λ m. m == j) (unwrap_or o [])) (answer_at tree (interface_numbers tree) c n g) ∙ among_numbers tree i j e (interfaces_in tree c) in
+            let row : is_lister listed j n ≡ list_any (same_class i) (interfaces_declared tree c) =
+            ap (λ o. list_any (λ m. m == j) (unwrap_or o [])) (answer_at tree (interface_numbers tree) c n g) ∙ among_numbers tree i j e (interfaces_declared tree c) in
             let P : Bool → Type 0 = λ b. IsTied tree (lister_along tree k.name k.signature i (c ∷ cs)) (cond b (Some n) (find (is_lister listed j) (numbers cs))) in
-            subst P (sym row) (by_test n (list_any (same_class i) (interfaces_in tree c)) g further)
+            subst P (sym row) (by_test n (list_any (same_class i) (interfaces_declared tree c)) g further)
 
     -- a class's name with something, and its number
     abbrev IsNearest : Option (ClassName × Method) → Option ℕ → Type 0
@@ -210,7 +210,7 @@ module _ (tree : Tree) where
             subst P (sym (nothing_found tree k c g)) further
         by_number (Some n) g further =
             let P : Option Method → Type 0 = λ f. IsNearest (nearest (virtual_in tree k.name k.signature) (c ∷ cs)) (cond (option_map_or (λ (m : Method). is_virtual m.kind) f false) (Some n) (found_above cs)) in
-            subst P (sym (found_by_number tree k c n g)) (by_method n (method_in tree k.name k.signature c) g further)
+            subst P (sym (found_by_number tree k c n g)) (by_method n (method_declared tree k.name k.signature c) g further)
 
     -- an interface's method
     interface_known : (d i : ClassName) (j : ℕ) → class_number tree i ≡ Some j → option_map stands_at (interface_filler tree listed k (chain_numbers tree d) j) ≡ option_map Some (interface_target tree k.name k.signature d i)
@@ -276,13 +276,13 @@ module _ (tree : Tree) where
           let both : Some (a, found.0) ≡ Some (a, x) = sym found.2 ∙ h in
           let pairs : (a, found.0) ≡ (a, x) = cc in
           let same : found.0 ≡ x = ap (λ (z : ClassName × Declaration). z.1) pairs in
-          let own : slice_get (methods_in tree a) method.place ≡ Some y =
+          let own : slice_get (methods_declared tree a) method.place ≡ Some y =
           ap (λ o. slice_get (listed_by (λ (z : Declaration). z.methods) o) method.place) found.1 ∙ ap (λ (z : Declaration). slice_get z.methods method.place) same ∙ g in
           let row : unwrap_or (slice_get (map (map targets_of) rows) method.class) [] ≡ target_rows tree a =
           ap (λ xs. unwrap_or (slice_get xs method.class) []) are ∙ ap (λ o. unwrap_or o []) (answer_at tree (target_rows tree) a method.class number) in
           let entry : option_map targets_of (slice_get (unwrap_or (slice_get rows method.class) []) method.place) ≡ Some (target_row tree a y) =
           sym (slice_get-map targets_of (unwrap_or (slice_get rows method.class) []) method.place) ∙ ap (λ xs. slice_get xs method.place) (mapped_row rows method.class ∙ row) ∙
-          slice_get-map (target_row tree a) (methods_in tree a) method.place ∙ ap (option_map (target_row tree a)) own in
+          slice_get-map (target_row tree a) (methods_declared tree a) method.place ∙ ap (option_map (target_row tree a)) own in
           ap (λ o. option_map stands_at (option_and_then (target_in class method) o)) entry ∙ row_tells a d method.class class y method number named stands
 
       by_entry : (o : Option (ClassName × Declaration)) → slice_get (declarations tree) method.class ≡ o → option_and_then {U = ClassName × Method} (λ (e : ClassName × Declaration). option_map (λ x. (e.0, x)) (slice_get e.1.methods method.place)) o ≡ Some (c, m) → Tells rows class method d c m

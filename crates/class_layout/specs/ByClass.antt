@@ -3,7 +3,7 @@ use Rattle.std.specs.Prelude.{ℕ, zero, suc, Bool, false, List, [], ◌∷◌, 
 use Rattle.cil_model.specs.declared.types.ClassName.{ClassName}
 use Rattle.cil_model.specs.declared.trees.Tree.{Tree}
 use Rattle.cil_model.specs.Declarations.{Declaration}
-use Rattle.cil_model.specs.Chains.{base_of, interfaces_in}
+use Rattle.cil_model.specs.Chains.{base_of, interfaces_declared}
 use Rattle.cil_model.specs.Assignable.{is_class_assignable}
 use Rattle.name_tables.specs.Numbers.{declarations, class_number}
 
@@ -13,7 +13,7 @@ by_class tree answer = map (λ (e : ClassName × Declaration). answer e.0) (decl
 
 -- the numbers of the interfaces that a class lists
 abbrev pub interface_numbers : Tree → ClassName → List ℕ
-interface_numbers tree c = filter_map (class_number tree) (interfaces_in tree c)
+interface_numbers tree c = filter_map (class_number tree) (interfaces_declared tree c)
 
 -- the number of the base that a class names
 abbrev pub base_number : Tree → ClassName → Option ℕ

@@ -4,7 +4,7 @@ use Rattle.cil_model.specs.declared.types.ClassName.{ClassName}
 use Rattle.cil_model.specs.declared.trees.Tree.{Tree}
 use Rattle.cil_model.specs.declared.trees.Field.{Field}
 use Rattle.cil_model.specs.Declarations.{Declaration}
-use Rattle.cil_model.specs.Chains.{fields_in}
+use Rattle.cil_model.specs.Chains.{fields_declared}
 use Rattle.name_tables.specs.Numbers.{declarations}
 use Rattle.class_layout.specs.Kinds.{own_kinds, slot_kinds}
 use Rattle.class_layout.specs.declared.kinds.SlotKind.{SlotKind}
@@ -31,7 +31,7 @@ first_slot tree c = length (slot_kinds tree c) - length (own_kinds tree c)
 -- the fields of each class, the static ones numbered through all classes
 abbrev pub field_rows : Tree → ℕ → List ClassName → List (List ℕ)
 field_rows tree next [] = []
-field_rows tree next (c ∷ cs) = numbered_fields next (first_slot tree c) (fields_in tree c) ∷ field_rows tree (statics_after next (fields_in tree c)) cs
+field_rows tree next (c ∷ cs) = numbered_fields next (first_slot tree c) (fields_declared tree c) ∷ field_rows tree (statics_after next (fields_declared tree c)) cs
 
 -- the names of all classes, by number
 abbrev pub class_names : Tree → List ClassName

@@ -7,7 +7,7 @@ use Rattle.cil_model.specs.declared.types.Element.TheVariants.{Int32, Int64, Obj
 use Rattle.cil_model.specs.declared.types.DeclaredType.{DeclaredType}
 use Rattle.cil_model.specs.declared.trees.Tree.{Tree}
 use Rattle.cil_model.specs.declared.trees.Field.{Field}
-use Rattle.cil_model.specs.Chains.{fields_in}
+use Rattle.cil_model.specs.Chains.{fields_declared}
 use Rattle.cil_model.specs.Fields.{slot_types}
 use Rattle.class_layout.specs.declared.kinds.SlotKind.{SlotKind}
 use Rattle.class_layout.specs.declared.kinds.SlotKind.TheVariants as Kind
@@ -39,7 +39,7 @@ instance_kind f = if f.is_static then None else Some (kind_of (Some f.field_type
 
 -- the kinds of the instance fields that a class itself declares
 abbrev pub own_kinds : Tree → ClassName → List SlotKind
-own_kinds tree c = filter_map instance_kind (fields_in tree c)
+own_kinds tree c = filter_map instance_kind (fields_declared tree c)
 
 -- the kinds of an object's slots
 abbrev pub slot_kinds : Tree → ClassName → List SlotKind

@@ -6,7 +6,7 @@ use Rattle.cil_model.specs.declared.types.ClassName.{ClassName}
 use Rattle.cil_model.specs.declared.trees.Tree.{Tree}
 use Rattle.cil_model.specs.declared.trees.Method.{Method}
 use Rattle.cil_model.specs.Declarations.{Declaration}
-use Rattle.cil_model.specs.Chains.{methods_in, is_interface, is_virtual}
+use Rattle.cil_model.specs.Chains.{methods_declared, is_interface, is_virtual}
 use Rattle.name_tables.specs.Sameness.{MethodIdentity, identity_of, same_called, called_of}
 use Rattle.name_tables.specs.Numbers.{declarations, class_number, chain_numbers, place_in, method_found}
 use Rattle.name_tables.specs.declared.lookups.MemberNumber.{MemberNumber}
@@ -58,7 +58,7 @@ target_row tree c m = if is_virtual m.kind then Some (by_class tree (target_numb
 
 -- the rows of the methods that a class itself declares
 abbrev pub target_rows : Tree → ClassName → List (Option (List (Option MemberNumber)))
-target_rows tree c = map (target_row tree c) (methods_in tree c)
+target_rows tree c = map (target_row tree c) (methods_declared tree c)
 
 -- what an entry of the table holds
 abbrev pub targets_of : Targets → Option (List (Option MemberNumber))

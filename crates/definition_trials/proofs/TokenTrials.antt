@@ -1,20 +1,20 @@
 -- White space, comments and names, tried out.
 use Rattle.std.proofs.Common.{◌≡◌, true, false, [], Some, None, refl, codes}
-use Rattle.cil_model.specs.Lexemes.{behind, between}
+use Rattle.cil_model.specs.Lexemes.{skip_gap, between}
 use Rattle.cil_model.specs.Words.{is_name, is_reserved}
 
 -- ---- white space and comments
 
-block_not_closed : behind between (codes "/*/") ≡ None
+block_not_closed : skip_gap between (codes "/*/") ≡ None
 block_not_closed = refl
 
-block_closed : behind between (codes " /***/ // a\n b") ≡ Some (codes "b")
+block_closed : skip_gap between (codes " /***/ // a\n b") ≡ Some (codes "b")
 block_closed = refl
 
-line_to_end : behind between (codes "// a") ≡ Some []
+line_to_end : skip_gap between (codes "// a") ≡ Some []
 line_to_end = refl
 
-slash_alone : behind between (codes "/a") ≡ Some (codes "/a")
+slash_alone : skip_gap between (codes "/a") ≡ Some (codes "/a")
 slash_alone = refl
 
 dotted : is_name (codes "System.Object") ≡ true
@@ -26,16 +26,16 @@ dot_at_end = refl
 reserved_word : is_name (codes "ldc.i4.8") ≡ false
 reserved_word = refl
 
-long_line : behind between (codes "// aaaaaaaaaaaaaaaaaaaaaaaaaaaaaaaaaaaaaaaa aaaaaaaaaaaaaaaaaaaaaaaaaaaaaaaaaaaaaaaaaaaaaaaa\nb") ≡ Some (codes "b")
+long_line : skip_gap between (codes "// aaaaaaaaaaaaaaaaaaaaaaaaaaaaaaaaaaaaaaaa aaaaaaaaaaaaaaaaaaaaaaaaaaaaaaaaaaaaaaaaaaaaaaaa\nb") ≡ Some (codes "b")
 long_line = refl
 
-star_alone : behind between (codes "/* * / */x") ≡ Some (codes "x")
+star_alone : skip_gap between (codes "/* * / */x") ≡ Some (codes "x")
 star_alone = refl
 
-block_without_end : behind between (codes "/* x") ≡ None
+block_without_end : skip_gap between (codes "/* x") ≡ None
 block_without_end = refl
 
-carriage_return_goes_on : behind between (codes "// a\rb") ≡ Some []
+carriage_return_goes_on : skip_gap between (codes "// a\rb") ≡ Some []
 carriage_return_goes_on = refl
 
 constructor_word : is_name (codes ".ctorx") ≡ false

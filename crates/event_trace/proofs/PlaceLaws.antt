@@ -11,7 +11,7 @@ use Rattle.cil_model.specs.declared.trees.Class.{Class}
 use Rattle.cil_model.specs.declared.trees.Method.{Method}
 use Rattle.cil_model.specs.declared.trees.Member.{Member}
 use Rattle.cil_model.specs.declared.trees.Member.TheVariants.{Field as FieldMember, Method as MethodMember}
-use Rattle.cil_model.specs.Declarations.{Declaration, built_ins, method_of, source_name}
+use Rattle.cil_model.specs.Declarations.{Declaration, built_ins, as_method, source_name}
 use Rattle.name_tables.proofs.Lists.{filter_map-take_more, map-take_more}
 use Rattle.name_tables.specs.Numbers.{source_entry}
 use Rattle.method_table.specs.AllMethods.{all_methods, owned_methods}
@@ -53,10 +53,10 @@ Stand first tree before places done = methods_by first tree places ≡ methods_b
 
 -- the methods among the first members of a class
 abbrev pub own_methods : Class → ℕ → List (ClassName × Method)
-own_methods c i = map (λ (m : Method). (source_name c, m)) (filter_map method_of (take i c.members))
+own_methods c i = map (λ (m : Method). (source_name c, m)) (filter_map as_method (take i c.members))
 
 -- a member that is no method
-none_there : (x : Member) → ((m : Method) → x ≡ MethodMember m → ⊥) → filter_map method_of (x ∷ []) ≡ []
+none_there : (x : Member) → ((m : Method) → x ≡ MethodMember m → ⊥) → filter_map as_method (x ∷ []) ≡ []
 none_there (FieldMember f) absent = refl
 none_there (MethodMember m) absent = absurd (absent m refl)
 
@@ -80,10 +80,10 @@ module _ (first : List (ClassName × Declaration)) (tree : Tree) (before so_far 
   -- ---- a class of the source
 
   module _ (c : Class) (i : ℕ) (x : Member) (below : i < length c.members) (at : x ≡ get_or c.members i x) where
-    next_methods : own_methods c (i + 1) ≡ own_methods c i ++ map (λ (m : Method). (source_name c, m)) (filter_map method_of (x ∷ []))
+    next_methods : own_methods c (i + 1) ≡ own_methods c i ++ map (λ (m : Method). (source_name c, m)) (filter_map as_method (x ∷ []))
     next_methods =
-        ap (map (λ (m : Method). (source_name c, m))) (filter_map-take_more method_of c.members i x below at)
-        ∙ map-append (λ (m : Method). (source_name c, m)) (filter_map method_of (take i c.members)) (filter_map method_of (x ∷ []))
+        ap (map (λ (m : Method). (source_name c, m))) (filter_map-take_more as_method c.members i x below at)
+        ∙ map-append (λ (m : Method). (source_name c, m)) (filter_map as_method (take i c.members)) (filter_map as_method (x ∷ []))
 
     pub field_more : ((m : Method) → x ≡ MethodMember m → ⊥) → Stand first tree before so_far (own_methods c i) → Stand first tree before so_far (own_methods c (i + 1))
     field_more absent =
@@ -95,8 +95,8 @@ module _ (first : List (ClassName × Declaration)) (tree : Tree) (before so_far 
     method_more class m there named is h =
         let member : slice_get c.members i ≡ Some (MethodMember m) = slice_get_read c.members (length c.members) i x refl below at ∙ ap (λ y. Some y) named in
         let here : method_by first tree (Source class i) ≡ Some (source_name c, m) =
-        ap (option_and_then (source_method i)) there ∙ ap (λ o. option_map (λ (m : Method). (source_name c, m)) (option_and_then method_of o)) member in
-        subst (Stand first tree before more) (sym (next_methods ∙ ap (λ y. own_methods c i ++ map (λ (m : Method). (source_name c, m)) (filter_map method_of (y ∷ []))) named))
+        ap (option_and_then (source_method i)) there ∙ ap (λ o. option_map (λ (m : Method). (source_name c, m)) (option_and_then as_method o)) member in
+        subst (Stand first tree before more) (sym (next_methods ∙ ap (λ y. own_methods c i ++ map (λ (m : Method). (source_name c, m)) (filter_map as_method (y ∷ []))) named))
         (grown (method_by first tree) before so_far more (own_methods c i) ((source_name c, m) ∷ []) h (pushed (method_by first tree) so_far more (Source class i) (source_name c, m) is here))
 
   -- ---- classes

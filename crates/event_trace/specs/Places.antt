@@ -4,7 +4,7 @@ use Rattle.cil_model.specs.declared.types.ClassName.{ClassName}
 use Rattle.cil_model.specs.declared.trees.Tree.{Tree}
 use Rattle.cil_model.specs.declared.trees.Class.{Class}
 use Rattle.cil_model.specs.declared.trees.Method.{Method}
-use Rattle.cil_model.specs.Declarations.{Declaration, method_of, source_name}
+use Rattle.cil_model.specs.Declarations.{Declaration, as_method, source_name}
 use Rattle.name_tables.specs.BuiltInTable.{built_in_entry}
 use Rattle.method_table.specs.AllMethods.{all_methods}
 use Rattle.event_trace.specs.declared.owned_methods.Owner.{Owner}
@@ -31,7 +31,7 @@ built_in_method n e = option_map (λ (m : Method). (e.0, m)) (slice_get e.1.meth
 
 -- the method at a place among the members of a class of the source
 abbrev pub source_method : ℕ → Class → Option (ClassName × Method)
-source_method n c = option_map (λ (m : Method). (source_name c, m)) (option_and_then method_of (slice_get c.members n))
+source_method n c = option_map (λ (m : Method). (source_name c, m)) (option_and_then as_method (slice_get c.members n))
 
 -- the method that is declared there, where these are the built-in classes
 abbrev pub method_by : List (ClassName × Declaration) → Tree → MethodPlace → Option (ClassName × Method)

@@ -7,7 +7,7 @@ use Rattle.cil_model.specs.declared.types.Element.TheVariants as Named
 use Rattle.cil_model.specs.declared.trees.Tree.{Tree}
 use Rattle.cil_model.specs.Same.{same_class}
 use Rattle.cil_model.specs.Declarations.{Declaration}
-use Rattle.cil_model.specs.Chains.{base_of, chain_within, interfaces_in, listed_by}
+use Rattle.cil_model.specs.Chains.{base_of, chain_within, interfaces_declared, listed_by}
 use Rattle.cil_model.specs.Legality.{IsLegal}
 use Rattle.cil_model.proofs.BelowLaws.{same_some}
 use Rattle.cil_model.proofs.SameLaws.{same_class_equal, same_class_itself, class_equivalence}
@@ -27,7 +27,7 @@ none_is_some {X} {A} x e = absurd (lost e)
 module _ (tree : Tree) where
   -- the class is the one, or lists it
   abbrev pub stands_for : ClassName → ClassName → Bool
-  stands_for d k = same_class k d || list_any (same_class d) (interfaces_in tree k)
+  stands_for d k = same_class k d || list_any (same_class d) (interfaces_declared tree k)
 
   -- some class of the rest of a chain is the one, or lists it
   abbrev pub stands_along : ClassName → ℕ → Option ClassName → Bool
@@ -62,8 +62,8 @@ module _ (tree : Tree) where
     tested : (n to : ℕ) (k : ResolvedClass) → IsClassAt tree n k → is_some (class_name tree to) ≡ true → stands_for (class_named tree to) (class_named tree n) ≡ (n == to) || list_any (λ i. i == to) k.interfaces
     tested n to k (name, d, at, alike) l =
         let named : class_name tree n ≡ Some name = ap (option_map (λ (x : ClassName × Declaration). x.0)) at in
-        let interfaces : interfaces_in tree (class_named tree n) ≡ d.interfaces = ap (interfaces_in tree) (element_at_number tree n name named) ∙ ap (listed_by (λ x. x.interfaces)) (own_declaration tree legal n name d at) in
-        ap (λ b. b || list_any (same_class (class_named tree to)) (interfaces_in tree (class_named tree n))) (same_number n to (ap is_some named) l) ∙
+        let interfaces : interfaces_declared tree (class_named tree n) ≡ d.interfaces = ap (interfaces_declared tree) (element_at_number tree n name named) ∙ ap (listed_by (λ x. x.interfaces)) (own_declaration tree legal n name d at) in
+        ap (λ b. b || list_any (same_class (class_named tree to)) (interfaces_declared tree (class_named tree n))) (same_number n to (ap is_some named) l) ∙
         ap (λ (is : List ClassName). (n == to) || list_any (same_class (class_named tree to)) is) interfaces ∙ ap (λ b. (n == to) || b) (listed_number to l k.interfaces d.interfaces alike.interfaces)
 
     chain_next : (total i : ℕ) (c : ClassName) → i < total → chain_within tree (total - i) (Some c) ≡ c ∷ chain_within tree (total - (i + 1)) (base_of tree c)

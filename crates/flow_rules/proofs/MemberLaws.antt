@@ -12,7 +12,7 @@ use Rattle.cil_model.specs.declared.trees.Method.{Method}
 use Rattle.cil_model.specs.declared.instructions.FieldReference.{FieldReference}
 use Rattle.cil_model.specs.declared.instructions.MethodReference.{MethodReference}
 use Rattle.cil_model.specs.Same.{same_text, same_type, same_flag, same_method_name, same_signature}
-use Rattle.cil_model.specs.Chains.{nearest, fields_in, methods_in, chain_of, classes_searched, find_field, find_method, is_static}
+use Rattle.cil_model.specs.Chains.{nearest, fields_declared, methods_declared, chain_of, classes_searched, find_field, find_method, is_static}
 use Rattle.cil_model.specs.Declarations.{Declaration}
 use Rattle.cil_model.proofs.SameLaws.{both_first, both_second, same_type_equal, same_signature_equal}
 use Rattle.cil_model.proofs.BelowLaws.{same_some}
@@ -69,12 +69,12 @@ module _ (tree : Tree) where
   -- the field that a reference finds has the type that it names
   pub field_has_type : (b : Bool) (r : FieldReference) (c : ClassName) (f : Field) → find_field tree b r ≡ Some (c, f) → f.field_type ≡ r.field_type
   field_has_type b r c f e =
-      let passes : IsTrue (same_text f.name r.name && same_type f.field_type r.field_type && same_flag f.is_static b) = nearest_passes (λ (g : Field). same_text g.name r.name && same_type g.field_type r.field_type && same_flag g.is_static b) (fields_in tree) (chain_of tree r.owner) c f e in
+      let passes : IsTrue (same_text f.name r.name && same_type f.field_type r.field_type && same_flag f.is_static b) = nearest_passes (λ (g : Field). same_text g.name r.name && same_type g.field_type r.field_type && same_flag g.is_static b) (fields_declared tree) (chain_of tree r.owner) c f e in
       same_type_equal f.field_type r.field_type (both_second _ _ (both_first _ _ passes))
 
   pub method_has_signature : (b : Bool) (r : MethodReference) (c : ClassName) (m : Method) → find_method tree b r ≡ Some (c, m) → m.signature ≡ r.signature
   method_has_signature b r c m e =
-      let passes : IsTrue (same_method_name m.name r.name && same_signature m.signature r.signature && same_flag (is_static m.kind) (not b)) = nearest_passes (λ (g : Method). same_method_name g.name r.name && same_signature g.signature r.signature && same_flag (is_static g.kind) (not b)) (methods_in tree) (classes_searched tree r.name r.owner) c m e in
+      let passes : IsTrue (same_method_name m.name r.name && same_signature m.signature r.signature && same_flag (is_static m.kind) (not b)) = nearest_passes (λ (g : Method). same_method_name g.name r.name && same_signature g.signature r.signature && same_flag (is_static g.kind) (not b)) (methods_declared tree) (classes_searched tree r.name r.owner) c m e in
       same_signature_equal m.signature r.signature (both_second _ _ (both_first _ _ passes))
 
   -- ---- types that numbers stand for
@@ -192,7 +192,7 @@ module _ (tree : Tree) where
   -- a constructor is of the class that it is looked for in
   pub constructor_owner : (c : ClassName) (ps : List DeclaredType) (f : MemberNumber) → IsMethod tree true (constructor_reference c ps) f → class_name tree f.class ≡ Some c
   constructor_owner c ps f is =
-      let owner : is.declared_in ≡ c = alone (find tested (methods_in tree c)) is.finds in
+      let owner : is.declared_in ≡ c = alone (find tested (methods_declared tree c)) is.finds in
       by_entry (slice_get (declarations tree) f.class) refl is.numbered owner
     where
       tested : Method → Bool

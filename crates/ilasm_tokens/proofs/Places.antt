@@ -1,7 +1,7 @@
 -- Going from token to token.
 use Rattle.std.proofs.Common.{◌≡◌, ◌∙◌, ◌<◌, ◌≤◌, ◌-◌, ◌+◌, ℕ, suc, List, length, Some, None, refl, sym, arith}
 use Rattle.cil_model.specs.declared.tokens.Token.{Token}
-use Rattle.cil_model.specs.Lexemes.{behind, between}
+use Rattle.cil_model.specs.Lexemes.{skip_gap, between}
 use Rattle.ilasm_tokens.specs.Steps.{bind, bind_at}
 use Rattle.ilasm_tokens.specs.Lexing.{spaced_lexeme_at, behind_tokens, offset_of}
 
@@ -16,7 +16,7 @@ pub no_more : (m n : ℕ) (bs : List ℕ) → n < m → spaced_lexeme_at bs ≡ 
 unfolding behind_tokens bind
 no_more m n bs less e = rw (step_of m n less, e) refl
 
-pub at_place : (source start rest : List ℕ) (m k : ℕ) → behind between source ≡ Some start → m ≤ k → behind_tokens (m - k) rest ≡ behind_tokens m start → offset_of m source ≡ Some (length source - length rest)
+pub at_place : (source start rest : List ℕ) (m k : ℕ) → skip_gap between source ≡ Some start → m ≤ k → behind_tokens (m - k) rest ≡ behind_tokens m start → offset_of m source ≡ Some (length source - length rest)
 unfolding offset_of behind_tokens
 at_place source start rest m k e past so_far =
     let none : m - k ≡ 0 = omega (arith, past) in

@@ -12,7 +12,7 @@ use Rattle.cil_model.specs.declared.tokens.Token.{Token}
 use Rattle.cil_model.specs.declared.tokens.Token.TheVariants.{Reserved, Name, Integer, Quoted, Symbol}
 use Rattle.cil_model.specs.Words.{begins_segment, is_digit, is_word_byte, is_reserved, are_segments, is_name}
 use Rattle.cil_model.specs.Spans.{◌▸◌, item, each}
-use Rattle.cil_model.specs.Lexemes.{is_white, Place, between, slash, in_line, in_block, star, behind, gap, stops, run, value_from, signed, is_plain, escaped, character, lexeme, AreTokens}
+use Rattle.cil_model.specs.Lexemes.{is_white, Place, between, slash, in_line, in_block, star, skip_gap, gap, stops, run, value_from, signed, is_plain, escaped, character, lexeme, AreTokens}
 use Rattle.ilasm_tokens.specs.declared.bytes.Kind.{Kind}
 use Rattle.ilasm_tokens.specs.declared.bytes.Kind.TheVariants.{Word, Digit, Minus, Quote, Colon, Single, Nothing}
 use Rattle.ilasm_tokens.specs.declared.failure.Failure.{Failure}
@@ -337,7 +337,7 @@ held _ = 0
 weaker : {m : Option (List ℕ)} {n k : ℕ} → n ≤ k → Yields m (λ rest. length rest ≤ n) → Yields m (λ rest. length rest ≤ k)
 weaker {m} {n} {k} le p = record { out = λ y e. omega (arith, p.out y e) }
 
-behind_shorter : (at : Place) (bs : List ℕ) → Yields (behind at bs) (λ rest. length rest ≤ length bs + held at)
+behind_shorter : (at : Place) (bs : List ℕ) → Yields (skip_gap at bs) (λ rest. length rest ≤ length bs + held at)
 unfolding held
 behind_shorter between [] = yields_some (omega arith)
 behind_shorter between (b ∷ bs) =
@@ -353,14 +353,14 @@ behind_shorter star [] = yields_none
 behind_shorter star (b ∷ bs) =
     yields_else (b == 47) (λ _. weaker (omega arith) (behind_shorter between bs)) (λ _. yields_else (b == 42) (λ _. weaker (omega arith) (behind_shorter star bs)) (λ _. weaker (omega arith) (behind_shorter in_block bs)))
 
-pub gap_shorter : (bs rest : List ℕ) → behind between bs ≡ Some rest → length rest ≤ length bs
+pub gap_shorter : (bs rest : List ℕ) → skip_gap between bs ≡ Some rest → length rest ≤ length bs
 unfolding held
 gap_shorter bs rest e = omega (arith, (behind_shorter between bs).out rest e)
 
 spaced_sound : Sound spaced_lexeme_at (λ t. lexeme t ▸ gap)
 unfolding spaced_lexeme_at
 spaced_sound bs =
-    yields_bind (lexeme_sound bs) (λ t p. yields_bind (found (behind between t.1)) (λ rest e. yields_some ((t.1, p.0, e), omega (arith, p.1, gap_shorter t.1 rest e))))
+    yields_bind (lexeme_sound bs) (λ t p. yields_bind (found (skip_gap between t.1)) (λ rest e. yields_some ((t.1, p.0, e), omega (arith, p.1, gap_shorter t.1 rest e))))
 
 spaced_complete : Complete spaced_lexeme_at (λ t. lexeme t ▸ gap)
 unfolding spaced_lexeme_at
@@ -377,7 +377,7 @@ nothing_left (b ∷ bs) e = absurd cc
 tokens_sound : (bs : List ℕ) → Yields (tokens_at bs) (AreTokens bs)
 unfolding tokens_at
 tokens_sound bs =
-    yields_bind (found (behind between bs)) (λ start g. yields_bind (many_sound not_empty spaced_lexeme_at (λ t. lexeme t ▸ gap) spaced_sound start) (λ ts p.
+    yields_bind (found (skip_gap between bs)) (λ start g. yields_bind (many_sound not_empty spaced_lexeme_at (λ t. lexeme t ▸ gap) spaced_sound start) (λ ts p.
     yields_unless (not_empty ts.1) (λ e. yields_some (start, g, subst (λ (rest : List ℕ). each (λ t. lexeme t ▸ gap) ts.0 start rest) (nothing_left ts.1 e) p.0))))
 
 no_lexeme : (y : Token × List ℕ) → lexeme_at [] ≡ Some y → ⊥
@@ -427,17 +427,17 @@ unfolding not_empty
 none_left [] e = refl
 none_left (b ∷ bs) e = let zero_length : length (b ∷ bs) ≡ 0 = eqb-true _ _ e in absurd (omega arith)
 
-pub tokens_end : (bs start rest : List ℕ) (ts : List Token) → behind between bs ≡ Some start → many not_empty spaced_lexeme_at start ≡ Some (ts, rest) → not_empty rest ≡ false → IsTokenAnswer bs (Ok ts)
+pub tokens_end : (bs start rest : List ℕ) (ts : List Token) → skip_gap between bs ≡ Some start → many not_empty spaced_lexeme_at start ≡ Some (ts, rest) → not_empty rest ≡ false → IsTokenAnswer bs (Ok ts)
 unfolding tokens_at
 tokens_end bs start rest ts g e left = read_are_tokens bs ts (bind_at _ g (bind_at _ e (rw left refl)))
 
-pub tokens_fail : (failure : Failure) (bs start : List ℕ) → behind between bs ≡ Some start → Fails failure (many not_empty spaced_lexeme_at start) → IsTokenAnswer bs (Err failure)
+pub tokens_fail : (failure : Failure) (bs start : List ℕ) → skip_gap between bs ≡ Some start → Fails failure (many not_empty spaced_lexeme_at start) → IsTokenAnswer bs (Err failure)
 unfolding tokens_at bind
 tokens_fail OutOfMemory bs start g e = tt
 tokens_fail (Refused left expected) bs start g e = none_are_tokens bs (rw (g, e) refl)
 
 -- white space or comments that do not end
-pub no_start : (failure : Failure) (bs : List ℕ) → Fails failure (behind between bs) → IsTokenAnswer bs (Err failure)
+pub no_start : (failure : Failure) (bs : List ℕ) → Fails failure (skip_gap between bs) → IsTokenAnswer bs (Err failure)
 unfolding tokens_at bind
 no_start OutOfMemory bs e = tt
 no_start (Refused left expected) bs e = none_are_tokens bs (rw e refl)

@@ -5,7 +5,7 @@ use Rattle.cil_model.specs.declared.tokens.Symbol.TheVariants.{OpenBrace, CloseB
 use Rattle.cil_model.specs.declared.tokens.Token.{Token}
 use Rattle.cil_model.specs.declared.tokens.Token.TheVariants.{Reserved, Name, Integer, Quoted, Symbol}
 use Rattle.cil_model.specs.Words.{begins_segment, is_digit, is_word_byte, are_segments}
-use Rattle.cil_model.specs.Lexemes.{behind, between, value_from, signed, is_plain, escaped}
+use Rattle.cil_model.specs.Lexemes.{skip_gap, between, value_from, signed, is_plain, escaped}
 use Rattle.ilasm_tokens.specs.declared.bytes.Kind.{Kind}
 use Rattle.ilasm_tokens.specs.declared.bytes.Kind.TheVariants.{Word, Digit, Minus, Quote, Colon, Single, Nothing}
 use Rattle.ilasm_tokens.specs.Steps.{◌>>=◌, ParserOf, with_front, many}
@@ -113,7 +113,7 @@ lexeme_at (c ∷ cs) = token_by (kind_of c) c cs
 unfoldable pub spaced_lexeme_at : Lexer Token
 spaced_lexeme_at bs = do
   token ← lexeme_at bs
-  rest ← behind between token.1
+  rest ← skip_gap between token.1
   Some (token.0, rest)
 
 -- what is left behind so many tokens
@@ -126,7 +126,7 @@ behind_tokens (suc n) bs = do
 -- where a token begins, counted in bytes, if it has tokens before it
 unfoldable pub offset_of : ℕ → List ℕ → Option ℕ
 offset_of number source = do
-  start ← behind between source
+  start ← skip_gap between source
   rest ← behind_tokens number start
   Some (length source - length rest)
 
@@ -137,6 +137,6 @@ not_empty (x ∷ xs) = true
 -- the tokens of a source
 unfoldable pub tokens_at : List ℕ → Option (List Token)
 tokens_at source = do
-  start ← behind between source
+  start ← skip_gap between source
   tokens ← many not_empty spaced_lexeme_at start
   if not_empty tokens.1 then None else Some tokens.0

@@ -1,7 +1,7 @@
 //! White space and comments.
 
 ghost use Rattle.std.specs.Prelude.{◌≡◌, ◌≤◌, None, length, IfSome, MatchOption};
-ghost use Rattle.cil_model.specs.Lexemes.{behind, between, in_line, in_block};
+ghost use Rattle.cil_model.specs.Lexemes.{skip_gap, between, in_line, in_block};
 ghost use Rattle.ilasm_tokens.specs.Steps.{Gives};
 
 use crate::bytes::is_white;
@@ -10,7 +10,7 @@ use crate::failure::Failure;
 /// What is left behind a comment that goes on to the end of the line.
 fn after_line(bytes: &[u8]) -> &[u8]
     ensures within { length result.now ≤ length bytes.now }
-    ensures value { behind in_line bytes.now ≡ behind between result.now }
+    ensures value { skip_gap in_line bytes.now ≡ skip_gap between result.now }
 {
     let mut rest = bytes;
     while let [byte, after @ ..] = rest {
@@ -25,7 +25,7 @@ fn after_line(bytes: &[u8]) -> &[u8]
 /// What is left behind a comment that goes on to the next `*/`.
 fn after_block(bytes: &[u8]) -> Option<&[u8]>
     ensures within { IfSome result (λ r. length r.now ≤ length bytes.now) }
-    ensures value { MatchOption result (behind in_block bytes.now ≡ None) (λ r. behind in_block bytes.now ≡ behind between r.now) }
+    ensures value { MatchOption result (skip_gap in_block bytes.now ≡ None) (λ r. skip_gap in_block bytes.now ≡ skip_gap between r.now) }
 {
     let mut rest = bytes;
     let mut star = false;
@@ -41,20 +41,20 @@ fn after_block(bytes: &[u8]) -> Option<&[u8]>
 
 /// What is left behind white space and comments.
 pub fn after_spaces(bytes: &[u8]) -> Result<&[u8], Failure>
-    ensures { Gives (λ r. r.now) result (behind between bytes.now) }
+    ensures { Gives (λ r. r.now) result (skip_gap between bytes.now) }
 {
     let mut rest = bytes;
     while let [first, after @ ..] = rest {
         if is_white(*first) {
             rest = after;
         } else if *first == b'/' {
-            let [second, behind @ ..] = after else {
+            let [second, skip_gap @ ..] = after else {
                 return Ok(rest);
             };
             if *second == b'/' {
-                rest = after_line(behind);
+                rest = after_line(skip_gap);
             } else if *second == b'*' {
-                let Some(outside) = after_block(behind) else {
+                let Some(outside) = after_block(skip_gap) else {
                     return Err(Failure::no_token(rest.len()));
                 };
                 rest = outside;

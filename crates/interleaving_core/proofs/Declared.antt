@@ -5,7 +5,7 @@ use Rattle.cil_model.specs.declared.limits.TheConstants.{MOST_LOCALS}
 use Rattle.cil_model.specs.declared.types.ClassName.{ClassName}
 use Rattle.cil_model.specs.declared.trees.Method.{Method}
 use Rattle.cil_model.specs.declared.trees.Tree.{Tree}
-use Rattle.cil_model.specs.Chains.{methods_in}
+use Rattle.cil_model.specs.Chains.{methods_declared}
 use Rattle.cil_model.specs.Declarations.{Declaration, declaration_of}
 use Rattle.cil_model.specs.Legality.{IsLegal}
 use Rattle.cil_model.proofs.BelowLaws.{none_is_some, same_some}
@@ -18,18 +18,18 @@ use Rattle.step_simulation.proofs.simulation.Zeros.{locals_low}
 
 module _ (tree : Tree) (legal : IsLegal tree) (class place : ℕ) where
   -- where its class declares it
-  declared_there : (found : ClassName × Method) → method_at tree (class, place) ≡ Some found → slice_get (methods_in tree found.0) place ≡ Some found.1
+  declared_there : (found : ClassName × Method) → method_at tree (class, place) ≡ Some found → slice_get (methods_declared tree found.0) place ≡ Some found.1
   declared_there found is = by_entry (slice_get (declarations tree) class) refl is
     where
-      by_method : (e : ClassName × Declaration) → slice_get (declarations tree) class ≡ Some e → (o : Option Method) → slice_get e.1.methods place ≡ o → option_map (λ x. (e.0, x)) o ≡ Some found → slice_get (methods_in tree found.0) place ≡ Some found.1
+      by_method : (e : ClassName × Declaration) → slice_get (declarations tree) class ≡ Some e → (o : Option Method) → slice_get e.1.methods place ≡ o → option_map (λ x. (e.0, x)) o ≡ Some found → slice_get (methods_declared tree found.0) place ≡ Some found.1
       by_method e at None there h = none_is_some found h
       by_method e at (Some m) there h =
           let same : (e.0, m) ≡ found = same_some (e.0, m) found h in
           let known : declaration_of tree e.0 ≡ Some e.1 = sym (declared_at_number tree e.0 class (number_of_place tree legal class e at)) ∙ ap (option_map (λ (x : ClassName × Declaration). x.1)) at in
-          let own : slice_get (methods_in tree e.0) place ≡ Some m = ap (λ o. slice_get (option_map_or (λ (d : Declaration). d.methods) o []) place) known ∙ there in
-          subst (λ (x : ClassName × Method). slice_get (methods_in tree x.0) place ≡ Some x.1) same own
+          let own : slice_get (methods_declared tree e.0) place ≡ Some m = ap (λ o. slice_get (option_map_or (λ (d : Declaration). d.methods) o []) place) known ∙ there in
+          subst (λ (x : ClassName × Method). slice_get (methods_declared tree x.0) place ≡ Some x.1) same own
 
-      by_entry : (o : Option (ClassName × Declaration)) → slice_get (declarations tree) class ≡ o → option_and_then (λ (e : ClassName × Declaration). option_map (λ x. (e.0, x)) (slice_get e.1.methods place)) o ≡ Some found → slice_get (methods_in tree found.0) place ≡ Some found.1
+      by_entry : (o : Option (ClassName × Declaration)) → slice_get (declarations tree) class ≡ o → option_and_then (λ (e : ClassName × Declaration). option_map (λ x. (e.0, x)) (slice_get e.1.methods place)) o ≡ Some found → slice_get (methods_declared tree found.0) place ≡ Some found.1
       by_entry None at h = none_is_some found h
       by_entry (Some e) at h = by_method e at (slice_get e.1.methods place) refl h
 

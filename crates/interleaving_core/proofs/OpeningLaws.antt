@@ -13,9 +13,9 @@ use Rattle.cil_model.specs.declared.trees.Field.{Field}
 use Rattle.cil_model.specs.declared.trees.Method.{Method}
 use Rattle.cil_model.specs.declared.trees.Tree.{Tree}
 use Rattle.cil_model.specs.Bodies.{entry_points}
-use Rattle.cil_model.specs.Chains.{fields_in}
+use Rattle.cil_model.specs.Chains.{fields_declared}
 use Rattle.cil_model.specs.Declarations.{Declaration, source_name}
-use Rattle.cil_model.specs.Fields.{FieldKey, own_fields, static_fields}
+use Rattle.cil_model.specs.Fields.{FieldKey, keyed_fields, static_fields}
 use Rattle.cil_model.specs.Legality.{IsLegal}
 use Rattle.cil_model.specs.Mentions.{literals_of}
 use Rattle.cil_model.specs.Same.{same_flag}
@@ -60,23 +60,23 @@ keyed_zeros owner (f ∷ fields) = ap (λ xs. zero_value (kind_of_type f.field_t
 
 module _ (tree : Tree) where
   -- the zeros of a class's static fields
-  own_zeros : (c : Class) → fields_in tree (source_name c) ≡ declared_fields c → map zero_of_typed (own_fields tree true (source_name c)) ≡ zeros_of (declared_fields c)
+  own_zeros : (c : Class) → fields_declared tree (source_name c) ≡ declared_fields c → map zero_of_typed (keyed_fields tree true (source_name c)) ≡ zeros_of (declared_fields c)
   own_zeros c is =
-      keyed_zeros (source_name c) (filter (λ (f : Field). same_flag f.is_static true) (fields_in tree (source_name c))) ∙
-      ap (map (λ (f : Field). zero_value (kind_of_type f.field_type))) (flagged (fields_in tree (source_name c))) ∙ ap zeros_of is
+      keyed_zeros (source_name c) (filter (λ (f : Field). same_flag f.is_static true) (fields_declared tree (source_name c))) ∙
+      ap (map (λ (f : Field). zero_value (kind_of_type f.field_type))) (flagged (fields_declared tree (source_name c))) ∙ ap zeros_of is
 
   -- those of several classes
-  all_zeros : (cs : List Class) → ((n : ℕ) (c : Class) → slice_get cs n ≡ Some c → fields_in tree (source_name c) ≡ declared_fields c) →
-      map zero_of_typed (flat_map (λ (c : Class). own_fields tree true (source_name c)) cs) ≡ flat_map (λ (c : Class). zeros_of (declared_fields c)) cs
+  all_zeros : (cs : List Class) → ((n : ℕ) (c : Class) → slice_get cs n ≡ Some c → fields_declared tree (source_name c) ≡ declared_fields c) →
+      map zero_of_typed (flat_map (λ (c : Class). keyed_fields tree true (source_name c)) cs) ≡ flat_map (λ (c : Class). zeros_of (declared_fields c)) cs
   all_zeros [] each = refl
   all_zeros (c ∷ cs) each =
-      map-append zero_of_typed (own_fields tree true (source_name c)) (flat_map (λ (x : Class). own_fields tree true (source_name x)) cs) ∙
-      ap (λ xs. xs ++ map zero_of_typed (flat_map (λ (x : Class). own_fields tree true (source_name x)) cs)) (own_zeros c (each 0 c refl)) ∙
+      map-append zero_of_typed (keyed_fields tree true (source_name c)) (flat_map (λ (x : Class). keyed_fields tree true (source_name x)) cs) ∙
+      ap (λ xs. xs ++ map zero_of_typed (flat_map (λ (x : Class). keyed_fields tree true (source_name x)) cs)) (own_zeros c (each 0 c refl)) ∙
       ap (λ xs. zeros_of (declared_fields c) ++ xs) (all_zeros cs (λ n x at. each (suc n) x at))
 
   module _ (legal : IsLegal tree) where
     -- a class of the source has the fields that it declares
-    fields_of_source : (n : ℕ) (c : Class) → slice_get tree.classes n ≡ Some c → fields_in tree (source_name c) ≡ declared_fields c
+    fields_of_source : (n : ℕ) (c : Class) → slice_get tree.classes n ≡ Some c → fields_declared tree (source_name c) ≡ declared_fields c
     fields_of_source n c at =
         let place : slice_get (declarations tree) (suc (suc (suc (suc (suc n))))) ≡ Some (source_entry c) = slice_get-map source_entry tree.classes n ∙ ap (option_map source_entry) at in
         let found : FoundAt tree (source_name c) (suc (suc (suc (suc (suc n))))) = found_at tree (source_name c) (suc (suc (suc (suc (suc n))))) (class_of_place tree legal (suc (suc (suc (suc (suc n))))) (source_entry c) place) in

@@ -17,7 +17,7 @@ use cil_model::limits::{Limits, MOST_WORDS};
 use cil_model::memory::NoMemory;
 use cil_model::trees::{Class, ClassKind, Field};
 use method_table::{MethodTable, value_kind};
-use name_tables::classes::fields_of;
+use name_tables::classes::field_members;
 use object_memory::{Heap, Value};
 use space_block::Block;
 use std::alloc::Global;
@@ -42,7 +42,7 @@ fn push_statics(alloc: Global, statics: &mut Vec<Value>, class: &Class) -> Resul
 {
     match &class.kind {
         ClassKind::Interface => Ok(()),
-        ClassKind::Class { .. } => push_zeros(statics, fields_of(alloc, class)?.as_slice()),
+        ClassKind::Class { .. } => push_zeros(statics, field_members(alloc, class)?.as_slice()),
     }
 }
 

@@ -14,8 +14,8 @@ use Rattle.cil_model.specs.declared.trees.Class.{Class}
 use Rattle.cil_model.specs.declared.trees.Field.{Field}
 use Rattle.cil_model.specs.Same.{same_flag}
 use Rattle.cil_model.specs.Declarations.{Declaration, declaration_of, source_name}
-use Rattle.cil_model.specs.Chains.{chain_of, fields_in, listed_by}
-use Rattle.cil_model.specs.Fields.{own_fields, instance_fields, static_fields}
+use Rattle.cil_model.specs.Chains.{chain_of, fields_declared, listed_by}
+use Rattle.cil_model.specs.Fields.{keyed_fields, instance_fields, static_fields}
 use Rattle.name_tables.specs.Numbers.{declarations, class_number, chain_numbers}
 use Rattle.name_tables.proofs.NumberLaws.{IsNumbered, numbered, declared_at_none}
 use Rattle.cil_model.specs.declared.limits.TheConstants.{MOST_CLASSES, MOST_METHODS, MOST_STATIC_FIELDS, MOST_BRACKETS}
@@ -32,11 +32,11 @@ sum_by_congr f g same (x ∷ xs) = sum_by-cons f x xs ∙ ap (λ n. n + sum_by f
 module _ (tree : Tree) where
   -- the fields of one class
   abbrev own_count : Bool → ClassName → ℕ
-  own_count is_static c = count_by (λ (f : Field). same_flag f.is_static is_static) (fields_in tree c)
+  own_count is_static c = count_by (λ (f : Field). same_flag f.is_static is_static) (fields_declared tree c)
 
-  own_counted : (is_static : Bool) (c : ClassName) → length (own_fields tree is_static c) ≡ own_count is_static c
+  own_counted : (is_static : Bool) (c : ClassName) → length (keyed_fields tree is_static c) ≡ own_count is_static c
   own_counted is_static c =
-      length-map (filter (λ (f : Field). same_flag f.is_static is_static) (fields_in tree c)) (λ (f : Field). (record { declared_in = c; name = f.name }, f.field_type)) ∙ length-filter (λ (f : Field). same_flag f.is_static is_static) (fields_in tree c)
+      length-map (filter (λ (f : Field). same_flag f.is_static is_static) (fields_declared tree c)) (λ (f : Field). (record { declared_in = c; name = f.name }, f.field_type)) ∙ length-filter (λ (f : Field). same_flag f.is_static is_static) (fields_declared tree c)
 
   by_declaration : (is_static : Bool) (o : Option Declaration) → count_by (λ (f : Field). same_flag f.is_static is_static) (listed_by (λ d. d.fields) o) ≡ option_map_or (count_in is_static) o 0
   by_declaration is_static None = refl
@@ -44,8 +44,8 @@ module _ (tree : Tree) where
 
   pub static_total : length (static_fields tree) ≡ sum_by (static_count tree) tree.classes
   static_total =
-      length-flat_map (λ (c : Class). own_fields tree true (source_name c)) tree.classes ∙
-      sum_by_congr (λ (c : Class). length (own_fields tree true (source_name c))) (static_count tree) (λ c. own_counted true (source_name c) ∙ by_declaration true (declaration_of tree (source_name c))) tree.classes
+      length-flat_map (λ (c : Class). keyed_fields tree true (source_name c)) tree.classes ∙
+      sum_by_congr (λ (c : Class). length (keyed_fields tree true (source_name c))) (static_count tree) (λ c. own_counted true (source_name c) ∙ by_declaration true (declaration_of tree (source_name c))) tree.classes
 
   along_chain : (cs : List ClassName) → sum_by (own_count false) cs ≡ sum_by (instance_count tree) (filter_map (class_number tree) cs)
   along_chain [] = refl
@@ -64,7 +64,7 @@ module _ (tree : Tree) where
 
   pub instance_total : (c : ClassName) → length (instance_fields tree c) ≡ sum_by (instance_count tree) (chain_numbers tree c)
   instance_total c =
-      length-flat_map (own_fields tree false) (reverse (chain_of tree c)) ∙ sum_by_congr (λ k. length (own_fields tree false k)) (own_count false) (own_counted false) (reverse (chain_of tree c)) ∙
+      length-flat_map (keyed_fields tree false) (reverse (chain_of tree c)) ∙ sum_by_congr (λ k. length (keyed_fields tree false k)) (own_count false) (own_counted false) (reverse (chain_of tree c)) ∙
       sum_by-IsPermutation (own_count false) (chain_of tree c) (reverse (chain_of tree c)) (IsPermutation-reverse (chain_of tree c)) ∙ along_chain (chain_of tree c)
 
   -- ---- the whole rule

@@ -9,7 +9,7 @@ use Rattle.cil_model.specs.declared.types.ClassName.{ClassName}
 use Rattle.cil_model.specs.declared.trees.Tree.{Tree}
 use Rattle.cil_model.specs.declared.trees.Class.{Class}
 use Rattle.cil_model.specs.declared.trees.Method.{Method}
-use Rattle.cil_model.specs.Declarations.{source_name, methods_of}
+use Rattle.cil_model.specs.Declarations.{source_name, method_members}
 use Rattle.cil_model.specs.Bodies.{is_entry_point, entry_points, source_methods}
 use Rattle.cil_model.specs.Mentions.{methods_of_tree}
 use Rattle.cil_model.specs.Legality.{is_one_entry, is_entry_method}
@@ -47,12 +47,12 @@ among : (es : List (ClassName × Method)) → list_any is_entry_method (map seco
 among [] = refl
 among (e ∷ es) = elim (is_entry_point e.1) as (λ b. list_any is_entry_method (map second (cond b (e ∷ filter (λ (x : ClassName × Method). is_entry_point x.1) es) (filter (λ (x : ClassName × Method). is_entry_point x.1) es))) ≡ b && is_entry_method e.1 || list_any (λ m. is_entry_point m && is_entry_method m) (map second es)) [ true ↦ ap (λ b. is_entry_method e.1 || b) (among es) | false ↦ among es ]
 
-flat_map_seconds : (cs : List Class) → map second (flat_map (λ (c : Class). map (λ (m : Method). (source_name c, m)) (methods_of c)) cs) ≡ flat_map methods_of cs
+flat_map_seconds : (cs : List Class) → map second (flat_map (λ (c : Class). map (λ (m : Method). (source_name c, m)) (method_members c)) cs) ≡ flat_map method_members cs
 flat_map_seconds [] = refl
 flat_map_seconds (c ∷ cs) =
-    map-append second (map (λ (m : Method). (source_name c, m)) (methods_of c)) (flat_map (λ (k : Class). map (λ (m : Method). (source_name k, m)) (methods_of k)) cs) ∙
-    ap (λ xs. xs ++ map second (flat_map (λ (k : Class). map (λ (m : Method). (source_name k, m)) (methods_of k)) cs)) (map_of_map (λ (m : Method). (source_name c, m)) second (methods_of c) ∙ same (methods_of c)) ∙
-    ap (λ xs. methods_of c ++ xs) (flat_map_seconds cs)
+    map-append second (map (λ (m : Method). (source_name c, m)) (method_members c)) (flat_map (λ (k : Class). map (λ (m : Method). (source_name k, m)) (method_members k)) cs) ∙
+    ap (λ xs. xs ++ map second (flat_map (λ (k : Class). map (λ (m : Method). (source_name k, m)) (method_members k)) cs)) (map_of_map (λ (m : Method). (source_name c, m)) second (method_members c) ∙ same (method_members c)) ∙
+    ap (λ xs. method_members c ++ xs) (flat_map_seconds cs)
   where
     same : (ms : List Method) → map (λ (m : Method). m) ms ≡ ms
     same [] = refl

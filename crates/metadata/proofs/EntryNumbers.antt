@@ -10,7 +10,7 @@ use Rattle.cil_model.specs.declared.types.ClassName.{ClassName}
 use Rattle.cil_model.specs.declared.trees.Tree.{Tree}
 use Rattle.cil_model.specs.declared.trees.Class.{Class}
 use Rattle.cil_model.specs.declared.trees.Method.{Method}
-use Rattle.cil_model.specs.Declarations.{Declaration, built_ins, source_name, methods_of}
+use Rattle.cil_model.specs.Declarations.{Declaration, built_ins, source_name, method_members}
 use Rattle.cil_model.specs.Bodies.{is_entry_point, entry_points}
 use Rattle.cil_model.specs.Legality.{IsLegal, is_entry_method}
 use Rattle.cil_model.proofs.Legal.{entry_alone}
@@ -79,7 +79,7 @@ only_found {X} test x (y ∷ ys) h = by_test (test y) (only_found test x ys) h
     by_test false rest k = rest k
 
 module _ (tree : Tree) where
-  of_source : (cs : List Class) → flat_map with_class (map source_entry cs) ≡ flat_map (λ (c : Class). map (λ (m : Method). (source_name c, m)) (methods_of c)) cs
+  of_source : (cs : List Class) → flat_map with_class (map source_entry cs) ≡ flat_map (λ (c : Class). map (λ (m : Method). (source_name c, m)) (method_members c)) cs
   of_source cs = flat_map-map with_class source_entry cs
 
   -- no built-in class has an entry point

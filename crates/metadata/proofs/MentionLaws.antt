@@ -9,7 +9,7 @@ use Rattle.cil_model.specs.declared.trees.Code.{Code}
 use Rattle.cil_model.specs.declared.trees.Line.{Line}
 use Rattle.cil_model.specs.declared.trees.Method.{Method}
 use Rattle.cil_model.specs.Bodies.{lines_of}
-use Rattle.cil_model.specs.Declarations.{methods_of}
+use Rattle.cil_model.specs.Declarations.{method_members}
 use Rattle.cil_model.specs.Mentions.{codes_of, types_of_signature, types_of_instruction, types_of_method}
 
 pub append_nothing : {X : Type 0} (xs : List X) → xs ++ [] ≡ xs
@@ -27,6 +27,6 @@ method_types m old signature locals all e f g =
     append_assoc old (s ++ k) _ ∙ ap (λ xs. old ++ (s ++ k ++ xs)) i
 
 -- the types of all methods, class by class
-pub types_by_class : (cs : List Class) → flat_map (λ (c : Class). flat_map types_of_method (methods_of c)) cs ≡ flat_map types_of_method (flat_map methods_of cs)
+pub types_by_class : (cs : List Class) → flat_map (λ (c : Class). flat_map types_of_method (method_members c)) cs ≡ flat_map types_of_method (flat_map method_members cs)
 types_by_class [] = refl
-types_by_class (c ∷ cs) = ap (λ ts. flat_map types_of_method (methods_of c) ++ ts) (types_by_class cs) ∙ sym (flat_map-append types_of_method (methods_of c) (flat_map methods_of cs))
+types_by_class (c ∷ cs) = ap (λ ts. flat_map types_of_method (method_members c) ++ ts) (types_by_class cs) ∙ sym (flat_map-append types_of_method (method_members c) (flat_map method_members cs))

@@ -7,7 +7,7 @@ use Rattle.cil_model.specs.declared.types.ClassName.{ClassName}
 use Rattle.cil_model.specs.declared.trees.Tree.{Tree}
 use Rattle.cil_model.specs.declared.trees.Method.{Method}
 use Rattle.cil_model.specs.Declarations.{Declaration, declaration_of}
-use Rattle.cil_model.specs.Chains.{listed_by, method_in, nearest, is_virtual}
+use Rattle.cil_model.specs.Chains.{listed_by, method_declared, nearest, is_virtual}
 use Rattle.cil_model.specs.Slots.{virtual_in}
 use Rattle.name_tables.specs.Sameness.{MethodIdentity, same_identity, identity_of}
 use Rattle.name_tables.specs.SamenessLaws.{identity_equivalence}
@@ -17,7 +17,7 @@ use Rattle.metadata.specs.Found.{is_virtual_found}
 
 module _ (tree : Tree) where
   -- what a class's number finds
-  pub found_by_number : (k : MethodIdentity) (c : ClassName) (n : ℕ) → class_number tree c ≡ Some n → method_found tree k n ≡ method_in tree k.name k.signature c
+  pub found_by_number : (k : MethodIdentity) (c : ClassName) (n : ℕ) → class_number tree c ≡ Some n → method_found tree k n ≡ method_declared tree k.name k.signature c
   found_by_number k c n e =
       let found : (d : Declaration) × (declaration_of tree c ≡ Some d) × (slice_get (declarations tree) n ≡ Some (c, d)) = subst (IsNumbered tree c) e (numbered tree c) in
       ap (option_and_then (λ (y : ClassName × Declaration). find (λ (m : Method). same_identity k (identity_of m)) y.1.methods)) found.2 ∙
@@ -25,7 +25,7 @@ module _ (tree : Tree) where
       sym (ap (λ z. find (λ (m : Method). same_identity (identity_of m) k) (listed_by (λ d. d.methods) z)) found.1)
 
   -- a name that stands for nothing has no methods
-  pub nothing_found : (k : MethodIdentity) (c : ClassName) → class_number tree c ≡ None → method_in tree k.name k.signature c ≡ None
+  pub nothing_found : (k : MethodIdentity) (c : ClassName) → class_number tree c ≡ None → method_declared tree k.name k.signature c ≡ None
   nothing_found k c e = ap (λ z. find (λ (m : Method). same_identity (identity_of m) k) (listed_by (λ d. d.methods) z)) (declared_at_none tree c e)
 
   -- ---- virtual methods
@@ -49,4 +49,4 @@ module _ (tree : Tree) where
       by_number (Some n) e further =
           ap (λ b. is_virtual_found tree k n || b) further ∙
           ap (λ o. option_map_or (λ (m : Method). is_virtual m.kind) o false || is_some (nearest (virtual_in tree k.name k.signature) cs)) (found_by_number k c n e) ∙
-          ap (λ b. b || is_some (nearest (virtual_in tree k.name k.signature) cs)) (sym (is_some-virtual (method_in tree k.name k.signature c)))
+          ap (λ b. b || is_some (nearest (virtual_in tree k.name k.signature) cs)) (sym (is_some-virtual (method_declared tree k.name k.signature c)))

@@ -9,9 +9,9 @@ use Rattle.cil_model.specs.declared.trees.Tree.{Tree}
 use Rattle.cil_model.specs.declared.trees.Method.{Method}
 use Rattle.cil_model.specs.Same.{same_class, same_options}
 use Rattle.cil_model.specs.Declarations.{Declaration, declaration_of}
-use Rattle.cil_model.specs.Chains.{listed_by, chain_of, methods_in, method_in, nearest, is_virtual, is_new_slot_method, is_abstract_method}
+use Rattle.cil_model.specs.Chains.{listed_by, chain_of, methods_declared, method_declared, nearest, is_virtual, is_new_slot_method, is_abstract_method}
 use Rattle.cil_model.specs.Slots.{slot_filled, slot_along, filler_along, class_target}
-use Rattle.cil_model.specs.Legality.{is_filled_abstract, is_found_plain, has_abstract_slot}
+use Rattle.cil_model.specs.Legality.{is_filled_abstract, is_found_not_virtual, has_abstract_slot}
 use Rattle.cil_model.proofs.SameLaws.{same_class_equal, same_class_itself}
 use Rattle.name_tables.specs.Sameness.{MethodIdentity, identity_of}
 use Rattle.name_tables.specs.Numbers.{declarations, class_number, chain_numbers, method_found}
@@ -119,8 +119,8 @@ module _ (tree : Tree) where
         by_number (Some n) g further h =
             let P : Option ℕ → Type 0 = λ o. IsTied (along (c ∷ cs)) (slot_numbered tree k (cons_option o (numbers cs))) in
             let one : same_options same_class (along (c ∷ cs)) (Some s) ≡ option_map_or (λ x. x == i) (slot_numbered tree k (n ∷ numbers cs)) false = same_slot s i e _ _ (subst P g h) in
-            filled_by c (method_in tree k.name k.signature c) (same_options same_class (along (c ∷ cs)) (Some s)) (filler_along tree k.name k.signature s cs) ∙
-            ap (λ b. cond b (is_abstract_in (method_in tree k.name k.signature c) (is_filled_abstract (filler_along tree k.name k.signature s cs))) (is_filled_abstract (filler_along tree k.name k.signature s cs))) one ∙
+            filled_by c (method_declared tree k.name k.signature c) (same_options same_class (along (c ∷ cs)) (Some s)) (filler_along tree k.name k.signature s cs) ∙
+            ap (λ b. cond b (is_abstract_in (method_declared tree k.name k.signature c) (is_filled_abstract (filler_along tree k.name k.signature s cs))) (is_filled_abstract (filler_along tree k.name k.signature s cs))) one ∙
             ap (λ f. cond (option_map_or (λ x. x == i) (slot_numbered tree k (n ∷ numbers cs)) false) (is_abstract_in f (is_filled_abstract (filler_along tree k.name k.signature s cs))) (is_filled_abstract (filler_along tree k.name k.signature s cs))) (sym (found_by_number tree k c n g)) ∙
             ap (λ b. open_over tree k n (option_map_or (λ x. x == i) (slot_numbered tree k (n ∷ numbers cs)) false) b) further
 
@@ -135,21 +135,21 @@ module _ (tree : Tree) where
         by_slot (Some s) None h = absurd h
 
     -- the nearest inherited method
-    pub nearest_plain : (cs : List ClassName) → is_found_plain (nearest (method_in tree k.name k.signature) cs) ≡ plain_numbered tree k (numbers cs)
+    pub nearest_plain : (cs : List ClassName) → is_found_not_virtual (nearest (method_declared tree k.name k.signature) cs) ≡ plain_numbered tree k (numbers cs)
     nearest_plain [] = refl
     nearest_plain (c ∷ cs) = by_number (class_number tree c) refl (nearest_plain cs)
       where
-        by_found : (f : Option Method) → is_found_plain (nearest (method_in tree k.name k.signature) cs) ≡ plain_numbered tree k (numbers cs) →
-            is_found_plain (option_map_or (λ m. Some (c, m)) f (nearest (method_in tree k.name k.signature) cs)) ≡ option_map_or (λ (m : Method). not (is_virtual m.kind)) f (plain_numbered tree k (numbers cs))
+        by_found : (f : Option Method) → is_found_not_virtual (nearest (method_declared tree k.name k.signature) cs) ≡ plain_numbered tree k (numbers cs) →
+            is_found_not_virtual (option_map_or (λ m. Some (c, m)) f (nearest (method_declared tree k.name k.signature) cs)) ≡ option_map_or (λ (m : Method). not (is_virtual m.kind)) f (plain_numbered tree k (numbers cs))
         by_found None further = further
         by_found (Some m) further = refl
 
-        by_number : (o : Option ℕ) → class_number tree c ≡ o → is_found_plain (nearest (method_in tree k.name k.signature) cs) ≡ plain_numbered tree k (numbers cs) →
-            is_found_plain (nearest (method_in tree k.name k.signature) (c ∷ cs)) ≡ plain_numbered tree k (cons_option o (numbers cs))
+        by_number : (o : Option ℕ) → class_number tree c ≡ o → is_found_not_virtual (nearest (method_declared tree k.name k.signature) cs) ≡ plain_numbered tree k (numbers cs) →
+            is_found_not_virtual (nearest (method_declared tree k.name k.signature) (c ∷ cs)) ≡ plain_numbered tree k (cons_option o (numbers cs))
         by_number None e further =
-            ap (λ f. is_found_plain (option_map_or (λ m. Some (c, m)) f (nearest (method_in tree k.name k.signature) cs))) (nothing_found tree k c e) ∙ further
+            ap (λ f. is_found_not_virtual (option_map_or (λ m. Some (c, m)) f (nearest (method_declared tree k.name k.signature) cs))) (nothing_found tree k c e) ∙ further
         by_number (Some n) e further =
-            by_found (method_in tree k.name k.signature c) further ∙ ap (λ f. option_map_or (λ (m : Method). not (is_virtual m.kind)) f (plain_numbered tree k (numbers cs))) (sym (found_by_number tree k c n e))
+            by_found (method_declared tree k.name k.signature c) further ∙ ap (λ f. option_map_or (λ (m : Method). not (is_virtual m.kind)) f (plain_numbered tree k (numbers cs))) (sym (found_by_number tree k c n e))
 
   -- ---- whole chains
 
@@ -159,20 +159,20 @@ module _ (tree : Tree) where
   leaves_numbered : (d c : ClassName) (ms : List Method) → list_any (leaves d c) ms ≡ list_any (λ (m : Method). is_virtual m.kind && is_left_open tree (identity_of m) (chain_numbers tree d) (chain_numbers tree c)) ms
   leaves_numbered d c ms = list_any_congr (leaves d c) (λ (m : Method). is_virtual m.kind && is_left_open tree (identity_of m) (chain_numbers tree d) (chain_numbers tree c)) (λ m. ap (λ b. is_virtual m.kind && b) (target_open (identity_of m) d c)) ms
 
-  open_along : (d : ClassName) (cs : List ClassName) → list_any (λ c. list_any (leaves d c) (methods_in tree c)) cs ≡ list_any (class_leaves_open tree (chain_numbers tree d)) (filter_map (class_number tree) cs)
+  open_along : (d : ClassName) (cs : List ClassName) → list_any (λ c. list_any (leaves d c) (methods_declared tree c)) cs ≡ list_any (class_leaves_open tree (chain_numbers tree d)) (filter_map (class_number tree) cs)
   open_along d [] = refl
   open_along d (c ∷ cs) = by_number (class_number tree c) refl (open_along d cs)
     where
-      by_number : (o : Option ℕ) → class_number tree c ≡ o → list_any (λ x. list_any (leaves d x) (methods_in tree x)) cs ≡ list_any (class_leaves_open tree (chain_numbers tree d)) (filter_map (class_number tree) cs) →
-          list_any (λ x. list_any (leaves d x) (methods_in tree x)) (c ∷ cs) ≡ list_any (class_leaves_open tree (chain_numbers tree d)) (cons_option o (filter_map (class_number tree) cs))
+      by_number : (o : Option ℕ) → class_number tree c ≡ o → list_any (λ x. list_any (leaves d x) (methods_declared tree x)) cs ≡ list_any (class_leaves_open tree (chain_numbers tree d)) (filter_map (class_number tree) cs) →
+          list_any (λ x. list_any (leaves d x) (methods_declared tree x)) (c ∷ cs) ≡ list_any (class_leaves_open tree (chain_numbers tree d)) (cons_option o (filter_map (class_number tree) cs))
       by_number None e further =
-          ap (λ z. list_any (leaves d c) (listed_by (λ x. x.methods) z) || list_any (λ x. list_any (leaves d x) (methods_in tree x)) cs) (declared_at_none tree c e) ∙ further
+          ap (λ z. list_any (leaves d c) (listed_by (λ x. x.methods) z) || list_any (λ x. list_any (leaves d x) (methods_declared tree x)) cs) (declared_at_none tree c e) ∙ further
       by_number (Some n) e further =
           let found : (x : Declaration) × (declaration_of tree c ≡ Some x) × (slice_get (declarations tree) n ≡ Some (c, x)) = subst (IsNumbered tree c) e (numbered tree c) in
-          let here : list_any (leaves d c) (methods_in tree c) ≡ class_leaves_open tree (chain_numbers tree d) n =
-          leaves_numbered d c (methods_in tree c) ∙ ap (λ z. list_any (λ (m : Method). is_virtual m.kind && is_left_open tree (identity_of m) (chain_numbers tree d) (chain_numbers tree c)) (listed_by (λ x. x.methods) z)) found.1 ∙
+          let here : list_any (leaves d c) (methods_declared tree c) ≡ class_leaves_open tree (chain_numbers tree d) n =
+          leaves_numbered d c (methods_declared tree c) ∙ ap (λ z. list_any (λ (m : Method). is_virtual m.kind && is_left_open tree (identity_of m) (chain_numbers tree d) (chain_numbers tree c)) (listed_by (λ x. x.methods) z)) found.1 ∙
           sym (ap (λ z. option_map_or (λ (y : ClassName × Declaration). list_any (λ (m : Method). is_virtual m.kind && is_left_open tree (identity_of m) (chain_numbers tree d) (chain_numbers tree y.0)) y.1.methods) z false) found.2) in
-          ap (λ b. b || list_any (λ x. list_any (leaves d x) (methods_in tree x)) cs) here ∙ ap (λ b. class_leaves_open tree (chain_numbers tree d) n || b) further
+          ap (λ b. b || list_any (λ x. list_any (leaves d x) (methods_declared tree x)) cs) here ∙ ap (λ b. class_leaves_open tree (chain_numbers tree d) n || b) further
 
   pub abstract_slot : (d : ClassName) → list_any (class_leaves_open tree (chain_numbers tree d)) (chain_numbers tree d) ≡ has_abstract_slot tree d
   abstract_slot d = sym (open_along d (chain_of tree d))

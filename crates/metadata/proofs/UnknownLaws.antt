@@ -12,7 +12,7 @@ use Rattle.cil_model.specs.declared.trees.Class.{Class}
 use Rattle.cil_model.specs.declared.trees.Line.{Line}
 use Rattle.cil_model.specs.declared.trees.Method.{Method}
 use Rattle.cil_model.specs.Same.{same_text, same_class}
-use Rattle.cil_model.specs.Declarations.{Declaration, declaration_of, source_class, source_name, declared_as, fields_of, methods_of, is_interface_kind, interfaces_named}
+use Rattle.cil_model.specs.Declarations.{Declaration, declaration_of, source_class, source_name, declared_as, field_members, method_members, is_interface_kind, interfaces_named}
 use Rattle.cil_model.specs.Bodies.{lines_of, labels_of, place_of}
 use Rattle.cil_model.specs.Mentions.{bases_named, class_of_element, owners_of_instruction, instructions_of, types_of_tree, class_types_of_tree, class_names_of_tree, methods_of_tree, instructions_of_tree}
 use Rattle.cil_model.specs.Legality.{labels_before, is_known_extern, is_resolved, is_source_interface, is_possible_base, is_possible_type, class_finds, finds_member, finds_labels, lacks_name}
@@ -42,7 +42,7 @@ module _ (tree : Tree) where
   -- what a declared class of the source is
   pub kind_of_plain : (o : Option (List ℕ)) (n : List ℕ) → is_some o ≡ false →
       option_map (λ (d : Declaration). d.is_interface) (declaration_of tree (record { assembly = o; name = n })) ≡ option_map (λ (c : Class). is_interface_kind c.kind) (source_class tree (record { assembly = o; name = n }))
-  kind_of_plain None n e = option_map_of_map (λ (c : Class). declared_as c.kind (fields_of c) (methods_of c)) (λ (d : Declaration). d.is_interface) (source_class tree (record { assembly = None; name = n }))
+  kind_of_plain None n e = option_map_of_map (λ (c : Class). declared_as c.kind (field_members c) (method_members c)) (λ (d : Declaration). d.is_interface) (source_class tree (record { assembly = None; name = n }))
   kind_of_plain (Some a) n e = never e
 
   -- ---- a class's first line
@@ -138,14 +138,14 @@ module _ (tree : Tree) where
   types_fail h = sym (lacks ∙ ap not (third_fails externs_known (list_all is_class tree.classes) types_all labels_all members_all h))
 
   -- the owners, the members and the labels that methods name
-  code_known : list_all (λ (c : Class). list_all (knows_names tree) (methods_of c)) tree.classes ≡ labels_all && members_all
+  code_known : list_all (λ (c : Class). list_all (knows_names tree) (method_members c)) tree.classes ≡ labels_all && members_all
   code_known =
-      sym (list_all-flat_map (knows_names tree) methods_of tree.classes) ∙
+      sym (list_all-flat_map (knows_names tree) method_members tree.classes) ∙
       sym (list_all_both (λ m. list_all is_instruction (instructions_of m)) finds_labels (methods_of_tree tree)) ∙
       ap (λ b. b && labels_all) (sym (list_all-flat_map is_instruction instructions_of (methods_of_tree tree)) ∙ instructions_known (instructions_of_tree tree)) ∙
       and_turned members_all labels_all
 
-  pub code_decides : (b : Bool) → externs_known ≡ true → list_all is_class tree.classes ≡ true → types_all ≡ true → b ≡ list_all (λ (c : Class). list_all (knows_names tree) (methods_of c)) tree.classes → not b ≡ lacks_name tree
+  pub code_decides : (b : Bool) → externs_known ≡ true → list_all is_class tree.classes ≡ true → types_all ≡ true → b ≡ list_all (λ (c : Class). list_all (knows_names tree) (method_members c)) tree.classes → not b ≡ lacks_name tree
   code_decides b h i j e = sym (lacks ∙ ap not (last_two_decide externs_known (list_all is_class tree.classes) types_all labels_all members_all h i j ∙ sym (e ∙ code_known)))
 
 -- ---- labels

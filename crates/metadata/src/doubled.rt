@@ -3,7 +3,7 @@
 ghost use Rattle.std.specs.Prelude.{◌≡◌, IfOk, is_some, map};
 ghost use Rattle.std.specs.List.{list_any};
 ghost use Rattle.cil_model.specs.Same.{same_text, same_class};
-ghost use Rattle.cil_model.specs.Declarations.{fields_of, methods_of, interfaces_named};
+ghost use Rattle.cil_model.specs.Declarations.{field_members, method_members, interfaces_named};
 ghost use Rattle.cil_model.specs.Legality.{has_repeat, same_method, labels_before, class_doubles, doubles_name};
 ghost use Rattle.name_tables.specs.Keys.{text_of_key, class_of_key};
 
@@ -14,7 +14,7 @@ use cil_model::trees::{Class, ClassKind, Method, Tree};
 use cil_model::types::ClassName;
 use name_tables::bodies::label_keys;
 use name_tables::class_tables::method_keys;
-use name_tables::classes::{fields_of, methods_of};
+use name_tables::classes::{field_members, method_members};
 use name_tables::keys::{ClassKey, TextKey};
 use name_tables::places::Places;
 use std::alloc::Global;
@@ -42,9 +42,9 @@ fn class_names(alloc: Global, classes: &[Class]) -> Result<Vec<TextKey<'_>>, NoM
 }
 
 fn field_names(alloc: Global, class: &Class) -> Result<Vec<TextKey<'_>>, NoMemory>
-    ensures { IfOk result (λ v. map text_of_key v.items ≡ map (λ f. f.name) (fields_of class.now)) }
+    ensures { IfOk result (λ v. map text_of_key v.items ≡ map (λ f. f.name) (field_members class.now)) }
 {
-    let fields = fields_of(alloc, class)?;
+    let fields = field_members(alloc, class)?;
     let mut keys = Vec::new(alloc);
     for field in fields.as_slice() {
         keys.push(TextKey { text: &field.name })?;
@@ -84,9 +84,9 @@ fn repeated_text(alloc: Global, keys: Vec<TextKey>) -> Result<Option<Repeat>, No
 }
 
 fn repeated_method(alloc: Global, class: &Class) -> Result<Option<Repeat>, NoMemory>
-    ensures { IfOk result (λ r. is_some r ≡ has_repeat same_method (methods_of class.now)) }
+    ensures { IfOk result (λ r. is_some r ≡ has_repeat same_method (method_members class.now)) }
 {
-    let methods = methods_of(alloc, class)?;
+    let methods = method_members(alloc, class)?;
     let keys = method_keys(alloc, methods.as_slice())?;
     let places = Places::new(alloc, keys)?;
     Ok(repeat_among(&places))
@@ -111,9 +111,9 @@ fn repeated_interface(alloc: Global, class: &Class) -> Result<Option<Repeat>, No
 
 /// The first method with a label that stands twice, and its places among the labels of the method.
 fn repeated_label(alloc: Global, class: &Class) -> Result<Option<DoubledInClass>, NoMemory>
-    ensures { IfOk result (λ d. is_some d ≡ list_any (λ m. has_repeat same_text (labels_before m)) (methods_of class.now)) }
+    ensures { IfOk result (λ d. is_some d ≡ list_any (λ m. has_repeat same_text (labels_before m)) (method_members class.now)) }
 {
-    let methods = methods_of(alloc, class)?;
+    let methods = method_members(alloc, class)?;
     for (method, declared) in methods.as_slice().iter().enumerate() {
         if let Some(labels) = repeated_text(alloc, label_keys(alloc, declared)?)? {
             return Ok(Some(DoubledInClass::Labels { method, labels }));

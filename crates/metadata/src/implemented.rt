@@ -2,7 +2,7 @@
 
 ghost use Rattle.std.specs.Prelude.{◌≡◌, is_none, is_some, map};
 ghost use Rattle.std.specs.List.{list_any, list_all};
-ghost use Rattle.cil_model.specs.Chains.{methods_in};
+ghost use Rattle.cil_model.specs.Chains.{methods_declared};
 ghost use Rattle.cil_model.specs.Legality.{implements_all, lacks_implementation};
 ghost use Rattle.metadata.specs.Found.{is_virtual_found};
 ghost use Rattle.name_tables.specs.Keys.{method_of_key};
@@ -53,7 +53,7 @@ fn absent_method(names: &NameTables, chain: &[usize], methods: &[&Method]) -> Op
 
 /// The first method of an interface for which no class of a chain has a virtual one.
 fn absent_in(names: &NameTables, chain: &[usize], interface: &ClassName) -> Option<usize>
-    ensures { is_none result ≡ list_all (λ m. list_any (is_virtual_found names.now.classes.tree.now (identity_of m)) chain.now) (methods_in names.now.classes.tree.now interface.now) }
+    ensures { is_none result ≡ list_all (λ m. list_any (is_virtual_found names.now.classes.tree.now (identity_of m)) chain.now) (methods_declared names.now.classes.tree.now interface.now) }
 {
     match names.classes.declared(ClassKey::of(interface)) {
         None => None,
@@ -67,7 +67,7 @@ fn absent_in_list(
     chain: &[usize],
     interfaces: &[ClassName],
 ) -> Option<ListedMethod>
-    ensures { is_none result ≡ list_all (λ i. list_all (λ m. list_any (is_virtual_found names.now.classes.tree.now (identity_of m)) chain.now) (methods_in names.now.classes.tree.now i)) interfaces.now }
+    ensures { is_none result ≡ list_all (λ i. list_all (λ m. list_any (is_virtual_found names.now.classes.tree.now (identity_of m)) chain.now) (methods_declared names.now.classes.tree.now i)) interfaces.now }
 {
     for (interface, name) in interfaces.iter().enumerate() {
         if let Some(method) = absent_in(names, chain, name) {

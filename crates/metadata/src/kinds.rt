@@ -14,7 +14,7 @@ ghost use Rattle.name_tables.specs.Sameness.{identity_of};
 use crate::violations::{KindFault, Misfit};
 use cil_model::memory::NoMemory;
 use cil_model::trees::{Class, ClassKind, Method};
-use name_tables::classes::methods_of;
+use name_tables::classes::method_members;
 use name_tables::keys::{ClassKey, MethodKey};
 use name_tables::kinds::{is_abstract_method, is_new_slot_method, is_virtual};
 use name_tables::lookups::{MemberNumber, NameTables};
@@ -433,7 +433,7 @@ fn kind_fault(
 ) -> Result<Option<KindFault>, NoMemory>
     ensures { IfOk result (λ f. is_none f ≡ kinds_fit names.now.classes.tree.now class.now) }
 {
-    let methods = methods_of(alloc, class)?;
+    let methods = method_members(alloc, class)?;
     match &class.kind {
         ClassKind::Interface => Ok(interface_fault(methods.as_slice())),
         ClassKind::Class { is_abstract, .. } => {

@@ -4,7 +4,7 @@ ghost use Rattle.std.specs.Prelude.{◌≡◌, ◌≤◌, ◌+◌, ◌&&◌, nat
 ghost use Rattle.std.specs.List.{list_all, sum_by};
 ghost use Rattle.cil_model.specs.declared.limits.TheConstants.{MOST_CLASSES, MOST_METHODS, MOST_INSTANCE_FIELDS, MOST_STATIC_FIELDS, MOST_BRACKETS, MOST_ARGUMENTS};
 ghost use Rattle.cil_model.specs.Same.{same_flag};
-ghost use Rattle.cil_model.specs.Chains.{fields_in};
+ghost use Rattle.cil_model.specs.Chains.{fields_declared};
 ghost use Rattle.cil_model.specs.Bodies.{argument_types};
 ghost use Rattle.cil_model.specs.Fields.{instance_fields, static_fields};
 ghost use Rattle.cil_model.specs.Mentions.{codes_of, instructions_of, methods_of_tree, types_of_tree};
@@ -22,7 +22,7 @@ use cil_model::limits::{
 use cil_model::memory::NoMemory;
 use cil_model::trees::{Class, Code, Field, Line, Method};
 use name_tables::bodies::{code_of, lines_of};
-use name_tables::classes::methods_of;
+use name_tables::classes::method_members;
 use name_tables::keys::ClassKey;
 use name_tables::kinds::is_static;
 use name_tables::lookups::NameTables;
@@ -205,7 +205,7 @@ fn passed_by_class(
     if !has_few_instance_fields(names, names.chain(ClassKey::of_source(class))) {
         return Ok(Some(Passed::InstanceFields { class: number }));
     }
-    let methods = methods_of(alloc, class)?;
+    let methods = method_members(alloc, class)?;
     Ok(passed_by_methods(number, methods.as_slice()))
 }
 

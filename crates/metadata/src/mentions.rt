@@ -2,7 +2,7 @@
 
 ghost use Rattle.std.specs.Prelude.{◌≡◌, [], ◌∷◌, ◌++◌, IfOk, map, option_map, option_to_list, flat_map};
 ghost use Rattle.cil_model.specs.Bodies.{labels_of};
-ghost use Rattle.cil_model.specs.Declarations.{fields_of, methods_of};
+ghost use Rattle.cil_model.specs.Declarations.{field_members, method_members};
 ghost use Rattle.cil_model.specs.Mentions.{types_of_signature, types_of_instruction, owners_of_instruction, instructions_of, types_of_method, types_of_tree};
 
 use crate::violations::{SourceMember, TypeSite, TypesPart};
@@ -12,7 +12,7 @@ use cil_model::texts::Text;
 use cil_model::trees::{Class, Method, Tree};
 use cil_model::types::{ClassName, DeclaredType, Signature};
 use name_tables::bodies::{lines_of, locals_of};
-use name_tables::classes::{fields_of, methods_of};
+use name_tables::classes::{field_members, method_members};
 use std::alloc::Global;
 use std::slice::from_ref;
 
@@ -158,9 +158,9 @@ fn add_types_of_methods<'a>(
     class: usize,
     declared: &'a Class,
 ) -> Result<(), NoMemory>
-    ensures { IfOk result (λ _. map (λ t. t.declared.now) types.new.items ≡ map (λ t. t.declared.now) types.old.items ++ flat_map types_of_method (methods_of declared.now)) }
+    ensures { IfOk result (λ _. map (λ t. t.declared.now) types.new.items ≡ map (λ t. t.declared.now) types.old.items ++ flat_map types_of_method (method_members declared.now)) }
 {
-    let methods = methods_of(alloc, declared)?;
+    let methods = method_members(alloc, declared)?;
     for (place, method) in methods.as_slice().iter().enumerate() {
         add_types_of_method(types, SourceMember { class, place }, method)?;
     }
@@ -174,9 +174,9 @@ fn add_types_of_fields<'a>(
     class: usize,
     declared: &'a Class,
 ) -> Result<(), NoMemory>
-    ensures { IfOk result (λ _. map (λ t. t.declared.now) types.new.items ≡ map (λ t. t.declared.now) types.old.items ++ map (λ f. f.field_type) (fields_of declared.now)) }
+    ensures { IfOk result (λ _. map (λ t. t.declared.now) types.new.items ≡ map (λ t. t.declared.now) types.old.items ++ map (λ f. f.field_type) (field_members declared.now)) }
 {
-    let fields = fields_of(alloc, declared)?;
+    let fields = field_members(alloc, declared)?;
     for (place, field) in fields.as_slice().iter().enumerate() {
         let part = TypesPart::Field(SourceMember { class, place });
         types.push(SitedType {

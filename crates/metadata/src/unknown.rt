@@ -6,7 +6,7 @@ ghost use Rattle.std.specs.Option.{option_map_or};
 ghost use Rattle.cil_model.specs.Same.{same_text, same_class};
 ghost use Rattle.cil_model.specs.Bodies.{labels_of, virtual_reference, constructor_reference};
 ghost use Rattle.cil_model.specs.Chains.{find_field, find_method};
-ghost use Rattle.cil_model.specs.Declarations.{source_class, is_interface_kind, interfaces_named, methods_of};
+ghost use Rattle.cil_model.specs.Declarations.{source_class, is_interface_kind, interfaces_named, method_members};
 ghost use Rattle.cil_model.specs.Mentions.{bases_named, class_of_element, owners_of_instruction, class_types_of_tree};
 ghost use Rattle.cil_model.specs.Legality.{is_known_extern, is_resolved, is_source_class, is_source_interface, is_possible_base, is_possible_type, class_finds, finds_member, lacks_name};
 ghost use Rattle.metadata.specs.Named.{knows_names};
@@ -21,7 +21,7 @@ use cil_model::texts::Text;
 use cil_model::trees::{Class, ClassKind, Line, Method};
 use cil_model::types::{ClassName, DeclaredType, Element, Signature};
 use name_tables::bodies::{label_keys, lines_of};
-use name_tables::classes::methods_of;
+use name_tables::classes::method_members;
 use name_tables::keys::{ClassKey, TextKey};
 use name_tables::lookups::NameTables;
 use name_tables::places::Places;
@@ -444,9 +444,9 @@ fn unknown_by_methods(
     class: usize,
     declared: &Class,
 ) -> Result<Option<Unknown>, NoMemory>
-    ensures { IfOk result (λ u. is_none u ≡ list_all (knows_names names.now.classes.tree.now) (methods_of declared.now)) }
+    ensures { IfOk result (λ u. is_none u ≡ list_all (knows_names names.now.classes.tree.now) (method_members declared.now)) }
 {
-    let methods = methods_of(alloc, declared)?;
+    let methods = method_members(alloc, declared)?;
     for (place, method) in methods.as_slice().iter().enumerate() {
         let site = SourceMember { class, place };
         if let Some(unknown) = unknown_by_method(alloc, names, site, method)? {
@@ -466,7 +466,7 @@ fn unknown_in_types(alloc: Global, names: &NameTables) -> Result<Option<Unknown>
 }
 
 fn unknown_in_code(alloc: Global, names: &NameTables) -> Result<Option<Unknown>, NoMemory>
-    ensures { IfOk result (λ u. is_none u ≡ list_all (λ c. list_all (knows_names names.now.classes.tree.now) (methods_of c)) names.now.classes.tree.now.classes) }
+    ensures { IfOk result (λ u. is_none u ≡ list_all (λ c. list_all (knows_names names.now.classes.tree.now) (method_members c)) names.now.classes.tree.now.classes) }
 {
     for (class, declared) in names.classes.tree.classes.as_slice().iter().enumerate() {
         if let Some(unknown) = unknown_by_methods(alloc, names, class, declared)? {

@@ -5,7 +5,7 @@ use Rattle.cil_model.specs.declared.types.ClassName.{ClassName}
 use Rattle.cil_model.specs.declared.trees.Tree.{Tree}
 use Rattle.cil_model.specs.declared.trees.Class.{Class}
 use Rattle.cil_model.specs.declared.trees.Method.{Method}
-use Rattle.cil_model.specs.Declarations.{Declaration, source_name, methods_of}
+use Rattle.cil_model.specs.Declarations.{Declaration, source_name, method_members}
 use Rattle.name_tables.specs.Numbers.{method_at, source_entry}
 use Rattle.name_tables.proofs.NumberLaws.{none_is_some}
 use Rattle.reference_machine.specs.BuiltIn.{Action, Construct, Write, action_of}
@@ -43,7 +43,7 @@ module _ (tree : Tree) (c : ClassName) (m : Method) where
   -- a class of the source is in no assembly, and so is none of those that do something
   of_source : (p : ℕ) (o : Option Class) → option_and_then {U = ClassName × Method} (λ (e : ClassName × Declaration). option_map (λ x. (e.0, x)) (slice_get e.1.methods p)) (option_map source_entry o) ≡ Some (c, m) → None ≡ action_of c m
   of_source p None h = absurd (none_is_some (c, m) h)
-  of_source p (Some k) h = by_method (slice_get (methods_of k) p) h
+  of_source p (Some k) h = by_method (slice_get (method_members k) p) h
     where
       by_method : (o : Option Method) → option_map {U = ClassName × Method} (λ x. (source_name k, x)) o ≡ Some (c, m) → None ≡ action_of c m
       by_method None e = absurd (none_is_some (c, m) e)

@@ -9,8 +9,8 @@ use Rattle.cil_model.specs.declared.trees.Tree.{Tree}
 use Rattle.cil_model.specs.declared.trees.Class.{Class}
 use Rattle.cil_model.specs.declared.trees.Method.{Method}
 use Rattle.cil_model.specs.Same.{same_options, same_text, same_class}
-use Rattle.cil_model.specs.Declarations.{Declaration, built_ins, source_name, methods_of}
-use Rattle.cil_model.specs.Chains.{listed_by, methods_in}
+use Rattle.cil_model.specs.Declarations.{Declaration, built_ins, source_name, method_members}
+use Rattle.cil_model.specs.Chains.{listed_by, methods_declared}
 use Rattle.cil_model.specs.Legality.{IsLegal, has_repeat, same_method, class_doubles, doubles_name}
 use Rattle.cil_model.proofs.SameLaws.{never, both_first, both_second, same_class_itself, same_method_name_itself, same_signature_itself}
 use Rattle.name_tables.specs.Numbers.{declarations, class_number, source_entry, method_at}
@@ -78,7 +78,7 @@ other_than_source : (c : ClassName) (m : Method) (ks : List Class) → list_any 
 other_than_source c m [] h = refl
 other_than_source c m (k ∷ ks) h =
     list_any-append (same_found (c, m)) (owned_methods (source_entry k)) (source_methods ks) ∙
-    or_from _ _ (other_class c (source_name k) m (or_parts _ _ h).0 (methods_of k)) (other_than_source c m ks (or_parts _ _ h).1)
+    or_from _ _ (other_class c (source_name k) m (or_parts _ _ h).0 (method_members k)) (other_than_source c m ks (or_parts _ _ h).1)
 
 each_other : (c : ClassName) (ms : List Method) (ks : List Class) → list_any (λ (k : Class). same_class c (source_name k)) ks ≡ false → list_any (λ x. list_any (same_found x) (source_methods ks)) (of_name c ms) ≡ false
 each_other c [] ks h = refl
@@ -87,8 +87,8 @@ each_other c (m ∷ ms) ks h = or_from _ _ (other_than_source c m ks h) (each_ot
 once_in_source : (ks : List Class) → has_repeat (λ (a b : Class). same_text a.name b.name) ks ≡ false → list_any class_doubles ks ≡ false → has_repeat same_found (source_methods ks) ≡ false
 once_in_source [] h s = refl
 once_in_source (k ∷ ks) h s =
-    let own : has_repeat same_method (methods_of k) ≡ false = (or_parts _ _ (or_parts _ _ (or_parts _ _ (or_parts _ _ s).0).0).0).1 in
-    once_in_both same_found (of_name (source_name k) (methods_of k)) (source_methods ks) (once_in_class (source_name k) (methods_of k) own) (each_other (source_name k) (methods_of k) ks (or_parts _ _ h).0) (once_in_source ks (or_parts _ _ h).1 (or_parts _ _ s).1)
+    let own : has_repeat same_method (method_members k) ≡ false = (or_parts _ _ (or_parts _ _ (or_parts _ _ (or_parts _ _ s).0).0).0).1 in
+    once_in_both same_found (of_name (source_name k) (method_members k)) (source_methods ks) (once_in_class (source_name k) (method_members k) own) (each_other (source_name k) (method_members k) ks (or_parts _ _ h).0) (once_in_source ks (or_parts _ _ h).1 (or_parts _ _ s).1)
 
 -- ---- built-in classes
 
@@ -124,7 +124,7 @@ module _ (tree : Tree) where
   number_of_place legal n found h = found_first same_found same_found_itself (all_methods tree) n found (once_in_all legal) h
 
   -- each method that a class declares has a place
-  pub place_of_declared : (k : ℕ) (found : ClassName × Method) → slice_get (methods_in tree found.0) k ≡ Some found.1 → (n : ℕ) × (slice_get (all_methods tree) n ≡ Some found)
+  pub place_of_declared : (k : ℕ) (found : ClassName × Method) → slice_get (methods_declared tree found.0) k ≡ Some found.1 → (n : ℕ) × (slice_get (all_methods tree) n ≡ Some found)
   place_of_declared k found h = by_number (class_number tree found.0) (numbered tree found.0)
     where
       by_first : (n : ℕ) → method_at tree (n, k) ≡ Some found → (o : Option ℕ) → slice_get (first_numbers 0 (declarations tree)) n ≡ o → (m : ℕ) × (slice_get (all_methods tree) m ≡ Some found)
@@ -138,13 +138,13 @@ module _ (tree : Tree) where
           by_first n (numbered_at tree n k (found.0, d) found.1 at own) (slice_get (first_numbers 0 (declarations tree)) n) refl
 
   -- it has a number, and stands there
-  pub declared_is_numbered : IsLegal tree → (k : ℕ) (found : ClassName × Method) → slice_get (methods_in tree found.0) k ≡ Some found.1 → (n : ℕ) × (number_of tree found ≡ Some n) × (slice_get (all_methods tree) n ≡ Some found)
+  pub declared_is_numbered : IsLegal tree → (k : ℕ) (found : ClassName × Method) → slice_get (methods_declared tree found.0) k ≡ Some found.1 → (n : ℕ) × (number_of tree found ≡ Some n) × (slice_get (all_methods tree) n ≡ Some found)
   declared_is_numbered legal k found h =
       let place : (n : ℕ) × (slice_get (all_methods tree) n ≡ Some found) = place_of_declared k found h in
       (place.0, number_of_place legal place.0 found place.1, place.1)
 
   -- the number of a method that is declared is its place
-  pub place_of_number : IsLegal tree → (k : ℕ) (found : ClassName × Method) → slice_get (methods_in tree found.0) k ≡ Some found.1 → (n : ℕ) → number_of tree found ≡ Some n → slice_get (all_methods tree) n ≡ Some found
+  pub place_of_number : IsLegal tree → (k : ℕ) (found : ClassName × Method) → slice_get (methods_declared tree found.0) k ≡ Some found.1 → (n : ℕ) → number_of tree found ≡ Some n → slice_get (all_methods tree) n ≡ Some found
   place_of_number legal k found h n e =
       let known : (m : ℕ) × (number_of tree found ≡ Some m) × (slice_get (all_methods tree) m ≡ Some found) = declared_is_numbered legal k found h in
       let both : Some known.0 ≡ Some n = sym known.1 ∙ e in

@@ -4,7 +4,7 @@ ghost use Rattle.std.specs.Prelude.{◌≡◌, ℕ, Some, slice_get};
 ghost use Rattle.cil_model.specs.declared.types.ClassName.{ClassName};
 ghost use Rattle.cil_model.specs.declared.trees.Tree.{Tree};
 ghost use Rattle.cil_model.specs.declared.trees.Method.{Method};
-ghost use Rattle.cil_model.specs.Chains.{methods_in};
+ghost use Rattle.cil_model.specs.Chains.{methods_declared};
 ghost use Rattle.cil_model.specs.Legality.{IsLegal};
 ghost use Rattle.method_table.specs.AllMethods.{all_methods};
 ghost use Rattle.method_table.specs.MethodNumbers.{number_of};
@@ -16,8 +16,8 @@ pub fn methods_have_one_number()
 
 /// In a legal tree each method that a class declares has a number, and stands there.
 pub fn declared_methods_are_numbered()
-    ensures some { (tree : Tree) → IsLegal tree → (k : ℕ) (found : ClassName × Method) → slice_get (methods_in tree found.0) k ≡ Some found.1 →
+    ensures some { (tree : Tree) → IsLegal tree → (k : ℕ) (found : ClassName × Method) → slice_get (methods_declared tree found.0) k ≡ Some found.1 →
         (n : ℕ) × (number_of tree found ≡ Some n) × (slice_get (all_methods tree) n ≡ Some found) }
-    ensures there { (tree : Tree) → IsLegal tree → (k : ℕ) (found : ClassName × Method) → slice_get (methods_in tree found.0) k ≡ Some found.1 →
+    ensures there { (tree : Tree) → IsLegal tree → (k : ℕ) (found : ClassName × Method) → slice_get (methods_declared tree found.0) k ≡ Some found.1 →
         (n : ℕ) → number_of tree found ≡ Some n → slice_get (all_methods tree) n ≡ Some found }
 {}

@@ -8,14 +8,14 @@ use Rattle.cil_model.specs.declared.trees.Class.{Class}
 use Rattle.cil_model.specs.declared.trees.Field.{Field}
 use Rattle.cil_model.specs.declared.trees.Method.{Method}
 use Rattle.cil_model.specs.Same.{same_class}
-use Rattle.cil_model.specs.Declarations.{Declaration, built_ins, source_name, declared_as, fields_of, methods_of}
+use Rattle.cil_model.specs.Declarations.{Declaration, built_ins, source_name, declared_as, field_members, method_members}
 use Rattle.cil_model.specs.declared.instructions.FieldReference.{FieldReference}
 use Rattle.cil_model.specs.declared.instructions.MethodReference.{MethodReference}
 use Rattle.cil_model.specs.Chains.{chain_of, classes_searched}
 use Rattle.name_tables.specs.Sameness.{MethodIdentity, same_field, same_identity, same_called, identity_of, called_of}
 
 abbrev pub source_entry : Class → ClassName × Declaration
-source_entry c = (source_name c, declared_as c.kind (fields_of c) (methods_of c))
+source_entry c = (source_name c, declared_as c.kind (field_members c) (method_members c))
 
 -- every class that a name may stand for, with what it declares; its number is its place
 abbrev pub declarations : Tree → List (ClassName × Declaration)

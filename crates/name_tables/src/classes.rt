@@ -1,7 +1,7 @@
 // Classes with what they declare, each found by its name or its number.
 
 ghost use Rattle.std.specs.Prelude.{◌≡◌, IfOk, map};
-ghost use Rattle.cil_model.specs.Declarations.{fields_of, methods_of};
+ghost use Rattle.cil_model.specs.Declarations.{field_members, method_members};
 
 use crate::built_in::BuiltInClass;
 use crate::keys::ClassKey;
@@ -23,8 +23,8 @@ pub struct DeclaredClass<'a> {
 }
 
 /// The fields among the members of a class, in source order.
-pub fn fields_of(alloc: Global, class: &Class) -> Result<Vec<&Field>, NoMemory>
-    ensures { IfOk result (λ v. map (λ f. f.now) v.items ≡ fields_of class.now) }
+pub fn field_members(alloc: Global, class: &Class) -> Result<Vec<&Field>, NoMemory>
+    ensures { IfOk result (λ v. map (λ f. f.now) v.items ≡ field_members class.now) }
 {
     let mut fields = Vec::new(alloc);
     for member in class.members.as_slice() {
@@ -37,8 +37,8 @@ pub fn fields_of(alloc: Global, class: &Class) -> Result<Vec<&Field>, NoMemory>
 }
 
 /// The methods among the members of a class, in source order.
-pub fn methods_of(alloc: Global, class: &Class) -> Result<Vec<&Method>, NoMemory>
-    ensures { IfOk result (λ v. map (λ f. f.now) v.items ≡ methods_of class.now) }
+pub fn method_members(alloc: Global, class: &Class) -> Result<Vec<&Method>, NoMemory>
+    ensures { IfOk result (λ v. map (λ f. f.now) v.items ≡ method_members class.now) }
 {
     let mut methods = Vec::new(alloc);
     for member in class.members.as_slice() {
@@ -60,7 +60,7 @@ impl<'a> DeclaredClass<'a> {
         ensures { IfOk result (λ d. entry_of d ≡ source_entry class.now) }
     {
         let name = ClassKey::of_source(class);
-        let methods = methods_of(alloc, class)?;
+        let methods = method_members(alloc, class)?;
         Ok(match &class.kind {
             ClassKind::Interface => DeclaredClass {
                 name,
@@ -81,7 +81,7 @@ impl<'a> DeclaredClass<'a> {
                 is_abstract: *is_abstract,
                 base: Some(base),
                 interfaces: interfaces.as_slice(),
-                fields: fields_of(alloc, class)?,
+                fields: field_members(alloc, class)?,
                 methods,
             },
         })

@@ -4,7 +4,7 @@ ghost use Rattle.std.specs.Prelude.{◌≡◌, ◌++◌, IfOk, map};
 ghost use Rattle.cil_model.specs.Mentions.{instructions_of, methods_of_tree, instructions_of_tree};
 
 use crate::bodies::lines_of;
-use crate::classes::methods_of;
+use crate::classes::method_members;
 use cil_model::instructions::Instruction;
 use cil_model::memory::NoMemory;
 use cil_model::trees::{Method, Tree};
@@ -16,7 +16,7 @@ pub fn methods_of_tree(alloc: Global, tree: &Tree) -> Result<Vec<&Method>, NoMem
 {
     let mut all = Vec::new(alloc);
     for class in tree.classes.as_slice() {
-        let methods = methods_of(alloc, class)?;
+        let methods = method_members(alloc, class)?;
         for method in methods.as_slice() {
             all.push(*method)?;
         }

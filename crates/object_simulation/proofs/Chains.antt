@@ -11,8 +11,8 @@ use Rattle.simulation.specs.cil_model.declared.trees.Tree.{Tree}
 use Rattle.simulation.specs.cil_model.declared.trees.Field.{Field}
 use Rattle.simulation.specs.cil_model.Same.{same_class, same_text, same_flag}
 use Rattle.simulation.specs.cil_model.Declarations.{object_name, thread_name}
-use Rattle.simulation.specs.cil_model.Chains.{base_of, chain_within, longest_chain, chain_of, is_thread_class, fields_in}
-use Rattle.simulation.specs.cil_model.Fields.{FieldKey, same_key, own_fields, instance_fields}
+use Rattle.simulation.specs.cil_model.Chains.{base_of, chain_within, longest_chain, chain_of, is_thread_class, fields_declared}
+use Rattle.simulation.specs.cil_model.Fields.{FieldKey, same_key, keyed_fields, instance_fields}
 use Rattle.simulation.specs.cil_model.Legality.{IsLegal}
 use Rattle.simulation.proofs.cil_model.SameLaws.{either, if_false, same_class_equal, same_class_itself, same_text_itself, class_equivalence}
 use Rattle.simulation.proofs.cil_model.BelowLaws.{none_is_some, same_some}
@@ -79,35 +79,35 @@ own_key d flag p g (f ∷ fs) found flagged = by_test (p f) found (λ rest. own_
 
 module _ (tree : Tree) where
   -- a field of one class of many is a field of them
-  in_many : {X : Type 0} (name_of : X → ClassName) (flag : Bool) (k : FieldKey) → IsTrue (list_any (has_key k) (own_fields tree flag k.declared_in)) → (xs : List X) → IsTrue (list_any (λ x. same_class k.declared_in (name_of x)) xs) →
-      IsTrue (list_any (has_key k) (flat_map (λ x. own_fields tree flag (name_of x)) xs))
+  in_many : {X : Type 0} (name_of : X → ClassName) (flag : Bool) (k : FieldKey) → IsTrue (list_any (has_key k) (keyed_fields tree flag k.declared_in)) → (xs : List X) → IsTrue (list_any (λ x. same_class k.declared_in (name_of x)) xs) →
+      IsTrue (list_any (has_key k) (flat_map (λ x. keyed_fields tree flag (name_of x)) xs))
   in_many name_of flag k own [] h = lost h
   in_many {X} name_of flag k own (x ∷ xs) h =
-      list_any-append (has_key k) (own_fields tree flag (name_of x)) (flat_map (λ y. own_fields tree flag (name_of y)) xs) ∙ by_case (either (same_class k.declared_in (name_of x)) _ h) (in_many name_of flag k own xs)
+      list_any-append (has_key k) (keyed_fields tree flag (name_of x)) (flat_map (λ y. keyed_fields tree flag (name_of y)) xs) ∙ by_case (either (same_class k.declared_in (name_of x)) _ h) (in_many name_of flag k own xs)
     where
-      by_case : IsTrue (same_class k.declared_in (name_of x)) ⊎ IsTrue (list_any (λ y. same_class k.declared_in (name_of y)) xs) → (IsTrue (list_any (λ y. same_class k.declared_in (name_of y)) xs) → IsTrue (list_any (has_key k) (flat_map (λ y. own_fields tree flag (name_of y)) xs))) →
-          IsTrue (list_any (has_key k) (own_fields tree flag (name_of x)) || list_any (has_key k) (flat_map (λ y. own_fields tree flag (name_of y)) xs))
-      by_case (inl same) later = or_left _ _ (subst (λ c. IsTrue (list_any (has_key k) (own_fields tree flag c))) (same_class_equal k.declared_in (name_of x) same) own)
+      by_case : IsTrue (same_class k.declared_in (name_of x)) ⊎ IsTrue (list_any (λ y. same_class k.declared_in (name_of y)) xs) → (IsTrue (list_any (λ y. same_class k.declared_in (name_of y)) xs) → IsTrue (list_any (has_key k) (flat_map (λ y. keyed_fields tree flag (name_of y)) xs))) →
+          IsTrue (list_any (has_key k) (keyed_fields tree flag (name_of x)) || list_any (has_key k) (flat_map (λ y. keyed_fields tree flag (name_of y)) xs))
+      by_case (inl same) later = or_left _ _ (subst (λ c. IsTrue (list_any (has_key k) (keyed_fields tree flag c))) (same_class_equal k.declared_in (name_of x) same) own)
       by_case (inr there) later = or_right _ _ (later there)
 
   -- and a field of many is of one of them
-  of_many : (k : FieldKey) (t : DeclaredType) (xs : List ClassName) → entry_at same_key k (flat_map (own_fields tree false) xs) ≡ Some t → IsTrue (list_any (same_class k.declared_in) xs)
+  of_many : (k : FieldKey) (t : DeclaredType) (xs : List ClassName) → entry_at same_key k (flat_map (keyed_fields tree false) xs) ≡ Some t → IsTrue (list_any (same_class k.declared_in) xs)
   of_many k t [] h = none_is_some t h
   of_many k t (x ∷ xs) h = by_test (same_class x k.declared_in) refl (of_many k t xs)
     where
-      by_test : (b : Bool) → same_class x k.declared_in ≡ b → (entry_at same_key k (flat_map (own_fields tree false) xs) ≡ Some t → IsTrue (list_any (same_class k.declared_in) xs)) → IsTrue (list_any (same_class k.declared_in) (x ∷ xs))
+      by_test : (b : Bool) → same_class x k.declared_in ≡ b → (entry_at same_key k (flat_map (keyed_fields tree false) xs) ≡ Some t → IsTrue (list_any (same_class k.declared_in) xs)) → IsTrue (list_any (same_class k.declared_in) (x ∷ xs))
       by_test true is later = or_left (same_class k.declared_in x) (list_any (same_class k.declared_in) xs) (class_equivalence.symm k.declared_in x ∙ is)
       by_test false is later =
-          or_right (same_class k.declared_in x) (list_any (same_class k.declared_in) xs) (later (sym (passed_by k x (filter (λ (f : Field). same_flag f.is_static false) (fields_in tree x)) (flat_map (own_fields tree false) xs) is) ∙ h))
+          or_right (same_class k.declared_in x) (list_any (same_class k.declared_in) xs) (later (sym (passed_by k x (filter (λ (f : Field). same_flag f.is_static false) (fields_declared tree x)) (flat_map (keyed_fields tree false) xs) is) ∙ h))
 
   -- the class of an object's field is in its chain
   pub chain_of_field : (k : FieldKey) (t : DeclaredType) (c : ClassName) → entry_at same_key k (instance_fields tree c) ≡ Some t → IsTrue (list_any (same_class k.declared_in) (chain_of tree c))
   chain_of_field k t c h = sym (any_reversed (same_class k.declared_in) (chain_of tree c)) ∙ of_many k t (reverse (chain_of tree c)) h
 
   -- a field that a look-up finds in a class is among the fields of the class's objects
-  pub among_own : (d : ClassName) (p : Field → Bool) (g : Field) → find p (fields_in tree d) ≡ Some g → IsTrue (same_flag g.is_static false) → IsTrue (list_any (has_key (record { declared_in = d; name = g.name })) (instance_fields tree d))
+  pub among_own : (d : ClassName) (p : Field → Bool) (g : Field) → find p (fields_declared tree d) ≡ Some g → IsTrue (same_flag g.is_static false) → IsTrue (list_any (has_key (record { declared_in = d; name = g.name })) (instance_fields tree d))
   among_own d p g found flagged =
-      in_many (λ x. x) false (record { declared_in = d; name = g.name }) (own_key d false p g (fields_in tree d) found flagged) (reverse (chain_of tree d))
+      in_many (λ x. x) false (record { declared_in = d; name = g.name }) (own_key d false p g (fields_declared tree d) found flagged) (reverse (chain_of tree d))
       (any_reversed (same_class d) (chain_of tree d) ∙ or_left (same_class d d) _ (same_class_itself d))
 
   -- ---- chains
@@ -127,8 +127,8 @@ module _ (tree : Tree) where
       by_case (inr there) = elim (none_in n d there) [ ]
 
   -- it has no field
-  pub no_field_of_object : (d : ClassName) (p : Field → Bool) (g : Field) → find p (fields_in tree d) ≡ Some g → d ≡ object_name → ⊥
-  no_field_of_object d p g found is = none_is_some g (subst (λ c. find p (fields_in tree c) ≡ Some g) is found)
+  pub no_field_of_object : (d : ClassName) (p : Field → Bool) (g : Field) → find p (fields_declared tree d) ≡ Some g → d ≡ object_name → ⊥
+  no_field_of_object d p g found is = none_is_some g (subst (λ c. find p (fields_declared tree c) ≡ Some g) is found)
 
   module _ (legal : IsLegal tree) where
     -- the chain of a class ends with that of each class in it
@@ -177,8 +177,8 @@ module _ (tree : Tree) where
       -- an object's fields begin with those of each class in its chain
       pub fields_begin : (more : List (FieldKey × DeclaredType)) × (instance_fields tree c ≡ instance_fields tree d ++ more)
       fields_begin = (
-        flat_map (own_fields tree false) (reverse front.0),
-        ap (λ cs. flat_map (own_fields tree false) (reverse cs)) front.1 ∙ ap (flat_map (own_fields tree false)) (reverse-append front.0 (chain_of tree d)) ∙ flat_map-append (own_fields tree false) (reverse (chain_of tree d)) (reverse front.0),
+        flat_map (keyed_fields tree false) (reverse front.0),
+        ap (λ cs. flat_map (keyed_fields tree false) (reverse cs)) front.1 ∙ ap (flat_map (keyed_fields tree false)) (reverse-append front.0 (chain_of tree d)) ∙ flat_map-append (keyed_fields tree false) (reverse (chain_of tree d)) (reverse front.0),
       )
 
       -- both have a hidden slot, or neither

@@ -11,7 +11,7 @@ use Rattle.simulation.specs.cil_model.declared.types.Signature.{Signature}
 use Rattle.simulation.specs.cil_model.declared.instructions.MethodName.{MethodName}
 use Rattle.simulation.specs.cil_model.Assignable.{type_of_class}
 use Rattle.simulation.specs.cil_model.Bodies.{argument_types}
-use Rattle.simulation.specs.cil_model.Chains.{chain_of, listed_by, methods_in, method_in, nearest, is_static, is_virtual, is_new_slot_method, is_interface}
+use Rattle.simulation.specs.cil_model.Chains.{chain_of, listed_by, methods_declared, method_declared, nearest, is_static, is_virtual, is_new_slot_method, is_interface}
 use Rattle.simulation.specs.cil_model.Declarations.{Declaration}
 use Rattle.simulation.specs.cil_model.Same.{same_class, same_options, same_signature, same_method_name}
 use Rattle.simulation.specs.cil_model.Slots.{slot_filled, slot_along, filler_along, class_target, virtual_in, lister_along, interface_target, target}
@@ -45,16 +45,16 @@ module _ (tree : Tree) (name : MethodName) (signature : Signature) where
 
   filler_has_object : (slot : ClassName) (cs : List ClassName) (k : ClassName) (m : Method) → filler_along tree name signature slot cs ≡ Some (k, m) → HasObject m
   filler_has_object slot [] k m h = none_is_some (k, m) h
-  filler_has_object slot (d ∷ ds) k m h = by_class (method_in tree name signature d) refl (same_options same_class (slot_along tree name signature (d ∷ ds)) (Some slot)) refl h (filler_has_object slot ds k m)
+  filler_has_object slot (d ∷ ds) k m h = by_class (method_declared tree name signature d) refl (same_options same_class (slot_along tree name signature (d ∷ ds)) (Some slot)) refl h (filler_has_object slot ds k m)
     where
-      by_class : (o : Option Method) → method_in tree name signature d ≡ o → (b : Bool) → same_options same_class (slot_along tree name signature (d ∷ ds)) (Some slot) ≡ b →
+      by_class : (o : Option Method) → method_declared tree name signature d ≡ o → (b : Bool) → same_options same_class (slot_along tree name signature (d ∷ ds)) (Some slot) ≡ b →
           option_map_or (λ x. if b then Some (d, x) else filler_along tree name signature slot ds) o (filler_along tree name signature slot ds) ≡ Some (k, m) →
           (filler_along tree name signature slot ds ≡ Some (k, m) → HasObject m) → HasObject m
       by_class None e b same h' later = later h'
       by_class (Some x) e false same h' later = later h'
       by_class (Some x) e true same h' later =
           let inherited : Option ClassName = slot_along tree name signature ds in
-          let passes : IsTrue (same_method_name x.name name && same_signature x.signature signature) = found_itself (λ (y : Method). same_method_name y.name name && same_signature y.signature signature) (methods_in tree d) x e in
+          let passes : IsTrue (same_method_name x.name name && same_signature x.signature signature) = found_itself (λ (y : Method). same_method_name y.name name && same_signature y.signature signature) (methods_declared tree d) x e in
           let fills : IsTrue (same_options same_class (slot_filled d inherited x) (Some slot)) = subst (λ o. IsTrue (same_options same_class (option_map_or (slot_filled d inherited) o inherited) (Some slot))) e same in
           subst HasObject (ap (λ (p : ClassName × Method). p.1) (same_some (d, x) (k, m) h'))
           (same_signature_equal x.signature signature (both_second _ _ passes), virtual_has_object x.kind (fills_virtual d inherited x slot (is_virtual x.kind) fills))

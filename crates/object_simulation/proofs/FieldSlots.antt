@@ -9,7 +9,7 @@ use Rattle.simulation.specs.cil_model.declared.types.DeclaredType.{DeclaredType}
 use Rattle.simulation.specs.cil_model.Same.{same_class, same_flag}
 use Rattle.simulation.specs.cil_model.Assignable.{to_itself, type_of_class}
 use Rattle.simulation.specs.cil_model.Declarations.{Declaration, object_name}
-use Rattle.simulation.specs.cil_model.Chains.{chain_of, fields_in, is_thread_class}
+use Rattle.simulation.specs.cil_model.Chains.{chain_of, fields_declared, is_thread_class}
 use Rattle.simulation.specs.cil_model.Fields.{FieldKey, same_key, instance_fields, hidden_slots, instance_slot}
 use Rattle.simulation.specs.cil_model.Legality.{IsLegal}
 use Rattle.simulation.proofs.cil_model.CompleteLaws.{test_is_complete}
@@ -65,7 +65,7 @@ module _ (tree : Tree) (legal : IsLegal tree) (r : FieldReference) (field : Memb
   key = key_of (is.declared_in, is.found)
 
   -- the look-up finds the field in its class, which is in the chain of the owner
-  found : (find (asked false r) (fields_in tree is.declared_in) ≡ Some is.found) × IsTrue (list_any (same_class is.declared_in) (chain_of tree r.owner))
+  found : (find (asked false r) (fields_declared tree is.declared_in) ≡ Some is.found) × IsTrue (list_any (same_class is.declared_in) (chain_of tree r.owner))
   found = found_in tree false r is.declared_in is.found is.finds
 
   -- it is an instance field

@@ -12,7 +12,7 @@ use Rattle.simulation.specs.cil_model.declared.trees.Field.{Field}
 use Rattle.simulation.specs.cil_model.declared.trees.Tree.{Tree}
 use Rattle.simulation.specs.cil_model.declared.types.ClassName.{ClassName}
 use Rattle.simulation.specs.cil_model.Same.{same_class, same_text, same_type, same_flag}
-use Rattle.simulation.specs.cil_model.Chains.{chain_of, fields_in, find_field}
+use Rattle.simulation.specs.cil_model.Chains.{chain_of, fields_declared, find_field}
 use Rattle.simulation.specs.cil_model.Fields.{FieldKey, same_key, static_fields, static_slot}
 use Rattle.simulation.proofs.cil_model.SameLaws.{both_second, same_flag_equal}
 use Rattle.simulation.specs.name_tables.declared.lookups.MemberNumber.{MemberNumber}
@@ -61,12 +61,12 @@ asked is_static r f = same_text f.name r.name && same_type f.field_type r.field_
 
 module _ (tree : Tree) (flag : Bool) (r : FieldReference) (d : ClassName) (g : Field) (finds : find_field tree flag r ≡ Some (d, g)) where
   -- the field that is found is one of its class, which is in the owner's chain
-  pub found_in : (find (asked flag r) (fields_in tree d) ≡ Some g) × IsTrue (list_any (same_class d) (chain_of tree r.owner))
-  found_in = nearest_at (λ c. find (asked flag r) (fields_in tree c)) (chain_of tree r.owner) d g finds
+  pub found_in : (find (asked flag r) (fields_declared tree d) ≡ Some g) × IsTrue (list_any (same_class d) (chain_of tree r.owner))
+  found_in = nearest_at (λ c. find (asked flag r) (fields_declared tree c)) (chain_of tree r.owner) d g finds
 
   -- it is static or not, as the look-up asks
   pub found_flag : g.is_static ≡ flag
-  found_flag = same_flag_equal g.is_static flag (both_second _ _ (found_itself (asked flag r) (fields_in tree d) g found_in.0))
+  found_flag = same_flag_equal g.is_static flag (both_second _ _ (found_itself (asked flag r) (fields_declared tree d) g found_in.0))
 
 module _ (here : Setting) (name : Names) (m : Frames) (o : Objects) (statics : List Value) (printed : List ℕ) (s : State) (f : StateFrame) (below : List StateFrame) where
   abbrev HoldsStatic : Value → FieldKey × StateValue → Type 0

@@ -13,8 +13,8 @@ use Rattle.cil_model.specs.declared.trees.Class.{Class}
 use Rattle.cil_model.specs.declared.trees.Line.{Line}
 use Rattle.cil_model.specs.declared.trees.Method.{Method}
 use Rattle.cil_model.specs.Same.{same_flag, same_class, same_options, same_signature, same_method_name}
-use Rattle.cil_model.specs.Declarations.{Declaration, source_name, declared_as, fields_of, methods_of, object_name, string_name, console_name, monitor_name, thread_name, object_constructor, run_method, return_alone, built_ins}
-use Rattle.cil_model.specs.Chains.{classes_searched, is_static, chain_of, methods_in, method_in, find_method, nearest, is_virtual, is_interface, listed_by}
+use Rattle.cil_model.specs.Declarations.{Declaration, source_name, declared_as, field_members, method_members, object_name, string_name, console_name, monitor_name, thread_name, object_constructor, run_method, return_alone, built_ins}
+use Rattle.cil_model.specs.Chains.{classes_searched, is_static, chain_of, methods_declared, method_declared, find_method, nearest, is_virtual, is_interface, listed_by}
 use Rattle.cil_model.specs.TypeTree.{StackType}
 use Rattle.cil_model.specs.FlowRules.{flow}
 use Rattle.cil_model.specs.Examples.{unlabelled}
@@ -73,32 +73,32 @@ nearest_found {X} at (d ∷ ds) c x h = by_class (at d) refl h (nearest_found at
 
 module _ (tree : Tree) where
   abbrev pub IsDeclared : ClassName → Method → Type 0
-  IsDeclared c m = Stands (methods_in tree c) m
+  IsDeclared c m = Stands (methods_declared tree c) m
 
   pub found_is_declared : (is_instance : Bool) (r : MethodReference) (c : ClassName) (m : Method) → find_method tree is_instance r ≡ Some (c, m) → IsDeclared c m
-  found_is_declared is_instance r c m h = found_stands fits (methods_in tree c) m (nearest_found (λ k. find fits (methods_in tree k)) (classes_searched tree r.name r.owner) c m h)
+  found_is_declared is_instance r c m h = found_stands fits (methods_declared tree c) m (nearest_found (λ k. find fits (methods_declared tree k)) (classes_searched tree r.name r.owner) c m h)
     where
       fits : Method → Bool
       fits x = same_method_name x.name r.name && same_signature x.signature r.signature && same_flag (is_static x.kind) (not is_instance)
 
   module _ (name : MethodName) (signature : Signature) where
-    filler_is_declared : (slot : ClassName) (cs : List ClassName) (c : ClassName) (m : Method) → filler_along tree name signature slot cs ≡ Some (c, m) → method_in tree name signature c ≡ Some m
+    filler_is_declared : (slot : ClassName) (cs : List ClassName) (c : ClassName) (m : Method) → filler_along tree name signature slot cs ≡ Some (c, m) → method_declared tree name signature c ≡ Some m
     filler_is_declared slot [] c m h = none_is_some (c, m) h
     filler_is_declared slot (d ∷ ds) c m h =
-        by_class (method_in tree name signature d) refl (same_options same_class (slot_along tree name signature (d ∷ ds)) (Some slot)) h (filler_is_declared slot ds c m)
+        by_class (method_declared tree name signature d) refl (same_options same_class (slot_along tree name signature (d ∷ ds)) (Some slot)) h (filler_is_declared slot ds c m)
       where
-        by_class : (o : Option Method) → method_in tree name signature d ≡ o → (b : Bool) →
+        by_class : (o : Option Method) → method_declared tree name signature d ≡ o → (b : Bool) →
             option_map_or (λ x. if b then Some (d, x) else filler_along tree name signature slot ds) o (filler_along tree name signature slot ds) ≡ Some (c, m) →
-            (filler_along tree name signature slot ds ≡ Some (c, m) → method_in tree name signature c ≡ Some m) → method_in tree name signature c ≡ Some m
+            (filler_along tree name signature slot ds ≡ Some (c, m) → method_declared tree name signature c ≡ Some m) → method_declared tree name signature c ≡ Some m
         by_class None e b k later = later k
         by_class (Some x) e false k later = later k
         by_class (Some x) e true k later =
             let same : (d, x) ≡ (c, m) = same_some (d, x) (c, m) k in
-            sym (ap (λ (p : ClassName × Method). method_in tree name signature p.0) same) ∙ e ∙ ap (λ (p : ClassName × Method). Some p.1) same
+            sym (ap (λ (p : ClassName × Method). method_declared tree name signature p.0) same) ∙ e ∙ ap (λ (p : ClassName × Method). Some p.1) same
 
     class_target_is_declared : (d c k : ClassName) (m : Method) → class_target tree name signature d c ≡ Some (k, m) → IsDeclared k m
     class_target_is_declared d c k m h = option_and_then_some _ (slot_along tree name signature (chain_of tree c)) (k, m) h (λ slot e f.
-        found_stands _ (methods_in tree k) m (filler_is_declared slot (chain_of tree d) k m f))
+        found_stands _ (methods_declared tree k) m (filler_is_declared slot (chain_of tree d) k m f))
 
     interface_target_is_declared : (d i k : ClassName) (m : Method) → interface_target tree name signature d i ≡ Some (k, m) → IsDeclared k m
     interface_target_is_declared d i k m h = option_and_then_some _ (lister_along tree name signature i (chain_of tree d)) (k, m) h (λ lister e f.
@@ -161,18 +161,18 @@ module _ (tree : Tree) where
   member_of_object zero m e h = acts_at_once object_name Construct object_constructor m refl (same_some object_constructor m e) h
   member_of_object (suc n) m e h = none_is_some m e
 
-  member_of_console : (n : ℕ) (m : Method) → slice_get (methods_in tree console_name) n ≡ Some m → action_of console_name m ≡ None → HasTyping console_name m
+  member_of_console : (n : ℕ) (m : Method) → slice_get (methods_declared tree console_name) n ≡ Some m → action_of console_name m ≡ None → HasTyping console_name m
   member_of_console zero m e h = acts_at_once console_name Write _ m refl (same_some _ m e) h
   member_of_console (suc zero) m e h = acts_at_once console_name Write _ m refl (same_some _ m e) h
   member_of_console (suc (suc zero)) m e h = acts_at_once console_name Write _ m refl (same_some _ m e) h
   member_of_console (suc (suc (suc n))) m e h = none_is_some m e
 
-  member_of_monitor : (n : ℕ) (m : Method) → slice_get (methods_in tree monitor_name) n ≡ Some m → action_of monitor_name m ≡ None → HasTyping monitor_name m
+  member_of_monitor : (n : ℕ) (m : Method) → slice_get (methods_declared tree monitor_name) n ≡ Some m → action_of monitor_name m ≡ None → HasTyping monitor_name m
   member_of_monitor zero m e h = acts_at_once monitor_name Enter _ m refl (same_some _ m e) h
   member_of_monitor (suc zero) m e h = acts_at_once monitor_name Exit _ m refl (same_some _ m e) h
   member_of_monitor (suc (suc n)) m e h = none_is_some m e
 
-  member_of_thread : (n : ℕ) (m : Method) → slice_get (methods_in tree thread_name) n ≡ Some m → action_of thread_name m ≡ None → HasTyping thread_name m
+  member_of_thread : (n : ℕ) (m : Method) → slice_get (methods_declared tree thread_name) n ≡ Some m → action_of thread_name m ≡ None → HasTyping thread_name m
   member_of_thread zero m e h = acts_at_once thread_name Construct _ m refl (same_some _ m e) h
   member_of_thread (suc zero) m e h = let P : Method → Type 0 = λ x. HasTyping thread_name x in subst P (same_some run_method m e) (Some [] ∷ [], run_typing)
   member_of_thread (suc (suc zero)) m e h = acts_at_once thread_name Start _ m refl (same_some _ m e) h
@@ -180,14 +180,14 @@ module _ (tree : Tree) where
   member_of_thread (suc (suc (suc (suc n)))) m e h = none_is_some m e
 
   -- a method of a class of the source
-  source_has_typing : IsAccepted tree → (x : Class) (m : Method) → Stands tree.classes x → Stands (methods_of x) m → HasTyping (source_name x) m
+  source_has_typing : IsAccepted tree → (x : Class) (m : Method) → Stands tree.classes x → Stands (method_members x) m → HasTyping (source_name x) m
   source_has_typing accepted x m there own =
-      let own_pair : Stands (map (λ (k : Method). (source_name x, k)) (methods_of x)) (source_name x, m) = stands_in_map (λ (k : Method). (source_name x, k)) (methods_of x) m own in
-      let s : Stands (source_methods tree) (source_name x, m) = stands_in_flat (λ (c : Class). map (λ (k : Method). (source_name c, k)) (methods_of c)) tree.classes x (source_name x, m) there own_pair in
+      let own_pair : Stands (map (λ (k : Method). (source_name x, k)) (method_members x)) (source_name x, m) = stands_in_map (λ (k : Method). (source_name x, k)) (method_members x) m own in
+      let s : Stands (source_methods tree) (source_name x, m) = stands_in_flat (λ (c : Class). map (λ (k : Method). (source_name c, k)) (method_members c)) tree.classes x (source_name x, m) there own_pair in
       accepted.typed s.0 (source_name x) m s.1
 
   -- a method that some class declares and that does not act at once, by whether the class has an assembly
-  framed_at : IsAccepted tree → (o : Option (List ℕ)) (own : List ℕ) (n : ℕ) (m : Method) → slice_get (methods_in tree (record { assembly = o; name = own })) n ≡ Some m → action_of (record { assembly = o; name = own }) m ≡ None →
+  framed_at : IsAccepted tree → (o : Option (List ℕ)) (own : List ℕ) (n : ℕ) (m : Method) → slice_get (methods_declared tree (record { assembly = o; name = own })) n ≡ Some m → action_of (record { assembly = o; name = own }) m ≡ None →
       HasTyping (record { assembly = o; name = own }) m
   framed_at accepted None own n m e h = by_class (found_or_none (λ (x : Class). same_class (source_name x) (record { assembly = None; name = own })) tree.classes)
     where
@@ -196,9 +196,9 @@ module _ (tree : Tree) where
 
       by_class : (find (λ (x : Class). same_class (source_name x) c) tree.classes ≡ None) ⊎
           ((x : Class) × (find (λ (y : Class). same_class (source_name y) c) tree.classes ≡ Some x) × IsTrue (same_class (source_name x) c) × ((also : Class → Bool) → IsTrue (also x) → IsTrue (list_any also tree.classes))) → HasTyping c m
-      by_class (inl none) = none_is_some m (sym (ap (λ (o : Option Class). slice_get (listed_by (λ (d : Declaration). d.methods) (option_map (λ (x : Class). declared_as x.kind (fields_of x) (methods_of x)) o)) n) none) ∙ e)
+      by_class (inl none) = none_is_some m (sym (ap (λ (o : Option Class). slice_get (listed_by (λ (d : Declaration). d.methods) (option_map (λ (x : Class). declared_as x.kind (field_members x) (method_members x)) o)) n) none) ∙ e)
       by_class (inr (x, found, same, among)) =
-          let own_method : slice_get (methods_of x) n ≡ Some m = sym (ap (λ (o : Option Class). slice_get (listed_by (λ (d : Declaration). d.methods) (option_map (λ (y : Class). declared_as y.kind (fields_of y) (methods_of y)) o)) n) found) ∙ e in
+          let own_method : slice_get (method_members x) n ≡ Some m = sym (ap (λ (o : Option Class). slice_get (listed_by (λ (d : Declaration). d.methods) (option_map (λ (y : Class). declared_as y.kind (field_members y) (method_members y)) o)) n) found) ∙ e in
           let P : ClassName → Type 0 = λ k. HasTyping k m in
           subst P (same_class_equal (source_name x) c same) (source_has_typing accepted x m (found_stands (λ (y : Class). same_class (source_name y) c) tree.classes x found) (n, own_method))
   framed_at accepted (Some a) own n m e h = by_name (same_class object_name c) (same_class string_name c) (same_class console_name c) (same_class monitor_name c) (same_class thread_name c) refl refl refl refl refl e
@@ -207,9 +207,9 @@ module _ (tree : Tree) where
       c = record { assembly = Some a; name = own }
 
       -- what holds of the members of a built-in class holds of those of a class of that name
-      renamed : (k : ClassName) → IsTrue (same_class k c) → ((j : ℕ) (x : Method) → slice_get (methods_in tree k) j ≡ Some x → action_of k x ≡ None → HasTyping k x) → HasTyping c m
+      renamed : (k : ClassName) → IsTrue (same_class k c) → ((j : ℕ) (x : Method) → slice_get (methods_declared tree k) j ≡ Some x → action_of k x ≡ None → HasTyping k x) → HasTyping c m
       renamed k same each =
-          let P : ClassName → Type 0 = λ z. (j : ℕ) (x : Method) → slice_get (methods_in tree z) j ≡ Some x → action_of z x ≡ None → HasTyping z x in
+          let P : ClassName → Type 0 = λ z. (j : ℕ) (x : Method) → slice_get (methods_declared tree z) j ≡ Some x → action_of z x ≡ None → HasTyping z x in
           subst P (same_class_equal k c same) each n m e h
 
       by_name : (t₁ t₂ t₃ t₄ t₅ : Bool) → same_class object_name c ≡ t₁ → same_class string_name c ≡ t₂ → same_class console_name c ≡ t₃ → same_class monitor_name c ≡ t₄ → same_class thread_name c ≡ t₅ →
@@ -222,5 +222,5 @@ module _ (tree : Tree) where
       by_name false false false false true e₁ e₂ e₃ e₄ e₅ k = renamed thread_name e₅ member_of_thread
       by_name false false false false false e₁ e₂ e₃ e₄ e₅ k = none_is_some m k
 
-  pub framed_has_typing : IsAccepted tree → (c : ClassName) (n : ℕ) (m : Method) → slice_get (methods_in tree c) n ≡ Some m → action_of c m ≡ None → HasTyping c m
+  pub framed_has_typing : IsAccepted tree → (c : ClassName) (n : ℕ) (m : Method) → slice_get (methods_declared tree c) n ≡ Some m → action_of c m ≡ None → HasTyping c m
   framed_has_typing accepted c n m e h = framed_at accepted c.assembly c.name n m e h

@@ -15,7 +15,7 @@ ghost use Rattle.cil_model.specs.declared.reports.Fault.TheVariants.{OutOfMemory
 ghost use Rattle.cil_model.specs.declared.reports.Report.{Report};
 ghost use Rattle.cil_model.specs.declared.reports.Report.TheVariants.{Ran, Ended};
 ghost use Rattle.cil_model.specs.declared.reports.End.TheVariants.{Done};
-ghost use Rattle.cil_model.specs.Chains.{find_method, methods_in};
+ghost use Rattle.cil_model.specs.Chains.{find_method, methods_declared};
 ghost use Rattle.cil_model.specs.Slots.{target};
 ghost use Rattle.reference_machine.specs.BuiltIn.{action_of};
 ghost use Rattle.reference_machine.specs.Values.{ObjectName};
@@ -31,14 +31,14 @@ ghost use Rattle.cil_model.specs.Examples.{sum_program, usual_limits};
 
 /// What a look-up of a method finds is declared by the class that it names, and so is the target of a declared method.
 pub fn found_methods_are_declared()
-    ensures found { (tree : Tree) (is_instance : Bool) (r : MethodReference) (c : ClassName) (m : Method) → find_method tree is_instance r ≡ Some (c, m) → (n : ℕ) × (slice_get (methods_in tree c) n ≡ Some m) }
-    ensures targets { (tree : Tree) (d c : ClassName) (m : Method) (k : ClassName) (m' : Method) → target tree d c m ≡ Some (k, m') → (n : ℕ) × (slice_get (methods_in tree c) n ≡ Some m) → (n : ℕ) × (slice_get (methods_in tree k) n ≡ Some m') }
+    ensures found { (tree : Tree) (is_instance : Bool) (r : MethodReference) (c : ClassName) (m : Method) → find_method tree is_instance r ≡ Some (c, m) → (n : ℕ) × (slice_get (methods_declared tree c) n ≡ Some m) }
+    ensures targets { (tree : Tree) (d c : ClassName) (m : Method) (k : ClassName) (m' : Method) → target tree d c m ≡ Some (k, m') → (n : ℕ) × (slice_get (methods_declared tree c) n ≡ Some m) → (n : ℕ) × (slice_get (methods_declared tree k) n ≡ Some m') }
 {}
 
 /// In an accepted program each method that may get a frame has a typing: one that a class declares, built-in ones among
 /// them, and that is no member which acts at once.
 pub fn framed_methods_have_typings()
-    ensures { (tree : Tree) → IsAccepted tree → (c : ClassName) (n : ℕ) (m : Method) → slice_get (methods_in tree c) n ≡ Some m → action_of c m ≡ None → (typing : Typing) × IsTyping tree c m typing }
+    ensures { (tree : Tree) → IsAccepted tree → (c : ClassName) (n : ℕ) (m : Method) → slice_get (methods_declared tree c) n ≡ Some m → action_of c m ≡ None → (typing : Typing) × IsTyping tree c m typing }
 {}
 
 /// No step and no run takes anything back: objects keep their names, classes, fields, element types and lengths; static

@@ -25,7 +25,7 @@ use Rattle.cil_model.specs.declared.trees.MethodKind.TheVariants as NamedKind
 use Rattle.cil_model.specs.declared.trees.Code.{Code}
 use Rattle.cil_model.specs.declared.trees.Line.{Line}
 use Rattle.cil_model.specs.Same.{same_text}
-use Rattle.cil_model.specs.Declarations.{Declaration, built_ins, declaration_of, built_in_class, source_class, declared_as, fields_of, methods_of, fields_of_kind, base_named, interfaces_named, is_interface_kind}
+use Rattle.cil_model.specs.Declarations.{Declaration, built_ins, declaration_of, built_in_class, source_class, declared_as, field_members, method_members, fields_unless_interface, base_named, interfaces_named, is_interface_kind}
 use Rattle.cil_model.specs.Bodies.{code_of, lines_of, labels_of, place_of, virtual_reference, constructor_reference}
 use Rattle.cil_model.specs.Chains.{find_field, find_method, longest_chain, classes_searched}
 use Rattle.cil_model.specs.Mentions.{bases_named, literal_of, literals_of, types_of_instruction, types_of_method, types_of_signature, types_of_tree, instructions_of, instructions_of_tree, methods_of_tree, class_of_element, class_types_of_tree, class_names_of_tree, owners_of_instruction, codes_of}
@@ -308,7 +308,7 @@ module _ (tree : Tree) where
   abbrev is_class_found : Declaration → Bool
   is_class_found d = is_some (class_rule tree d)
 
-  fields_found : (k : ClassKind) (fs : List Field) → list_all is_type_found (map (λ (f : Field). f.field_type) fs) ≡ true → is_some (all_some (map (resolved_field_rule tree) (fields_of_kind k fs))) ≡ true
+  fields_found : (k : ClassKind) (fs : List Field) → list_all is_type_found (map (λ (f : Field). f.field_type) fs) ≡ true → is_some (all_some (map (resolved_field_rule tree) (fields_unless_interface k fs))) ≡ true
   fields_found Interface fs h = refl
   fields_found (PlainClass a b i) fs h =
       all_there (resolved_field_rule tree) fs (all_kept (λ (f : Field). is_type_found f.field_type) (λ f. is_some (resolved_field_rule tree f)) (λ f e. kept _ (type_rule tree f.field_type) e) fs (sym (all_seen (λ (f : Field). f.field_type) is_type_found fs) ∙ h))
@@ -320,15 +320,15 @@ module _ (tree : Tree) where
   known_both p each [] r h = refl
   known_both p each (c ∷ cs) r h = both _ _ (each c (both_first _ _ r) (both_first _ _ h)) (known_both p each cs (both_second _ _ r) (both_second _ _ h))
 
-  class_found : (c : Class) → list_all (is_resolved tree) (heading c) ≡ true → class_finds tree c ≡ true → list_all is_type_found (map (λ (f : Field). f.field_type) (fields_of c)) ≡ true → list_all is_method_found (methods_of c) ≡ true →
-      is_class_found (declared_as c.kind (fields_of c) (methods_of c)) ≡ true
+  class_found : (c : Class) → list_all (is_resolved tree) (heading c) ≡ true → class_finds tree c ≡ true → list_all is_type_found (map (λ (f : Field). f.field_type) (field_members c)) ≡ true → list_all is_method_found (method_members c) ≡ true →
+      is_class_found (declared_as c.kind (field_members c) (method_members c)) ≡ true
   class_found c r k f m =
       let bases = known_both (is_possible_base tree) (λ b. base_known_at b.assembly b.name) (bases_named c.kind) (all_first (is_resolved tree) (bases_named c.kind) (interfaces_named c.kind) r) (both_first _ _ k) in
       let interfaces = known_both (is_source_interface tree) (λ b. interface_known_at b.assembly b.name) (interfaces_named c.kind) (all_second (is_resolved tree) (bases_named c.kind) (interfaces_named c.kind) r) (both_second _ _ k) in
       then_kept _ (if_named (class_number tree) (base_named c.kind)) (named_there (class_number tree) (base_named c.kind) bases) (λ base.
       then_kept _ (all_some (map (class_number tree) (interfaces_named c.kind))) (all_there (class_number tree) (interfaces_named c.kind) interfaces) (λ found.
-      then_kept _ (all_some (map (resolved_field_rule tree) (fields_of_kind c.kind (fields_of c)))) (fields_found c.kind (fields_of c) f) (λ fields.
-      kept _ (all_some (map (resolved_method_rule tree) (methods_of c))) (all_there (resolved_method_rule tree) (methods_of c) m))))
+      then_kept _ (all_some (map (resolved_field_rule tree) (fields_unless_interface c.kind (field_members c)))) (fields_found c.kind (field_members c) f) (λ fields.
+      kept _ (all_some (map (resolved_method_rule tree) (method_members c))) (all_there (resolved_method_rule tree) (method_members c) m))))
 
   built_ins_found : list_all (λ (e : ClassName × Declaration). is_class_found e.1) built_ins ≡ true
   built_ins_found = refl
@@ -374,7 +374,7 @@ module _ (tree : Tree) where
         two (class_types_of_tree tree) resolved_types (both_second _ _ (both_first _ _ (both_first _ _ named))))
 
     abbrev field_types : Class → List DeclaredType
-    field_types c = map (λ (f : Field). f.field_type) (fields_of c)
+    field_types c = map (λ (f : Field). f.field_type) (field_members c)
 
     methods_found : list_all is_method_found (methods_of_tree tree) ≡ true
     methods_found =
@@ -386,11 +386,11 @@ module _ (tree : Tree) where
 
     pub classes_found : is_some (classes_rule tree) ≡ true
     classes_found =
-        let of_source = all_four (λ c. list_all (is_resolved tree) (heading c)) (class_finds tree) (λ c. list_all is_type_found (field_types c)) (λ c. list_all is_method_found (methods_of c)) (λ c. is_class_found (declared_as c.kind (fields_of c) (methods_of c))) class_found tree.classes
+        let of_source = all_four (λ c. list_all (is_resolved tree) (heading c)) (class_finds tree) (λ c. list_all is_type_found (field_types c)) (λ c. list_all is_method_found (method_members c)) (λ c. is_class_found (declared_as c.kind (field_members c) (method_members c))) class_found tree.classes
         (sym (all_within (is_resolved tree) heading tree.classes) ∙ resolved_headings)
         (both_second _ _ (both_first _ _ (both_first _ _ (both_first _ _ named))))
         (sym (all_within is_type_found field_types tree.classes) ∙ all_first is_type_found (flat_map field_types tree.classes) (flat_map types_of_method (methods_of_tree tree)) types_found)
-        (sym (all_within is_method_found methods_of tree.classes) ∙ methods_found) in
+        (sym (all_within is_method_found method_members tree.classes) ∙ methods_found) in
         all_there (λ (e : ClassName × Declaration). class_rule tree e.1) (declarations tree) (
         list_all-append (λ (e : ClassName × Declaration). is_class_found e.1) built_ins (map source_entry tree.classes) ∙
         both _ _ built_ins_found (all_seen source_entry (λ (e : ClassName × Declaration). is_class_found e.1) tree.classes ∙ of_source))

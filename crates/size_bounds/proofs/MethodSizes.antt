@@ -18,9 +18,9 @@ use Rattle.cil_model.specs.declared.trees.Code.{Code}
 use Rattle.cil_model.specs.declared.trees.Line.{Line}
 use Rattle.cil_model.specs.declared.limits.TheConstants.{MOST_ARGUMENTS, MOST_BRACKETS, MOST_INSTRUCTIONS, MOST_LOCALS, MOST_METHODS, MOST_STACK}
 use Rattle.cil_model.specs.Same.{same_class, same_text}
-use Rattle.cil_model.specs.Declarations.{Declaration, source_name, declared_as, fields_of, methods_of, built_ins}
+use Rattle.cil_model.specs.Declarations.{Declaration, source_name, declared_as, field_members, method_members, built_ins}
 use Rattle.cil_model.specs.Bodies.{argument_types, code_of, lines_of}
-use Rattle.cil_model.specs.Chains.{methods_in, listed_by}
+use Rattle.cil_model.specs.Chains.{methods_declared, listed_by}
 use Rattle.cil_model.specs.Mentions.{codes_of, instructions_of, methods_of_tree, instructions_of_tree, literal_of, literals_of}
 use Rattle.cil_model.specs.Legality.{IsLegal, is_small_instruction, is_small_code, is_small_method, is_small_class}
 use Rattle.cil_model.proofs.SameLaws.{both_first, both_second, same_class_equal}
@@ -41,7 +41,7 @@ short_code m small = subst (λ n. n ≤ MOST_INSTRUCTIONS) (sym (length-map (lin
 
 module _ (tree : Tree) (legal : IsLegal tree) where
   -- each method that the class of a name declares is small
-  methods_small : (o : Option (List ℕ)) (own : List ℕ) → IsTrue (list_all (is_small_method (record { assembly = o; name = own })) (methods_in tree (record { assembly = o; name = own })))
+  methods_small : (o : Option (List ℕ)) (own : List ℕ) → IsTrue (list_all (is_small_method (record { assembly = o; name = own })) (methods_declared tree (record { assembly = o; name = own })))
   methods_small (Some a) own =
       let c : ClassName = record { assembly = Some a; name = own } in
       by_find (λ (e : ClassName × Declaration). same_class e.0 c) (λ (e : ClassName × Declaration). list_all (is_small_method c) e.1.methods)
@@ -49,13 +49,13 @@ module _ (tree : Tree) (legal : IsLegal tree) where
   methods_small None own =
       let c : ClassName = record { assembly = None; name = own } in
       by_find (λ (x : Class). same_class (source_name x) c) (is_small_class tree)
-      (λ o. IsTrue (list_all (is_small_method c) (listed_by (λ (d : Declaration). d.methods) (option_map (λ (x : Class). declared_as x.kind (fields_of x) (methods_of x)) o)))) refl
-      (λ x named small. subst (λ k. IsTrue (list_all (is_small_method k) (methods_of x))) (same_class_equal (source_name x) c named) (both_second _ _ small)) tree.classes (source_classes_small tree legal)
+      (λ o. IsTrue (list_all (is_small_method c) (listed_by (λ (d : Declaration). d.methods) (option_map (λ (x : Class). declared_as x.kind (field_members x) (method_members x)) o)))) refl
+      (λ x named small. subst (λ k. IsTrue (list_all (is_small_method k) (method_members x))) (same_class_equal (source_name x) c named) (both_second _ _ small)) tree.classes (source_classes_small tree legal)
 
-  module _ (c : ClassName) (n : ℕ) (m : Method) (declared : slice_get (methods_in tree c) n ≡ Some m) where
+  module _ (c : ClassName) (n : ℕ) (m : Method) (declared : slice_get (methods_declared tree c) n ≡ Some m) where
     -- a declared method is small
     small_method : IsTrue (is_small_method c m)
-    small_method = item_passes (is_small_method c) (methods_in tree c) n m (methods_small c.assembly c.name) declared
+    small_method = item_passes (is_small_method c) (methods_declared tree c) n m (methods_small c.assembly c.name) declared
 
     -- it has few arguments
     pub arguments_few : length (argument_types m c) ≤ MOST_ARGUMENTS
@@ -91,8 +91,8 @@ module _ (tree : Tree) (legal : IsLegal tree) where
   -- each method of the source has small code
   codes_small : IsTrue (list_all has_small_code (methods_of_tree tree))
   codes_small =
-      all_of_parts (is_small_class tree) has_small_code methods_of
-      (λ x small. all_weaker (is_small_method (source_name x)) has_small_code (λ m h. both_second _ _ (both_first _ _ h)) (methods_of x) (both_second _ _ small)) tree.classes (source_classes_small tree legal)
+      all_of_parts (is_small_class tree) has_small_code method_members
+      (λ x small. all_weaker (is_small_method (source_name x)) has_small_code (λ m h. both_second _ _ (both_first _ _ h)) (method_members x) (both_second _ _ small)) tree.classes (source_classes_small tree legal)
 
   -- there are few literals
   pub literals_few : length (literals_of tree) ≤ MOST_METHODS * MOST_INSTRUCTIONS

@@ -10,7 +10,7 @@ ghost use Rattle.cil_model.specs.declared.types.DeclaredType.{DeclaredType};
 ghost use Rattle.cil_model.specs.declared.instructions.Instruction.TheVariants.{NewArray};
 ghost use Rattle.cil_model.specs.declared.limits.TheConstants.{MOST_ARGUMENTS, MOST_BRACKETS, MOST_INSTRUCTIONS, MOST_LOCALS, MOST_METHODS, MOST_STACK, MOST_STATIC_FIELDS};
 ghost use Rattle.cil_model.specs.Bodies.{argument_types, code_of};
-ghost use Rattle.cil_model.specs.Chains.{methods_in};
+ghost use Rattle.cil_model.specs.Chains.{methods_declared};
 ghost use Rattle.cil_model.specs.Fields.{FieldKey, instance_slot, slot_types, static_fields, static_slot};
 ghost use Rattle.cil_model.specs.Legality.{IsLegal};
 ghost use Rattle.cil_model.specs.Mentions.{literals_of};
@@ -18,11 +18,11 @@ ghost use Rattle.resolved_code.specs.Numbered.{class_name};
 
 /// A method that a class declares, a built-in one too, has few arguments, and its code few instructions and locals and a low stack.
 pub fn methods_are_small()
-    ensures arguments { (tree : Tree) → IsLegal tree → (c : ClassName) (n : ℕ) (m : Method) → slice_get (methods_in tree c) n ≡ Some m → length (argument_types m c) ≤ MOST_ARGUMENTS }
-    ensures instructions { (tree : Tree) → IsLegal tree → (c : ClassName) (n : ℕ) (m : Method) → slice_get (methods_in tree c) n ≡ Some m → (code : Code) → code_of m.kind ≡ Some code → length code.lines ≤ MOST_INSTRUCTIONS }
-    ensures locals { (tree : Tree) → IsLegal tree → (c : ClassName) (n : ℕ) (m : Method) → slice_get (methods_in tree c) n ≡ Some m → (code : Code) → code_of m.kind ≡ Some code → length code.locals ≤ MOST_LOCALS }
-    ensures stack { (tree : Tree) → IsLegal tree → (c : ClassName) (n : ℕ) (m : Method) → slice_get (methods_in tree c) n ≡ Some m → (code : Code) → code_of m.kind ≡ Some code → code.max_stack ≤ℤ MOST_STACK }
-    ensures arrays { (tree : Tree) → IsLegal tree → (c : ClassName) (n : ℕ) (m : Method) → slice_get (methods_in tree c) n ≡ Some m → (code : Code) → code_of m.kind ≡ Some code →
+    ensures arguments { (tree : Tree) → IsLegal tree → (c : ClassName) (n : ℕ) (m : Method) → slice_get (methods_declared tree c) n ≡ Some m → length (argument_types m c) ≤ MOST_ARGUMENTS }
+    ensures instructions { (tree : Tree) → IsLegal tree → (c : ClassName) (n : ℕ) (m : Method) → slice_get (methods_declared tree c) n ≡ Some m → (code : Code) → code_of m.kind ≡ Some code → length code.lines ≤ MOST_INSTRUCTIONS }
+    ensures locals { (tree : Tree) → IsLegal tree → (c : ClassName) (n : ℕ) (m : Method) → slice_get (methods_declared tree c) n ≡ Some m → (code : Code) → code_of m.kind ≡ Some code → length code.locals ≤ MOST_LOCALS }
+    ensures stack { (tree : Tree) → IsLegal tree → (c : ClassName) (n : ℕ) (m : Method) → slice_get (methods_declared tree c) n ≡ Some m → (code : Code) → code_of m.kind ≡ Some code → code.max_stack ≤ℤ MOST_STACK }
+    ensures arrays { (tree : Tree) → IsLegal tree → (c : ClassName) (n : ℕ) (m : Method) → slice_get (methods_declared tree c) n ≡ Some m → (code : Code) → code_of m.kind ≡ Some code →
         (place : ℕ) (line : Line) → slice_get code.lines place ≡ Some line → (t : DeclaredType) → line.instruction ≡ NewArray t → t.brackets < MOST_BRACKETS }
 {}
 

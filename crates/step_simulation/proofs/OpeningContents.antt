@@ -6,7 +6,7 @@ use Rattle.object_simulation.specs.simulation.cil_model.declared.trees.Method.{M
 use Rattle.object_simulation.specs.simulation.cil_model.declared.trees.Tree.{Tree}
 use Rattle.object_simulation.specs.simulation.cil_model.declared.types.ClassName.{ClassName}
 use Rattle.object_simulation.specs.simulation.cil_model.Bodies.{code_of, entry_points, is_entry_point, source_methods}
-use Rattle.object_simulation.specs.simulation.cil_model.Chains.{methods_in}
+use Rattle.object_simulation.specs.simulation.cil_model.Chains.{methods_declared}
 use Rattle.object_simulation.specs.simulation.cil_model.Fields.{static_fields}
 use Rattle.object_simulation.specs.simulation.cil_model.Mentions.{literals_of}
 use Rattle.object_simulation.specs.simulation.cil_model.Ranges.{are_in_range}
@@ -67,7 +67,7 @@ module _ (tree : Tree) (limits : Limits) (accepted : IsAccepted tree) (in_range 
   IsOpened = (c : Content) × (s : State) × (opening_content tree limits ≡ Some c) × (opening tree limits ≡ Some s) × Represents c s
 
   module _ (entry : ClassName × Method) (alone : entry_points tree ≡ entry ∷ []) where
-    entry_declared : (k : ℕ) × (slice_get (methods_in tree entry.0) k ≡ Some entry.1)
+    entry_declared : (k : ℕ) × (slice_get (methods_declared tree entry.0) k ≡ Some entry.1)
     entry_declared =
         let found = kept_from (λ (x : ClassName × Method). is_entry_point x.1) (source_methods tree) 0 entry (ap (λ es. slice_get es 0) alone) in
         source_is_declared tree accepted.legal found.0 entry.0 entry.1 found.1

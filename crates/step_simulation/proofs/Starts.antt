@@ -8,7 +8,7 @@ use Rattle.object_simulation.specs.simulation.cil_model.declared.trees.Method.{M
 use Rattle.object_simulation.specs.simulation.cil_model.declared.trees.Code.{Code}
 use Rattle.object_simulation.specs.simulation.cil_model.declared.types.ClassName.{ClassName}
 use Rattle.object_simulation.specs.simulation.cil_model.Bodies.{code_of}
-use Rattle.object_simulation.specs.simulation.cil_model.Chains.{methods_in}
+use Rattle.object_simulation.specs.simulation.cil_model.Chains.{methods_declared}
 use Rattle.object_simulation.specs.simulation.cil_model.Declarations.{thread_name, run_method}
 use Rattle.object_simulation.specs.simulation.cil_model.Slots.{target}
 use Rattle.object_simulation.specs.simulation.name_tables.Numbers.{method_at}
@@ -81,7 +81,7 @@ module _ (c : Content) (s : State) (r : Represents c s) (t left : ℕ) (m : Fram
             let typed = typed_as_done (onward (running c s r t left m there) (below c s r t left m there) (state_with found code) rest) e' in
             let thread : StateThread = record { frames = new_frame found.0 found.1 code (Reference (Born number) ∷ []) None ∷ []; steps_left = c.limits.budget; ended = None } in
             let frames : AreTypedFrames c.tree (state_with found code) thread.frames = typed.0.threads (length s.threads) thread (last_is_there s.threads thread) refl in
-            let declared : (n : ℕ) × (slice_get (methods_in c.tree found.0) n ≡ Some found.1) = frames.0.is_declared in
+            let declared : (n : ℕ) × (slice_get (methods_declared c.tree found.0) n ≡ Some found.1) = frames.0.is_declared in
             let numbered : (n : ℕ) × (number_of c.tree found ≡ Some n) × (slice_get (all_methods c.tree) n ≡ Some found) = declared_is_numbered c.tree r.accepted.legal declared.0 found declared.1 in
             record {
               found = found;

@@ -10,8 +10,8 @@ use Rattle.cil_model.specs.declared.trees.ClassKind.{ClassKind}
 use Rattle.cil_model.specs.declared.trees.ClassKind.TheVariants.{Interface, Class as PlainClass}
 use Rattle.cil_model.specs.declared.trees.Method.{Method}
 use Rattle.cil_model.specs.Same.{same_class}
-use Rattle.cil_model.specs.Declarations.{Declaration, source_name, source_class, is_interface_kind, is_abstract_kind, base_named, interfaces_named, declared_as, fields_of, methods_of, object_name, string_name, console_name, monitor_name, thread_name, built_ins, declaration_of}
-use Rattle.cil_model.specs.Chains.{base_of, methods_in, interfaces_in, is_interface, listed_by}
+use Rattle.cil_model.specs.Declarations.{Declaration, source_name, source_class, is_interface_kind, is_abstract_kind, base_named, interfaces_named, declared_as, field_members, method_members, object_name, string_name, console_name, monitor_name, thread_name, built_ins, declaration_of}
+use Rattle.cil_model.specs.Chains.{base_of, methods_declared, interfaces_declared, is_interface, listed_by}
 use Rattle.cil_model.specs.FlowRules.{is_concrete}
 use Rattle.cil_model.specs.Mentions.{bases_named}
 use Rattle.cil_model.specs.Legality.{IsLegal, first_broken, has_repeat, same_method, class_doubles, doubles_name, lacks_name, has_cycle, lacks_implementation, misfits_kind, lacks_entry, passes_limit, is_source_class, is_source_interface, is_possible_base, passes_source, class_finds, implements_method, implements_all, has_abstract_slot, kinds_fit}
@@ -67,7 +67,7 @@ not_not false h = sym h
 
 module _ (tree : Tree) where
   abbrev pub declared : Class → Declaration
-  declared x = declared_as x.kind (fields_of x) (methods_of x)
+  declared x = declared_as x.kind (field_members x) (method_members x)
 
   -- ---- what a name stands for
 
@@ -133,10 +133,10 @@ module _ (tree : Tree) where
       by_standing of_thread k = never k
       by_standing (of_none e) k = never (sym (ap (λ o. option_map_or (λ (d : Declaration). d.is_interface) o false) e) ∙ k)
 
-  pub lister_is_source : (k i : ClassName) → IsTrue (list_any (same_class i) (interfaces_in tree k)) → (x : Class) × (source_class tree k ≡ Some x) × IsTrue (list_any (same_class i) (interfaces_named x.kind))
+  pub lister_is_source : (k i : ClassName) → IsTrue (list_any (same_class i) (interfaces_declared tree k)) → (x : Class) × (source_class tree k ≡ Some x) × IsTrue (list_any (same_class i) (interfaces_named x.kind))
   lister_is_source k i h = by_standing (standing k) h
     where
-      by_standing : {k : ClassName} → Standing k → IsTrue (list_any (same_class i) (interfaces_in tree k)) → (x : Class) × (source_class tree k ≡ Some x) × IsTrue (list_any (same_class i) (interfaces_named x.kind))
+      by_standing : {k : ClassName} → Standing k → IsTrue (list_any (same_class i) (interfaces_declared tree k)) → (x : Class) × (source_class tree k ≡ Some x) × IsTrue (list_any (same_class i) (interfaces_named x.kind))
       by_standing {k} (of_source x found) t = (x, found, subst (λ o. IsTrue (list_any (same_class i) (listed_by (λ (d : Declaration). d.interfaces) o))) (source_declares k x found) t)
       by_standing of_object t = never t
       by_standing of_string t = never t
@@ -152,7 +152,7 @@ module _ (tree : Tree) where
   source_base : (c : ClassName) (x : Class) → source_class tree c ≡ Some x → base_of tree c ≡ base_named x.kind
   source_base c x found = ap (option_and_then (λ (d : Declaration). d.base)) (source_declares c x found)
 
-  source_methods : (c : ClassName) (x : Class) → source_class tree c ≡ Some x → methods_in tree c ≡ methods_of x
+  source_methods : (c : ClassName) (x : Class) → source_class tree c ≡ Some x → methods_declared tree c ≡ method_members x
   source_methods c x found = ap (listed_by (λ (d : Declaration). d.methods)) (source_declares c x found)
 
   -- an interface has no base
@@ -196,10 +196,10 @@ module _ (tree : Tree) where
     none_doubles = (or_parts _ _ behind_cycles.0).1
 
     -- no class has two methods of one name and signature
-    pub methods_differ : (c : ClassName) → has_repeat same_method (methods_in tree c) ≡ false
+    pub methods_differ : (c : ClassName) → has_repeat same_method (methods_declared tree c) ≡ false
     methods_differ c = by_standing (standing c)
       where
-        by_standing : {c : ClassName} → Standing c → has_repeat same_method (methods_in tree c) ≡ false
+        by_standing : {c : ClassName} → Standing c → has_repeat same_method (methods_declared tree c) ≡ false
         by_standing {c} (of_source x found) =
             let single : class_doubles x ≡ false = found_fails (λ k. same_class (source_name k) c) class_doubles tree.classes x found none_doubles in
             ap (has_repeat same_method) (source_methods c x found) ∙ (or_parts _ _ (or_parts _ _ (or_parts _ _ single).0).0).1
@@ -211,7 +211,7 @@ module _ (tree : Tree) where
         by_standing (of_none e) = ap (λ o. has_repeat same_method (listed_by (λ (d : Declaration). d.methods) o)) e
 
     -- what a class lists is an interface
-    pub listed_is_interface : (k i : ClassName) → IsTrue (list_any (same_class i) (interfaces_in tree k)) → is_interface tree i ≡ true
+    pub listed_is_interface : (k i : ClassName) → IsTrue (list_any (same_class i) (interfaces_declared tree k)) → is_interface tree i ≡ true
     listed_is_interface k i h =
         let x = lister_is_source k i h in
         let finds : IsTrue (class_finds tree x.0) = found_passes (λ y. same_class (source_name y) k) (class_finds tree) tree.classes x.0 x.1 (classes_find tree legal) in
@@ -241,12 +241,12 @@ module _ (tree : Tree) where
         by_standing (of_none none) e = none_is_some b (sym (ap (option_and_then (λ (d : Declaration). d.base)) none) ∙ e)
 
     -- a class has a virtual method for each method of an interface that it lists
-    pub implements_listed : (k i : ClassName) (m : Method) → IsTrue (list_any (same_class i) (interfaces_in tree k)) → (p : Method → Bool) → find p (methods_in tree i) ≡ Some m → IsTrue (implements_method tree k m)
+    pub implements_listed : (k i : ClassName) (m : Method) → IsTrue (list_any (same_class i) (interfaces_declared tree k)) → (p : Method → Bool) → find p (methods_declared tree i) ≡ Some m → IsTrue (implements_method tree k m)
     implements_listed k i m h p here =
         let x = lister_is_source k i h in
         let each : IsTrue (implements_all tree x.0) = found_passes (λ y. same_class (source_name y) k) (implements_all tree) tree.classes x.0 x.1 all_implement in
-        let own : IsTrue (implements_method tree (source_name x.0) m) = all_pass (λ j. list_all (implements_method tree (source_name x.0)) (methods_in tree j)) (same_class i) (interfaces_named x.0.kind) each
-        (λ j good same. found_passes p (implements_method tree (source_name x.0)) (methods_in tree i) m here (subst (λ z. IsTrue (list_all (implements_method tree (source_name x.0)) (methods_in tree z))) (sym (same_class_equal i j same)) good)) x.2 in
+        let own : IsTrue (implements_method tree (source_name x.0) m) = all_pass (λ j. list_all (implements_method tree (source_name x.0)) (methods_declared tree j)) (same_class i) (interfaces_named x.0.kind) each
+        (λ j good same. found_passes p (implements_method tree (source_name x.0)) (methods_declared tree i) m here (subst (λ z. IsTrue (list_all (implements_method tree (source_name x.0)) (methods_declared tree z))) (sym (same_class_equal i j same)) good)) x.2 in
         subst (λ z. IsTrue (implements_method tree z m)) (source_is_named k x.0 x.1) own
 
     -- a class that has objects has no abstract slot

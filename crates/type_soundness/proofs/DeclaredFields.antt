@@ -16,9 +16,9 @@ use Rattle.cil_model.specs.declared.trees.ClassKind.{ClassKind}
 use Rattle.cil_model.specs.declared.trees.ClassKind.TheVariants.{Interface, Class as PlainClass}
 use Rattle.cil_model.specs.declared.trees.Field.{Field}
 use Rattle.cil_model.specs.Same.{same_text, same_class, same_flag, same_type}
-use Rattle.cil_model.specs.Declarations.{Declaration, object_name, string_name, plain, source_name, source_class, is_interface_kind, fields_of_kind, fields_of}
-use Rattle.cil_model.specs.Chains.{chain_of, fields_in, is_interface, interfaces_in, listed_by, find_field}
-use Rattle.cil_model.specs.Fields.{FieldKey, same_key, own_fields, instance_fields, static_fields}
+use Rattle.cil_model.specs.Declarations.{Declaration, object_name, string_name, plain, source_name, source_class, is_interface_kind, fields_unless_interface, field_members}
+use Rattle.cil_model.specs.Chains.{chain_of, fields_declared, is_interface, interfaces_declared, listed_by, find_field}
+use Rattle.cil_model.specs.Fields.{FieldKey, same_key, keyed_fields, instance_fields, static_fields}
 use Rattle.cil_model.specs.Assignable.{IsAssignable, to_itself, to_object, to_base, to_interface, of_arrays, chained, is_assignable, element_named, type_of_class}
 use Rattle.cil_model.specs.Legality.{IsLegal, has_repeat, class_doubles}
 use Rattle.cil_model.proofs.SameLaws.{never, both_first, both_second, either, if_true, if_false, same_class_equal, same_class_itself, same_text_itself, same_type_equal, class_equivalence}
@@ -114,14 +114,14 @@ module _ (tree : Tree) where
   -- ---- the fields of a class
 
   -- a class of the source has the fields that its text lists
-  source_fields : (c : ClassName) (x : Class) → source_class tree c ≡ Some x → fields_in tree c ≡ fields_of_kind x.kind (fields_of x)
+  source_fields : (c : ClassName) (x : Class) → source_class tree c ≡ Some x → fields_declared tree c ≡ fields_unless_interface x.kind (field_members x)
   source_fields c x found = ap (listed_by (λ (d : Declaration). d.fields)) (source_declares tree c x found)
 
   -- a field that is found is one of a class of the source
-  field_is_of_source : (c : ClassName) (p : Field → Bool) (g : Field) → find p (fields_in tree c) ≡ Some g → (x : Class) × (source_class tree c ≡ Some x)
+  field_is_of_source : (c : ClassName) (p : Field → Bool) (g : Field) → find p (fields_declared tree c) ≡ Some g → (x : Class) × (source_class tree c ≡ Some x)
   field_is_of_source c p g h = by_standing (standing tree c) h
     where
-      by_standing : {c : ClassName} → Standing tree c → find p (fields_in tree c) ≡ Some g → (x : Class) × (source_class tree c ≡ Some x)
+      by_standing : {c : ClassName} → Standing tree c → find p (fields_declared tree c) ≡ Some g → (x : Class) × (source_class tree c ≡ Some x)
       by_standing (of_source x found) e = (x, found)
       by_standing of_object e = none_is_some g e
       by_standing of_string e = none_is_some g e
@@ -131,43 +131,43 @@ module _ (tree : Tree) where
       by_standing (of_none none) e = none_is_some g (sym (ap (λ o. find p (listed_by (λ (d : Declaration). d.fields) o)) none) ∙ e)
 
   -- and none where it is an interface
-  kind_without_fields : (k : ClassKind) (fs : List Field) → IsTrue (is_interface_kind k) → fields_of_kind k fs ≡ []
+  kind_without_fields : (k : ClassKind) (fs : List Field) → IsTrue (is_interface_kind k) → fields_unless_interface k fs ≡ []
   kind_without_fields Interface fs h = refl
   kind_without_fields (PlainClass is_abstract base interfaces) fs h = never h
 
   -- an interface has no field
-  interface_has_no_field : {A : Type 0} (c : ClassName) (p : Field → Bool) (g : Field) → is_interface tree c ≡ true → find p (fields_in tree c) ≡ Some g → A
+  interface_has_no_field : {A : Type 0} (c : ClassName) (p : Field → Bool) (g : Field) → is_interface tree c ≡ true → find p (fields_declared tree c) ≡ Some g → A
   interface_has_no_field c p g is h =
       let x = interface_is_source tree c is in
-      none_is_some g (sym (ap (find p) (source_fields c x.0 x.1 ∙ kind_without_fields x.0.kind (fields_of x.0) x.2)) ∙ h)
+      none_is_some g (sym (ap (find p) (source_fields c x.0 x.1 ∙ kind_without_fields x.0.kind (field_members x.0) x.2)) ∙ h)
 
   -- System.Object and System.String have none either
-  plain_has_no_field : {A : Type 0} (c : ClassName) (p : Field → Bool) (g : Field) → IsTrue (list_any (same_class c) (string_name ∷ object_name ∷ [])) → find p (fields_in tree c) ≡ Some g → A
+  plain_has_no_field : {A : Type 0} (c : ClassName) (p : Field → Bool) (g : Field) → IsTrue (list_any (same_class c) (string_name ∷ object_name ∷ [])) → find p (fields_declared tree c) ≡ Some g → A
   plain_has_no_field {A} c p g h e = by_string (either (same_class c string_name) (same_class c object_name || false) h)
     where
       by_object : IsTrue (same_class c object_name) ⊎ IsTrue false → A
-      by_object (inl same) = none_is_some g (subst (λ z. find p (fields_in tree z) ≡ Some g) (same_class_equal c object_name same) e)
+      by_object (inl same) = none_is_some g (subst (λ z. find p (fields_declared tree z) ≡ Some g) (same_class_equal c object_name same) e)
       by_object (inr lost) = never lost
 
       by_string : IsTrue (same_class c string_name) ⊎ IsTrue (same_class c object_name || false) → A
-      by_string (inl same) = none_is_some g (subst (λ z. find p (fields_in tree z) ≡ Some g) (same_class_equal c string_name same) e)
+      by_string (inl same) = none_is_some g (subst (λ z. find p (fields_declared tree z) ≡ Some g) (same_class_equal c string_name same) e)
       by_string (inr rest) = by_object (either (same_class c object_name) false rest)
 
   -- ---- fields of many classes
 
   -- a field of one of them is found under its key
-  entry_among : {X : Type 0} (name_of : X → ClassName) (is_static : Bool) (k : FieldKey) (t : DeclaredType) → entry_at same_key k (own_fields tree is_static k.declared_in) ≡ Some t →
-      (xs : List X) → IsTrue (list_any (λ x. same_class k.declared_in (name_of x)) xs) → entry_at same_key k (flat_map (λ x. own_fields tree is_static (name_of x)) xs) ≡ Some t
+  entry_among : {X : Type 0} (name_of : X → ClassName) (is_static : Bool) (k : FieldKey) (t : DeclaredType) → entry_at same_key k (keyed_fields tree is_static k.declared_in) ≡ Some t →
+      (xs : List X) → IsTrue (list_any (λ x. same_class k.declared_in (name_of x)) xs) → entry_at same_key k (flat_map (λ x. keyed_fields tree is_static (name_of x)) xs) ≡ Some t
   entry_among name_of is_static k t own [] h = never h
   entry_among {X} name_of is_static k t own (x ∷ xs) h = by_test (same_class k.declared_in (name_of x)) refl h (entry_among name_of is_static k t own xs)
     where
       by_test : (b : Bool) → same_class k.declared_in (name_of x) ≡ b → IsTrue (b || list_any (λ y. same_class k.declared_in (name_of y)) xs) →
-          (IsTrue (list_any (λ y. same_class k.declared_in (name_of y)) xs) → entry_at same_key k (flat_map (λ y. own_fields tree is_static (name_of y)) xs) ≡ Some t) →
-          entry_at same_key k (own_fields tree is_static (name_of x) ++ flat_map (λ y. own_fields tree is_static (name_of y)) xs) ≡ Some t
+          (IsTrue (list_any (λ y. same_class k.declared_in (name_of y)) xs) → entry_at same_key k (flat_map (λ y. keyed_fields tree is_static (name_of y)) xs) ≡ Some t) →
+          entry_at same_key k (keyed_fields tree is_static (name_of x) ++ flat_map (λ y. keyed_fields tree is_static (name_of y)) xs) ≡ Some t
       by_test true same there later =
-          entry_before same_key k t (own_fields tree is_static (name_of x)) _ (subst (λ c. entry_at same_key k (own_fields tree is_static c) ≡ Some t) (same_class_equal k.declared_in (name_of x) same) own)
+          entry_before same_key k t (keyed_fields tree is_static (name_of x)) _ (subst (λ c. entry_at same_key k (keyed_fields tree is_static c) ≡ Some t) (same_class_equal k.declared_in (name_of x) same) own)
       by_test false other there later =
-          entry_behind k (name_of x) (of_flag is_static (fields_in tree (name_of x))) _ (class_equivalence.symm (name_of x) k.declared_in ∙ other) ∙ later there
+          entry_behind k (name_of x) (of_flag is_static (fields_declared tree (name_of x))) _ (class_equivalence.symm (name_of x) k.declared_in ∙ other) ∙ later there
 
   -- ---- inherited fields
 
@@ -194,17 +194,17 @@ module _ (tree : Tree) where
 
   module _ (legal : IsLegal tree) where
     -- names of a class's fields differ
-    fields_differ : (c : ClassName) → has_repeat same_field_name (fields_in tree c) ≡ false
+    fields_differ : (c : ClassName) → has_repeat same_field_name (fields_declared tree c) ≡ false
     fields_differ c = by_standing (standing tree c)
       where
-        of_kind : (k : ClassKind) (fs : List Field) → has_repeat same_field_name fs ≡ false → has_repeat same_field_name (fields_of_kind k fs) ≡ false
+        of_kind : (k : ClassKind) (fs : List Field) → has_repeat same_field_name fs ≡ false → has_repeat same_field_name (fields_unless_interface k fs) ≡ false
         of_kind Interface fs h = refl
         of_kind (PlainClass is_abstract base interfaces) fs h = h
 
-        by_standing : {c : ClassName} → Standing tree c → has_repeat same_field_name (fields_in tree c) ≡ false
+        by_standing : {c : ClassName} → Standing tree c → has_repeat same_field_name (fields_declared tree c) ≡ false
         by_standing {c} (of_source x found) =
             let single : class_doubles x ≡ false = found_fails (λ k. same_class (source_name k) c) class_doubles tree.classes x found (none_doubles tree legal) in
-            ap (has_repeat same_field_name) (source_fields c x found) ∙ of_kind x.kind (fields_of x) (or_parts _ _ (or_parts _ _ (or_parts _ _ single).0).0).0
+            ap (has_repeat same_field_name) (source_fields c x found) ∙ of_kind x.kind (field_members x) (or_parts _ _ (or_parts _ _ (or_parts _ _ single).0).0).0
         by_standing of_object = refl
         by_standing of_string = refl
         by_standing of_console = refl
@@ -213,14 +213,14 @@ module _ (tree : Tree) where
         by_standing (of_none e) = ap (λ o. has_repeat same_field_name (listed_by (λ (d : Declaration). d.fields) o)) e
 
     -- what is assignable to a type whose chain has a class with a field has that class in its chain
-    chain_below : (d : ClassName) (p : Field → Bool) (g : Field) → find p (fields_in tree d) ≡ Some g → {a b : DeclaredType} → IsAssignable tree a b → HasInChain b d → HasInChain a d
+    chain_below : (d : ClassName) (p : Field → Bool) (g : Field) → find p (fields_declared tree d) ≡ Some g → {a b : DeclaredType} → IsAssignable tree a b → HasInChain b d → HasInChain a d
     chain_below d p g e to_itself h = h
     chain_below d p g e (to_object r) h = elim h [ ]
     chain_below d p g e (to_base c b is) h = subst (λ cs. IsTrue (list_any (same_class d) cs)) (sym (chain_of_base tree legal c b is)) (or_right _ _ h)
     chain_below d p g e (to_interface c i listed) h =
-        let is : is_interface tree i ≡ true = listed_is_interface tree legal c i (list_any-from_Contains class_equivalence i (interfaces_in tree c) listed) in
+        let is : is_interface tree i ≡ true = listed_is_interface tree legal c i (list_any-from_Contains class_equivalence i (interfaces_declared tree c) listed) in
         let same : d ≡ i = interface_holds tree i d is h in
-        interface_has_no_field i p g is (subst (λ x. find p (fields_in tree x) ≡ Some g) same e)
+        interface_has_no_field i p g is (subst (λ x. find p (fields_declared tree x) ≡ Some g) same e)
     chain_below d p g e (of_arrays r r' inner) h = elim h [ ]
     chain_below d p g e (chained up further) h = chain_below d p g e up (chain_below d p g e further h)
 
@@ -232,20 +232,20 @@ module _ (tree : Tree) where
       asked f = same_text f.name r.name && same_type f.field_type r.field_type && same_flag f.is_static is_static
 
       -- the look-up ends at a class of the owner's chain, which has the field
-      found_in : (find asked (fields_in tree d) ≡ Some g) × IsTrue (list_any (same_class d) (chain_of tree r.owner))
-      found_in = nearest_at (λ c. find asked (fields_in tree c)) (chain_of tree r.owner) d g found
+      found_in : (find asked (fields_declared tree d) ≡ Some g) × IsTrue (list_any (same_class d) (chain_of tree r.owner))
+      found_in = nearest_at (λ c. find asked (fields_declared tree c)) (chain_of tree r.owner) d g found
 
       -- the field is as the reference says
       passes_asked : IsTrue (asked g)
-      passes_asked = found_itself asked (fields_in tree d) g found_in.0
+      passes_asked = found_itself asked (fields_declared tree d) g found_in.0
 
       -- a field of the type that is named
       pub found_type : g.field_type ≡ r.field_type
       found_type = same_type_equal g.field_type r.field_type (both_second _ _ (both_first _ _ passes_asked))
 
       -- it is among the fields of its class, under its key
-      found_entry : entry_at same_key (key_of (d, g)) (own_fields tree is_static d) ≡ Some g.field_type
-      found_entry = own_entry is_static d asked (fields_in tree d) g (fields_differ d) found_in.0 (both_second _ _ passes_asked)
+      found_entry : entry_at same_key (key_of (d, g)) (keyed_fields tree is_static d) ≡ Some g.field_type
+      found_entry = own_entry is_static d asked (fields_declared tree d) g (fields_differ d) found_in.0 (both_second _ _ passes_asked)
 
       -- the owner is no class without fields in its chain, so its type is named by it
       owner_has : HasInChain (type_of_class r.owner) d

@@ -11,7 +11,7 @@ use Rattle.cil_model.specs.declared.trees.Tree.{Tree}
 use Rattle.cil_model.specs.declared.trees.Method.{Method}
 use Rattle.cil_model.specs.Same.{same_flag, same_class, same_signature, same_method_name}
 use Rattle.cil_model.specs.Declarations.{object_name, string_name, plain}
-use Rattle.cil_model.specs.Chains.{base_of, chain_within, longest_chain, classes_searched, is_static, methods_in, find_method}
+use Rattle.cil_model.specs.Chains.{base_of, chain_within, longest_chain, classes_searched, is_static, methods_declared, find_method}
 use Rattle.cil_model.specs.Assignable.{IsAssignable, to_itself, to_object, chained, is_assignable, element_named, type_of_class}
 use Rattle.cil_model.specs.Bodies.{argument_types, reference_operands}
 use Rattle.cil_model.specs.TypeTree.{Declared, parent_element}
@@ -81,8 +81,8 @@ module _ (tree : Tree) (legal : IsLegal tree) (is_instance : Bool) (r : MethodRe
   pub found : find_method tree is_instance r ≡ Some (c, m) → IsFound tree is_instance r c m
   found h =
       let fits : Method → Bool = λ x. same_method_name x.name r.name && same_signature x.signature r.signature && same_flag (is_static x.kind) (not is_instance) in
-      let at : (find fits (methods_in tree c) ≡ Some m) × IsTrue (list_any (same_class c) (classes_searched tree r.name r.owner)) = nearest_at (λ k. find fits (methods_in tree k)) (classes_searched tree r.name r.owner) c m h in
-      let passes : IsTrue (fits m) = found_itself fits (methods_in tree c) m at.0 in
+      let at : (find fits (methods_declared tree c) ≡ Some m) × IsTrue (list_any (same_class c) (classes_searched tree r.name r.owner)) = nearest_at (λ k. find fits (methods_declared tree k)) (classes_searched tree r.name r.owner) c m h in
+      let passes : IsTrue (fits m) = found_itself fits (methods_declared tree c) m at.0 in
       record {
         declared = found_is_declared tree is_instance r c m h;
         signature = same_signature_equal _ _ (both_second _ _ (both_first _ _ passes));

@@ -8,7 +8,7 @@ use Rattle.cil_model.specs.declared.types.Element.TheVariants.{String, Class}
 use Rattle.cil_model.specs.declared.trees.Tree.{Tree}
 use Rattle.cil_model.specs.Same.{same_class}
 use Rattle.cil_model.specs.Declarations.{object_name, string_name, thread_name, plain}
-use Rattle.cil_model.specs.Chains.{chain_of, interfaces_in, is_interface, is_thread_class}
+use Rattle.cil_model.specs.Chains.{chain_of, interfaces_declared, is_interface, is_thread_class}
 use Rattle.cil_model.specs.Assignable.{to_itself, array_of, element_named, type_of_class, is_assignable}
 use Rattle.cil_model.specs.FlowRules.{is_concrete}
 use Rattle.cil_model.specs.Legality.{IsLegal}
@@ -95,10 +95,10 @@ module _ (tree : Tree) where
 
   module _ (legal : IsLegal tree) where
     -- no class lists Cilvm.Thread as an interface
-    link_is_thread : (k : ClassName) → IsTrue (same_class k thread_name || list_any (same_class thread_name) (interfaces_in tree k)) → IsTrue (same_class thread_name k)
+    link_is_thread : (k : ClassName) → IsTrue (same_class k thread_name || list_any (same_class thread_name) (interfaces_declared tree k)) → IsTrue (same_class thread_name k)
     link_is_thread k h = by_case (either _ _ h)
       where
-        by_case : IsTrue (same_class k thread_name) ⊎ IsTrue (list_any (same_class thread_name) (interfaces_in tree k)) → IsTrue (same_class thread_name k)
+        by_case : IsTrue (same_class k thread_name) ⊎ IsTrue (list_any (same_class thread_name) (interfaces_declared tree k)) → IsTrue (same_class thread_name k)
         by_case (inl same) = subst (λ x. IsTrue (same_class x k)) (same_class_equal k thread_name same) (same_class_itself k)
         by_case (inr lists) = never (listed_is_interface tree legal k thread_name lists)
 
@@ -109,4 +109,4 @@ module _ (tree : Tree) where
         by_name : (v w : Bool) → IsTrue (is_assignable tree (plain (element_named v w c)) (plain (Class thread_name))) → IsTrue (is_thread_class tree c)
         by_name true w k = never k
         by_name false true k = never k
-        by_name false false k = weaker (λ x. same_class x thread_name || list_any (same_class thread_name) (interfaces_in tree x)) (same_class thread_name) link_is_thread (chain_of tree c) k
+        by_name false false k = weaker (λ x. same_class x thread_name || list_any (same_class thread_name) (interfaces_declared tree x)) (same_class thread_name) link_is_thread (chain_of tree c) k

@@ -12,9 +12,9 @@ use Rattle.cil_model.specs.declared.trees.Class.{Class}
 use Rattle.cil_model.specs.declared.trees.Line.{Line}
 use Rattle.cil_model.specs.declared.trees.Method.{Method}
 use Rattle.cil_model.specs.Same.{same_text, same_class}
-use Rattle.cil_model.specs.Declarations.{Declaration, source_name, declared_as, fields_of, methods_of, built_ins}
+use Rattle.cil_model.specs.Declarations.{Declaration, source_name, declared_as, field_members, method_members, built_ins}
 use Rattle.cil_model.specs.Bodies.{lines_of}
-use Rattle.cil_model.specs.Chains.{methods_in, listed_by}
+use Rattle.cil_model.specs.Chains.{methods_declared, listed_by}
 use Rattle.cil_model.specs.Mentions.{instructions_of, methods_of_tree, instructions_of_tree, literal_of, each_once, literals_of}
 use Rattle.cil_model.proofs.SameLaws.{never, both_first, both_second, either, same_text_equal, same_text_itself}
 use Rattle.cil_model.proofs.BelowLaws.{none_is_some, same_some}
@@ -126,19 +126,19 @@ module _ (tree : Tree) (c : List ℕ) (m : Method) (place : ℕ) (line : Line) (
   method_loads = any_at (loads c) (instructions_of m) place (LoadString c) instruction_there (same_text_itself c)
 
   -- a method of the source
-  in_source : (x : Class) (n : ℕ) → slice_get (methods_of x) n ≡ Some m → ((also : Class → Bool) → IsTrue (also x) → IsTrue (list_any also tree.classes)) → Contains (literals_of tree) c
+  in_source : (x : Class) (n : ℕ) → slice_get (method_members x) n ≡ Some m → ((also : Class → Bool) → IsTrue (also x) → IsTrue (list_any also tree.classes)) → Contains (literals_of tree) c
   in_source x n own among =
-      let class_loads : IsTrue (list_any (λ k. list_any (λ y. list_any (loads c) (instructions_of y)) (methods_of k)) tree.classes) =
-      among (λ k. list_any (λ y. list_any (loads c) (instructions_of y)) (methods_of k)) (any_at (λ y. list_any (loads c) (instructions_of y)) (methods_of x) n m own method_loads) in
+      let class_loads : IsTrue (list_any (λ k. list_any (λ y. list_any (loads c) (instructions_of y)) (method_members k)) tree.classes) =
+      among (λ k. list_any (λ y. list_any (loads c) (instructions_of y)) (method_members k)) (any_at (λ y. list_any (loads c) (instructions_of y)) (method_members x) n m own method_loads) in
       let tree_loads : IsTrue (list_any (loads c) (instructions_of_tree tree)) =
-      any_in_flat (loads c) instructions_of (methods_of_tree tree) (any_in_flat (λ y. list_any (loads c) (instructions_of y)) methods_of tree.classes class_loads) in
+      any_in_flat (loads c) instructions_of (methods_of_tree tree) (any_in_flat (λ y. list_any (loads c) (instructions_of y)) method_members tree.classes class_loads) in
       Contains-from_any same_text_equal c (literals_of tree) (any_once c (filter_map literal_of (instructions_of_tree tree)) (any_in_filter_map (same_text c) literal_of (instructions_of_tree tree) tree_loads))
 
   -- a built-in method loads none
   in_built_in : {A : Type 0} → IsTrue (loads_nothing m) → A
   in_built_in h = never (all_at (λ i. is_none (literal_of i)) (instructions_of m) place (LoadString c) instruction_there h)
 
-  literal_at : (o : Option (List ℕ)) (own : List ℕ) (n : ℕ) → slice_get (methods_in tree (record { assembly = o; name = own })) n ≡ Some m → Contains (literals_of tree) c
+  literal_at : (o : Option (List ℕ)) (own : List ℕ) (n : ℕ) → slice_get (methods_declared tree (record { assembly = o; name = own })) n ≡ Some m → Contains (literals_of tree) c
   literal_at None own n e = by_class (found_or_none (λ (x : Class). same_class (source_name x) (record { assembly = None; name = own })) tree.classes)
     where
       k : ClassName
@@ -146,8 +146,8 @@ module _ (tree : Tree) (c : List ℕ) (m : Method) (place : ℕ) (line : Line) (
 
       by_class : (find (λ (x : Class). same_class (source_name x) k) tree.classes ≡ None) ⊎
           ((x : Class) × (find (λ (y : Class). same_class (source_name y) k) tree.classes ≡ Some x) × IsTrue (same_class (source_name x) k) × ((also : Class → Bool) → IsTrue (also x) → IsTrue (list_any also tree.classes))) → Contains (literals_of tree) c
-      by_class (inl none) = none_is_some m (sym (ap (λ (o : Option Class). slice_get (listed_by (λ (d : Declaration). d.methods) (option_map (λ (x : Class). declared_as x.kind (fields_of x) (methods_of x)) o)) n) none) ∙ e)
-      by_class (inr (x, found, same, among)) = in_source x n (sym (ap (λ (o : Option Class). slice_get (listed_by (λ (d : Declaration). d.methods) (option_map (λ (y : Class). declared_as y.kind (fields_of y) (methods_of y)) o)) n) found) ∙ e) among
+      by_class (inl none) = none_is_some m (sym (ap (λ (o : Option Class). slice_get (listed_by (λ (d : Declaration). d.methods) (option_map (λ (x : Class). declared_as x.kind (field_members x) (method_members x)) o)) n) none) ∙ e)
+      by_class (inr (x, found, same, among)) = in_source x n (sym (ap (λ (o : Option Class). slice_get (listed_by (λ (d : Declaration). d.methods) (option_map (λ (y : Class). declared_as y.kind (field_members y) (method_members y)) o)) n) found) ∙ e) among
   literal_at (Some a) own n e = by_entry (find (λ (entry : ClassName × Declaration). same_class entry.0 k) built_ins) refl e
     where
       k : ClassName
@@ -160,5 +160,5 @@ module _ (tree : Tree) (c : List ℕ) (m : Method) (place : ℕ) (line : Line) (
           in_built_in (all_at loads_nothing entry.1.methods n m h (all_found (λ (x : ClassName × Declaration). list_all loads_nothing x.1.methods) (λ (x : ClassName × Declaration). same_class x.0 k) built_ins entry found refl))
 
   -- the literal of an instruction of a declared method
-  pub literal_of_program : (owner : ClassName) (n : ℕ) → slice_get (methods_in tree owner) n ≡ Some m → Contains (literals_of tree) c
+  pub literal_of_program : (owner : ClassName) (n : ℕ) → slice_get (methods_declared tree owner) n ≡ Some m → Contains (literals_of tree) c
   literal_of_program owner n e = literal_at owner.assembly owner.name n e

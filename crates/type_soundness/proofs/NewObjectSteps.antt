@@ -17,7 +17,7 @@ use Rattle.cil_model.specs.declared.trees.Code.{Code}
 use Rattle.cil_model.specs.declared.reports.Fault.TheVariants.{OutOfMemory, StackOverflow}
 use Rattle.cil_model.specs.Same.{same_class, same_flag, same_signature, same_method_name}
 use Rattle.cil_model.specs.Declarations.{Declaration, declaration_of, source_name, is_interface_kind, is_abstract_kind, string_name}
-use Rattle.cil_model.specs.Chains.{methods_in, listed_by, is_interface, is_abstract_method, is_static, find_method}
+use Rattle.cil_model.specs.Chains.{methods_declared, listed_by, is_interface, is_abstract_method, is_static, find_method}
 use Rattle.cil_model.specs.Assignable.{type_of_class}
 use Rattle.cil_model.specs.Bodies.{code_of, argument_types, constructor_reference}
 use Rattle.cil_model.specs.FlowRules.{is_concrete, give, take_operands}
@@ -68,7 +68,7 @@ module _ (tree : Tree) where
 
   -- it declares no abstract method
   pub concrete_declares_code : IsLegal tree → (c : ClassName) (m : Method) → IsTrue (is_concrete tree c) → IsDeclared tree c m → is_abstract_method m.kind ≡ false
-  concrete_declares_code legal c m concrete declared = none_at (λ (x : Method). is_abstract_method x.kind) (methods_in tree c) declared.0 m (by_standing (standing tree c) concrete) declared.1
+  concrete_declares_code legal c m concrete declared = none_at (λ (x : Method). is_abstract_method x.kind) (methods_declared tree c) declared.0 m (by_standing (standing tree c) concrete) declared.1
     where
       by_abstract : (a s t w : Bool) → IsTrue (not a) → IsTrue ((a || (not s && not t)) && w) → s ≡ false
       by_abstract true s t w h k = never h
@@ -78,7 +78,7 @@ module _ (tree : Tree) where
       by_kind Interface s t w v h k = never h
       by_kind (PlainClass is_abstract base interfaces) s t w v h k = by_abstract is_abstract s t w h k
 
-      by_standing : {c : ClassName} → Standing tree c → IsTrue (is_concrete tree c) → list_any (λ (x : Method). is_abstract_method x.kind) (methods_in tree c) ≡ false
+      by_standing : {c : ClassName} → Standing tree c → IsTrue (is_concrete tree c) → list_any (λ (x : Method). is_abstract_method x.kind) (methods_declared tree c) ≡ false
       by_standing {c} (of_source x is) h =
           let fits : IsTrue (kinds_fit tree x) = found_passes (λ y. same_class (source_name y) c) (kinds_fit tree) tree.classes x is (all_kinds_fit tree legal) in
           ap (λ o. list_any (λ (y : Method). is_abstract_method y.kind) (listed_by (λ (d : Declaration). d.methods) o)) (source_declares tree c x is) ∙ by_kind x.kind _ _ _ _ (concrete_kind c x (source_declares tree c x is) h) fits
@@ -95,14 +95,14 @@ module _ (tree : Tree) where
     where
       by_test : (b : Bool) → same_class c string_name ≡ b → IsTrue (not b)
       by_test false e = refl
-      by_test true e = none_is_some m (subst (λ k. slice_get (methods_in tree k) declared.0 ≡ Some m) (same_class_equal c string_name e) declared.1)
+      by_test true e = none_is_some m (subst (λ k. slice_get (methods_declared tree k) declared.0 ≡ Some m) (same_class_equal c string_name e) declared.1)
 
 -- a constructor is of the class itself
 constructor_is_own : (tree : Tree) (c k : ClassName) (parameters : List DeclaredType) (m : Method) → find_method tree true (constructor_reference c parameters) ≡ Some (k, m) → c ≡ k
 constructor_is_own tree c k parameters m h = by_case (either (same_class k c) false (nearest_at at (c ∷ []) k m h).1)
   where
     at : ClassName → Option Method
-    at x = find (λ (y : Method). same_method_name y.name Constructor && same_signature y.signature (constructor_reference c parameters).signature && same_flag (is_static y.kind) (not true)) (methods_in tree x)
+    at x = find (λ (y : Method). same_method_name y.name Constructor && same_signature y.signature (constructor_reference c parameters).signature && same_flag (is_static y.kind) (not true)) (methods_declared tree x)
 
     by_case : IsTrue (same_class k c) ⊎ IsTrue false → c ≡ k
     by_case (inl same) = sym (same_class_equal k c same)

@@ -14,7 +14,7 @@ use Rattle.cil_model.specs.declared.limits.Limits.{Limits}
 use Rattle.cil_model.specs.Same.{same_text}
 use Rattle.cil_model.specs.Assignable.{type_of_class}
 use Rattle.cil_model.specs.Bodies.{code_of, argument_types, source_methods, is_entry_point, entry_points}
-use Rattle.cil_model.specs.Chains.{methods_in, is_static}
+use Rattle.cil_model.specs.Chains.{methods_declared, is_static}
 use Rattle.cil_model.specs.Fields.{FieldKey, static_fields}
 use Rattle.cil_model.specs.Mentions.{literals_of}
 use Rattle.cil_model.specs.Legality.{is_entry_method}
@@ -56,7 +56,7 @@ module _ (tree : Tree) (s : State) where
 
   -- it is typed where the method is declared, has a typing, and is given arguments of its types
   pub new_frame_typed : (owner : ClassName) (m : Method) (code : Code) (arguments : List Value) (constructed : Option ObjectName) →
-      (n : ℕ) × (slice_get (methods_in tree owner) n ≡ Some m) → code_of m.kind ≡ Some code → (typing : Typing) × IsTyping tree owner m typing →
+      (n : ℕ) × (slice_get (methods_declared tree owner) n ≡ Some m) → code_of m.kind ≡ Some code → (typing : Typing) × IsTyping tree owner m typing →
       HaveTypes tree s arguments (argument_types m owner) → ((n : ObjectName) → constructed ≡ Some n → IsConstructing s (new_frame owner m code arguments constructed) n) →
       IsTypedFrame tree s None (new_frame owner m code arguments constructed)
   new_frame_typed owner m code arguments constructed declared has_code has_typing values constructs =

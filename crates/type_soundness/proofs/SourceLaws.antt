@@ -7,9 +7,9 @@ use Rattle.cil_model.specs.declared.trees.Tree.{Tree}
 use Rattle.cil_model.specs.declared.trees.Class.{Class}
 use Rattle.cil_model.specs.declared.trees.Method.{Method}
 use Rattle.cil_model.specs.Same.{same_text}
-use Rattle.cil_model.specs.Declarations.{Declaration, source_name, declared_as, fields_of, methods_of}
+use Rattle.cil_model.specs.Declarations.{Declaration, source_name, declared_as, field_members, method_members}
 use Rattle.cil_model.specs.Bodies.{source_methods}
-use Rattle.cil_model.specs.Chains.{methods_in, listed_by}
+use Rattle.cil_model.specs.Chains.{methods_declared, listed_by}
 use Rattle.cil_model.specs.Legality.{IsLegal, has_repeat, class_doubles, doubles_name}
 use Rattle.cil_model.proofs.SameLaws.{never, same_text_itself}
 use Rattle.cil_model.proofs.BelowLaws.{none_is_some, same_some}
@@ -76,14 +76,14 @@ module _ (tree : Tree) (legal : IsLegal tree) where
       by_test true rest h = none_is_some 201 (sym h)
 
   -- a class of the source is what its name stands for
-  class_of_name : (n : ℕ) (c : Class) → slice_get tree.classes n ≡ Some c → methods_in tree (source_name c) ≡ methods_of c
+  class_of_name : (n : ℕ) (c : Class) → slice_get tree.classes n ≡ Some c → methods_declared tree (source_name c) ≡ method_members c
   class_of_name n c at =
-      ap (λ (o : Option Class). listed_by (λ (d : Declaration). d.methods) (option_map (λ (x : Class). declared_as x.kind (fields_of x) (methods_of x)) o))
+      ap (λ (o : Option Class). listed_by (λ (d : Declaration). d.methods) (option_map (λ (x : Class). declared_as x.kind (field_members x) (method_members x)) o))
       (found_itself (λ (a b : Class). same_text a.name b.name) (λ a. same_text_itself a.name) tree.classes no_class_twice n c at)
 
   -- a method of the source is declared by its class
-  pub source_is_declared : (n : ℕ) (owner : ClassName) (m : Method) → slice_get (source_methods tree) n ≡ Some (owner, m) → (k : ℕ) × (slice_get (methods_in tree owner) k ≡ Some m)
+  pub source_is_declared : (n : ℕ) (owner : ClassName) (m : Method) → slice_get (source_methods tree) n ≡ Some (owner, m) → (k : ℕ) × (slice_get (methods_declared tree owner) k ≡ Some m)
   source_is_declared n owner m e =
-      came_from (λ (c : Class). map (λ (x : Method). (source_name c, x)) (methods_of c)) tree.classes n (owner, m) e (λ k c j at own.
-      mapped_from (λ (x : Method). (source_name c, x)) (methods_of c) j (owner, m) own (λ x there same.
-      (j, subst (λ (p : ClassName × Method). slice_get (methods_in tree p.0) j ≡ Some p.1) same (ap (λ ms. slice_get ms j) (class_of_name k c at) ∙ there))))
+      came_from (λ (c : Class). map (λ (x : Method). (source_name c, x)) (method_members c)) tree.classes n (owner, m) e (λ k c j at own.
+      mapped_from (λ (x : Method). (source_name c, x)) (method_members c) j (owner, m) own (λ x there same.
+      (j, subst (λ (p : ClassName × Method). slice_get (methods_declared tree p.0) j ≡ Some p.1) same (ap (λ ms. slice_get ms j) (class_of_name k c at) ∙ there))))

@@ -11,7 +11,7 @@ use Rattle.cil_model.specs.declared.trees.Tree.{Tree}
 use Rattle.cil_model.specs.declared.trees.Method.{Method}
 use Rattle.cil_model.specs.Same.{same_class, same_options, same_signature, same_method_name}
 use Rattle.cil_model.specs.Declarations.{run_name}
-use Rattle.cil_model.specs.Chains.{chain_of, methods_in, method_in, nearest, is_virtual, is_interface}
+use Rattle.cil_model.specs.Chains.{chain_of, methods_declared, method_declared, nearest, is_virtual, is_interface}
 use Rattle.cil_model.specs.Slots.{slot_along, filler_along, class_target, virtual_in, lister_along, interface_target, target}
 use Rattle.cil_model.proofs.SameLaws.{both_first, same_method_name_equal}
 use Rattle.cil_model.proofs.BelowLaws.{none_is_some, same_some}
@@ -22,16 +22,16 @@ module _ (tree : Tree) (name : MethodName) (signature : Signature) where
   -- what fills a slot has the name by which it was looked for
   filler_named : (slot : ClassName) (cs : List ClassName) (k : ClassName) (m : Method) → filler_along tree name signature slot cs ≡ Some (k, m) → m.name ≡ name
   filler_named slot [] k m h = none_is_some (k, m) h
-  filler_named slot (d ∷ ds) k m h = by_class (method_in tree name signature d) refl (same_options same_class (slot_along tree name signature (d ∷ ds)) (Some slot)) h (filler_named slot ds k m)
+  filler_named slot (d ∷ ds) k m h = by_class (method_declared tree name signature d) refl (same_options same_class (slot_along tree name signature (d ∷ ds)) (Some slot)) h (filler_named slot ds k m)
     where
-      by_class : (o : Option Method) → method_in tree name signature d ≡ o → (b : Bool) →
+      by_class : (o : Option Method) → method_declared tree name signature d ≡ o → (b : Bool) →
           option_map_or (λ x. if b then Some (d, x) else filler_along tree name signature slot ds) o (filler_along tree name signature slot ds) ≡ Some (k, m) →
           (filler_along tree name signature slot ds ≡ Some (k, m) → m.name ≡ name) → m.name ≡ name
       by_class None e b h' later = later h'
       by_class (Some x) e false h' later = later h'
       by_class (Some x) e true h' later =
           let same : x ≡ m = ap (λ (p : ClassName × Method). p.1) (same_some (d, x) (k, m) h') in
-          let passes : IsTrue (same_method_name x.name name && same_signature x.signature signature) = found_itself (λ (y : Method). same_method_name y.name name && same_signature y.signature signature) (methods_in tree d) x e in
+          let passes : IsTrue (same_method_name x.name name && same_signature x.signature signature) = found_itself (λ (y : Method). same_method_name y.name name && same_signature y.signature signature) (methods_declared tree d) x e in
           subst (λ (y : Method). y.name ≡ name) same (same_method_name_equal x.name name (both_first _ _ passes))
 
   class_target_named : (d c k : ClassName) (m : Method) → class_target tree name signature d c ≡ Some (k, m) → m.name ≡ name

@@ -17,7 +17,7 @@ use Rattle.cil_model.specs.declared.trees.MethodKind.{MethodKind}
 use Rattle.cil_model.specs.declared.trees.MethodKind.TheVariants.{Static, Instance, Virtual, Abstract}
 use Rattle.cil_model.specs.Same.{same_flag, same_class, same_options, same_signature, same_method_name}
 use Rattle.cil_model.specs.Declarations.{object_name, string_name, plain}
-use Rattle.cil_model.specs.Chains.{base_of, chain_within, chain_of, longest_chain, methods_in, interfaces_in, is_interface, method_in, nearest, find_method, is_static, is_virtual, is_abstract_method, is_new_slot_method}
+use Rattle.cil_model.specs.Chains.{base_of, chain_within, chain_of, longest_chain, methods_declared, interfaces_declared, is_interface, method_declared, nearest, find_method, is_static, is_virtual, is_abstract_method, is_new_slot_method}
 use Rattle.cil_model.specs.Slots.{slot_filled, slot_along, filler_along, class_target, virtual_in, lists, lister_along, interface_target, target}
 use Rattle.cil_model.specs.Assignable.{array_of, element_named, element_of_class, type_of_class, is_class_assignable, is_element_assignable, is_assignable}
 use Rattle.cil_model.specs.Bodies.{code_of, virtual_reference}
@@ -110,13 +110,13 @@ module _ (tree : Tree) where
 
   module _ (name : MethodName) (signature : Signature) where
     -- a virtual method fills a slot
-    slot_there : (c : ClassName) (cs : List ClassName) (m : Method) → method_in tree name signature c ≡ Some m → IsTrue (is_virtual m.kind) → (slot : ClassName) × (slot_along tree name signature (c ∷ cs) ≡ Some slot)
+    slot_there : (c : ClassName) (cs : List ClassName) (m : Method) → method_declared tree name signature c ≡ Some m → IsTrue (is_virtual m.kind) → (slot : ClassName) × (slot_along tree name signature (c ∷ cs) ≡ Some slot)
     slot_there c cs m here virtual =
         let inherited : Option ClassName = slot_along tree name signature cs in
         (if is_new_slot_method m.kind then c else unwrap_or inherited c, ap (λ o. option_map_or (slot_filled c inherited) o inherited) here ∙ if_true (is_virtual m.kind) _ _ virtual)
 
     -- a slot that a class of the chain fills has a filler
-    filler_there : (slot : ClassName) (before : List ClassName) (c : ClassName) (cs : List ClassName) (m : Method) → method_in tree name signature c ≡ Some m → slot_along tree name signature (c ∷ cs) ≡ Some slot →
+    filler_there : (slot : ClassName) (before : List ClassName) (c : ClassName) (cs : List ClassName) (m : Method) → method_declared tree name signature c ≡ Some m → slot_along tree name signature (c ∷ cs) ≡ Some slot →
         (found : ClassName × Method) × (filler_along tree name signature slot (before ++ c ∷ cs) ≡ Some found)
     filler_there slot [] c cs m here fills =
         let same : IsTrue (same_options same_class (slot_along tree name signature (c ∷ cs)) (Some slot)) = subst (λ o. IsTrue (same_options same_class o (Some slot))) (sym fills) (same_class_itself slot) in (
@@ -125,7 +125,7 @@ module _ (tree : Tree) where
               if_true _ _ _ same,
         )
     filler_there slot (d ∷ ds) c cs m here fills =
-        by_class (method_in tree name signature d) (same_options same_class (slot_along tree name signature (d ∷ rest)) (Some slot)) (filler_there slot ds c cs m here fills)
+        by_class (method_declared tree name signature d) (same_options same_class (slot_along tree name signature (d ∷ rest)) (Some slot)) (filler_there slot ds c cs m here fills)
       where
         rest : List ClassName
         rest = ds ++ c ∷ cs
@@ -145,16 +145,16 @@ module _ (tree : Tree) where
 
     -- a filler is a virtual method of a class of the chain
     abbrev IsFiller : List ClassName → ClassName × Method → Type 0
-    IsFiller cs found = (method_in tree name signature found.0 ≡ Some found.1) × IsTrue (is_virtual found.1.kind) × IsTrue (list_any (same_class found.0) cs)
+    IsFiller cs found = (method_declared tree name signature found.0 ≡ Some found.1) × IsTrue (is_virtual found.1.kind) × IsTrue (list_any (same_class found.0) cs)
 
     filler_is : (slot : ClassName) (cs : List ClassName) (found : ClassName × Method) → filler_along tree name signature slot cs ≡ Some found → IsFiller cs found
     filler_is slot [] found h = none_is_some found h
-    filler_is slot (d ∷ ds) found h = by_class (method_in tree name signature d) refl (same_options same_class (slot_along tree name signature (d ∷ ds)) (Some slot)) refl h (filler_is slot ds found)
+    filler_is slot (d ∷ ds) found h = by_class (method_declared tree name signature d) refl (same_options same_class (slot_along tree name signature (d ∷ ds)) (Some slot)) refl h (filler_is slot ds found)
       where
         behind : IsFiller ds found → IsFiller (d ∷ ds) found
         behind is = (is.0, is.1, or_right _ _ is.2)
 
-        by_class : (o : Option Method) → method_in tree name signature d ≡ o → (b : Bool) → same_options same_class (slot_along tree name signature (d ∷ ds)) (Some slot) ≡ b →
+        by_class : (o : Option Method) → method_declared tree name signature d ≡ o → (b : Bool) → same_options same_class (slot_along tree name signature (d ∷ ds)) (Some slot) ≡ b →
             option_map_or (λ x. if b then Some (d, x) else filler_along tree name signature slot ds) o (filler_along tree name signature slot ds) ≡ Some found →
             (filler_along tree name signature slot ds ≡ Some found → IsFiller ds found) → IsFiller (d ∷ ds) found
         by_class None e b same k later = behind (later k)
@@ -198,11 +198,11 @@ module _ (tree : Tree) where
   found_for name signature x = is_named name signature x && same_flag (is_static x.kind) (not true)
 
   -- System.Object and System.String have no virtual method
-  plain_has_none : (c : ClassName) (p : Method → Bool) (m : Method) → IsTrue (list_any (same_class c) (string_name ∷ object_name ∷ [])) → find p (methods_in tree c) ≡ Some m → is_virtual m.kind ≡ false
+  plain_has_none : (c : ClassName) (p : Method → Bool) (m : Method) → IsTrue (list_any (same_class c) (string_name ∷ object_name ∷ [])) → find p (methods_declared tree c) ≡ Some m → is_virtual m.kind ≡ false
   plain_has_none c p m h e = by_string (either (same_class c string_name) (same_class c object_name || false) h)
     where
-      fails : (k : ClassName) → IsTrue (same_class c k) → list_any (λ (x : Method). is_virtual x.kind) (methods_in tree k) ≡ false → is_virtual m.kind ≡ false
-      fails k same none = found_fails p (λ (x : Method). is_virtual x.kind) (methods_in tree k) m (subst (λ z. find p (methods_in tree z) ≡ Some m) (same_class_equal c k same) e) none
+      fails : (k : ClassName) → IsTrue (same_class c k) → list_any (λ (x : Method). is_virtual x.kind) (methods_declared tree k) ≡ false → is_virtual m.kind ≡ false
+      fails k same none = found_fails p (λ (x : Method). is_virtual x.kind) (methods_declared tree k) m (subst (λ z. find p (methods_declared tree z) ≡ Some m) (same_class_equal c k same) e) none
 
       by_object : IsTrue (same_class c object_name) ⊎ IsTrue false → is_virtual m.kind ≡ false
       by_object (inl same) = fails object_name same refl
@@ -213,7 +213,7 @@ module _ (tree : Tree) where
       by_string (inr rest) = by_object (either (same_class c object_name) false rest)
 
   -- so the type of a class with a virtual method in its chain is named by the class
-  element_is_class : (owner c : ClassName) (p : Method → Bool) (m : Method) → IsTrue (list_any (same_class c) (chain_of tree owner)) → find p (methods_in tree c) ≡ Some m → IsTrue (is_virtual m.kind) → element_of_class owner ≡ Class owner
+  element_is_class : (owner c : ClassName) (p : Method → Bool) (m : Method) → IsTrue (list_any (same_class c) (chain_of tree owner)) → find p (methods_declared tree c) ≡ Some m → IsTrue (is_virtual m.kind) → element_of_class owner ≡ Class owner
   element_is_class owner c p m among e virtual = by_tests (same_class owner object_name) (same_class owner string_name) refl refl
     where
       by_tests : (v w : Bool) → same_class owner object_name ≡ v → same_class owner string_name ≡ w → element_named v w owner ≡ Class owner
@@ -237,8 +237,8 @@ module _ (tree : Tree) where
   pub no_virtuals : NoVirtuals tree
   no_virtuals own owner name signature c m which e fits virtual = by_type which
     where
-      among : (find (found_for (Named name) signature) (methods_in tree c) ≡ Some m) × IsTrue (list_any (same_class c) (chain_of tree owner))
-      among = nearest_at (λ k. find (found_for (Named name) signature) (methods_in tree k)) (chain_of tree owner) c m e
+      among : (find (found_for (Named name) signature) (methods_declared tree c) ≡ Some m) × IsTrue (list_any (same_class c) (chain_of tree owner))
+      among = nearest_at (λ k. find (found_for (Named name) signature) (methods_declared tree k)) (chain_of tree owner) c m e
 
       taken : IsTrue (is_assignable tree own (plain (Class owner)))
       taken = subst (λ x. IsTrue (is_assignable tree own (plain x))) (element_is_class owner c _ m among.1 among.0 virtual) fits
@@ -298,15 +298,15 @@ module _ (tree : Tree) where
     second_fails false b h e = never h
 
     -- a class is assignable to a class of its chain with a virtual method
-    to_class_above : (d k : ClassName) (p : Method → Bool) (m : Method) → element_of_class d ≡ Class d → IsTrue (list_any (same_class k) (chain_of tree d)) → find p (methods_in tree k) ≡ Some m → IsTrue (is_virtual m.kind) → IsTrue (is_assignable tree (type_of_class d) (type_of_class k))
+    to_class_above : (d k : ClassName) (p : Method → Bool) (m : Method) → element_of_class d ≡ Class d → IsTrue (list_any (same_class k) (chain_of tree d)) → find p (methods_declared tree k) ≡ Some m → IsTrue (is_virtual m.kind) → IsTrue (is_assignable tree (type_of_class d) (type_of_class k))
     to_class_above d k p m own among e virtual =
         let named : element_of_class k ≡ Class k = element_is_class k k p m (or_left _ _ (same_class_itself k)) e virtual in
-        let link : IsTrue (is_class_assignable tree d k) = weaker (same_class k) (λ x. same_class x k || list_any (same_class k) (interfaces_in tree x)) (λ x same. or_left _ _ (subst (λ z. IsTrue (same_class z k)) (same_class_equal k x same) (same_class_itself k))) (chain_of tree d) among in
+        let link : IsTrue (is_class_assignable tree d k) = weaker (same_class k) (λ x. same_class x k || list_any (same_class k) (interfaces_declared tree x)) (λ x same. or_left _ _ (subst (λ z. IsTrue (same_class z k)) (same_class_equal k x same) (same_class_itself k))) (chain_of tree d) among in
         subst (λ x. IsTrue (is_element_assignable tree x (element_of_class k))) (sym own) (subst (λ x. IsTrue (is_element_assignable tree (Class d) x)) (sym named) link)
 
     module _ (d : ClassName) (concrete : IsTrue (is_concrete tree d)) (own : element_of_class d ≡ Class d) (f : ClassName) (among : IsTrue (list_any (same_class f) (chain_of tree d))) where
       -- the slot of a virtual method of a class of the chain has a filler
-      target_there : (name : MethodName) (signature : Signature) (m : Method) → method_in tree name signature f ≡ Some m → IsTrue (is_virtual m.kind) →
+      target_there : (name : MethodName) (signature : Signature) (m : Method) → method_declared tree name signature f ≡ Some m → IsTrue (is_virtual m.kind) →
           (found : ClassName × Method) × (class_target tree name signature d f ≡ Some found) × IsFiller name signature (chain_of tree d) found
       target_there name signature m here virtual =
           let rest : List ClassName = chain_within tree (suc (suc (length tree.classes))) (base_of tree f) in
@@ -317,17 +317,17 @@ module _ (tree : Tree) where
           (filler.0, ap (option_and_then (λ s. filler_along tree name signature s (chain_of tree d))) slot.1 ∙ fills, filler_is name signature slot.0 (chain_of tree d) filler.0 fills)
 
       -- which isn't abstract
-      target_not_abstract : (name : MethodName) (signature : Signature) (m : Method) → method_in tree name signature f ≡ Some m → IsTrue (is_virtual m.kind) →
+      target_not_abstract : (name : MethodName) (signature : Signature) (m : Method) → method_declared tree name signature f ≡ Some m → IsTrue (is_virtual m.kind) →
           (found : ClassName × Method) → class_target tree name signature d f ≡ Some found → is_abstract_method found.1.kind ≡ false
       target_not_abstract name signature m here virtual found e =
           let opens : Method → Bool = λ x. is_virtual x.kind && is_filled_abstract (class_target tree x.name x.signature d f) in
-          let none : list_any opens (methods_in tree f) ≡ false = none_at (λ k. list_any (λ (x : Method). is_virtual x.kind && is_filled_abstract (class_target tree x.name x.signature d k)) (methods_in tree k)) (chain_of tree d) f (no_abstract_slot tree legal d concrete) among in
-          let filled : is_filled_abstract (class_target tree m.name m.signature d f) ≡ false = second_fails (is_virtual m.kind) _ virtual (found_fails (is_named name signature) opens (methods_in tree f) m here none) in
-          let is : IsTrue (is_named name signature m) = found_itself (is_named name signature) (methods_in tree f) m here in
+          let none : list_any opens (methods_declared tree f) ≡ false = none_at (λ k. list_any (λ (x : Method). is_virtual x.kind && is_filled_abstract (class_target tree x.name x.signature d k)) (methods_declared tree k)) (chain_of tree d) f (no_abstract_slot tree legal d concrete) among in
+          let filled : is_filled_abstract (class_target tree m.name m.signature d f) ≡ false = second_fails (is_virtual m.kind) _ virtual (found_fails (is_named name signature) opens (methods_declared tree f) m here none) in
+          let is : IsTrue (is_named name signature m) = found_itself (is_named name signature) (methods_declared tree f) m here in
           let same : class_target tree m.name m.signature d f ≡ class_target tree name signature d f = ap (λ n. class_target tree n m.signature d f) (named_name name signature m is) ∙ ap (λ s. class_target tree name s d f) (named_signature name signature m is) in
           sym (ap is_filled_abstract (same ∙ e)) ∙ filled
 
-      class_runs : (name : MethodName) (signature : Signature) (m : Method) → method_in tree name signature f ≡ Some m → IsTrue (is_virtual m.kind) → Runs d signature (class_target tree name signature d f)
+      class_runs : (name : MethodName) (signature : Signature) (m : Method) → method_declared tree name signature f ≡ Some m → IsTrue (is_virtual m.kind) → Runs d signature (class_target tree name signature d f)
       class_runs name signature m here virtual =
           let there = target_there name signature m here virtual in
           let found : ClassName × Method = there.0 in
@@ -338,25 +338,25 @@ module _ (tree : Tree) where
             body.0,
             there.1,
             body.1,
-            named_signature name signature found.1 (found_itself (is_named name signature) (methods_in tree found.0) found.1 filler.0),
+            named_signature name signature found.1 (found_itself (is_named name signature) (methods_declared tree found.0) found.1 filler.0),
             body.2,
             to_class_above d found.0 (is_named name signature) found.1 own filler.2 filler.0 filler.1,
           )
 
     -- what is found under a name has that name
-    own_name : (name : MethodName) (signature : Signature) (c : ClassName) (m : Method) → method_in tree name signature c ≡ Some m → method_in tree m.name m.signature c ≡ Some m
+    own_name : (name : MethodName) (signature : Signature) (c : ClassName) (m : Method) → method_declared tree name signature c ≡ Some m → method_declared tree m.name m.signature c ≡ Some m
     own_name name signature c m h =
-        let is : IsTrue (is_named name signature m) = found_itself (is_named name signature) (methods_in tree c) m h in
-        ap (λ n. method_in tree n m.signature c) (named_name name signature m is) ∙ ap (λ s. method_in tree name s c) (named_signature name signature m is) ∙ h
+        let is : IsTrue (is_named name signature m) = found_itself (is_named name signature) (methods_declared tree c) m h in
+        ap (λ n. method_declared tree n m.signature c) (named_name name signature m is) ∙ ap (λ s. method_declared tree name s c) (named_signature name signature m is) ∙ h
 
-    virtual_is : (name : MethodName) (signature : Signature) (c : ClassName) (m : Method) → virtual_in tree name signature c ≡ Some m → (method_in tree name signature c ≡ Some m) × IsTrue (is_virtual m.kind)
-    virtual_is name signature c m h = by_method (method_in tree name signature c) refl h
+    virtual_is : (name : MethodName) (signature : Signature) (c : ClassName) (m : Method) → virtual_in tree name signature c ≡ Some m → (method_declared tree name signature c ≡ Some m) × IsTrue (is_virtual m.kind)
+    virtual_is name signature c m h = by_method (method_declared tree name signature c) refl h
       where
-        by_kind : (x : Method) (v : Bool) → is_virtual x.kind ≡ v → (if v then Some x else None) ≡ Some m → method_in tree name signature c ≡ Some x → (method_in tree name signature c ≡ Some m) × IsTrue (is_virtual m.kind)
-        by_kind x true is k e = subst (λ y. (method_in tree name signature c ≡ Some y) × IsTrue (is_virtual y.kind)) (same_some x m k) (e, is)
+        by_kind : (x : Method) (v : Bool) → is_virtual x.kind ≡ v → (if v then Some x else None) ≡ Some m → method_declared tree name signature c ≡ Some x → (method_declared tree name signature c ≡ Some m) × IsTrue (is_virtual m.kind)
+        by_kind x true is k e = subst (λ y. (method_declared tree name signature c ≡ Some y) × IsTrue (is_virtual y.kind)) (same_some x m k) (e, is)
         by_kind x false is k e = none_is_some m k
 
-        by_method : (o : Option Method) → method_in tree name signature c ≡ o → option_and_then (λ (x : Method). if is_virtual x.kind then Some x else None) o ≡ Some m → (method_in tree name signature c ≡ Some m) × IsTrue (is_virtual m.kind)
+        by_method : (o : Option Method) → method_declared tree name signature c ≡ o → option_and_then (λ (x : Method). if is_virtual x.kind then Some x else None) o ≡ Some m → (method_declared tree name signature c ≡ Some m) × IsTrue (is_virtual m.kind)
         by_method None e k = none_is_some m k
         by_method (Some x) e k = by_kind x (is_virtual x.kind) refl k e
 
@@ -366,12 +366,12 @@ module _ (tree : Tree) where
       Lister i cs = (k : ClassName) × (lister_along tree name signature i cs ≡ Some k) × IsTrue (list_any (same_class k) cs) × IsTrue (lists tree name signature i k)
 
       -- a class is in a chain, or a class of the chain lists it
-      met_or_listed : (i : ClassName) (cs : List ClassName) → IsTrue (list_any (λ k. same_class k i || list_any (same_class i) (interfaces_in tree k)) cs) → IsTrue (list_any (same_class i) cs) ⊎ Lister i cs
+      met_or_listed : (i : ClassName) (cs : List ClassName) → IsTrue (list_any (λ k. same_class k i || list_any (same_class i) (interfaces_declared tree k)) cs) → IsTrue (list_any (same_class i) cs) ⊎ Lister i cs
       met_or_listed i [] h = never h
       met_or_listed i (c ∷ cs) h = by_test (lists_it c) refl (met_or_listed i cs)
         where
           lists_it : ClassName → Bool
-          lists_it k = list_any (same_class i) (interfaces_in tree k)
+          lists_it k = list_any (same_class i) (interfaces_declared tree k)
 
           MetBehind : Type 0
           MetBehind = IsTrue (list_any (λ k. same_class k i || lists_it k) cs) → IsTrue (list_any (same_class i) cs) ⊎ Lister i cs
@@ -394,7 +394,7 @@ module _ (tree : Tree) where
 
     module _ (d : ClassName) (concrete : IsTrue (is_concrete tree d)) (own : element_of_class d ≡ Class d) where
       -- an interface's method is implemented along the chain of the nearest class that lists it
-      interface_runs : (i : ClassName) (m : Method) → method_in tree m.name m.signature i ≡ Some m → Lister m.name m.signature i (chain_of tree d) → Runs d m.signature (interface_target tree m.name m.signature d i)
+      interface_runs : (i : ClassName) (m : Method) → method_declared tree m.name m.signature i ≡ Some m → Lister m.name m.signature i (chain_of tree d) → Runs d m.signature (interface_target tree m.name m.signature d i)
       interface_runs i m here (k, nearest_lister, among, is) = by_found (nearest (virtual_in tree m.name m.signature) (chain_of tree k)) refl (implements_listed tree legal k i m is (is_named m.name m.signature) here)
         where
           by_found : (o : Option (ClassName × Method)) → nearest (virtual_in tree m.name m.signature) (chain_of tree k) ≡ o → IsTrue (is_some o) → Runs d m.signature (interface_target tree m.name m.signature d i)
@@ -408,7 +408,7 @@ module _ (tree : Tree) where
               ap (option_and_then (λ z. option_and_then (λ (p : ClassName × Method). class_target tree m.name m.signature d p.0) (nearest (virtual_in tree m.name m.signature) (chain_of tree z)))) nearest_lister ∙ through in
               subst (Runs d m.signature) (sym same) (class_runs d concrete own f above m.name m.signature x virtual.0 virtual.1)
 
-      module _ (is_class : is_interface tree d ≢ true) (owner c : ClassName) (m : Method) (here : method_in tree m.name m.signature c ≡ Some m) (virtual : IsTrue (is_virtual m.kind)) (searched : IsTrue (list_any (same_class c) (chain_of tree owner))) where
+      module _ (is_class : is_interface tree d ≢ true) (owner c : ClassName) (m : Method) (here : method_declared tree m.name m.signature c ≡ Some m) (virtual : IsTrue (is_virtual m.kind)) (searched : IsTrue (list_any (same_class c) (chain_of tree owner))) where
         by_interface : (v : Bool) → is_interface tree c ≡ v → IsTrue (list_any (same_class owner) (chain_of tree d)) ⊎ Lister m.name m.signature owner (chain_of tree d) →
             Runs d m.signature (if v then interface_target tree m.name m.signature d c else class_target tree m.name m.signature d c)
         by_interface false e (inl met) = class_runs d concrete own c (in_whole (same_class c) d owner (ends_with d owner met) searched) m.name m.signature m here virtual
@@ -426,9 +426,9 @@ module _ (tree : Tree) where
     -- a virtual call on an object of a class that has objects finds a method with code
     pub targets_run : TargetsRun tree
     targets_run d owner name signature c m concrete is_class e virtual fits =
-        let found = nearest_at (λ k. find (found_for (Named name) signature) (methods_in tree k)) (chain_of tree owner) c m e in
-        let there : method_in tree (Named name) signature c ≡ Some m = only_named (Named name) signature (λ (x : Method). same_flag (is_static x.kind) (not true)) (methods_in tree c) m (methods_differ tree legal c) found.0 in
-        let here : method_in tree m.name m.signature c ≡ Some m = own_name (Named name) signature c m there in
+        let found = nearest_at (λ k. find (found_for (Named name) signature) (methods_declared tree k)) (chain_of tree owner) c m e in
+        let there : method_declared tree (Named name) signature c ≡ Some m = only_named (Named name) signature (λ (x : Method). same_flag (is_static x.kind) (not true)) (methods_declared tree c) m (methods_differ tree legal c) found.0 in
+        let here : method_declared tree m.name m.signature c ≡ Some m = own_name (Named name) signature c m there in
         let owner_type : element_of_class owner ≡ Class owner = element_is_class owner c _ m found.1 found.0 virtual in
         let below = below_class d owner (subst (λ x. IsTrue (is_element_assignable tree (element_of_class d) x)) owner_type fits) in
         let runs = by_interface d concrete below.0 is_class owner c m here virtual found.1 (is_interface tree c) refl (met_or_listed m.name m.signature owner (chain_of tree d) below.1) in

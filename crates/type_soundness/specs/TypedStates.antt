@@ -7,7 +7,7 @@ use Rattle.cil_model.specs.declared.trees.Tree.{Tree}
 use Rattle.cil_model.specs.declared.trees.Code.{Code}
 use Rattle.cil_model.specs.Same.{same_text, same_class}
 use Rattle.cil_model.specs.Declarations.{string_name, plain}
-use Rattle.cil_model.specs.Chains.{methods_in, is_interface}
+use Rattle.cil_model.specs.Chains.{methods_declared, is_interface}
 use Rattle.cil_model.specs.Assignable.{is_reference, is_assignable}
 use Rattle.cil_model.specs.Fields.{FieldKey, instance_fields, static_fields}
 use Rattle.cil_model.specs.Bodies.{code_of, argument_types}
@@ -93,7 +93,7 @@ pub record IsConstructing (s : State) (f : Frame) (n : ObjectName) : Type 0 wher
 pub record IsTypedFrame (tree : Tree) (s : State) (given : Option DeclaredType) (f : Frame) : Type 0 where
   pub code : Code
   pub typing : Typing
-  pub is_declared : (n : ℕ) × (slice_get (methods_in tree f.owner) n ≡ Some f.method)
+  pub is_declared : (n : ℕ) × (slice_get (methods_declared tree f.owner) n ≡ Some f.method)
   pub has_code : code_of f.method.kind ≡ Some code
   pub is_typing : IsCodeTyping tree (argument_types f.method f.owner) f.method.signature.return_type code typing
   pub arguments : HaveTypes tree s f.arguments (argument_types f.method f.owner)

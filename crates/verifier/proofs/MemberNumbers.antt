@@ -8,13 +8,13 @@ use Rattle.cil_model.specs.declared.types.ClassName.{ClassName}
 use Rattle.cil_model.specs.declared.trees.Tree.{Tree}
 use Rattle.cil_model.specs.declared.trees.Class.{Class}
 use Rattle.cil_model.specs.declared.trees.Method.{Method}
-use Rattle.cil_model.specs.Declarations.{Declaration, source_name, methods_of}
+use Rattle.cil_model.specs.Declarations.{Declaration, source_name, method_members}
 use Rattle.name_tables.specs.declared.lookups.MemberNumber.{MemberNumber}
 use Rattle.name_tables.specs.Numbers.{declarations, source_entry, method_at}
 use Rattle.verifier.specs.Members.{methods_at, own_methods}
 
 -- the method at a place of a class of the source
-pub next_of_class : (tree : Tree) (c : Class) (class place : ℕ) (m : Method) → slice_get (declarations tree) class ≡ Some (source_entry c) → slice_get (methods_of c) place ≡ Some m → method_at tree (class, place) ≡ Some (source_name c, m)
+pub next_of_class : (tree : Tree) (c : Class) (class place : ℕ) (m : Method) → slice_get (declarations tree) class ≡ Some (source_entry c) → slice_get (method_members c) place ≡ Some m → method_at tree (class, place) ≡ Some (source_name c, m)
 next_of_class tree c class place m here there =
     ap (option_and_then {U = ClassName × Method} (λ (e : ClassName × Declaration). option_map {U = ClassName × Method} (λ x. (e.0, x)) (slice_get e.1.methods place))) here
     ∙ ap (option_map {U = ClassName × Method} (λ x. (source_name c, x))) there
@@ -25,7 +25,7 @@ source_class tree place c there = simp unary_clauses (slice_get-map source_entry
 
 -- one number more, and the methods that are left
 pub number_added : (tree : Tree) (c : Class) (class place : ℕ) (so_far : List MemberNumber) {X : Type 0} (shown : X → Method) (xs : List X) (x : X) (whole : List (Option (ClassName × Method))) →
-    slice_get (declarations tree) class ≡ Some (source_entry c) → map shown xs ≡ methods_of c → place < length xs → x ≡ get_or xs place x →
+    slice_get (declarations tree) class ≡ Some (source_entry c) → map shown xs ≡ method_members c → place < length xs → x ≡ get_or xs place x →
     methods_at tree so_far ++ map Some (map (λ (m : Method). (source_name c, m)) (map shown (drop place xs))) ≡ whole →
     methods_at tree (so_far ++ record { class = class; place = place } ∷ []) ++ map Some (map (λ (m : Method). (source_name c, m)) (map shown (drop (place + 1) xs))) ≡ whole
 number_added tree c class place so_far {X} shown xs x whole here all below at invariant =

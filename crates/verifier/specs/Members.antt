@@ -4,7 +4,7 @@ use Rattle.cil_model.specs.declared.types.ClassName.{ClassName}
 use Rattle.cil_model.specs.declared.trees.Tree.{Tree}
 use Rattle.cil_model.specs.declared.trees.Class.{Class}
 use Rattle.cil_model.specs.declared.trees.Method.{Method}
-use Rattle.cil_model.specs.Declarations.{source_name, methods_of}
+use Rattle.cil_model.specs.Declarations.{source_name, method_members}
 use Rattle.name_tables.specs.declared.lookups.MemberNumber.{MemberNumber}
 use Rattle.name_tables.specs.Numbers.{method_at}
 
@@ -14,4 +14,4 @@ methods_at tree members = map (λ (n : MemberNumber). method_at tree (n.class, n
 
 -- the methods of a class of the source, each with it
 abbrev pub own_methods : Class → List (ClassName × Method)
-own_methods c = map (λ (m : Method). (source_name c, m)) (methods_of c)
+own_methods c = map (λ (m : Method). (source_name c, m)) (method_members c)

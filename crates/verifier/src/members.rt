@@ -4,13 +4,13 @@ ghost use Rattle.std.specs.Prelude.{◌≡◌, ◌++◌, map, IfOk, OnOk, Some, 
 ghost use Rattle.cil_model.specs.declared.trees.Tree.{Tree as SourceTree};
 ghost use Rattle.cil_model.specs.declared.trees.Class.{Class as SourceClass};
 ghost use Rattle.cil_model.specs.Bodies.{source_methods};
-ghost use Rattle.cil_model.specs.Declarations.{methods_of};
+ghost use Rattle.cil_model.specs.Declarations.{method_members};
 ghost use Rattle.name_tables.specs.Numbers.{declarations, source_entry};
 ghost use Rattle.verifier.specs.Members.{methods_at, own_methods};
 
 use cil_model::memory::NoMemory;
 use cil_model::trees::{Class, Method, Tree};
-use name_tables::classes::methods_of;
+use name_tables::classes::method_members;
 use name_tables::lookups::MemberNumber;
 use std::alloc::Global;
 
@@ -24,7 +24,7 @@ fn add_numbers(
     methods: &[&Method],
     members: &mut Vec<MemberNumber>,
 ) -> Result<(), NoMemory>
-    ensures { (tree : SourceTree) (c : SourceClass) → slice_get (declarations tree) class ≡ Some (source_entry c) → map (λ m. m.now) methods.now ≡ methods_of c →
+    ensures { (tree : SourceTree) (c : SourceClass) → slice_get (declarations tree) class ≡ Some (source_entry c) → map (λ m. m.now) methods.now ≡ method_members c →
         OnOk result (methods_at tree members.new.items ≡ methods_at tree members.old.items ++ map Some (own_methods c)) }
 {
     for (place, _method) in methods.iter().enumerate() {
@@ -47,7 +47,7 @@ fn add_class(
     let Some(number) = place.checked_add(FIRST_OF_SOURCE) else {
         return Err(NoMemory);
     };
-    let methods = methods_of(alloc, class)?;
+    let methods = method_members(alloc, class)?;
     add_numbers(number, methods.as_slice(), members)
 }
 

@@ -4,7 +4,7 @@ use Rattle.std.proofs.lemmas.Option.{none-some, slice_get-map, slice_get_read}
 use Rattle.cil_model.specs.declared.types.ClassName.{ClassName}
 use Rattle.cil_model.specs.declared.trees.Field.{Field}
 use Rattle.cil_model.specs.Declarations.{Declaration}
-use Rattle.cil_model.specs.Chains.{fields_in, listed_by}
+use Rattle.cil_model.specs.Chains.{fields_declared, listed_by}
 use Rattle.name_tables.specs.Numbers.{declarations}
 use Rattle.resolved_code.specs.declared.classes.ResolvedClass.{ResolvedClass}
 use Rattle.resolved_code.specs.declared.classes.ResolvedField.{ResolvedField}
@@ -38,13 +38,13 @@ loop-class-preserved c =
     let found : AlikeTo (IsClass t) (declarations t) i r = alike_to (IsClass t) (declarations t) s.all.now i r c.requires.resolved read in
     let e : ClassName × Declaration = found.item in
     let fields : c.as_slice-fields.result.now ≡ r.fields = c.as_slice-fields.ensures ∙ sym (ap (λ (x : ResolvedClass). x.fields) c.index-all-class.is) in
-    let own : fields_in t e.0 ≡ e.1.fields = ap (listed_by (λ (d : Declaration). d.fields)) (declared_at t s.legal i e found.there) in
-    let flags : map (λ (f : ResolvedField). f.is_static) c.as_slice-fields.result.now ≡ map (λ (f : Field). f.is_static) (fields_in t e.0) =
+    let own : fields_declared t e.0 ≡ e.1.fields = ap (listed_by (λ (d : Declaration). d.fields)) (declared_at t s.legal i e found.there) in
+    let flags : map (λ (f : ResolvedField). f.is_static) c.as_slice-fields.result.now ≡ map (λ (f : Field). f.is_static) (fields_declared t e.0) =
     ap (map (λ (f : ResolvedField). f.is_static)) fields ∙ flags_alike t e.1.fields r.fields found.alike.fields ∙ ap (map (λ (f : Field). f.is_static)) (sym own) in
     let slot : c.first_slot.result ≡ first_slot t e.0 = c.first_slot.ensures ∙ slot_alike t _ _ i e c.requires.kinds c.requires.own found.there in
-    let row : c.in_ok-field_row.field-0.items ≡ numbered_fields next (first_slot t e.0) (fields_in t e.0) =
-    c.in_ok-field_row.ensures ∙ ap (λ n. numbered_by_flag next n (map (λ (f : ResolvedField). f.is_static) c.as_slice-fields.result.now)) slot ∙ ap (numbered_by_flag next (first_slot t e.0)) flags ∙ numbered_alike next (first_slot t e.0) (fields_in t e.0) in
-    let after : c.in_ok-next.next ≡ statics_after next (fields_in t e.0) = c.in_ok-next.ensures ∙ ap (statics_by_flag next) flags ∙ statics_alike next (fields_in t e.0) in
+    let row : c.in_ok-field_row.field-0.items ≡ numbered_fields next (first_slot t e.0) (fields_declared t e.0) =
+    c.in_ok-field_row.ensures ∙ ap (λ n. numbered_by_flag next n (map (λ (f : ResolvedField). f.is_static) c.as_slice-fields.result.now)) slot ∙ ap (numbered_by_flag next (first_slot t e.0)) flags ∙ numbered_alike next (first_slot t e.0) (fields_declared t e.0) in
+    let after : c.in_ok-next.next ≡ statics_after next (fields_declared t e.0) = c.in_ok-next.ensures ∙ ap (statics_by_flag next) flags ∙ statics_alike next (fields_declared t e.0) in
     let named : slice_get names i ≡ Some e.0 = slice_get-map (λ (x : ClassName × Declaration). x.0) (declarations t) i ∙ ap (option_map (λ (x : ClassName × Declaration). x.0)) found.there in
     let before = map (λ row. row.items) c.loop-class.rows.items in
     let rest = drop (i + 1) names in
@@ -52,7 +52,7 @@ loop-class-preserved c =
     ap (λ rows. rows ++ field_rows t c.in_ok-next.next rest) (map-append (λ row. row.items) c.loop-class.rows.items (c.in_ok-field_row.field-0 ∷ [])) ∙
     append_assoc before (c.in_ok-field_row.field-0.items ∷ []) (field_rows t c.in_ok-next.next rest) ∙
     ap (λ ns. before ++ (ns ∷ field_rows t c.in_ok-next.next rest)) row ∙
-    ap (λ n. before ++ (numbered_fields next (first_slot t e.0) (fields_in t e.0) ∷ field_rows t n rest)) after ∙
+    ap (λ n. before ++ (numbered_fields next (first_slot t e.0) (fields_declared t e.0) ∷ field_rows t n rest)) after ∙
     ap (λ cs. before ++ field_rows t next cs) (sym (drop_at names i e.0 named)) ∙ c.loop-class.invariant
 
 pub returns : goal.returns

@@ -1,7 +1,7 @@
 use Rattle.std.proofs.Common.{Global, Vec, ◌≡◌, ◌<◌, ◌≤◌, ◌+◌, get_or, length, map, subst, sym}
 use Rattle.std.specs.List.{filter_map}
 use Rattle.std.proofs.lemmas.List.{take_all}
-use Rattle.cil_model.specs.Declarations.{method_of, source_name}
+use Rattle.cil_model.specs.Declarations.{as_method, source_name}
 use Rattle.cil_model.specs.declared.trees.Method.{Method}
 use Rattle.event_trace.specs.declared.method_places.MethodPlace.{MethodPlace}
 use Rattle.event_trace.proofs.PlaceLaws.{Stand, field_more, method_more, own_methods}
@@ -30,5 +30,5 @@ pub returns : goal.returns
 returns c first tree k there same =
     let past : length c.args.members.now ≤ c.loop-member.member = c.loop-member-test.false in
     let all : length k.members ≤ c.loop-member.member = subst (λ ms. length ms ≤ c.loop-member.member) (sym same) past in
-    subst (λ ms. Stand first tree c.args.places.now.items c.loop-member.places.items (map (λ (m : Method). (source_name k, m)) (filter_map method_of ms))) (take_all c.loop-member.member k.members all)
+    subst (λ ms. Stand first tree c.args.places.now.items c.loop-member.places.items (map (λ (m : Method). (source_name k, m)) (filter_map as_method ms))) (take_all c.loop-member.member k.members all)
     (c.loop-member.invariant first tree k there same)

@@ -3,7 +3,7 @@ use Rattle.std.specs.List.{list_any, list_all}
 use Rattle.cil_model.specs.declared.types.ClassName.{ClassName}
 use Rattle.cil_model.specs.declared.trees.Method.{Method}
 use Rattle.cil_model.specs.Declarations.{source_name, interfaces_named}
-use Rattle.cil_model.specs.Chains.{methods_in}
+use Rattle.cil_model.specs.Chains.{methods_declared}
 use Rattle.name_tables.specs.Numbers.{chain_numbers}
 use Rattle.name_tables.specs.Sameness.{identity_of}
 use Rattle.metadata.specs.Found.{is_virtual_found}
@@ -14,6 +14,6 @@ pub returns : goal.returns
 returns c =
     let t = c.args.names.now.classes.tree.now in
     let k = c.args.class.now in
-    let all : List ℕ → List ClassName → Bool = λ ns is. list_all (λ i. list_all (λ (m : Method). list_any (is_virtual_found t (identity_of m)) ns) (methods_in t i)) is in
+    let all : List ℕ → List ClassName → Bool = λ ns is. list_all (λ i. list_all (λ (m : Method). list_any (is_virtual_found t (identity_of m)) ns) (methods_declared t i)) is in
     c.absent_in_list.ensures ∙ ap (λ ns. all ns c.interfaces_named.result.now) (c.chain.ensures ∙ ap (chain_numbers t) c.of_source-own.ensures) ∙ ap (all (chain_numbers t (source_name k))) c.interfaces_named.ensures ∙
     implemented t (source_name k) (interfaces_named k.kind)

@@ -1,7 +1,7 @@
 use Rattle.std.proofs.Common.{◌≡◌, is_some, Bool, true, false, sym, ap, ◌∙◌}
 use Rattle.cil_model.specs.Declarations.{source_name}
-use Rattle.cil_model.specs.Chains.{base_of, chain_within, longest_chain, nearest, method_in, is_virtual, is_new_slot_method}
-use Rattle.cil_model.specs.Legality.{is_found_plain}
+use Rattle.cil_model.specs.Chains.{base_of, chain_within, longest_chain, nearest, method_declared, is_virtual, is_new_slot_method}
+use Rattle.cil_model.specs.Legality.{is_found_not_virtual}
 use Rattle.name_tables.specs.Sameness.{identity_of}
 use Rattle.metadata.specs.Found.{plain_numbered}
 use Rattle.metadata.proofs.SlotLaws.{nearest_plain}
@@ -18,4 +18,4 @@ returns c =
     let found : Bool = plain_numbered t (identity_of m) c.base_chain.result.now in
     let own : is_some c.plain_base.result ≡ found = c.plain_base.ensures ∙ ap (λ k. plain_numbered t k c.base_chain.result.now) c.new-key.ensures in
     let rule = own ∙ ap (plain_numbered t (identity_of m)) c.base_chain.ensures ∙ sym (nearest_plain t (identity_of m) base) in
-    rule ∙ sym (third_decides (is_virtual m.kind) (is_new_slot_method m.kind) (is_found_plain (nearest (method_in t m.name m.signature) base)) v s)
+    rule ∙ sym (third_decides (is_virtual m.kind) (is_new_slot_method m.kind) (is_found_not_virtual (nearest (method_declared t m.name m.signature) base)) v s)

@@ -4,7 +4,7 @@ use Rattle.std.proofs.Math.Seq.{take-length}
 use Rattle.cil_model.specs.declared.trees.Class.{Class}
 use Rattle.cil_model.specs.declared.trees.Field.{Field}
 use Rattle.cil_model.specs.declared.types.DeclaredType.{DeclaredType}
-use Rattle.cil_model.specs.Declarations.{fields_of, methods_of}
+use Rattle.cil_model.specs.Declarations.{field_members, method_members}
 use Rattle.cil_model.specs.Mentions.{types_of_method}
 use Rattle.metadata.proofs.MentionLaws.{types_by_class}
 use Rattle.metadata.proofs.mentions.types_of_tree.Goals as goal
@@ -12,8 +12,8 @@ use Rattle.metadata.proofs.mentions.types_of_tree.Goals as goal
 pub returns : goal.returns
 returns c =
     let t = c.args.tree.now in
-    let of_fields : List Class → List DeclaredType = λ cs. flat_map (λ (k : Class). map (λ (f : Field). f.field_type) (fields_of k)) cs in
-    let of_methods : List Class → List DeclaredType = λ cs. flat_map (λ (k : Class). flat_map types_of_method (methods_of k)) cs in
+    let of_fields : List Class → List DeclaredType = λ cs. flat_map (λ (k : Class). map (λ (f : Field). f.field_type) (field_members k)) cs in
+    let of_methods : List Class → List DeclaredType = λ cs. flat_map (λ (k : Class). flat_map types_of_method (method_members k)) cs in
     let first = c.as_slice-declared-items.result.now in
     let second = c.as_slice-declared-items-2.result.now in
     let y : c.loop-class.class ≡ length first = omega arith in

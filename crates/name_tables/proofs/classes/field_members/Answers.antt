@@ -1,0 +1,21 @@
+use Rattle.std.proofs.Common.{◌≡◌, map, arith, sym, ap, ◌∙◌, ◌++◌, ◌∷◌, [], take, ◌+◌}
+use Rattle.std.proofs.lemmas.List.{map-append, append-nil}
+use Rattle.std.specs.List.{filter_map}
+use Rattle.cil_model.specs.Declarations.{as_field}
+use Rattle.name_tables.proofs.Lists.{filter_map-take_more}
+use Rattle.name_tables.proofs.classes.field_members.Goals as goal
+
+pub loop-member-preserved-in_default : goal.loop-member-preserved-in_default
+loop-member-preserved-in_default c =
+    let step : filter_map as_field (take (c.loop-member.member-index + 1) c.as_slice-member-items.result.now) ≡ filter_map as_field (take c.loop-member.member-index c.as_slice-member-items.result.now) ++ filter_map as_field (c.member-item.result ∷ []) =
+    filter_map-take_more as_field c.as_slice-member-items.result.now c.loop-member.member-index c.member-item.result (omega arith) c.member-item.is in
+    let none : filter_map as_field (c.member-item.result ∷ []) ≡ [] = ap (λ y. filter_map as_field (y ∷ [])) c.in_default.is in
+    c.loop-member.invariant ∙ sym (step ∙ ap (λ z. filter_map as_field (take c.loop-member.member-index c.as_slice-member-items.result.now) ++ z) none ∙ append-nil _)
+
+pub loop-member-preserved : goal.loop-member-preserved
+loop-member-preserved c =
+    let step : filter_map as_field (take (c.loop-member.member-index + 1) c.as_slice-member-items.result.now) ≡ filter_map as_field (take c.loop-member.member-index c.as_slice-member-items.result.now) ++ filter_map as_field (c.member-item.result ∷ []) =
+    filter_map-take_more as_field c.as_slice-member-items.result.now c.loop-member.member-index c.member-item.result (omega arith) c.member-item.is in
+    let one : filter_map as_field (c.member-item.result ∷ []) ≡ c.in-Field.field ∷ [] = ap (λ y. filter_map as_field (y ∷ [])) c.in-Field.is in
+    ap (map (λ f. f.now)) c.in_ok-push.ensures.items ∙ map-append (λ f. f.now) c.loop-member.fields.items _ ∙ ap (λ z. z ++ c.in-Field.field ∷ []) c.loop-member.invariant ∙
+    sym (step ∙ ap (λ z. filter_map as_field (take c.loop-member.member-index c.as_slice-member-items.result.now) ++ z) one)

@@ -1,7 +1,0 @@
-use Rattle.std.proofs.Common.{◌≡◌, map, take}
-use Rattle.std.specs.List.{filter_map}
-use Rattle.cil_model.specs.Declarations.{method_of}
-use Rattle.name_tables.proofs.classes.methods_of.Given as goal
-
-abbrev pub invariant-loop-member : goal.invariant-loop-member
-invariant-loop-member l = map (λ f. f.now) l.methods.items ≡ filter_map method_of (take l.member-index l.member-items)
