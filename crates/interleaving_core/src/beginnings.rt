@@ -18,10 +18,10 @@ ghost use Rattle.threads_monitors.specs.Threads.{new_thread};
 use cil_model::limits::{Limits, MOST_ARGUMENTS, MOST_LOCALS};
 use class_layout::Layout;
 use interpreter::targets::chosen;
-use metadata::Program;
 use method_table::MethodTable;
 use name_tables::lookups::MemberNumber;
 use object_memory::{Addr, Heap};
+use programs::Program;
 use threads_monitors::Beginning;
 
 /// How many values a frame may hold: arguments, locals, 64 on the stack, and a new object beneath the operands of its constructor.

@@ -12,8 +12,8 @@ use Rattle.cil_model.proofs.BelowLaws.{none_is_some}
 use Rattle.resolved_code.specs.Resolved.{IsOperation, IsBody}
 use Rattle.resolved_code.specs.declared.classes.Body.{Body}
 use Rattle.resolved_code.specs.declared.operations.Operation.{Operation}
-use Rattle.metadata.specs.Contents.{BothAlike}
-use Rattle.metadata.proofs.MemberLaws.{alike_at}
+use Rattle.programs.specs.Contents.{BothAlike}
+use Rattle.programs.proofs.MemberLaws.{alike_at}
 use Rattle.threads_monitors.specs.Frames.{Frames}
 use Rattle.interpreter.specs.Instructions.{IsAt, method_of, line_at}
 

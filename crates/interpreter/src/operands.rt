@@ -9,9 +9,9 @@ ghost use Rattle.resolved_code.specs.Numbered.{type_at};
 ghost use Rattle.interpreter.specs.Operations.{slot_at, static_at, held_at};
 
 use class_layout::Layout;
-use metadata::Program;
 use name_tables::lookups::MemberNumber;
 use object_memory::ValueKind;
+use programs::Program;
 use resolved_code::types::{NumberedElement, NumberedType};
 
 /// The slot of an instance field.

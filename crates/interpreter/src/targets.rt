@@ -6,9 +6,9 @@ ghost use Rattle.name_tables.specs.Numbers.{method_at};
 ghost use Rattle.interpreter.specs.Calls.{class_at, chosen_at};
 
 use class_layout::Layout;
-use metadata::Program;
 use name_tables::lookups::MemberNumber;
 use object_memory::{Addr, Heap, Kind};
+use programs::Program;
 
 /// The number of `System.String`, whose objects are the literals.
 const STRING: usize = 1;

@@ -12,7 +12,7 @@ use Rattle.flow_rules.specs.Named.{type_named, types_named}
 use Rattle.flow_rules.proofs.MemberLaws.{return_is_named}
 use Rattle.name_tables.specs.declared.lookups.MemberNumber.{MemberNumber}
 use Rattle.name_tables.specs.Numbers.{declarations, method_at}
-use Rattle.metadata.specs.Contents.{BothAlike, IsMethodOf}
+use Rattle.programs.specs.Contents.{BothAlike, IsMethodOf}
 use Rattle.resolved_code.specs.declared.classes.Body.{Body}
 use Rattle.resolved_code.specs.declared.classes.ResolvedMethod.{ResolvedMethod}
 use Rattle.resolved_code.specs.declared.types.NumberedType.{NumberedType}

@@ -8,7 +8,7 @@ ghost use Rattle.cil_model.specs.declared.types.ClassName.{ClassName};
 ghost use Rattle.cil_model.specs.Bodies.{argument_types, code_of};
 ghost use Rattle.cil_model.specs.Chains.{is_static};
 ghost use Rattle.flow_rules.specs.Named.{types_named};
-ghost use Rattle.metadata.specs.Contents.{BothAlike};
+ghost use Rattle.programs.specs.Contents.{BothAlike};
 ghost use Rattle.resolved_code.specs.Numbered.{class_name};
 ghost use Rattle.resolved_code.specs.Resolved.{IsBody, IsResolvedKind, IsResolvedMethod};
 
