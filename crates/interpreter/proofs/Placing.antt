@@ -9,10 +9,9 @@ use Rattle.cil_model.specs.declared.trees.Line.{Line}
 use Rattle.cil_model.specs.declared.trees.Method.{Method}
 use Rattle.cil_model.specs.Bodies.{code_of, lines_of}
 use Rattle.cil_model.proofs.BelowLaws.{none_is_some}
-use Rattle.resolved_code.specs.Resolved.{IsOperation, IsBody}
+use Rattle.resolved_code.specs.Resolved.{IsOperation, IsBody, BothAlike}
 use Rattle.resolved_code.specs.declared.classes.Body.{Body}
 use Rattle.resolved_code.specs.declared.operations.Operation.{Operation}
-use Rattle.programs.specs.Contents.{BothAlike}
 use Rattle.programs.proofs.MemberLaws.{alike_at}
 use Rattle.threads_monitors.specs.Frames.{Frames}
 use Rattle.interpreter.specs.Instructions.{IsAt, method_of, line_at}

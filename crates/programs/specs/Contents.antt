@@ -13,15 +13,8 @@ use Rattle.name_tables.specs.declared.lookups.MemberNumber.{MemberNumber}
 use Rattle.name_tables.specs.Numbers.{field_at, method_at}
 use Rattle.resolved_code.specs.declared.classes.ResolvedField.{ResolvedField}
 use Rattle.resolved_code.specs.declared.classes.ResolvedMethod.{ResolvedMethod}
-use Rattle.resolved_code.specs.Resolved.{AreResolved, IsResolvedField, IsResolvedMethod}
+use Rattle.resolved_code.specs.Resolved.{AreResolved, BothAlike, IsResolvedField, IsResolvedMethod}
 use Rattle.programs.specs.declared.contents.Contents.{Contents}
-
--- there are two items that stand in a relation, or there is neither
-abbrev pub BothAlike : {X Y : Type 0} → (X → Y → Type 0) → Option X → Option Y → Type 0
-BothAlike R None None = Unit {0}
-BothAlike R (Some x) (Some y) = R x y
-BothAlike R None (Some y) = ⊥
-BothAlike R (Some x) None = ⊥
 
 -- the field that a number stands for, its type by number; none where the number stands for none (II.16)
 abbrev pub IsFieldOf : Tree → MemberNumber → Option ResolvedField → Type 0

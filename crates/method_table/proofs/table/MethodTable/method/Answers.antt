@@ -1,5 +1,5 @@
 use Rattle.std.proofs.Common.{Option, slice_get, sym, ap, subst, ◌∙◌}
-use Rattle.programs.specs.Contents.{BothAlike}
+use Rattle.resolved_code.specs.Resolved.{BothAlike}
 use Rattle.programs.proofs.MemberLaws.{alike_at}
 use Rattle.method_table.specs.declared.methods.TableMethod.{TableMethod}
 use Rattle.method_table.specs.AllMethods.{all_methods}
