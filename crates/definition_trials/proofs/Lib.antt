@@ -9,6 +9,7 @@ mod LegalityTrials
 mod SlotTrials
 mod TypeTrials
 mod TokenTrials
+mod LexemeTrials
 mod CollectorTrials
 mod RunTrials
 mod ObjectTrials
