@@ -10,7 +10,7 @@ use Rattle.cil_model.specs.Same.{same_class, same_text}
 use Rattle.cil_model.specs.Declarations.{Declaration, declaration_of, mscorlib, cilvm}
 use Rattle.cil_model.specs.Legality.{IsLegal, has_repeat, doubles_name}
 use Rattle.cil_model.proofs.SameLaws.{same_class_equal, same_class_itself, class_equivalence}
-use Rattle.metadata.proofs.Repeats.{has_repeat-map}
+use Rattle.programs.proofs.Repeats.{has_repeat-map}
 use Rattle.name_tables.specs.Numbers.{class_number, declarations, source_entry}
 use Rattle.name_tables.proofs.NumberLaws.{IsNumbered, numbered, none_is_some}
 use Rattle.class_layout.proofs.Places.{first_place}

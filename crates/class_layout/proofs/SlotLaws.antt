@@ -21,7 +21,7 @@ use Rattle.cil_model.specs.Chains.{base_of, chain_within, fields_declared, liste
 use Rattle.cil_model.specs.Fields.{FieldKey, same_key, keyed_fields, instance_fields, static_fields, hidden_slots, slot_types, instance_slot, static_slot}
 use Rattle.cil_model.specs.Legality.{IsLegal, has_repeat, doubles_name, class_doubles, has_cycle, is_own_base}
 use Rattle.cil_model.proofs.SameLaws.{same_text_itself, same_class_itself, class_equivalence}
-use Rattle.metadata.proofs.Repeats.{has_repeat-map}
+use Rattle.programs.proofs.Repeats.{has_repeat-map}
 use Rattle.name_tables.specs.Numbers.{declarations, field_at, source_entry}
 use Rattle.name_tables.proofs.NumberLaws.{none_is_some}
 use Rattle.class_layout.specs.Kinds.{own_kinds, slot_kinds, kind_of}

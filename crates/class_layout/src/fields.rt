@@ -11,12 +11,10 @@ use crate::classes::Classes;
 use crate::kinds::SlotKind;
 use crate::rows::row_at;
 use cil_model::memory::NoMemory;
+use name_tables::numbers::THREAD;
 use resolved_code::classes::{ResolvedClass, ResolvedField};
 use resolved_code::types::{NumberedElement, NumberedType};
 use std::alloc::Global;
-
-/// The number of `Cilvm.Thread` among all classes.
-const THREAD: usize = 4;
 
 fn kind_of(field_type: NumberedType) -> SlotKind
     ensures { result ≡ kind_of_numbered field_type }

@@ -1,87 +1,34 @@
--- What an error that a `?` hands on is.
-use Rattle.std.proofs.Common.{◌≡◌, ◌↔◌, ◌<◌, nat_le, ℕ, Bool, true, false, List, [], map, Option, Some, Result, Ok, Err, refl, ap, sym, ◌∙◌, subst, arith, inl, inr}
-use Rattle.std.proofs.lemmas.Bool.{and_parts}
-use Rattle.std.proofs.lemmas.Bool.Decides.{nat_tests}
-use Rattle.std.specs.Prelude.{IfErr, IfOk, IsErrAnd, OnErr}
-use Rattle.shared_machine.proofs.simulation.StandsLaws.{ends_stand, printed_stands, stands_after}
-use Rattle.cil_model.specs.Legality.{IsLegal}
-use Rattle.shared_machine.specs.simulation.MachineContents.{Content}
-use Rattle.shared_machine.specs.simulation.Runs.{StandsAfter}
-use Rattle.shared_machine.specs.simulation.StandsFor.{Represents}
-use Rattle.shared_machine.specs.Worlds.{HasRun as Ran}
-use Rattle.threads_monitors.specs.Threads.{end_of}
-use Rattle.cil_model.specs.Ranges.{are_in_range}
-use Rattle.reference_machine.specs.Runs.{opening}
-use Rattle.cil_model.specs.Sources.{HasTree, IsAnswer}
-use Rattle.reference_machine.specs.States.{State}
+-- What a run that is shown, whole or in part, shows of its source.
+use Rattle.std.proofs.Common.{◌≡◌, ℕ, Bool, true, false, List, [], map, Option, Result, Ok, Err, refl, ap, sym, ◌∙◌, subst, inl, inr}
+use Rattle.std.specs.Prelude.{IfErr}
+use Rattle.source_runs.proofs.simulation.StandsLaws.{ends_stand, printed_stands, stands_after}
+use Rattle.source_runs.specs.simulation.MachineContents.{Content}
+use Rattle.source_runs.specs.simulation.Runs.{StandsAfter}
+use Rattle.source_runs.specs.simulation.StandsFor.{Represents}
+use Rattle.source_runs.specs.simulation.threads_monitors.Threads.{end_of}
+use Rattle.source_runs.specs.reference_machine.States.{State}
 use Rattle.cil_model.specs.declared.events.Event.{Event}
 use Rattle.cil_model.specs.declared.limits.Limits.{Limits}
 use Rattle.cil_model.specs.declared.reports.Report.{Report}
-use Rattle.cil_model.specs.declared.trees.Tree.{Tree}
-use Rattle.shared_machine.specs.interleaving_core.declared.machine.Refused.TheVariants.{Limits as BadLimits}
-use Rattle.cil_model.specs.Typings.{IsAccepted}
-use Rattle.verifier.specs.Verdicts.{IsVerdict}
-use Rattle.verifier.specs.declared.refusals.VerifyError.{VerifyError}
-use Rattle.driver.specs.Failures.{IsOfWriting, failure_of_tracing, failure_of_verifying, is_refusal}
-use Rattle.driver.specs.declared.failure.Failure.{Failure}
+use Rattle.source_runs.specs.Failures.{IsOfWriting, is_refusal}
+use Rattle.source_runs.specs.declared.failure.Failure.{Failure}
 use Rattle.event_trace.specs.Traces.{IsTraced}
 use Rattle.event_trace.specs.declared.errors.TraceError.{TraceError}
 use Rattle.event_trace.specs.declared.errors.TraceError.TheVariants.{Memory as WantsMemory, Device as CantWrite}
-use Rattle.driver.specs.Outcomes.{HasRun, HasTraced, IsAcceptedSource, IsExplanation, IsNotAccepted, IsReady, IsRun, IsRunBy, IsRunInPart, IsShown, IsTracedThenInPart}
+use Rattle.source_runs.specs.Runs.{IsReady, IsRunBy}
+use Rattle.driver.specs.Outcomes.{HasRun, HasTraced, failure_of_tracing, IsExplanation, IsRunInPart, IsShown, IsTracedThenInPart}
 use Rattle.driver.specs.Threads.{ends_of, lines_from}
 use Rattle.outputs.specs.Beginnings.{AppendsBeginning}
-
-pub handed_on : {T E : Type 0} {P gives : E → Type 0} (r : Result T E) → IsErrAnd r gives → ((e : E) → gives e → P e) → IfErr r P
-handed_on (Ok x) h f = tt
-handed_on (Err e) h f = f e h
-
-pub if_ok : {T E : Type 0} {P Q : T → Type 0} (r : Result T E) → IfOk r P → ((x : T) → P x → Q x) → IfOk r Q
-if_ok (Ok x) h f = f x h
-if_ok (Err e) h f = tt
-
-pub if_err : {T E : Type 0} {P Q : E → Type 0} (r : Result T E) → IfErr r P → ((e : E) → P e → Q e) → IfErr r Q
-if_err (Ok x) h f = tt
-if_err (Err e) h f = f e h
+use Rattle.source_runs.proofs.RunLemmas.{some_budget}
 
 pub for_err : {T E : Type 0} {P : Type 0} (r : Result T E) → P → IfErr r (λ _. P)
 for_err (Ok x) p = tt
 for_err (Err e) p = p
 
-pub on_err : {T E : Type 0} {P : Type 0} (r : Result T E) → P → OnErr r P
-on_err (Ok x) p = tt
-on_err (Err e) p = p
-
-pub on_err_of : {T E : Type 0} {P Q : Type 0} (r : Result T E) → OnErr r P → (P → Q) → OnErr r Q
-on_err_of (Ok x) p f = tt
-on_err_of (Err e) p f = f p
-
 -- nothing explains a failure, whether that is asked for or not
 pub no_explanation : (told : Bool) → IsExplanation told []
 no_explanation true = tt
 no_explanation false = refl
-
--- limits that a machine was made with are in range
-pub made_in_range : {M : Type 0} (limits : Limits) (m : M) → (Ok m ≡ Err BadLimits) ↔ (are_in_range limits ≡ false) → are_in_range limits ≡ true
-made_in_range limits m iff = by_test (are_in_range limits) (λ e. lost (iff.1 e))
-  where
-    lost : Ok m ≡ Err BadLimits → ⊥
-    lost e = absurd (cc e)
-
-    by_test : (b : Bool) → (b ≡ false → ⊥) → b ≡ true
-    by_test true never = refl
-    by_test false never = absurd (never refl)
-
--- a budget in its range is not 0
-some_budget : (limits : Limits) → are_in_range limits ≡ true → 0 < limits.budget
-some_budget limits h =
-    let least : nat_le 1 limits.budget ≡ true = (and_parts _ _ (and_parts _ _ (and_parts _ _ h).0).1).0 in
-    grind (arith, nat_tests, least)
-
--- a machine that one worker ran from its beginning
-pub ran : (tree : Tree) (limits : Limits) (m d : Content) (events : List Event) (reports : List Report) → are_in_range limits ≡ true
-    → (s : State) × (opening tree limits ≡ Some s) × Represents m s → m.tree ≡ tree → m.limits ≡ limits → Ran m events reports d → IsRun tree limits events reports d
-ran tree limits m d events reports in_range first same_tree same_limits run =
-    (in_range, stands_after tree limits m d events reports first.0 first.1 first.2 same_tree same_limits run.limits (some_budget limits in_range) run.each run.follows)
 
 -- what a machine shows is what the state shows that it represents
 shown_of : (c : Content) (state : State) (out out' err err' : Option (List ℕ)) (status : ℕ) → Represents c state → IsShown c.printed (map end_of c.threads) out out' err err' status
@@ -157,17 +104,6 @@ has_traced source limits text events begins after reports out between out' err e
       represents = stands.represents;
       shown = shown_of after stands.state between out' err err' status stands.represents shown;
     }
-
--- a program that was verified
-pub accepted_source : (source : List ℕ) (tree program verified : Tree) → IsAnswer source (HasTree tree) → program ≡ tree → IsVerdict program (Ok verified) → IsAcceptedSource source verified
-accepted_source source tree program verified read same verdict =
-    subst (IsAcceptedSource source) (sym (verdict.0 ∙ same)) (record { read = read; accepted = subst IsAccepted same verdict.1 })
-
--- a program that was not
-pub untyped_source : (source : List ℕ) (tree program : Tree) (error : VerifyError) (failure : Failure) → IsAnswer source (HasTree tree) → program ≡ tree → IsLegal tree
-    → IsVerdict program (Err error) → failure ≡ failure_of_verifying error → IsNotAccepted source failure
-untyped_source source tree program error failure read same legal verdict told =
-    inr (tree, read, inr (inl (legal, (error, subst (λ (t : Tree). IsVerdict t (Err error)) same verdict, told))))
 
 -- a failed write is no refusal
 pub no_refusal : (failure : Failure) → IsOfWriting failure → is_refusal failure ≡ true → ⊥

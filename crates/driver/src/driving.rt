@@ -3,20 +3,20 @@
 ghost use Rattle.std.specs.Prelude.{◌≡◌, ◌⊎◌, ◌*◌, ◌++◌, ◌∷◌, [], ℕ, codes, IfErr, IfOk, OnErr, true};
 ghost use Rattle.flip_trial.specs.Trial.{place_count};
 ghost use Rattle.outputs.specs.Beginnings.{AppendsBeginning};
-ghost use Rattle.driver.specs.Failures.{IsOfWriting, is_refusal};
+ghost use Rattle.source_runs.specs.Failures.{IsOfWriting, is_refusal};
 ghost use Rattle.driver.specs.Outcomes.{HasNotRun, HasRun, HasTraced, IsChecked, IsDone, IsNotChecked};
-ghost use Rattle.driver.specs.Outcomes.{IsNotDone, IsDoneInPart, IsLetIn, IsOutcome, IsOutcomeOrCut};
+ghost use Rattle.source_runs.specs.Runs.{IsLetIn};
+ghost use Rattle.driver.specs.Outcomes.{IsNotDone, IsDoneInPart, IsOutcome, IsOutcomeOrCut};
 ghost use Rattle.driver.specs.Outcomes.{IsRunInPart, IsTellingCut, IsTraceInPart, IsTracedThenInPart, IsTried, trial_text};
 
 use crate::explaining::tell_failure;
-use crate::failure::Failure;
-use crate::running::{accept, open, run_source};
 use crate::showing::{say_accepted, show, show_trial};
 use cil_model::limits::Limits;
-use event_trace::trace;
+use event_trace::{TraceError, trace};
 use flip_trial::Sizes;
 use orders::Order;
 use outputs::NotWritten;
+use source_runs::{Failure, accept, open, run_source};
 use std::alloc::Global;
 use std::io::Write;
 use std::sync::Wait;
@@ -174,6 +174,18 @@ fn show_trace<W: Write, E: Write>(
         ⊎ IsTracedThenInPart source.now limits text.now (W.contents out.old) (W.contents out.new) (E.contents err.old) (E.contents err.new))) }
 {
     let (mut machine, events) = open(alloc, source, limits, text)?;
-    trace(alloc, &mut machine, events.as_slice(), out)?;
-    show(alloc, &machine, out, err)
+    match trace(alloc, &mut machine, events.as_slice(), out) {
+        Ok(()) => show(alloc, &machine, out, err),
+        Err(error) => Err(failure_of(error)),
+    }
+}
+
+/// What the error of a trace becomes.
+fn failure_of(error: TraceError) -> Failure
+    ensures { result ≡ failure_of_tracing error }
+{
+    match error {
+        TraceError::Memory => Failure::Memory,
+        TraceError::Device => Failure::Device,
+    }
 }

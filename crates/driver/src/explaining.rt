@@ -3,16 +3,16 @@
 ghost use Rattle.std.specs.Prelude.{◌≡◌, ◌++◌, IfErr, IfOk, List, ℕ, OnErr, OnOk};
 ghost use Rattle.std.specs.Io.KnownBytes.{Appends};
 ghost use Rattle.outputs.specs.Beginnings.{AppendsBeginning};
-ghost use Rattle.driver.specs.Failures.{message_of, status_of_failure};
+ghost use Rattle.source_runs.specs.Failures.{message_of, status_of_failure};
 ghost use Rattle.driver.specs.Outcomes.{IsExplanation, is_told_why};
 
-use crate::failure::{Failure, status_of_failure, tell};
 use cil_model::limits::Limits;
 use cil_model::memory::NoMemory;
 use diagnostics::{explain, explain_limits, explain_schedule};
 use orders::Order;
 use outputs::{NotWritten, write_whole};
 use schedule_text::read_schedule;
+use source_runs::{Failure, status_of_failure, tell};
 use std::alloc::Global;
 use std::io::Write;
 

@@ -3,17 +3,16 @@
 ghost use Rattle.std.specs.Prelude.{◌≡◌, ◌++◌, ◌∷◌, [], codes, map, IfErr, IfOk, OnErr, OnOk};
 ghost use Rattle.std.specs.List.{list_all, list_any};
 ghost use Rattle.std.specs.Io.KnownBytes.{Appends};
-ghost use Rattle.threads_monitors.specs.Threads.{end_of};
+ghost use Rattle.source_runs.specs.simulation.threads_monitors.Threads.{end_of};
 ghost use Rattle.outputs.specs.Beginnings.{AppendsBeginning};
-ghost use Rattle.driver.specs.Failures.{IsOfWriting};
+ghost use Rattle.source_runs.specs.Failures.{IsOfWriting};
 ghost use Rattle.driver.specs.Outcomes.{IsShown, trial_text};
 ghost use Rattle.driver.specs.Threads.{is_done, is_live, line_of, lines_from, status_of};
 
-use crate::failure::Failure;
 use cil_model::reports::End;
 use flip_trial::Outcome;
 use outputs::{NotWritten, write_whole};
-use shared_machine::Machine;
+use source_runs::{Failure, Machine};
 use std::alloc::Global;
 use std::io;
 use std::io::Write;

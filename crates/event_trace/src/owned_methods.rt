@@ -1,12 +1,13 @@
 //! Methods with the classes that declare them.
 
 ghost use Rattle.std.specs.Prelude.{◌≡◌, option_map, slice_get};
-ghost use Rattle.cil_model.specs.Bodies.{code_of, lines_of};
+ghost use Rattle.cil_model.specs.Bodies.{lines_of};
 
 use cil_model::instructions::{Instruction, MethodName};
-use cil_model::trees::{Class, Code, Line, Method, MethodKind};
+use cil_model::trees::{Class, Line, Method};
 use cil_model::types::ClassName;
 use instruction_text::{CharactersText, ClassText, InstructionText, MethodNameText};
+use name_tables::bodies::lines_of;
 use std::fmt;
 
 /// The class that declares a method: a built-in one, by its name, or one of the source.
@@ -85,26 +86,4 @@ fn line_at(method: &Method, place: usize) -> Option<&Line>
     ensures { option_map (λ l. l.now) result ≡ slice_get (lines_of method.now) place }
 {
     lines_of(method).get(place)
-}
-
-/// The lines of a method's code. None of one that has no code.
-fn lines_of(method: &Method) -> &[Line]
-    ensures { result.now ≡ lines_of method.now }
-{
-    match code_of(&method.kind) {
-        None => &[],
-        Some(code) => code.lines.as_slice(),
-    }
-}
-
-/// The code of a method, where it has some.
-fn code_of(kind: &MethodKind) -> Option<&Code>
-    ensures { option_map (λ c. c.now) result ≡ code_of kind.now }
-{
-    match kind {
-        MethodKind::Static(code) => Some(code),
-        MethodKind::Instance(code) => Some(code),
-        MethodKind::Virtual { code, .. } => Some(code),
-        MethodKind::Abstract { .. } => None,
-    }
 }

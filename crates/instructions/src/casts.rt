@@ -10,8 +10,8 @@ use crate::places::leave;
 use crate::types::{may_stand, numbered};
 use cil_model::reports::Fault;
 use class_layout::Layout;
-use metadata::Program;
 use object_memory::{Addr, ArrayElement, Heap, Kind, Value};
+use programs::Program;
 use resolved_code::types::NumberedType;
 use threads_monitors::{Effect, FrameMemory};
 

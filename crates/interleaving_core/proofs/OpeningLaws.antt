@@ -24,7 +24,7 @@ use Rattle.cil_model.proofs.Legal.{entry_alone}
 use Rattle.name_tables.specs.declared.lookups.MemberNumber.{MemberNumber}
 use Rattle.name_tables.specs.Numbers.{declarations, method_at, source_entry}
 use Rattle.class_layout.proofs.ClassNumbers.{FoundAt, found_at, number_of_place as class_of_place}
-use Rattle.metadata.specs.Contents.{IsEntryPoint}
+use Rattle.programs.specs.Contents.{IsEntryPoint}
 use Rattle.object_memory.specs.declared.addresses.Addr.{Addr}
 use Rattle.object_memory.specs.declared.values.Value.{Value}
 use Rattle.object_memory.specs.declared.values.Value.TheVariants.{Ref}

@@ -15,20 +15,24 @@ ghost use Rattle.step_simulation.specs.simulation.Turns.{run_member, thread_at, 
 ghost use Rattle.interpreter.specs.Calls.{chosen_at};
 ghost use Rattle.threads_monitors.specs.Threads.{new_thread};
 
-use cil_model::limits::{Limits, MOST_ARGUMENTS, MOST_LOCALS};
+use cil_model::limits::{Limits, MOST_ARGUMENTS, MOST_LOCALS, MOST_STACK};
 use class_layout::Layout;
 use interpreter::targets::chosen;
-use metadata::Program;
 use method_table::MethodTable;
 use name_tables::lookups::MemberNumber;
+use name_tables::numbers::THREAD;
 use object_memory::{Addr, Heap};
+use programs::Program;
 use threads_monitors::Beginning;
 
-/// How many values a frame may hold: arguments, locals, 64 on the stack, and a new object beneath the operands of its constructor.
-const FRAME_ROOM: usize = MOST_ARGUMENTS + MOST_LOCALS + 65;
+/// How many values a frame may hold: arguments, locals, the stack, and a new object beneath the operands of its constructor.
+const FRAME_ROOM: usize = MOST_ARGUMENTS + MOST_LOCALS + MOST_STACK as usize + 1;
 
-/// `Cilvm.Thread`'s `Run` by number: the second method of the fifth class.
-const RUN: MemberNumber = MemberNumber { class: 4, place: 1 };
+/// `Cilvm.Thread`'s `Run` by number: its second method.
+const RUN: MemberNumber = MemberNumber {
+    class: THREAD,
+    place: 1,
+};
 
 /// What a thread begins with that runs a method first.
 pub(crate) fn beginning<'a>(

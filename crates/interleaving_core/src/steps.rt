@@ -16,9 +16,9 @@ use cil_model::reports::Report;
 use class_layout::Layout;
 use interpreter::outcomes::Outcome;
 use interpreter::places::instruction;
-use metadata::Program;
 use method_table::MethodTable;
 use object_memory::{Heap, Value};
+use programs::Program;
 use threads_monitors::{Effect, FrameMemory, Standing, Thread};
 
 /// The instruction at a live thread's place. `NoMemory` of a print alone, where nothing is changed.

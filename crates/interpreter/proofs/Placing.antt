@@ -8,14 +8,13 @@ use Rattle.cil_model.specs.declared.trees.Code.{Code}
 use Rattle.cil_model.specs.declared.trees.Line.{Line}
 use Rattle.cil_model.specs.declared.trees.Method.{Method}
 use Rattle.cil_model.specs.Bodies.{code_of, lines_of}
-use Rattle.resolved_code.specs.Resolved.{IsOperation, IsBody}
+use Rattle.cil_model.proofs.Lists.{none_is_some}
+use Rattle.resolved_code.specs.Resolved.{IsOperation, IsBody, BothAlike}
 use Rattle.resolved_code.specs.declared.classes.Body.{Body}
 use Rattle.resolved_code.specs.declared.operations.Operation.{Operation}
-use Rattle.metadata.specs.Contents.{BothAlike}
-use Rattle.metadata.proofs.MemberLaws.{alike_at}
+use Rattle.programs.proofs.MemberLaws.{alike_at}
 use Rattle.threads_monitors.specs.Frames.{Frames}
 use Rattle.interpreter.specs.Instructions.{IsAt, method_of, line_at}
-use Rattle.cil_model.proofs.Lists.{none_is_some}
 
 -- what stands beside something is there
 alike_some : {X Y : Type 0} (R : X → Y → Type 0) (x : Option X) (y : Option Y) (a : X) → BothAlike R x y → x ≡ Some a → (b : Y) × (y ≡ Some b) × R a b

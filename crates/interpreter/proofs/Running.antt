@@ -12,7 +12,7 @@ use Rattle.cil_model.specs.declared.trees.Method.{Method}
 use Rattle.reference_machine.specs.BuiltIn.{Action, action_of}
 use Rattle.name_tables.specs.declared.lookups.MemberNumber.{MemberNumber}
 use Rattle.name_tables.specs.Numbers.{method_at}
-use Rattle.metadata.specs.Contents.{BothAlike}
+use Rattle.resolved_code.specs.Resolved.{BothAlike}
 use Rattle.object_memory.specs.Objects.{Objects}
 use Rattle.method_table.specs.MethodNumbers.{number_of}
 use Rattle.threads_monitors.specs.Frames.{Frames}

@@ -9,10 +9,10 @@ use crate::calls::entry;
 use class_layout::Layout;
 use instructions::Callee;
 use instructions::births::{new_object, new_plain_object};
-use metadata::Program;
 use method_table::MethodTable;
 use name_tables::lookups::MemberNumber;
 use object_memory::Heap;
+use programs::Program;
 use threads_monitors::{Effect, FrameMemory};
 
 /// The number of a member's class.

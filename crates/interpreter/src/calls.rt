@@ -17,10 +17,10 @@ use class_layout::Layout;
 use instructions::calls::call;
 use instructions::returns::return_from;
 use instructions::{Callee, locks, printing, stack};
-use metadata::Program;
 use method_table::{Action, MethodTable, TableMethod};
 use name_tables::lookups::MemberNumber;
 use object_memory::{Addr, Heap, Value};
+use programs::Program;
 use resolved_code::operations::Operation;
 use threads_monitors::{Effect, FrameMemory};
 

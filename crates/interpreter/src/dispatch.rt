@@ -13,9 +13,9 @@ use crate::object_operations::{
 use crate::outcomes::Outcome;
 use cil_model::memory::NoMemory;
 use class_layout::Layout;
-use metadata::Program;
 use method_table::MethodTable;
 use object_memory::{Heap, Value};
+use programs::Program;
 use resolved_code::operations::Operation;
 use threads_monitors::FrameMemory;
 

@@ -7,8 +7,8 @@ ghost use Rattle.interpreter.specs.Operations.{field_rule, array_rule, type_rule
 use crate::operands::{held, slot, static_number};
 use class_layout::Layout;
 use instructions::{arrays, casts, fields, statics};
-use metadata::Program;
 use object_memory::{ArrayElement, ElementType, Heap, Value, ValueKind};
+use programs::Program;
 use resolved_code::operations::Operation;
 use resolved_code::types::{NumberedElement, NumberedType};
 use threads_monitors::{Effect, FrameMemory};

@@ -1,13 +1,7 @@
 // The instruction at a frame's place.
 
-ghost use Rattle.std.specs.Prelude.{◌≡◌, FitsSigned, Some, IsSome, IfOk, OnErr, option_map};
+ghost use Rattle.std.specs.Prelude.{◌≡◌, FitsSigned, Some, IsSome, IfOk, OnErr};
 ghost use Rattle.std.specs.Int.{w32, w64};
-ghost use Rattle.cil_model.specs.declared.trees.Tree.{Tree};
-ghost use Rattle.cil_model.specs.declared.trees.MethodKind.{MethodKind};
-ghost use Rattle.cil_model.specs.declared.trees.Code.{Code};
-ghost use Rattle.cil_model.specs.Bodies.{code_of};
-ghost use Rattle.metadata.specs.Contents.{BothAlike};
-ghost use Rattle.resolved_code.specs.Resolved.{IsBody, IsResolvedKind};
 ghost use Rattle.class_layout.specs.Laid.{IsLayout};
 ghost use Rattle.method_table.specs.Prepared.{IsMethodTable};
 ghost use Rattle.interpreter.specs.Instructions.{HasSmallConstant, IsAt, IsDone, Prints, line_at, operation_turn};
@@ -16,24 +10,12 @@ use crate::dispatch::operation_done;
 use crate::outcomes::Outcome;
 use cil_model::memory::NoMemory;
 use class_layout::Layout;
-use metadata::Program;
 use method_table::MethodTable;
 use object_memory::{Heap, Value};
-use resolved_code::classes::{Body, ResolvedKind};
+use programs::Program;
+use resolved_code::classes::body_of;
 use resolved_code::operations::Operation;
 use threads_monitors::FrameMemory;
-
-/// The body of a method, where it has one.
-fn body_of(kind: &ResolvedKind) -> Option<&Body>
-    ensures { (tree : Tree) (named : MethodKind) → IsResolvedKind tree named kind.now → BothAlike (IsBody tree) (code_of named) (option_map (λ b. b.now) result) }
-{
-    match kind {
-        ResolvedKind::Static(body)
-        | ResolvedKind::Instance(body)
-        | ResolvedKind::Virtual { body, .. } => Some(body),
-        ResolvedKind::Abstract { .. } => None,
-    }
-}
 
 /// A number of 32 bits is one.
 fn has_32_bits(_number: i32)

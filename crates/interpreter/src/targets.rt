@@ -6,12 +6,10 @@ ghost use Rattle.name_tables.specs.Numbers.{method_at};
 ghost use Rattle.interpreter.specs.Calls.{class_at, chosen_at};
 
 use class_layout::Layout;
-use metadata::Program;
 use name_tables::lookups::MemberNumber;
+use name_tables::numbers::STRING;
 use object_memory::{Addr, Heap, Kind};
-
-/// The number of `System.String`, whose objects are the literals.
-const STRING: usize = 1;
+use programs::Program;
 
 /// The number of an object's class. None for an array.
 fn class_number(heap: &Heap, object: Addr) -> Option<usize>

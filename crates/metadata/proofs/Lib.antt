@@ -1,13 +1,7 @@
-pub mod Repeats
 pub mod CycleLaws
 pub mod EntryLaws
-pub mod EntryNumbers
-pub mod Tests
 pub mod UnknownLaws
 pub mod MentionLaws
-pub mod NumberedMethods
 pub mod ImplementLaws
-pub mod SlotLaws
 pub mod CountLaws
 pub mod OpenLaws
-pub mod MemberLaws

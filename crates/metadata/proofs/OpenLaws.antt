@@ -12,8 +12,8 @@ use Rattle.cil_model.specs.Chains.{is_virtual, is_new_slot_method, is_abstract_m
 use Rattle.name_tables.specs.Sameness.{MethodIdentity, same_identity, identity_of}
 use Rattle.name_tables.specs.SamenessLaws.{same_identity_equal}
 use Rattle.name_tables.specs.Numbers.{declarations, chain_numbers, method_found}
-use Rattle.metadata.specs.Found.{slot_filled_at, slot_numbered, open_numbered, is_left_open, class_leaves_open, is_override, top_over, top_open, hidden_over, hidden_open, stays_open, class_stays_open, IsSettled}
-use Rattle.metadata.proofs.Tests.{and_false, and_true}
+use Rattle.programs.specs.Found.{slot_filled_at, slot_numbered, open_numbered, is_left_open, class_leaves_open, is_override, top_over, top_open, hidden_over, hidden_open, stays_open, class_stays_open, IsSettled}
+use Rattle.programs.proofs.Tests.{and_false, and_true}
 
 abbrev is_abstract : Method → Bool
 is_abstract m = is_abstract_method m.kind

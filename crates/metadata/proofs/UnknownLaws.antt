@@ -19,7 +19,7 @@ use Rattle.cil_model.specs.Legality.{labels_before, is_known_extern, is_resolved
 use Rattle.name_tables.proofs.Lists.{option_map_of_map}
 use Rattle.name_tables.proofs.FirstPlaces.{is_some-position_from}
 use Rattle.metadata.specs.Named.{knows_names}
-use Rattle.metadata.proofs.Tests.{first_fails, second_fails, third_fails, last_two_decide, and_false, and_turned, list_all_congr, list_all-flat_map, list_any-flat_map, list_all-filter_map, list_all_both}
+use Rattle.programs.proofs.Tests.{first_fails, second_fails, third_fails, last_two_decide, and_false, and_turned, list_all_congr, list_all-flat_map, list_any-flat_map, list_all-filter_map, list_all_both}
 
 -- ---- classes of the source
 

@@ -1,32 +1,18 @@
-// The entry point.
+// Why a source has no fit entry point.
 
-ghost use Rattle.std.specs.Prelude.{◌≡◌, ◌==◌, ◌&&◌, IfOk, is_some, map, option_map, count_by};
+ghost use Rattle.std.specs.Prelude.{◌≡◌, ◌==◌, ◌&&◌, IfOk, is_some, map, count_by};
 ghost use Rattle.cil_model.specs.Bodies.{is_entry_point};
-ghost use Rattle.metadata.specs.Contents.{entry_from};
-ghost use Rattle.name_tables.specs.Entries.{entry_of};
-ghost use Rattle.std.specs.List.{list_any, position_from};
+ghost use Rattle.std.specs.List.{list_any};
 ghost use Rattle.cil_model.specs.Legality.{is_entry_method, lacks_entry};
 ghost use Rattle.cil_model.specs.Mentions.{methods_of_tree};
 
 use crate::violations::{BadEntry, SourceMember};
 use cil_model::memory::NoMemory;
 use cil_model::trees::{Class, Member, Method, Tree};
-use name_tables::bodies::code_of;
-use name_tables::class_tables::ClassTable;
 use name_tables::kinds::is_static;
-use name_tables::lookups::MemberNumber;
 use name_tables::trees::methods_of_tree;
+use programs::entries::{entry_place, is_entry_point};
 use std::alloc::Global;
-
-/// Whether a method has an entry point (ECMA-335 II.15.4.1.2).
-pub fn is_entry_point(method: &Method) -> bool
-    ensures { result ≡ is_entry_point method.now }
-{
-    match code_of(&method.kind) {
-        None => false,
-        Some(code) => code.is_entry_point,
-    }
-}
 
 /// Whether a method is static and void, without parameters.
 pub fn is_entry_method(method: &Method) -> bool
@@ -135,28 +121,4 @@ pub fn bad_entry(alloc: Global, tree: &Tree) -> Result<Option<BadEntry>, NoMemor
         return Ok(None);
     }
     Ok(Some(entry_fault(tree, methods)))
-}
-
-/// The place of the first entry point among methods.
-fn entry_place(methods: &[&Method]) -> Option<usize>
-    ensures { result ≡ position_from is_entry_point 0 (map (λ m. m.now) methods.now) }
-{
-    for place in 0..methods.len() {
-        if is_entry_point(methods[place]) {
-            return Some(place);
-        }
-    }
-    None
-}
-
-/// The number of the first method with an entry point.
-pub(crate) fn entry_number(classes: &[ClassTable]) -> Option<MemberNumber>
-    ensures { option_map (λ m. (m.class, m.place)) result ≡ entry_from 0 (map (λ t. entry_of t.class) classes.now) }
-{
-    for class in 0..classes.len() {
-        if let Some(place) = entry_place(classes[class].class.methods.as_slice()) {
-            return Some(MemberNumber { class, place });
-        }
-    }
-    None
 }

@@ -1,7 +1,6 @@
 // Which trees are legal programs.
 #![tactic(auto)]
 
-mod contents;
 mod cycles;
 mod doubled;
 mod entry;
@@ -14,5 +13,6 @@ mod rules;
 mod unknown;
 pub mod violations;
 
-pub use program::{MetaError, Program, resolve};
+pub use program::{MetaError, resolve};
+pub use programs::Program;
 pub use rules::Rule;

@@ -15,7 +15,7 @@ use Rattle.cil_model.specs.Legality.{IsLegal, has_repeat, same_method, class_dou
 use Rattle.cil_model.proofs.SameLaws.{never, both_first, both_second, same_class_itself, same_method_name_itself, same_signature_itself}
 use Rattle.name_tables.specs.Numbers.{declarations, class_number, source_entry, method_at}
 use Rattle.name_tables.proofs.NumberLaws.{IsNumbered, numbered, none_is_some, position_from-suc}
-use Rattle.metadata.proofs.Repeats.{has_repeat-map}
+use Rattle.programs.proofs.Repeats.{has_repeat-map}
 use Rattle.method_table.specs.AllMethods.{owned_methods, all_methods, first_numbers}
 use Rattle.method_table.specs.MethodNumbers.{number_of}
 use Rattle.method_table.proofs.FlatLaws.{numbered_at, first_is_there, number_behind}

@@ -9,6 +9,7 @@ ghost use Rattle.reference_machine.specs.BuiltIn.{action_of};
 ghost use Rattle.method_table.specs.Prepared.{action_named};
 
 use name_tables::lookups::MemberNumber;
+use name_tables::numbers::{CONSOLE, MONITOR, OBJECT, THREAD};
 
 /// What a call of a built-in member without code does, in place of a frame.
 #[derive(Clone, Copy, Debug, PartialEq, Eq)]
@@ -26,18 +27,6 @@ pub enum Action {
     /// `Cilvm.Thread::Join`
     Join,
 }
-
-/// The number of `System.Object`.
-const OBJECT: usize = 0;
-
-/// The number of `System.Console`.
-const CONSOLE: usize = 2;
-
-/// The number of `System.Threading.Monitor`.
-const MONITOR: usize = 3;
-
-/// The number of `Cilvm.Thread`.
-const THREAD: usize = 4;
 
 fn monitor_action(place: usize) -> Option<Action>
     ensures { (tree : Tree) (c : ClassName) (m : Method) → method_at tree (MONITOR, place) ≡ Some (c, m) → option_map action_named result ≡ action_of c m }

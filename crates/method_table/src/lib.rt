@@ -7,5 +7,5 @@ mod methods;
 mod table;
 
 pub use actions::Action;
-pub use methods::{TableMethod, value_kind};
+pub use methods::{TableMethod, numbered_kind, value_kind};
 pub use table::MethodTable;

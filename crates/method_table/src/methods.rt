@@ -6,6 +6,7 @@ ghost use Rattle.cil_model.specs.declared.trees.Method.{Method};
 ghost use Rattle.cil_model.specs.declared.trees.Tree.{Tree};
 ghost use Rattle.cil_model.specs.Declarations.{Declaration};
 ghost use Rattle.name_tables.specs.Numbers.{declarations, method_at};
+ghost use Rattle.resolved_code.specs.Numbered.{type_at};
 ghost use Rattle.resolved_code.specs.Resolved.{AllAlike, IsResolvedMethod};
 ghost use Rattle.method_table.specs.AllMethods.{owned_methods};
 ghost use Rattle.method_table.specs.Numbered.{kind_of_numbered, numbered_locals, operand_count};
@@ -50,8 +51,9 @@ pub fn value_kind(declared: &DeclaredType) -> ValueKind
 }
 
 /// What a place of a type holds, where the type is told by number.
-fn numbered_kind(numbered: NumberedType) -> ValueKind
-    ensures { result ≡ kind_of_numbered numbered }
+pub fn numbered_kind(numbered: NumberedType) -> ValueKind
+    ensures by_number { result ≡ kind_of_numbered numbered }
+    ensures by_name { (tree : Tree) (t : DeclaredType) → type_at tree numbered ≡ Some t → result ≡ kind_of_type t }
 {
     if numbered.brackets > 0 {
         return ValueKind::Ref;

@@ -5,16 +5,15 @@ ghost use Rattle.cil_model.specs.declared.types.ClassName.{ClassName};
 ghost use Rattle.cil_model.specs.declared.trees.Method.{Method};
 ghost use Rattle.cil_model.specs.declared.trees.Tree.{Tree};
 ghost use Rattle.name_tables.specs.Numbers.{declarations, method_at};
-ghost use Rattle.resolved_code.specs.Resolved.{AllAlike, AreResolved};
-ghost use Rattle.metadata.specs.Contents.{BothAlike};
+ghost use Rattle.resolved_code.specs.Resolved.{AllAlike, AreResolved, BothAlike};
 ghost use Rattle.method_table.specs.AllMethods.{all_methods, flat_number, first_numbers};
 ghost use Rattle.method_table.specs.Numbered.{running_counts};
 ghost use Rattle.method_table.specs.Prepared.{IsTableMethod};
 
 use crate::methods::{TableMethod, class_methods};
 use cil_model::memory::NoMemory;
-use metadata::Program;
 use name_tables::lookups::MemberNumber;
+use programs::Program;
 use resolved_code::classes::ResolvedClass;
 use std::alloc::Global;
 

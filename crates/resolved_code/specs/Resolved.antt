@@ -1,5 +1,5 @@
 -- What resolved classes, members and instructions stand for.
-use Rattle.std.specs.Prelude.{◌≡◌, ℕ, ℤ, Bool, true, false, List, [], ◌∷◌, map, Some, option_map, slice_get}
+use Rattle.std.specs.Prelude.{◌≡◌, ℕ, ℤ, Bool, true, false, List, [], ◌∷◌, map, Option, Some, None, option_map, slice_get}
 use Rattle.cil_model.specs.declared.types.ClassName.{ClassName}
 use Rattle.cil_model.specs.declared.types.DeclaredType.{DeclaredType}
 use Rattle.cil_model.specs.declared.types.Signature.{Signature}
@@ -44,6 +44,13 @@ AllAlike R [] [] = Unit {0}
 AllAlike R (x ∷ xs) (y ∷ ys) = R x y × AllAlike R xs ys
 AllAlike R [] (y ∷ ys) = ⊥
 AllAlike R (x ∷ xs) [] = ⊥
+
+-- there are two items that stand in a relation, or there is neither
+abbrev pub BothAlike : {X Y : Type 0} → (X → Y → Type 0) → Option X → Option Y → Type 0
+BothAlike R None None = Unit {0}
+BothAlike R (Some x) (Some y) = R x y
+BothAlike R None (Some y) = ⊥
+BothAlike R (Some x) None = ⊥
 
 -- ---- operands
 

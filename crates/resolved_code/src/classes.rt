@@ -1,5 +1,11 @@
 // Classes with their members, the types of these by number (ECMA-335 II.10 to II.16).
 
+ghost use Rattle.std.specs.Prelude.{option_map};
+ghost use Rattle.cil_model.specs.Bodies.{code_of};
+ghost use Rattle.cil_model.specs.declared.trees.MethodKind.{MethodKind};
+ghost use Rattle.cil_model.specs.declared.trees.Tree.{Tree};
+ghost use Rattle.resolved_code.specs.Resolved.{BothAlike, IsBody, IsResolvedKind};
+
 use crate::operations::Operation;
 use crate::types::NumberedType;
 use cil_model::sequences::Sequence;
@@ -47,4 +53,16 @@ pub struct ResolvedClass {
     pub interfaces: Sequence<usize>,
     pub fields: Sequence<ResolvedField>,
     pub methods: Sequence<ResolvedMethod>,
+}
+
+/// The body of a method that has code (ECMA-335 II.15.4.2). None of an abstract one.
+pub fn body_of(kind: &ResolvedKind) -> Option<&Body>
+    ensures { (tree : Tree) (named : MethodKind) → IsResolvedKind tree named kind.now → BothAlike (IsBody tree) (code_of named) (option_map (λ b. b.now) result) }
+{
+    match kind {
+        ResolvedKind::Static(body)
+        | ResolvedKind::Instance(body)
+        | ResolvedKind::Virtual { body, .. } => Some(body),
+        ResolvedKind::Abstract { .. } => None,
+    }
 }

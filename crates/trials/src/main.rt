@@ -6,16 +6,13 @@
 mod answers;
 mod calls;
 mod cases;
-mod comparison;
-mod epochs;
 mod groups;
 mod outcomes;
 mod reports;
 mod texts;
-mod workers;
 
-use comparison::{try_programs, try_schedules};
-use driver::{Failure, report};
+use machine_comparison::{try_programs, try_schedules};
+use source_runs::{Failure, report};
 use std::io;
 use std::process::ExitCode;
 use std::sync::Wait;

@@ -1,13 +1,13 @@
 //! The reports of a run, the words that objects take after it, and what the plain machine tells else.
 
-use crate::comparison::difference;
 use crate::outcomes::Files;
 use cil_model::limits::Limits;
 use cil_model::reports::{End, Report};
-use driver::{Failure, report, run_events};
+use machine_comparison::difference;
 use orders::Order;
 use schedule_text::read_schedule;
 use shared_machine::Run;
+use source_runs::{Failure, report, run_events};
 use std::alloc::Global;
 use std::io;
 use std::io::Write;

@@ -12,12 +12,12 @@ use Rattle.flow_rules.specs.Named.{type_named, types_named}
 use Rattle.flow_rules.proofs.MemberLaws.{return_is_named}
 use Rattle.name_tables.specs.declared.lookups.MemberNumber.{MemberNumber}
 use Rattle.name_tables.specs.Numbers.{declarations, method_at}
-use Rattle.metadata.specs.Contents.{BothAlike, IsMethodOf}
+use Rattle.programs.specs.Contents.{IsMethodOf}
+use Rattle.resolved_code.specs.Resolved.{BothAlike, IsBody, IsResolvedMethod}
 use Rattle.resolved_code.specs.declared.classes.Body.{Body}
 use Rattle.resolved_code.specs.declared.classes.ResolvedMethod.{ResolvedMethod}
 use Rattle.resolved_code.specs.declared.types.NumberedType.{NumberedType}
 use Rattle.resolved_code.specs.Numbered.{class_name}
-use Rattle.resolved_code.specs.Resolved.{IsBody, IsResolvedMethod}
 use Rattle.typing_search.specs.Answers.{typing_of, IsTypingAnswer}
 use Rattle.typing_search.specs.declared.refusals.TypingError.{TypingError}
 use Rattle.typing_search.specs.declared.refusals.TypingError.TheVariants as OfMethod

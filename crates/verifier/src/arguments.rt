@@ -1,20 +1,19 @@
 // The types of a method's arguments, and its code.
 
-ghost use Rattle.std.specs.Prelude.{◌≡◌, IfOk, option_map, Some};
+ghost use Rattle.std.specs.Prelude.{◌≡◌, IfOk, Some};
 ghost use Rattle.cil_model.specs.declared.trees.Tree.{Tree};
 ghost use Rattle.cil_model.specs.declared.trees.Method.{Method};
 ghost use Rattle.cil_model.specs.declared.trees.MethodKind.{MethodKind};
 ghost use Rattle.cil_model.specs.declared.types.ClassName.{ClassName};
-ghost use Rattle.cil_model.specs.Bodies.{argument_types, code_of};
+ghost use Rattle.cil_model.specs.Bodies.{argument_types};
 ghost use Rattle.cil_model.specs.Chains.{is_static};
 ghost use Rattle.flow_rules.specs.Named.{types_named};
-ghost use Rattle.metadata.specs.Contents.{BothAlike};
+ghost use Rattle.resolved_code.specs.Resolved.{IsResolvedKind, IsResolvedMethod};
 ghost use Rattle.resolved_code.specs.Numbered.{class_name};
-ghost use Rattle.resolved_code.specs.Resolved.{IsBody, IsResolvedKind, IsResolvedMethod};
 
 use cil_model::memory::NoMemory;
 use flow_rules::type_tree::type_of_class;
-use resolved_code::classes::{Body, ResolvedKind, ResolvedMethod};
+use resolved_code::classes::{ResolvedKind, ResolvedMethod};
 use resolved_code::types::NumberedType;
 use std::alloc::Global;
 
@@ -27,18 +26,6 @@ fn is_static(kind: &ResolvedKind) -> bool
         ResolvedKind::Instance(_) => false,
         ResolvedKind::Virtual { .. } => false,
         ResolvedKind::Abstract { .. } => false,
-    }
-}
-
-/// The code of a method that has some.
-pub(crate) fn body_of(kind: &ResolvedKind) -> Option<&Body>
-    ensures { (tree : Tree) (named : MethodKind) → IsResolvedKind tree named kind.now → BothAlike (IsBody tree) (code_of named) (option_map (λ b. b.now) result) }
-{
-    match kind {
-        ResolvedKind::Static(body) => Some(body),
-        ResolvedKind::Instance(body) => Some(body),
-        ResolvedKind::Virtual { body, .. } => Some(body),
-        ResolvedKind::Abstract { .. } => None,
     }
 }
 

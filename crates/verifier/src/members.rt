@@ -12,10 +12,8 @@ use cil_model::memory::NoMemory;
 use cil_model::trees::{Class, Method, Tree};
 use name_tables::classes::method_members;
 use name_tables::lookups::MemberNumber;
+use name_tables::numbers::FIRST_OF_SOURCE;
 use std::alloc::Global;
-
-/// The number of the first class of the source: those before are the built-in ones.
-const FIRST_OF_SOURCE: usize = 5;
 
 /// Appends the numbers of the methods of a class.
 #[tactic(auto, using(crate::proofs::MemberNumbers::next_of_class))]

@@ -11,14 +11,14 @@ ghost use Rattle.resolved_code.specs.Resolved.{IsBody, IsResolvedMethod};
 ghost use Rattle.verifier.specs.Members.{methods_at};
 ghost use Rattle.verifier.specs.Verdicts.{AreVerdicts, IsMethodVerdict};
 
-use crate::arguments::{arguments_of, body_of};
+use crate::arguments::arguments_of;
 use crate::refusals::{VerifyError, refused};
 use cil_model::sequences::Sequence;
 use flow_rules::entries::StackEntry;
 use flow_rules::type_tree::TypeTree;
-use metadata::Program;
 use name_tables::lookups::MemberNumber;
-use resolved_code::classes::{Body, ResolvedMethod};
+use programs::Program;
+use resolved_code::classes::{Body, ResolvedMethod, body_of};
 use std::alloc::Global;
 use typing_search::refusals::TypingError;
 use typing_search::search::find_typing;

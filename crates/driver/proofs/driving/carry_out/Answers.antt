@@ -1,4 +1,4 @@
-use Rattle.driver.proofs.OutcomeLemmas.{if_err}
+use Rattle.source_runs.proofs.RunLemmas.{if_err}
 use Rattle.driver.proofs.driving.carry_out.Goals as goal
 
 pub returns-in-Err-clause-cut : goal.returns-in-Err-clause-cut

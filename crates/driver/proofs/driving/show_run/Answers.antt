@@ -1,7 +1,8 @@
 use Rattle.std.proofs.Common.{inl, inr, subst, sym}
-use Rattle.shared_machine.specs.Histories.{events_of, reports_of}
+use Rattle.source_runs.specs.shared_machine.Histories.{events_of, reports_of}
 use Rattle.driver.specs.Outcomes.{HasNotRun}
-use Rattle.driver.proofs.OutcomeLemmas.{handed_on, has_run, if_ok, if_err, no_refusal, on_err_of, run_in_part}
+use Rattle.source_runs.proofs.RunLemmas.{handed_on, if_ok, if_err, on_err_of}
+use Rattle.driver.proofs.OutcomeLemmas.{has_run, no_refusal, run_in_part}
 use Rattle.driver.proofs.driving.show_run.Goals as goal
 
 pub returns-in_err-outcome-clause-failed : goal.returns-in_err-outcome-clause-failed

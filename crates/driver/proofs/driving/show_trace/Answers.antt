@@ -1,7 +1,8 @@
 use Rattle.std.proofs.Common.{inl, inr, subst, sym}
 use Rattle.event_trace.specs.Traces.{IsTraced}
 use Rattle.driver.specs.Outcomes.{HasNotRun}
-use Rattle.driver.proofs.OutcomeLemmas.{handed_on, has_traced, if_err, if_ok, no_refusal, on_err_of, traced_in_part, tracing_writes}
+use Rattle.source_runs.proofs.RunLemmas.{handed_on, if_err, if_ok, on_err_of}
+use Rattle.driver.proofs.OutcomeLemmas.{has_traced, no_refusal, traced_in_part, tracing_writes}
 use Rattle.driver.proofs.driving.show_trace.Goals as goal
 
 pub returns-in_err-machine-clause-failed : goal.returns-in_err-machine-clause-failed

@@ -2,9 +2,9 @@ use Rattle.std.proofs.Common.{◌≡◌, ◌∙◌, ap, map, subst}
 use Rattle.std.specs.Io.KnownBytes.{Appends}
 use Rattle.outputs.specs.Beginnings.{AppendsBeginning}
 use Rattle.outputs.proofs.BeginningLaws.{begins_whole}
-use Rattle.threads_monitors.specs.Threads.{end_of}
+use Rattle.source_runs.specs.simulation.threads_monitors.Threads.{end_of}
 use Rattle.driver.specs.Threads.{lines_from}
-use Rattle.driver.proofs.OutcomeLemmas.{on_err}
+use Rattle.source_runs.proofs.RunLemmas.{on_err}
 use Rattle.driver.proofs.showing.show.Goals as goal
 
 pub returns-in_err-write_whole-2-clause-begun : goal.returns-in_err-write_whole-2-clause-begun

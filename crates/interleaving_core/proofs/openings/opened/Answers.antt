@@ -4,7 +4,7 @@ use Rattle.cil_model.specs.declared.trees.Class.{Class}
 use Rattle.cil_model.specs.Legality.{IsLegal}
 use Rattle.cil_model.specs.Mentions.{literals_of}
 use Rattle.name_tables.specs.Numbers.{method_at}
-use Rattle.metadata.specs.Contents.{IsEntryPoint}
+use Rattle.programs.specs.Contents.{IsEntryPoint}
 use Rattle.object_memory.specs.Objects.{no_objects}
 use Rattle.method_table.specs.AllMethods.{all_methods}
 use Rattle.method_table.specs.Prepared.{IsMethodTable}

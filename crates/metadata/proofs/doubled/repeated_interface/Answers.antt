@@ -3,7 +3,7 @@ use Rattle.cil_model.specs.Same.{same_class}
 use Rattle.cil_model.specs.Legality.{has_repeat}
 use Rattle.name_tables.specs.declared.keys.ClassKey.{ClassKey}
 use Rattle.name_tables.specs.Keys.{class_of_key}
-use Rattle.metadata.proofs.Repeats.{has_repeat-map}
+use Rattle.programs.proofs.Repeats.{has_repeat-map}
 use Rattle.metadata.proofs.doubled.repeated_interface.Goals as goal
 
 pub returns : goal.returns

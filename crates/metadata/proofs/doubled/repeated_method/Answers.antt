@@ -4,7 +4,7 @@ use Rattle.cil_model.specs.Legality.{has_repeat}
 use Rattle.name_tables.specs.declared.keys.MethodKey.{MethodKey}
 use Rattle.name_tables.specs.Keys.{method_of_key}
 use Rattle.name_tables.specs.Sameness.{same_identity, identity_of}
-use Rattle.metadata.proofs.Repeats.{has_repeat-map}
+use Rattle.programs.proofs.Repeats.{has_repeat-map}
 use Rattle.metadata.proofs.doubled.repeated_method.Goals as goal
 
 pub returns : goal.returns

@@ -3,7 +3,7 @@ use Rattle.cil_model.specs.Same.{same_text}
 use Rattle.cil_model.specs.Legality.{has_repeat}
 use Rattle.name_tables.specs.declared.keys.TextKey.{TextKey}
 use Rattle.name_tables.specs.Keys.{text_of_key}
-use Rattle.metadata.proofs.Repeats.{has_repeat-map}
+use Rattle.programs.proofs.Repeats.{has_repeat-map}
 use Rattle.metadata.proofs.doubled.repeated_text.Goals as goal
 
 pub returns : goal.returns

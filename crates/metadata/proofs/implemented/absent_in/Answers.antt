@@ -5,7 +5,7 @@ use Rattle.cil_model.specs.Declarations.{Declaration, declaration_of}
 use Rattle.cil_model.specs.Chains.{listed_by}
 use Rattle.name_tables.specs.Entries.{declaration_in}
 use Rattle.name_tables.specs.Sameness.{identity_of}
-use Rattle.metadata.specs.Found.{is_virtual_found}
+use Rattle.programs.specs.Found.{is_virtual_found}
 use Rattle.metadata.proofs.implemented.absent_in.Goals as goal
 
 pub returns-in-None : goal.returns-in-None

@@ -6,7 +6,7 @@ use Rattle.cil_model.specs.Declarations.{source_name, interfaces_named}
 use Rattle.cil_model.specs.Chains.{methods_declared}
 use Rattle.name_tables.specs.Numbers.{chain_numbers}
 use Rattle.name_tables.specs.Sameness.{identity_of}
-use Rattle.metadata.specs.Found.{is_virtual_found}
+use Rattle.programs.specs.Found.{is_virtual_found}
 use Rattle.metadata.proofs.ImplementLaws.{implemented}
 use Rattle.metadata.proofs.implemented.absent_in_class.Goals as goal
 

@@ -4,8 +4,8 @@ use Rattle.cil_model.specs.declared.types.ClassName.{ClassName}
 use Rattle.cil_model.specs.declared.trees.Method.{Method}
 use Rattle.cil_model.specs.Chains.{methods_declared}
 use Rattle.name_tables.specs.Sameness.{identity_of}
-use Rattle.metadata.specs.Found.{is_virtual_found}
-use Rattle.metadata.proofs.Tests.{all_after}
+use Rattle.programs.specs.Found.{is_virtual_found}
+use Rattle.programs.proofs.Tests.{all_after}
 use Rattle.metadata.proofs.implemented.absent_in_list.Goals as goal
 
 pub loop-interface-preserved : goal.loop-interface-preserved

@@ -2,7 +2,7 @@ use Rattle.std.proofs.Common.{◌≡◌, drop}
 use Rattle.std.specs.List.{list_any, list_all}
 use Rattle.cil_model.specs.Chains.{methods_declared}
 use Rattle.name_tables.specs.Sameness.{identity_of}
-use Rattle.metadata.specs.Found.{is_virtual_found}
+use Rattle.programs.specs.Found.{is_virtual_found}
 use Rattle.metadata.proofs.implemented.absent_in_list.Given as goal
 
 abbrev pub invariant-loop-interface : goal.invariant-loop-interface

@@ -1,7 +1,7 @@
 use Rattle.std.proofs.Common.{◌≡◌, map, drop}
 use Rattle.std.specs.List.{list_any, list_all}
 use Rattle.name_tables.specs.Sameness.{identity_of}
-use Rattle.metadata.specs.Found.{is_virtual_found}
+use Rattle.programs.specs.Found.{is_virtual_found}
 use Rattle.metadata.proofs.implemented.absent_method.Given as goal
 
 abbrev pub invariant-loop-place : goal.invariant-loop-place

@@ -1,7 +1,7 @@
 use Rattle.std.proofs.Common.{◌≡◌, drop}
 use Rattle.std.specs.List.{list_any}
 use Rattle.name_tables.specs.Keys.{method_of_key}
-use Rattle.metadata.specs.Found.{is_virtual_found}
+use Rattle.programs.specs.Found.{is_virtual_found}
 use Rattle.metadata.proofs.implemented.implements_method.Given as goal
 
 abbrev pub invariant-loop-class : goal.invariant-loop-class

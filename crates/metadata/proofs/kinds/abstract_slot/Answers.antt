@@ -2,9 +2,9 @@ use Rattle.std.proofs.Common.{sym, ap, subst, ◌∙◌}
 use Rattle.std.specs.List.{list_any}
 use Rattle.name_tables.specs.Keys.{class_of_key}
 use Rattle.name_tables.specs.Numbers.{chain_numbers}
-use Rattle.metadata.specs.Found.{class_leaves_open, IsSettled}
+use Rattle.programs.specs.Found.{class_leaves_open, IsSettled}
 use Rattle.metadata.proofs.OpenLaws.{none_left_open}
-use Rattle.metadata.proofs.SlotLaws.{abstract_slot}
+use Rattle.programs.proofs.SlotLaws.{abstract_slot}
 use Rattle.metadata.proofs.kinds.abstract_slot.Goals as goal
 
 pub returns-then-is_settled : goal.returns-then-is_settled

@@ -2,7 +2,7 @@ use Rattle.std.proofs.Common.{◌≡◌, ◌-◌, ◌+◌, ◌++◌, ℕ, false,
 use Rattle.std.specs.List.{list_any}
 use Rattle.std.proofs.lemmas.Bool.{eqb-true}
 use Rattle.std.proofs.lemmas.List.{take-append-drop, drop-drop}
-use Rattle.metadata.specs.Found.{class_stays_open, IsSettled}
+use Rattle.programs.specs.Found.{class_stays_open, IsSettled}
 use Rattle.metadata.proofs.OpenLaws.{part_settled, more_settled}
 use Rattle.metadata.proofs.kinds.is_settled.Goals as goal
 

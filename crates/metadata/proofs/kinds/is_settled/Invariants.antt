@@ -1,5 +1,5 @@
 use Rattle.std.proofs.Common.{◌≤◌, drop, length}
-use Rattle.metadata.specs.Found.{IsSettled}
+use Rattle.programs.specs.Found.{IsSettled}
 use Rattle.metadata.proofs.kinds.is_settled.Given as goal
 
 abbrev pub invariant-loop-place : goal.invariant-loop-place

@@ -2,7 +2,7 @@ use Rattle.std.proofs.Common.{◌≡◌, ◌&&◌, map, drop}
 use Rattle.std.specs.List.{list_any}
 use Rattle.cil_model.specs.Chains.{is_virtual}
 use Rattle.name_tables.specs.Sameness.{identity_of}
-use Rattle.metadata.specs.Found.{is_left_open}
+use Rattle.programs.specs.Found.{is_left_open}
 use Rattle.metadata.proofs.kinds.method_left_open.Given as goal
 
 abbrev pub invariant-loop-place : goal.invariant-loop-place

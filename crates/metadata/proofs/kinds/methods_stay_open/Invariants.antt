@@ -2,7 +2,7 @@ use Rattle.std.proofs.Common.{◌≡◌, ◌&&◌, map, drop}
 use Rattle.std.specs.List.{list_any}
 use Rattle.cil_model.specs.Chains.{is_abstract_method}
 use Rattle.name_tables.specs.Sameness.{identity_of}
-use Rattle.metadata.specs.Found.{stays_open}
+use Rattle.programs.specs.Found.{stays_open}
 use Rattle.metadata.proofs.kinds.methods_stay_open.Given as goal
 
 abbrev pub invariant-loop-method : goal.invariant-loop-method

@@ -1,6 +1,6 @@
 use Rattle.std.proofs.Common.{◌≡◌, drop}
 use Rattle.name_tables.specs.Keys.{method_of_key}
-use Rattle.metadata.specs.Found.{plain_numbered}
+use Rattle.programs.specs.Found.{plain_numbered}
 use Rattle.metadata.proofs.kinds.plain_base.Given as goal
 
 abbrev pub invariant-loop-class : goal.invariant-loop-class

@@ -3,9 +3,9 @@ use Rattle.cil_model.specs.Declarations.{source_name}
 use Rattle.cil_model.specs.Chains.{base_of, chain_within, longest_chain, nearest, method_declared, is_virtual, is_new_slot_method}
 use Rattle.cil_model.specs.Legality.{is_found_not_virtual}
 use Rattle.name_tables.specs.Sameness.{identity_of}
-use Rattle.metadata.specs.Found.{plain_numbered}
-use Rattle.metadata.proofs.SlotLaws.{nearest_plain}
-use Rattle.metadata.proofs.Tests.{third_decides}
+use Rattle.programs.specs.Found.{plain_numbered}
+use Rattle.programs.proofs.SlotLaws.{nearest_plain}
+use Rattle.programs.proofs.Tests.{third_decides}
 use Rattle.metadata.proofs.kinds.plain_below.Goals as goal
 
 pub returns : goal.returns

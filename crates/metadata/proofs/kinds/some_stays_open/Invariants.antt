@@ -1,6 +1,6 @@
 use Rattle.std.proofs.Common.{◌≡◌, drop}
 use Rattle.std.specs.List.{list_any}
-use Rattle.metadata.specs.Found.{class_stays_open}
+use Rattle.programs.specs.Found.{class_stays_open}
 use Rattle.metadata.proofs.kinds.some_stays_open.Given as goal
 
 abbrev pub invariant-loop-class : goal.invariant-loop-class

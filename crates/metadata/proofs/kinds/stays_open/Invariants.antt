@@ -1,6 +1,6 @@
 use Rattle.std.proofs.Common.{◌≡◌, drop}
 use Rattle.name_tables.specs.Keys.{method_of_key}
-use Rattle.metadata.specs.Found.{top_open, hidden_open}
+use Rattle.programs.specs.Found.{top_open, hidden_open}
 use Rattle.metadata.proofs.kinds.stays_open.Given as goal
 
 abbrev pub invariant-loop-place : goal.invariant-loop-place

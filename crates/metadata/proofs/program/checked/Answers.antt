@@ -2,7 +2,7 @@ use Rattle.std.proofs.Common.{◌≡◌, ◌≢◌, Some, Result, Ok, Err, sym, 
 use Rattle.std.specs.Prelude.{IfErr, IsErrAnd}
 use Rattle.cil_model.specs.declared.trees.Tree.{Tree}
 use Rattle.cil_model.specs.Legality.{IsLegal, least_broken}
-use Rattle.metadata.specs.Contents.{IsContents}
+use Rattle.programs.specs.Contents.{IsContents}
 use Rattle.metadata.specs.RuleNumbers.{violation_number, number_of}
 use Rattle.metadata.specs.declared.program.MetaError.{MetaError}
 use Rattle.metadata.specs.declared.program.MetaError.TheVariants.{OutOfMemory}

@@ -1,6 +1,6 @@
 use Rattle.std.proofs.Common.{Option, slice_get, sym, ap, subst, ◌∙◌}
-use Rattle.metadata.specs.Contents.{BothAlike}
-use Rattle.metadata.proofs.MemberLaws.{alike_at}
+use Rattle.resolved_code.specs.Resolved.{BothAlike}
+use Rattle.programs.proofs.MemberLaws.{alike_at}
 use Rattle.method_table.specs.declared.methods.TableMethod.{TableMethod}
 use Rattle.method_table.specs.AllMethods.{all_methods}
 use Rattle.method_table.specs.Prepared.{IsTableMethod}

@@ -1,0 +1,13 @@
+//! The machine beside the plain machine: runs of both, compared after each event.
+//!
+//! `difference` asks it of the run of an order. `try_schedules` does all short schedules of one program, and `try_programs`
+//! programs that are made up.
+#![tactic(auto)]
+
+mod machines;
+mod programs;
+mod schedules;
+
+pub use machines::difference;
+pub use programs::try_programs;
+pub use schedules::try_schedules;

@@ -1,0 +1,159 @@
+//! One run on both machines, compared after each event.
+
+use cil_model::events::Event;
+use cil_model::limits::{Limits, MOST_THREADS};
+use cil_model::memory::NoMemory;
+use cil_model::reports::{End, Fault, Report};
+use cil_plain::PlainMachine;
+use ilasm_reader::read;
+use name_tables::built_in::BuiltInClass;
+use name_tables::lookups::NameTables;
+use schedule_text::read_schedule;
+use source_runs::{Failure, Machine, accept};
+use std::alloc::Global;
+
+/// What the machine told of a run, up to the first event after which the plain machine told something else.
+#[derive(Drop)]
+pub struct Trial {
+    pub reports: Vec<Report>,
+    pub printed: Vec<u8>,
+    /// What the last event came to on both machines, where they differ.
+    pub difference: Option<String>,
+}
+
+/// Runs the program of a source by the events of a schedule's text on both machines, and answers what the first event came to
+/// after which they differ in a report, in what was printed, or in how the threads stand; none where they agree. A source, limits or a
+/// schedule that is refused leaves nothing to compare: none.
+pub fn difference(
+    alloc: Global,
+    source: &[u8],
+    limits: Limits,
+    text: &[u8],
+) -> Result<Option<String>, Failure> {
+    match compare_by(alloc, source, limits, text) {
+        Ok(trial) => Ok(trial.difference),
+        Err(Failure::Refused(_)) | Err(Failure::OutOfRange(_)) => Ok(None),
+        Err(failure) => Err(failure),
+    }
+}
+
+fn compare_by(alloc: Global, source: &[u8], limits: Limits, text: &[u8]) -> Result<Trial, Failure> {
+    let events = read_schedule(alloc, text)?;
+    compare(alloc, source, limits, events.as_slice())
+}
+
+/// The same of a list of events, with all that the machine told; a source or limits that are refused are a failure.
+///
+/// The plain machine is told which births the machine refused.
+pub fn compare(
+    alloc: Global,
+    source: &[u8],
+    limits: Limits,
+    events: &[Event],
+) -> Result<Trial, Failure> {
+    let mut machine = Machine::new(alloc, accept(alloc, source)?, limits)?;
+    let tree = read(alloc, source)?;
+    let built_ins = BuiltInClass::all(alloc)?;
+    let names = NameTables::new(alloc, &tree, built_ins.as_slice())?;
+    compare_with(alloc, &mut machine, &names, limits, events)
+}
+
+/// The same of a machine, and of the names of the tree that it runs.
+fn compare_with(
+    alloc: Global,
+    machine: &mut Machine,
+    names: &NameTables,
+    limits: Limits,
+    events: &[Event],
+) -> Result<Trial, Failure> {
+    match PlainMachine::new(alloc, &*names, limits)? {
+        None => no_entry_point(alloc),
+        Some(mut plain) => Ok(run(alloc, machine, &mut plain, events)?),
+    }
+}
+
+/// What is told where the plain machine finds no entry point in a source that the machine takes.
+fn no_entry_point(alloc: Global) -> Result<Trial, Failure> {
+    Ok(Trial {
+        reports: Vec::new(alloc),
+        printed: Vec::new(alloc),
+        difference: Some(String::from_str(
+            alloc,
+            "no event: the plain machine finds no entry point",
+        )?),
+    })
+}
+
+/// Does the events on both machines, up to the first difference.
+fn run(
+    alloc: Global,
+    machine: &mut Machine,
+    plain: &mut PlainMachine,
+    events: &[Event],
+) -> Result<Trial, NoMemory> {
+    let mut reports = Vec::new(alloc);
+    let mut difference = None;
+    for event in events {
+        let came = machine.step(alloc, *event)?;
+        reports.push(came)?;
+        let wanted = expected(plain, *event, came)?;
+        if wanted != Some(came) || !are_alike(machine, plain) {
+            difference = Some(told(alloc, reports.len(), came, wanted, plain)?);
+            break;
+        }
+    }
+    Ok(Trial {
+        reports,
+        printed: Vec::from_slice(alloc, machine.console())?,
+        difference,
+    })
+}
+
+/// What an event came to. Where both reports are the same, the machines differ in what was printed or in how the threads
+/// stand.
+fn told(
+    alloc: Global,
+    number: usize,
+    came: Report,
+    wanted: Option<Report>,
+    plain: &PlainMachine,
+) -> Result<String, NoMemory> {
+    Ok(match wanted {
+        None => format!(in alloc;
+            "event {number}: {came:?}, and the plain machine is stuck\n{plain}"
+        )?,
+        Some(wanted) => {
+            format!(in alloc;
+                "event {number}: {came:?}, and {wanted:?} of the plain machine\n{plain}"
+            )?
+        }
+    })
+}
+
+/// The report of a step in which a birth is refused.
+const REFUSED_BIRTH: Report = Report::Ended(End::Fault(Fault::OutOfMemory));
+
+/// What the plain machine has for an event: a step's report, and without a collector nothing to acknowledge or to do.
+fn expected(
+    plain: &mut PlainMachine,
+    event: Event,
+    came: Report,
+) -> Result<Option<Report>, NoMemory> {
+    match event {
+        Event::Step(thread) => plain.step(thread, came == REFUSED_BIRTH),
+        Event::Ack(thread) if plain.is_live(thread) => Ok(Some(Report::NothingPosted)),
+        Event::Ack(_) => Ok(Some(Report::Absent)),
+        Event::Gc => Ok(Some(Report::Waiting)),
+    }
+}
+
+/// Whether both tell the same of what was printed and of the threads.
+fn are_alike(machine: &Machine, plain: &PlainMachine) -> bool {
+    machine.console() == plain.console()
+        && machine.live() == plain.live()
+        && machine.started() == plain.started()
+        && (0..MOST_THREADS as u8).all(|thread| {
+            machine.end_of(thread) == plain.end_of(thread)
+                && machine.is_live(thread) == plain.is_live(thread)
+        })
+}

@@ -1,0 +1,153 @@
+//! Programs that are made up, each run by a schedule that is made up too.
+
+use crate::machines::{Trial, compare};
+use cil_model::events::Event;
+use cil_model::limits::Limits;
+use cil_model::reports::{End, Fault, Report};
+use made_up_programs::{Grammar, Random, source_of};
+use source_runs::Failure;
+use std::alloc::{AllocError, Global};
+use std::{fs, io};
+
+/// Programs that are made up.
+const PROGRAMS: u64 = 200;
+
+/// Events of each schedule.
+const EVENTS: u32 = 400;
+
+/// The ends that a thread can have.
+const ENDS: [End; 15] = [
+    End::Done,
+    End::Budget,
+    End::Fault(Fault::NullReference),
+    End::Fault(Fault::IndexOutOfRange),
+    End::Fault(Fault::ArrayTypeMismatch),
+    End::Fault(Fault::InvalidCast),
+    End::Fault(Fault::DivideByZero),
+    End::Fault(Fault::Arithmetic),
+    End::Fault(Fault::Overflow),
+    End::Fault(Fault::OutOfMemory),
+    End::Fault(Fault::TooManyThreads),
+    End::Fault(Fault::StackOverflow),
+    End::Fault(Fault::ArgumentNull),
+    End::Fault(Fault::SynchronizationLock),
+    End::Fault(Fault::ThreadState),
+];
+
+/// What became of the programs.
+#[derive(Drop)]
+struct Tally {
+    reports: Vec<Report>,
+    printed: usize,
+    differing: usize,
+}
+
+impl Tally {
+    fn add(&mut self, trial: &Trial) -> Result<(), AllocError> {
+        self.reports.extend_from_slice(trial.reports.as_slice())?;
+        self.printed = self.printed.saturating_add(trial.printed.len());
+        if trial.difference.is_some() {
+            self.differing = self.differing.saturating_add(1);
+        }
+        Ok(())
+    }
+
+    /// How often this was reported.
+    fn count(&self, wanted: Report) -> usize {
+        self.reports
+            .iter()
+            .filter(|report| **report == wanted)
+            .count()
+    }
+}
+
+/// Does all programs, and answers how many differ on the two machines or are refused.
+pub fn try_programs(rt: &HostRuntime) -> Result<usize, Failure> {
+    let mut tally = Tally {
+        reports: Vec::new(rt.alloc()),
+        printed: 0,
+        differing: 0,
+    };
+    let text = fs::read_to_string(rt, "grammar.txt")?;
+    let grammar = Grammar::of(rt.alloc(), text.as_str())?;
+    for number in 0..PROGRAMS {
+        try_program(rt, &grammar, number, &mut tally)?;
+    }
+    tell(rt, &tally)?;
+    Ok(tally.differing)
+}
+
+/// Does the program of a number. One that is refused counts as one that differs.
+fn try_program(
+    rt: &HostRuntime,
+    grammar: &Grammar,
+    number: u64,
+    tally: &mut Tally,
+) -> Result<(), Failure> {
+    let source = source_of(rt.alloc(), &*grammar, number)?;
+    let mut random = Random::new(number.wrapping_add(PROGRAMS));
+    let limits = limits_among(&mut random);
+    let events = events_among(rt.alloc(), &mut random)?;
+    match compare(rt.alloc(), source.as_bytes(), limits, events.as_slice()) {
+        Ok(trial) => {
+            tally.add(&trial)?;
+            if let Some(difference) = &trial.difference {
+                println!(rt; "program {number} differs at {difference}\n{limits:?}\n{source}")?;
+            }
+            Ok(())
+        }
+        Err(Failure::Refused(error)) => {
+            println!(rt; "program {number} is refused by {error}\n{source}")?;
+            tally.differing = tally.differing.saturating_add(1);
+            Ok(())
+        }
+        Err(failure) => Err(failure),
+    }
+}
+
+/// Limits so small that they are often met.
+fn limits_among(random: &mut Random) -> Limits {
+    Limits {
+        words: random.below(449).saturating_add(64),
+        budget: random.below(400).saturating_add(100),
+        depth: random.below(12).saturating_add(4),
+    }
+}
+
+fn events_among(alloc: Global, random: &mut Random) -> Result<Vec<Event>, AllocError> {
+    let mut events = Vec::new(alloc);
+    for _ in 0..EVENTS {
+        events.push(event_among(random))?;
+    }
+    Ok(events)
+}
+
+/// Mostly a step of the first thread.
+fn event_among(random: &mut Random) -> Event {
+    match random.below(100) {
+        0..=61 => Event::Step(0),
+        62..=85 => Event::Step(1),
+        86..=92 => Event::Step(2),
+        93..=95 => Event::Ack(u8::try_from(random.below(3)).unwrap_or(0)),
+        _ => Event::Gc,
+    }
+}
+
+/// Says in one line what became of the programs.
+fn tell(rt: &HostRuntime, tally: &Tally) -> io::Result<()> {
+    let events = tally.reports.len();
+    let ran = tally.count(Report::Ran);
+    let blocked = tally.count(Report::Blocked);
+    print!(rt; "{PROGRAMS} programs, {events} events: {ran} Ran, {blocked} Blocked")?;
+    for end in ENDS {
+        let count = tally.count(Report::Ended(end));
+        match end {
+            End::Fault(fault) => print!(rt; ", {count} {fault:?}")?,
+            _ => print!(rt; ", {count} {end:?}")?,
+        }
+    }
+    println!(rt;
+        ", {} bytes printed, {} differ",
+        tally.printed, tally.differing
+    )
+}

@@ -1,0 +1,2 @@
+pub use Rattle.shared_machine.proofs.simulation as simulation
+pub mod RunLemmas

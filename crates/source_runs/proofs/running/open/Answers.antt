@@ -1,0 +1,31 @@
+use Rattle.std.proofs.Common.{inl, inr, subst, sym}
+use Rattle.source_runs.specs.Runs.{IsNotRunBy}
+use Rattle.source_runs.proofs.RunLemmas.{handed_on, made_in_range}
+use Rattle.source_runs.proofs.running.open.Goals as goal
+
+pub returns-clause-opened : goal.returns-clause-opened
+returns-clause-opened c =
+    let machine = c.in_ok-machine.machine in
+    record {
+      tree = c.in_ok-verified.verified;
+      is_accepted = c.in_ok-verified.ensures.accepted;
+      in_range = made_in_range c.args.limits machine c.in_ok-machine.ensures.limits;
+      opened = record {
+        same_program = c.in_ok-machine.ensures.program.0;
+        same_limits = c.in_ok-machine.ensures.program.1;
+        begins = c.in_ok-machine.ensures.begins;
+        represents = c.in_ok-machine.ensures.opening;
+      };
+      are_read = c.in_ok-events.ensures;
+    }
+
+pub returns-in_err-verified-clause-refused : goal.returns-in_err-verified-clause-refused
+returns-in_err-verified-clause-refused c =
+    handed_on c.from_residual.result c.from_residual.ensures.1 (λ failure same.
+    subst (IsNotRunBy c.args.source.now c.args.limits c.args.text.now) (sym same) (inl (inl c.in_err-verified.ensures.refused)))
+
+pub returns-in_err-events-clause-refused : goal.returns-in_err-events-clause-refused
+returns-in_err-events-clause-refused c =
+    let in_range = made_in_range c.args.limits c.in_ok-machine.machine c.in_ok-machine.ensures.limits in
+    handed_on c.from_residual-in_err-events.result c.from_residual-in_err-events.ensures.1 (λ failure same.
+    inr ((c.in_ok-verified.verified, c.in_ok-verified.ensures.accepted), in_range, (c.in_err-events.field-0.0, c.in_err-events.ensures, same)))

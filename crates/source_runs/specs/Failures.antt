@@ -1,0 +1,87 @@
+-- Why an order is not carried out, and what is told of it (this profile).
+use Rattle.std.specs.Fmt.{decimal}
+use Rattle.std.specs.IoError.{error_kind}
+use Rattle.std.specs.Prelude.{◌≡◌, ◌≢◌, ◌⊎◌, ◌++◌, ◌∷◌, [], ℕ, Bool, true, false, List, Option, codes}
+use Rattle.std.specs.Io.KnownBytes.{Appends}
+use Rattle.outputs.specs.Beginnings.{AppendsBeginning}
+use Rattle.std.specs.declared.io.Error.{Error}
+use Rattle.std.specs.declared.io.ErrorKind.TheVariants.{OutOfMemory}
+use Rattle.ilasm_reader.specs.Answers.{numbered as reading_number_of}
+use Rattle.ilasm_reader.specs.declared.reading.ReadError.{ReadError}
+use Rattle.ilasm_reader.specs.declared.reading.ReadError.TheVariants.{OutOfMemory as UnreadForMemory}
+use Rattle.metadata.specs.RuleNumbers.{number_of as legality_number_of}
+use Rattle.metadata.specs.declared.program.MetaError.{MetaError}
+use Rattle.metadata.specs.declared.program.MetaError.TheVariants.{OutOfMemory as UnresolvedForMemory}
+use Rattle.verifier.specs.Numbers.{typing_number_of}
+use Rattle.verifier.specs.declared.refusals.VerifyError.{VerifyError}
+use Rattle.verifier.specs.declared.refusals.VerifyError.TheVariants.{OutOfMemory as UnverifiedForMemory}
+use Rattle.shared_machine.specs.interleaving_core.Refusals.{number_of as making_number_of}
+use Rattle.shared_machine.specs.interleaving_core.declared.machine.Refused.{Refused as NotMade}
+use Rattle.shared_machine.specs.interleaving_core.declared.machine.Refused.TheVariants.{OutOfMemory as NotMadeForMemory}
+use Rattle.schedule_text.specs.Errors.{number_of as schedule_number_of}
+use Rattle.schedule_text.specs.declared.errors.ScheduleError.{ScheduleError}
+use Rattle.schedule_text.specs.declared.errors.ScheduleError.TheVariants.{OutOfMemory as UnscheduledForMemory}
+use Rattle.source_runs.specs.declared.failure.Failure.{Failure}
+use Rattle.source_runs.specs.declared.failure.Failure.TheVariants.{Refused, OutOfRange, Memory, Device}
+
+-- ---- what the error of a layer becomes: its number, but for want of memory
+
+abbrev pub failure_of_reading : ReadError → Failure
+failure_of_reading UnreadForMemory = Memory
+failure_of_reading error = Refused (reading_number_of error)
+
+abbrev pub failure_of_resolving : MetaError → Failure
+failure_of_resolving UnresolvedForMemory = Memory
+failure_of_resolving error = Refused (legality_number_of error)
+
+abbrev pub failure_of_verifying : VerifyError → Failure
+failure_of_verifying UnverifiedForMemory = Memory
+failure_of_verifying error = Refused (typing_number_of error)
+
+-- limits belong to the command line
+abbrev pub failure_of_making : NotMade → Failure
+failure_of_making NotMadeForMemory = Memory
+failure_of_making error = OutOfRange (making_number_of error)
+
+abbrev pub failure_of_schedule : ScheduleError → Failure
+failure_of_schedule UnscheduledForMemory = Memory
+failure_of_schedule error = Refused (schedule_number_of error)
+
+-- what a failed read or write becomes: want of memory may come by a reader or a writer too
+abbrev pub IsFailureOfDevice : Error → Failure → Type 0
+IsFailureOfDevice error failure = (error_kind error ≡ OutOfMemory → failure ≡ Memory)
+    × (error_kind error ≢ OutOfMemory → failure ≡ Device)
+
+-- an output fails, or memory for it
+abbrev pub IsOfWriting : Failure → Type 0
+IsOfWriting failure = (failure ≡ Memory) ⊎ (failure ≡ Device)
+
+-- ---- what is told of a failure
+
+-- of the source, the limits or the schedule
+abbrev pub is_refusal : Failure → Bool
+is_refusal (Refused number) = true
+is_refusal (OutOfRange number) = true
+is_refusal _ = false
+
+abbrev pub status_of_failure : Failure → ℕ
+status_of_failure (Refused number) = 1
+status_of_failure (OutOfRange number) = 2
+status_of_failure Memory = 5
+status_of_failure Device = 5
+
+-- the line of a refusal's number
+abbrev pub number_line : ℕ → List ℕ
+number_line number = codes "error " ++ decimal number ++ 10 ∷ []
+
+-- the line that a failure is printed as
+abbrev pub message_of : Failure → List ℕ
+message_of (Refused number) = number_line number
+message_of (OutOfRange number) = number_line number
+message_of Memory = codes "memory" ++ 10 ∷ []
+message_of Device = codes "device" ++ 10 ∷ []
+
+-- the line of a failure is written, and the status is the failure's; or a beginning of it, and the status is that of a failed write
+abbrev pub IsReported : Failure → Option (List ℕ) → Option (List ℕ) → ℕ → Type 0
+IsReported failure err err' status = ((status ≡ status_of_failure failure) × Appends err err' (message_of failure))
+    ⊎ ((status ≡ 5) × AppendsBeginning err err' (message_of failure))

@@ -1,0 +1,10 @@
+//! From the bytes of a source to what its run leaves: it is accepted, its limits and its schedule are, and a machine runs it.
+#![tactic(auto)]
+
+mod failure;
+pub mod laws;
+mod running;
+
+pub use failure::{Failure, report, status_of_failure, tell};
+pub use running::{accept, open, run_events, run_source};
+pub use shared_machine::{Machine, Outcome};

@@ -1,0 +1,112 @@
+//! From the bytes of a source to what its run leaves.
+
+ghost use Rattle.std.specs.Prelude.{◌≡◌, IfErr, IfOk};
+ghost use Rattle.shared_machine.specs.Histories.{events_of, reports_of};
+ghost use Rattle.source_runs.specs.Runs.{HasRunTo, IsAcceptedSource, IsNotAccepted};
+ghost use Rattle.source_runs.specs.Runs.{IsNotRun, IsNotRunBy, IsNotRunWithin, IsReady, IsRun, IsRunBy};
+
+use crate::failure::Failure;
+use cil_model::events::Event;
+use cil_model::limits::Limits;
+use class_layout::lay_out;
+use schedule_text::read_schedule;
+use shared_machine::{Machine, Outcome, run_alone};
+use std::alloc::Global;
+use std::marker::Brand;
+use std::sync::Wait;
+use verifier::{Verified, verify};
+use worker_counts::Blank;
+
+/// Runs a source by the events that a schedule's text writes, as `run_events` runs a list of them.
+///
+/// Faults are looked for in this order: the source, the limits, the schedule, memory for the history, threads and what is printed.
+pub fn run_source(
+    rt: &impl Wait,
+    alloc: Global,
+    source: &[u8],
+    limits: Limits,
+    text: &[u8],
+) -> Result<Outcome, Failure>
+    ensures ran { IfOk result (λ outcome. IsRunBy source.now limits text.now (events_of outcome.history.entries) (reports_of outcome.history.entries) outcome.machine) }
+    ensures refused { IfErr result (IsNotRunBy source.now limits text.now) }
+{
+    match read_schedule(alloc, text) {
+        Ok(events) => run_events(rt, alloc, source, limits, events.as_slice()),
+        Err(error) => {
+            // What is wrong with the source or the limits is told first.
+            run_events(rt, alloc, source, limits, &[])?;
+            Err(Failure::from(error))
+        }
+    }
+}
+
+/// Runs a source by a list of events, of any length and any threads, and answers the machine after them with the history: each event
+/// with its report, in order. One worker performs them, each under the lock of a shared machine, and counts them with its ticket.
+///
+/// The reference machine's run over the steps among the events is never stuck. It gives the steps these reports, and the machine stands
+/// for the state that it comes to: the bytes printed are the same, and each thread stands alike. No thread makes more steps than its
+/// budget has. A step of a thread that isn't live is reported Absent; an event of a collector does nothing yet (this profile).
+///
+/// Faults are looked for in this order: the source (`accept`), the limits (`OutOfRange(401)`), memory for the history, threads and what
+/// is printed (`Memory`).
+pub fn run_events(
+    rt: &impl Wait,
+    alloc: Global,
+    source: &[u8],
+    limits: Limits,
+    events: &[Event],
+) -> Result<Outcome, Failure>
+    ensures events { IfOk result (λ outcome. events_of outcome.history.entries ≡ events.now) }
+    ensures ran { IfOk result (λ outcome. HasRunTo source.now limits events.now (reports_of outcome.history.entries) outcome.machine) }
+    ensures refused { IfErr result (IsNotRun source.now limits) }
+{
+    let verified = accept(alloc, source)?;
+    run(rt, alloc, verified, limits, events)
+}
+
+/// The verified program of a source, whose tree is the one that the bytes have. It is legal, and each of its methods has a typing.
+pub fn accept(alloc: Global, source: &[u8]) -> Result<Verified, Failure>
+    ensures accepted { IfOk result (IsAcceptedSource source.now) }
+    ensures refused { IfErr result (IsNotAccepted source.now) }
+{
+    let tree = ilasm_reader::read(alloc, source)?;
+    let program = metadata::resolve(alloc, tree)?;
+    let layout = lay_out(alloc, &program)?;
+    Ok(verify(alloc, program, layout)?)
+}
+
+/// The machine of a program after these events, which one worker performs.
+fn run(
+    rt: &impl Wait,
+    alloc: Global,
+    program: Verified,
+    limits: Limits,
+    events: &[Event],
+) -> Result<Outcome, Failure>
+    ensures events { IfOk result (λ outcome. events_of outcome.history.entries ≡ events.now) }
+    ensures ran { IfOk result (λ outcome. IsRun program limits events.now (reports_of outcome.history.entries) outcome.machine) }
+    ensures refused { IfErr result (IsNotRunWithin limits) }
+{
+    let machine = Machine::new(alloc, program, limits)?;
+    let blank = Blank::new(alloc)?;
+    Ok(run_alone::<Brand, _>(rt, alloc, blank, machine, events)?)
+}
+
+/// The machine of a source before its first event, and the events that a schedule's text writes.
+///
+/// Faults are looked for in this order: the source (as `accept` does), the limits (`OutOfRange(401)`), the schedule (`Refused` with a
+/// number from 501 on); `Memory` where memory runs out.
+pub fn open(
+    alloc: Global,
+    source: &[u8],
+    limits: Limits,
+    text: &[u8],
+) -> Result<(Machine, Vec<Event>), Failure>
+    ensures opened { IfOk result (λ run. IsReady source.now limits text.now run.1.items run.0) }
+    ensures refused { IfErr result (IsNotRunBy source.now limits text.now) }
+{
+    let verified = accept(alloc, source)?;
+    let machine = Machine::new(alloc, verified, limits)?;
+    let events = read_schedule(alloc, text)?;
+    Ok((machine, events))
+}
