@@ -1,5 +1,5 @@
 -- Single tokens, tried out: integers at their ends, words, string literals and symbols. What no token is, is none with any rest or with the rest that its text would leave.
-use Rattle.std.proofs.Common.{◌≡◌, ℕ, ℤ, pos, negsuc, true, false, IsTrue, List, [], ◌∷◌, ◌++◌, ◌==◌, refl, inl, inr, sym, ap, ◌∙◌, subst, codes, cond, arith, FitsSigned}
+use Rattle.std.proofs.Common.{◌≡◌, ℕ, ℤ, pos, negsuc, true, false, IsTrue, List, [], ◌∷◌, ◌++◌, ◌==◌, refl, inl, inr, sym, ap, ◌∙◌, subst, codes, arith, FitsSigned}
 use Rattle.std.specs.Prelude.{neg_ℤ, drop}
 use Rattle.std.specs.List.{list_all}
 use Rattle.std.specs.Int.{w64}
@@ -8,7 +8,7 @@ use Rattle.std.proofs.lemmas.Bool.{eqb-false}
 use Rattle.std.proofs.lemmas.List.{append-nil}
 use Rattle.cil_model.specs.declared.tokens.Symbol.TheVariants.{Colon, DoubleColon}
 use Rattle.cil_model.specs.declared.tokens.Token.TheVariants.{Reserved, Name, Integer, Quoted, Symbol as SymbolToken}
-use Rattle.cil_model.specs.Words.{is_digit, is_word_byte, is_reserved}
+use Rattle.cil_model.specs.Words.{is_digit, is_word_byte}
 use Rattle.cil_model.specs.Lexemes.{stops, value_from, is_plain, goes_before, lexeme, AreTokens}
 use Rattle.cil_model.proofs.SameLaws.{never, both_first, both_second}
 use Rattle.cil_model.proofs.Lists.{no_item}

@@ -8,6 +8,7 @@ mod FlowTrials
 mod LegalityTrials
 mod SlotTrials
 mod TypeTrials
+mod JoinTrials
 mod TokenTrials
 mod LexemeTrials
 mod CollectorTrials

@@ -1,5 +1,5 @@
 -- What is in a list after a change of one place.
-use Rattle.std.proofs.Common.{◌≡◌, ◌⊎◌, ℕ, zero, suc, Bool, true, false, if◌then◌else◌, List, [], ◌∷◌, ◌++◌, Some, slice_get, slice_set, refl, inl, inr, sym, ap}
+use Rattle.std.proofs.Common.{◌≡◌, ◌⊎◌, ℕ, zero, suc, Bool, true, false, if◌then◌else◌, List, [], ◌∷◌, Some, slice_get, slice_set, refl, inl, inr, sym, ap}
 use Rattle.std.proofs.lemmas.Option.{same_Some}
 use Rattle.reference_machine.specs.States.{entry_at, with_entry}
 use Rattle.cil_model.proofs.Lists.{none_is_some}
