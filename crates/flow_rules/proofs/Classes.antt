@@ -4,6 +4,7 @@ use Rattle.std.proofs.lemmas.List.{length-map}
 use Rattle.std.specs.Prelude.{IfSome}
 use Rattle.std.specs.List.{position_from, list_any}
 use Rattle.std.specs.Option.{option_map_or}
+use Rattle.std.proofs.lemmas.Option.{same_Some}
 use Rattle.cil_model.specs.declared.types.ClassName.{ClassName}
 use Rattle.cil_model.specs.declared.types.Element.{Element}
 use Rattle.cil_model.specs.declared.types.Element.TheVariants as Named
@@ -16,7 +17,6 @@ use Rattle.cil_model.specs.Chains.{base_of}
 use Rattle.cil_model.specs.Assignable.{element_of_class}
 use Rattle.cil_model.specs.TypeTree.{parent_element}
 use Rattle.cil_model.specs.Legality.{IsLegal, has_repeat, class_doubles, doubles_name}
-use Rattle.cil_model.proofs.BelowLaws.{same_some}
 use Rattle.cil_model.proofs.SameLaws.{same_class_itself, class_equivalence}
 use Rattle.name_tables.specs.Numbers.{declarations, class_number, source_entry}
 use Rattle.name_tables.proofs.NumberLaws.{IsNumbered, numbered}
@@ -150,7 +150,7 @@ module _ (tree : Tree) where
     own_declaration n c d e =
         let number : class_number tree c ≡ Some n = own_number n c (ap (option_map (λ (x : ClassName × Declaration). x.0)) e) in
         let found : (d' : Declaration) × (declaration_of tree c ≡ Some d') × (slice_get (declarations tree) n ≡ Some (c, d')) = subst (IsNumbered tree c) number (numbered tree c) in
-        let pairs : (c, found.0) ≡ (c, d) = same_some (c, found.0) (c, d) (sym found.2 ∙ e) in
+        let pairs : (c, found.0) ≡ (c, d) = same_Some (c, found.0) (c, d) (sym found.2 ∙ e) in
         found.1 ∙ ap (λ (x : ClassName × Declaration). Some x.1) pairs
 
     -- what stands at a class's number, where the classes are resolved
@@ -198,14 +198,14 @@ module _ (tree : Tree) where
   number_of_type : (n : ℕ) (c : ClassName) → 1 < n → class_name tree n ≡ Some c → element_of_class c ≡ Named.Class c
   number_of_type zero c h e = absurd (omega (arith, h))
   number_of_type (suc zero) c h e = absurd (omega (arith, h))
-  number_of_type (suc (suc zero)) c h e = subst (λ (d : ClassName). element_of_class d ≡ Named.Class d) (same_some console_name c e) refl
-  number_of_type (suc (suc (suc zero))) c h e = subst (λ (d : ClassName). element_of_class d ≡ Named.Class d) (same_some monitor_name c e) refl
-  number_of_type (suc (suc (suc (suc zero)))) c h e = subst (λ (d : ClassName). element_of_class d ≡ Named.Class d) (same_some thread_name c e) refl
+  number_of_type (suc (suc zero)) c h e = subst (λ (d : ClassName). element_of_class d ≡ Named.Class d) (same_Some console_name c e) refl
+  number_of_type (suc (suc (suc zero))) c h e = subst (λ (d : ClassName). element_of_class d ≡ Named.Class d) (same_Some monitor_name c e) refl
+  number_of_type (suc (suc (suc (suc zero)))) c h e = subst (λ (d : ClassName). element_of_class d ≡ Named.Class d) (same_Some thread_name c e) refl
   number_of_type (suc (suc (suc (suc (suc n))))) c h e = source_type tree.classes n e
     where
       source_type : (cs : List SourceClass) (m : ℕ) → option_map (λ (x : ClassName × Declaration). x.0) (slice_get (map source_entry cs) m) ≡ Some c → element_of_class c ≡ Named.Class c
       source_type [] m f = none_is_some c f
-      source_type (k ∷ cs) zero f = subst (λ (d : ClassName). element_of_class d ≡ Named.Class d) (same_some (source_name k) c f) refl
+      source_type (k ∷ cs) zero f = subst (λ (d : ClassName). element_of_class d ≡ Named.Class d) (same_Some (source_name k) c f) refl
       source_type (k ∷ cs) (suc m) f = source_type cs m f
 
   pub element_at_number : (n : ℕ) (c : ClassName) → class_name tree n ≡ Some c → class_named tree n ≡ c
@@ -240,7 +240,7 @@ module _ (tree : Tree) where
 
   base_present : (m : ℕ) (b : Option ClassName) → Some (class_name tree m) ≡ option_map Some b → (c : ClassName) × (b ≡ Some c) × (class_name tree m ≡ Some c)
   base_present m None h = none_is_some (class_name tree m) (sym h)
-  base_present m (Some c) h = (c, refl, same_some (class_name tree m) (Some c) h)
+  base_present m (Some c) h = (c, refl, same_Some (class_name tree m) (Some c) h)
 
   pub base_known : (o : Option ℕ) (m : ℕ) (b : Option ClassName) → option_map (class_name tree) o ≡ option_map Some b → o ≡ Some m → is_some (class_name tree m) ≡ true
   base_known o m b h e = let f : (c : ClassName) × (b ≡ Some c) × (class_name tree m ≡ Some c) = base_present m b (sym (ap (option_map (class_name tree)) e) ∙ h) in ap is_some f.2

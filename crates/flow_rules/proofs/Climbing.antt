@@ -1,6 +1,7 @@
 -- Ancestors end in a legal tree, within the number of its classes and the brackets.
 use Rattle.std.proofs.Common.{◌≡◌, ◌≤◌, ◌<◌, ◌+◌, ◌-◌, ◌⊎◌, ℕ, zero, suc, Bool, true, false, IsTrue, List, [], ◌∷◌, Option, Some, None, option_and_then, refl, inl, inr, sym, ap, ◌∙◌, subst, arith}
 use Rattle.std.proofs.lemmas.Bool.{cases_lt}
+use Rattle.std.proofs.lemmas.Option.{same_Some}
 use Rattle.cil_model.specs.declared.types.ClassName.{ClassName}
 use Rattle.cil_model.specs.declared.types.Element.{Element}
 use Rattle.cil_model.specs.declared.types.Element.TheVariants.{Int32, Int64, Object, String, Class}
@@ -12,9 +13,10 @@ use Rattle.cil_model.specs.Chains.{base_of, chain_within, longest_chain}
 use Rattle.cil_model.specs.Assignable.{is_reference, is_reference_element, element_named}
 use Rattle.cil_model.specs.TypeTree.{StackType, Declared, NativeInt, Null, parent_element, parent_at, parent, ancestor, IsBelow, IsMerge}
 use Rattle.cil_model.specs.Legality.{IsLegal}
+use Rattle.cil_model.proofs.Lists.{none_is_some}
 use Rattle.cil_model.proofs.Legal.{no_cycle}
 use Rattle.cil_model.proofs.ChainLaws.{chain_ends}
-use Rattle.cil_model.proofs.BelowLaws.{typed, same_some, none_is_some, declared_is_null, declared_is_native, climb}
+use Rattle.cil_model.proofs.BelowLaws.{typed, declared_is_null, declared_is_native, climb}
 
 no_item : {A : Type 0} (c : ClassName) (cs : List ClassName) → c ∷ cs ≡ [] → A
 no_item {A} c cs e = absurd (lost e)
@@ -125,7 +127,7 @@ module _ (tree : Tree) where
       lost h = cc
 
   alone : (n : ℕ) (t v : DeclaredType) → is_reference t ≡ false → IsTrue (is_reference v) → ancestor tree n t ≡ Some v → ⊥
-  alone zero t v none r e = let P : DeclaredType → Type 0 = λ x. IsTrue (is_reference x) in never (sym (subst P (sym (same_some t v e)) r) ∙ none)
+  alone zero t v none r e = let P : DeclaredType → Type 0 = λ x. IsTrue (is_reference x) in never (sym (subst P (sym (same_Some t v e)) r) ∙ none)
   alone (suc n) t v none r e = by_parent (parent tree t) refl e
     where
       by_parent : (o : Option DeclaredType) → parent tree t ≡ o → option_and_then (ancestor tree n) o ≡ Some v → ⊥

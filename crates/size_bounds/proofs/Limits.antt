@@ -9,8 +9,8 @@ use Rattle.cil_model.specs.declared.limits.TheConstants.{MOST_CLASSES, MOST_METH
 use Rattle.cil_model.specs.Fields.{static_fields}
 use Rattle.cil_model.specs.Mentions.{methods_of_tree, types_of_tree}
 use Rattle.cil_model.specs.Legality.{IsLegal, first_broken, doubles_name, lacks_name, has_cycle, lacks_implementation, misfits_kind, lacks_entry, is_small_class, passes_limit}
+use Rattle.cil_model.proofs.Lists.{none_is_some}
 use Rattle.cil_model.proofs.SameLaws.{both_first, both_second}
-use Rattle.cil_model.proofs.BelowLaws.{none_is_some}
 use Rattle.size_bounds.proofs.Lists.{item_passes}
 
 -- where none is the first broken rule, none is broken
