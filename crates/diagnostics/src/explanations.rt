@@ -6,7 +6,6 @@ ghost use Rattle.diagnostics.specs.Verdicts.{IsAcceptedSource, is_acceptance};
 use crate::messages::Named;
 use crate::readings::explain_reading;
 use crate::rules::{broken, explain_rule};
-use crate::typing_refusals::told_typing;
 use crate::verdicts::{Verdict, verdict_of};
 use cil_model::memory::NoMemory;
 use cil_model::trees::Tree;
@@ -14,6 +13,7 @@ use ilasm_reader::{ReadError, read};
 use metadata::violations::Violation;
 use metadata::{MetaError, Program, resolve};
 use std::alloc::Global;
+use typing_messages::told_typing;
 use typing_search::refusals::FailurePoint;
 
 /// The tree of a source that was read before; None where it has none.

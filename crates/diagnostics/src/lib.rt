@@ -5,13 +5,9 @@ mod explanations;
 mod hints;
 mod limits;
 mod messages;
-mod name_breaches;
 mod readings;
-mod rule_breaches;
 mod rules;
 mod schedules;
-pub mod source_map;
-mod typing_refusals;
 mod verdicts;
 
 pub use explanations::explain;

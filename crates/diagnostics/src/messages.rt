@@ -1,7 +1,7 @@
 //! How a message is laid out.
 
-use crate::source_map::{Position, excerpt, position_of, token_at};
 use cil_model::memory::NoMemory;
+use source_map::{Position, excerpt, position_of, token_at};
 use std::alloc::Global;
 
 /// A text of which messages speak, and the name of its file.

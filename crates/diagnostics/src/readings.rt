@@ -2,12 +2,12 @@
 
 use crate::hints::{ExpectedText, last_token};
 use crate::messages::Named;
-use crate::source_map::token_at;
 use cil_model::limits::MOST_SOURCE_BYTES;
 use cil_model::memory::NoMemory;
 use ilasm_reader::ReadError;
 use ilasm_tokens::expected::Expected;
 use ilasm_tokens::words::{WordUse, use_of};
+use source_map::token_at;
 use std::alloc::Global;
 use std::fmt;
 

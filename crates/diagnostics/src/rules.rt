@@ -1,15 +1,14 @@
 //! Why a tree is no legal program (numbers 201 to 207).
 
 use crate::messages::Named;
-use crate::name_breaches::Sites;
-use crate::rule_breaches::{Breach, breach_of};
-use crate::source_map::{Outline, Place};
 use cil_model::memory::NoMemory;
 use cil_model::trees::Tree;
 use metadata::violations::Violation;
 use name_tables::built_in::BuiltInClass;
 use name_tables::lookups::NameTables;
+use source_map::{Outline, Place};
 use std::alloc::Global;
+use violation_messages::{Breach, Sites, breach_of};
 
 /// The offset of a part of the source, where it is there.
 fn offset_of(outline: &Option<Outline>, place: Option<Place>) -> Option<usize> {

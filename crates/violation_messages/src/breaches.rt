@@ -1,11 +1,13 @@
 //! The breaches of all rules.
 
-use crate::name_breaches::{Doubled, Sites, Unknown, doubled_name, unknown_name};
-use crate::rule_breaches::cycles::{OwnBase, own_base};
-use crate::rule_breaches::entry::{BadEntry, bad_entry};
-use crate::rule_breaches::implemented::{NotImplemented, not_implemented};
-use crate::rule_breaches::kinds::{Misfit, misfit_of};
-use crate::rule_breaches::limits::{Passed, passed_limit};
+use crate::cycles::{OwnBase, own_base};
+use crate::doubled::{Doubled, doubled_name};
+use crate::entry::{BadEntry, bad_entry};
+use crate::implemented::{NotImplemented, not_implemented};
+use crate::kinds::{Misfit, misfit_of};
+use crate::limits::{Passed, passed_limit};
+use crate::sites::Sites;
+use crate::unknown::{Unknown, unknown_name};
 use cil_model::memory::NoMemory;
 use metadata::violations::Violation;
 use name_tables::lookups::NameTables;

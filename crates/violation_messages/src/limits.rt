@@ -1,7 +1,7 @@
 //! Limits that are passed (number 207), all of which are this profile's.
 
-use crate::name_breaches::{MemberSpot, Sites, class_name, method_of, place_of, type_at};
-use crate::source_map::{LinePart, MemberPart, Place};
+use crate::references::{place_of, type_at};
+use crate::sites::{MemberSpot, Sites, class_name, located_method};
 use cil_model::instructions::Instruction;
 use cil_model::limits::{
     MOST_ARGUMENTS, MOST_BRACKETS, MOST_CLASSES, MOST_INSTANCE_FIELDS, MOST_INSTRUCTIONS,
@@ -15,6 +15,7 @@ use name_tables::bodies::{code_of, lines_of, locals_of};
 use name_tables::keys::ClassKey;
 use name_tables::kinds::is_static;
 use name_tables::lookups::NameTables;
+use source_map::{LinePart, MemberPart, Place};
 use std::fmt;
 
 /// A limit that is passed, with the number that passes it.
@@ -220,7 +221,7 @@ pub(crate) fn passed_limit<'a>(
             found(passed, class_name(class))
         }
         violations::Passed::Method { method, limit } => {
-            let (spot, declared) = method_of(tree, method)?;
+            let (spot, declared) = located_method(tree, method)?;
             passed_by_method(spot, declared, limit)
         }
     }

@@ -1,4 +1,5 @@
 //! Names and types, as sources write them.
+#![tactic(auto)]
 
 use cil_model::types::{DeclaredType, Element};
 use name_tables::keys::{ClassKey, MethodKey};

@@ -1,11 +1,7 @@
 //! Names that stand for nothing of the kind needed (number 202).
 
-use crate::name_breaches::references::{
-    MemberKey, class_of, class_place, line_at, member_of, type_at,
-};
-use crate::name_breaches::shown::{ClassText, MethodText, TypeText};
-use crate::name_breaches::sites::{Sites, key_of};
-use crate::source_map::{ClassPart, LinePart, Place};
+use crate::references::{MemberKey, class_of, class_place, line_at, member_of, type_at};
+use crate::sites::{Sites, key_of};
 use cil_model::instructions::Instruction;
 use cil_model::texts::Text;
 use cil_model::trees::{Class, ClassKind, Field, Method, Tree};
@@ -15,6 +11,8 @@ use metadata::violations::{ClassFault, HeadingName, SourceMember};
 use name_tables::keys::{ClassKey, FieldKey, MethodKey};
 use name_tables::kinds::is_static;
 use name_tables::lookups::NameTables;
+use name_texts::{ClassText, MethodText, TypeText};
+use source_map::{ClassPart, LinePart, Place};
 use std::fmt;
 
 /// What a class is named as.

@@ -1,7 +1,7 @@
 //! Why a method has no typing (number 301), in words.
 
-use crate::typing_refusals::numbered::{EntryOf, NumberedClass, TypeOf};
-use crate::typing_refusals::wanted::Scene;
+use crate::numbered::{EntryOf, NumberedClass, TypeOf};
+use crate::wanted::Scene;
 use flow_rules::entries::StackEntry;
 use flow_rules::mismatches::Mismatch;
 use resolved_code::operations::Operation;

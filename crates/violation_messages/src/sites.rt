@@ -1,10 +1,10 @@
 //! Where rules are broken.
 
-use crate::source_map::{ClassPart, LinePart, MemberPart, Place};
 use cil_model::trees::{Class, Field, Member, Method, Tree};
 use metadata::violations::SourceMember;
 use name_tables::keys::MethodKey;
 use name_tables::lookups::NameTables;
+use source_map::{ClassPart, LinePart, MemberPart, Place};
 
 /// Where a rule is broken.
 #[derive(Clone, Copy, PartialEq, Eq, Debug)]
@@ -86,7 +86,7 @@ pub fn key_of(method: &Method) -> MethodKey<'_> {
 }
 
 /// A method of the source, and its number among the members of its class.
-pub fn method_of(tree: &Tree, number: SourceMember) -> Option<(MemberSpot, &Method)> {
+pub fn located_method(tree: &Tree, number: SourceMember) -> Option<(MemberSpot, &Method)> {
     let class = number.class;
     let mut left = number.place;
     let declared = tree.classes.as_slice().get(class)?;
@@ -103,7 +103,7 @@ pub fn method_of(tree: &Tree, number: SourceMember) -> Option<(MemberSpot, &Meth
 }
 
 /// A field of the source, and its number among the members of its class.
-pub fn field_of(tree: &Tree, number: SourceMember) -> Option<(MemberSpot, &Field)> {
+pub fn located_field(tree: &Tree, number: SourceMember) -> Option<(MemberSpot, &Field)> {
     let class = number.class;
     let mut left = number.place;
     let declared = tree.classes.as_slice().get(class)?;

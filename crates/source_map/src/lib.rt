@@ -1,4 +1,5 @@
-// Where the parts of a source stand, and how a place of a text is shown to a person.
+//! Where the parts of a source stand, and how a place of a text is shown to a person.
+#![tactic(auto)]
 
 mod excerpts;
 mod lexemes;

@@ -1,9 +1,8 @@
 //! Where a method has no typing (number 301).
 
-use crate::source_map::{LinePart, MemberPart, Outline, Place, token_at};
-use crate::typing_refusals::numbered::{StackOf, class_keys};
-use crate::typing_refusals::refusals::Refusal;
-use crate::typing_refusals::wanted::{Scene, Wanted};
+use crate::numbered::{StackOf, class_keys};
+use crate::refusals::Refusal;
+use crate::wanted::{Scene, Wanted};
 use cil_model::instructions::MethodName;
 use cil_model::memory::NoMemory;
 use cil_model::trees::{Member, Method, Tree};
@@ -15,6 +14,7 @@ use name_tables::lookups::MemberNumber;
 use resolved_code::classes::{Body, ResolvedKind, ResolvedMethod};
 use resolved_code::operations::Operation;
 use resolved_code::types::NumberedType;
+use source_map::{LinePart, MemberPart, Outline, Place, token_at};
 use std::alloc::Global;
 use typing_search::refusals::FailurePoint;
 

@@ -1,7 +1,7 @@
 //! Where the parts of a source stand.
 
-use crate::source_map::marks::{Mark, is_symbol, is_word, marked};
-use crate::source_map::places::{ClassPart, LinePart, MemberPart, Place};
+use crate::marks::{Mark, is_symbol, is_word, marked};
+use crate::places::{ClassPart, LinePart, MemberPart, Place};
 use cil_model::memory::NoMemory;
 use cil_model::sequences::Sequence;
 use cil_model::tokens::Symbol;

@@ -1,10 +1,11 @@
 //! Classes that stand in the chain of their own base (number 203).
 
-use crate::name_breaches::{ClassText, Sites};
-use crate::source_map::{ClassPart, Place};
+use crate::sites::Sites;
 use cil_model::memory::NoMemory;
 use name_tables::keys::ClassKey;
 use name_tables::lookups::NameTables;
+use name_texts::ClassText;
+use source_map::{ClassPart, Place};
 use std::alloc::Global;
 use std::fmt;
 

@@ -1,6 +1,6 @@
 //! The operands that an instruction wants.
 
-use crate::typing_refusals::numbered::TypeOf;
+use crate::numbered::TypeOf;
 use cil_model::instructions::{BranchComparison, Comparison};
 use flow_rules::type_tree::type_of_class;
 use metadata::Program;

@@ -1,6 +1,6 @@
 //! A line of a text with carets below a part of it.
 
-use crate::source_map::lines::line_at;
+use crate::lines::line_at;
 use cil_model::memory::NoMemory;
 use std::alloc::Global;
 

@@ -1,11 +1,11 @@
 //! Types by numbers, as text.
 
-use crate::name_breaches::ClassText;
 use cil_model::memory::NoMemory;
 use cil_model::trees::Tree;
 use flow_rules::entries::StackEntry;
 use name_tables::built_in::BuiltInClass;
 use name_tables::keys::ClassKey;
+use name_texts::ClassText;
 use resolved_code::types::{NumberedElement, NumberedType};
 use std::alloc::Global;
 use std::fmt;

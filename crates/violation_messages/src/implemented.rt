@@ -1,12 +1,13 @@
 //! Methods of listed interfaces that are absent (number 204).
 
-use crate::name_breaches::{ClassText, MethodText, Sites, key_of, method_place};
-use crate::source_map::{ClassPart, Place};
+use crate::sites::{Sites, key_of, method_place};
 use cil_model::texts::Text;
 use cil_model::trees::ClassKind;
 use metadata::violations;
 use name_tables::keys::{ClassKey, MethodKey};
 use name_tables::lookups::NameTables;
+use name_texts::{ClassText, MethodText};
+use source_map::{ClassPart, Place};
 use std::fmt;
 
 /// A method of an interface that a class lists, for which no class of the chain has a virtual method.

@@ -1,14 +1,13 @@
 //! Methods whose kinds do not fit (number 205).
 
-use crate::name_breaches::{
-    ClassText, MethodText, Sites, class_name, key_of, method_of, method_place,
-};
+use crate::sites::{Sites, class_name, key_of, located_method, method_place};
 use cil_model::texts::Text;
 use cil_model::trees::Class;
 use metadata::violations;
 use metadata::violations::{KindFault, SourceMember};
 use name_tables::keys::{ClassKey, MethodKey};
 use name_tables::lookups::{MemberNumber, NameTables};
+use name_texts::{ClassText, MethodText};
 use std::fmt;
 
 /// A method whose kind does not fit its class or what it inherits.
@@ -158,7 +157,7 @@ fn left_open<'a>(names: &NameTables<'a>, class: &Class, open: MemberNumber) -> O
 
 fn over_plain<'a>(names: &NameTables<'a>, method: SourceMember, base: usize) -> Option<Found<'a>> {
     let tree = names.classes.tree;
-    let (spot, declared) = method_of(tree, method)?;
+    let (spot, declared) = located_method(tree, method)?;
     let key = key_of(declared);
     let misfit = Misfit::OverPlain {
         class: &tree.classes.as_slice().get(method.class)?.name,
@@ -179,7 +178,7 @@ pub(crate) fn misfit_of<'a>(
     let declared = tree.classes.as_slice().get(class)?;
     match fault {
         KindFault::InInterface { method } => {
-            let (spot, found) = method_of(
+            let (spot, found) = located_method(
                 tree,
                 SourceMember {
                     class,
@@ -193,7 +192,7 @@ pub(crate) fn misfit_of<'a>(
             Some((misfit, Sites::at(spot.name())))
         }
         KindFault::Abstract { method } => {
-            let (spot, found) = method_of(
+            let (spot, found) = located_method(
                 tree,
                 SourceMember {
                     class,

@@ -1,14 +1,14 @@
 //! Names that stand twice (number 201).
 
-use crate::name_breaches::shown::{ClassText, MethodText};
-use crate::name_breaches::sites::{MemberSpot, Sites, class_name, field_of, key_of, method_of};
-use crate::source_map::{ClassPart, LinePart, Place};
+use crate::sites::{MemberSpot, Sites, class_name, key_of, located_field, located_method};
 use cil_model::texts::Text;
 use cil_model::trees::{ClassKind, Method, Tree};
 use metadata::violations;
 use metadata::violations::{DoubledInClass, Repeat, SourceMember};
 use name_tables::bodies::lines_of;
 use name_tables::keys::{ClassKey, MethodKey};
+use name_texts::{ClassText, MethodText};
+use source_map::{ClassPart, LinePart, Place};
 use std::fmt;
 
 /// A name that stands twice where it must stand once.
@@ -90,14 +90,14 @@ fn doubled_class(tree: &Tree, repeat: Repeat) -> Option<Found<'_>> {
 
 fn doubled_field(tree: &Tree, class: usize, repeat: Repeat) -> Option<Found<'_>> {
     let Repeat { first, again } = repeat;
-    let (second, field) = field_of(
+    let (second, field) = located_field(
         tree,
         SourceMember {
             class,
             place: again,
         },
     )?;
-    let (first, _) = field_of(
+    let (first, _) = located_field(
         tree,
         SourceMember {
             class,
@@ -113,14 +113,14 @@ fn doubled_field(tree: &Tree, class: usize, repeat: Repeat) -> Option<Found<'_>>
 
 fn doubled_method(tree: &Tree, class: usize, repeat: Repeat) -> Option<Found<'_>> {
     let Repeat { first, again } = repeat;
-    let (second, method) = method_of(
+    let (second, method) = located_method(
         tree,
         SourceMember {
             class,
             place: again,
         },
     )?;
-    let (first, _) = method_of(
+    let (first, _) = located_method(
         tree,
         SourceMember {
             class,
@@ -165,7 +165,7 @@ fn label_at(spot: MemberSpot, method: &Method, place: usize) -> Option<(&Text, P
 }
 
 fn doubled_label(tree: &Tree, method: SourceMember, repeat: Repeat) -> Option<Found<'_>> {
-    let (spot, declared) = method_of(tree, method)?;
+    let (spot, declared) = located_method(tree, method)?;
     let (label, again) = label_at(spot, declared, repeat.again)?;
     let (_, first) = label_at(spot, declared, repeat.first)?;
     Some(found(Doubled::Label(label), again, first))

@@ -1,12 +1,13 @@
 //! The entry point (number 206).
 
-use crate::name_breaches::{MethodText, Sites, TypeText, key_of, method_of};
-use crate::source_map::{MemberPart, Place};
+use crate::sites::{Sites, key_of, located_method};
 use cil_model::trees::{Method, Tree};
 use cil_model::types::DeclaredType;
 use metadata::violations;
 use metadata::violations::SourceMember;
 use name_tables::keys::MethodKey;
+use name_texts::{MethodText, TypeText};
+use source_map::{MemberPart, Place};
 use std::fmt;
 
 /// Why a source has not one entry point, in a static method without parameters that returns nothing.
@@ -55,7 +56,7 @@ impl fmt::Display for BadEntry<'_> {
 
 /// The place of a method's entry point, and the method.
 fn entry_at(tree: &Tree, method: SourceMember) -> Option<(Place, &Method)> {
-    let (spot, declared) = method_of(tree, method)?;
+    let (spot, declared) = located_method(tree, method)?;
     Some((spot.part(MemberPart::EntryPoint), declared))
 }
 

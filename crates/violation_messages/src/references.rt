@@ -1,7 +1,6 @@
 //! What a part of a source names.
 
-use crate::name_breaches::sites::{MemberSpot, field_of, method_of};
-use crate::source_map::{LinePart, MemberPart, Place};
+use crate::sites::{MemberSpot, located_field, located_method};
 use cil_model::instructions::Instruction;
 use cil_model::texts::Text;
 use cil_model::trees::Tree;
@@ -10,6 +9,7 @@ use metadata::mentions::NamedTypes;
 use metadata::violations::{SourceMember, TypeSite, TypesPart};
 use name_tables::bodies::{lines_of, locals_of};
 use name_tables::keys::{ClassKey, FieldKey, MethodKey};
+use source_map::{LinePart, MemberPart, Place};
 
 // ---- types
 
@@ -17,18 +17,18 @@ use name_tables::keys::{ClassKey, FieldKey, MethodKey};
 fn types_of(tree: &Tree, part: TypesPart) -> Option<NamedTypes<'_>> {
     match part {
         TypesPart::Field(field) => {
-            let (_, declared) = field_of(tree, field)?;
+            let (_, declared) = located_field(tree, field)?;
             Some(NamedTypes {
                 parameters: &[],
                 last: Some(&declared.field_type),
             })
         }
         TypesPart::Signature(method) => {
-            let (_, declared) = method_of(tree, method)?;
+            let (_, declared) = located_method(tree, method)?;
             Some(NamedTypes::of_signature(&declared.signature))
         }
         TypesPart::Locals(method) => {
-            let (_, declared) = method_of(tree, method)?;
+            let (_, declared) = located_method(tree, method)?;
             Some(NamedTypes {
                 parameters: locals_of(declared),
                 last: None,
@@ -54,12 +54,12 @@ pub fn type_at(tree: &Tree, site: TypeSite) -> Option<&DeclaredType> {
 fn spot_of(tree: &Tree, part: TypesPart) -> Option<MemberSpot> {
     match part {
         TypesPart::Field(field) => {
-            let (spot, _) = field_of(tree, field)?;
+            let (spot, _) = located_field(tree, field)?;
             Some(spot)
         }
         TypesPart::Signature(method) | TypesPart::Locals(method) | TypesPart::Line { method, .. } =>
             {
-                let (spot, _) = method_of(tree, method)?;
+                let (spot, _) = located_method(tree, method)?;
                 Some(spot)
             }
     }
@@ -132,7 +132,7 @@ pub fn line_at(
     method: SourceMember,
     line: usize,
 ) -> Option<(MemberSpot, &Instruction)> {
-    let (spot, declared) = method_of(tree, method)?;
+    let (spot, declared) = located_method(tree, method)?;
     Some((spot, &lines_of(declared).get(line)?.instruction))
 }
 
