@@ -1,7 +1,7 @@
 //! Lines and columns of a text.
 
 /// A place of a text as a person counts it, line and column from 1. Each byte is one column, a tab too.
-#[derive(Clone, Copy, PartialEq, Eq, Debug)]
+#[derive(Clone, Copy)]
 pub struct Position {
     pub line: usize,
     pub column: usize,

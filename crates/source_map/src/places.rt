@@ -2,7 +2,7 @@
 
 /// A part of a source. Externs and classes are counted from 0 in source order, members among the fields and methods of their class, and
 /// lines among the instructions of their method.
-#[derive(Clone, Copy, PartialEq, Eq, Debug)]
+#[derive(Clone, Copy)]
 pub enum Place {
     /// The name of an extern.
     Extern(usize),
@@ -24,7 +24,7 @@ pub enum Place {
 }
 
 /// A part of a class's first line.
-#[derive(Clone, Copy, PartialEq, Eq, Debug)]
+#[derive(Clone, Copy)]
 pub enum ClassPart {
     Name,
     /// The name of the base.
@@ -34,7 +34,7 @@ pub enum ClassPart {
 }
 
 /// A part of a field, or of a method before its first instruction.
-#[derive(Clone, Copy, PartialEq, Eq, Debug)]
+#[derive(Clone, Copy)]
 pub enum MemberPart {
     Name,
     /// The name of the class in a type, by its place among the types with `class`.
@@ -48,7 +48,7 @@ pub enum MemberPart {
 }
 
 /// A part of an instruction with its labels.
-#[derive(Clone, Copy, PartialEq, Eq, Debug)]
+#[derive(Clone, Copy)]
 pub enum LinePart {
     /// The instruction's name.
     Name,

@@ -1,41 +1,40 @@
 //! Types by numbers, as text.
 
-use cil_model::memory::NoMemory;
-use cil_model::trees::Tree;
+use cil_model::trees::Class;
 use flow_rules::entries::StackEntry;
 use name_tables::built_in::BuiltInClass;
 use name_tables::keys::ClassKey;
 use name_texts::ClassText;
 use resolved_code::types::{NumberedElement, NumberedType};
-use std::alloc::Global;
 use std::fmt;
 
 /// The names of classes by their numbers: the built-in ones first, and then those of the source.
-pub(crate) fn class_keys<'a>(
-    alloc: Global,
-    table: &'a [BuiltInClass],
-    tree: &'a Tree,
-) -> Result<Vec<ClassKey<'a>>, NoMemory> {
-    let mut keys = Vec::new(alloc);
-    for class in table {
-        keys.push(ClassKey::of(&class.name))?;
+#[derive(Clone, Copy)]
+pub(crate) struct ClassNames<'a> {
+    pub built_in: &'a [BuiltInClass],
+    pub sources: &'a [Class],
+}
+
+impl<'a> ClassNames<'a> {
+    fn name(self, number: usize) -> Option<ClassKey<'a>> {
+        if let Some(class) = self.built_in.get(number) {
+            return Some(ClassKey::of(&class.name));
+        }
+        let source = number.checked_sub(self.built_in.len())?;
+        Some(ClassKey::of_source(self.sources.get(source)?))
     }
-    for class in tree.classes.as_slice() {
-        keys.push(ClassKey::of_source(class))?;
-    }
-    Ok(keys)
 }
 
 /// The class of a number.
 #[derive(Clone, Copy)]
-pub(crate) struct NumberedClass<'a>(pub &'a [ClassKey<'a>], pub usize);
+pub(crate) struct NumberedClass<'a>(pub ClassNames<'a>, pub usize);
 
 impl fmt::Display for NumberedClass<'_> {
     fn fmt<W: fmt::Write>(&self, f: &mut fmt::Formatter<W>) -> fmt::Result {
-        match self.0.get(self.1) {
+        match self.0.name(self.1) {
             None => write!(f, "?"),
             Some(class) => {
-                let class = ClassText(*class);
+                let class = ClassText(class);
                 write!(f, "{class}")
             }
         }
@@ -44,7 +43,7 @@ impl fmt::Display for NumberedClass<'_> {
 
 /// A type by its number: `int32`, `Dog[]`.
 #[derive(Clone, Copy)]
-pub(crate) struct TypeOf<'a>(pub &'a [ClassKey<'a>], pub NumberedType);
+pub(crate) struct TypeOf<'a>(pub ClassNames<'a>, pub NumberedType);
 
 impl fmt::Display for TypeOf<'_> {
     fn fmt<W: fmt::Write>(&self, f: &mut fmt::Formatter<W>) -> fmt::Result {
@@ -67,7 +66,7 @@ impl fmt::Display for TypeOf<'_> {
 
 /// What is known of a value on the stack.
 #[derive(Clone, Copy)]
-pub(crate) struct EntryOf<'a>(pub &'a [ClassKey<'a>], pub StackEntry);
+pub(crate) struct EntryOf<'a>(pub ClassNames<'a>, pub StackEntry);
 
 impl fmt::Display for EntryOf<'_> {
     fn fmt<W: fmt::Write>(&self, f: &mut fmt::Formatter<W>) -> fmt::Result {
@@ -84,7 +83,7 @@ impl fmt::Display for EntryOf<'_> {
 
 /// A stack, which is kept with its top first, written with its top last; `empty` where it holds nothing.
 #[derive(Clone, Copy)]
-pub(crate) struct StackOf<'a>(pub &'a [ClassKey<'a>], pub &'a [StackEntry]);
+pub(crate) struct StackOf<'a>(pub ClassNames<'a>, pub &'a [StackEntry]);
 
 impl fmt::Display for StackOf<'_> {
     fn fmt<W: fmt::Write>(&self, f: &mut fmt::Formatter<W>) -> fmt::Result {

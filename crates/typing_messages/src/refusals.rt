@@ -159,7 +159,7 @@ impl Refusal<'_> {
     fn tell_place<W: fmt::Write>(&self, f: &mut fmt::Formatter<W>, number: i64) -> fmt::Result {
         let (what, count) = match self.operation {
             Some(Operation::LoadArgument(_) | Operation::StoreArgument(_)) => {
-                ("argument", self.scene.arguments.len())
+                ("argument", self.scene.count_arguments())
             }
             _ => ("local", self.scene.locals.len()),
         };

@@ -1,22 +1,20 @@
 //! Where a method has no typing (number 301).
 
-use crate::numbered::{StackOf, class_keys};
+use crate::numbered::{ClassNames, StackOf};
 use crate::refusals::Refusal;
 use crate::wanted::{Scene, Wanted};
 use cil_model::instructions::MethodName;
 use cil_model::memory::NoMemory;
-use cil_model::trees::{Member, Method, Tree};
+use cil_model::trees::{Class, Member, Method};
 use flow_rules::type_tree::type_of_class;
 use metadata::Program;
 use name_tables::built_in::BuiltInClass;
-use name_tables::keys::ClassKey;
 use name_tables::lookups::MemberNumber;
-use resolved_code::classes::{Body, ResolvedKind, ResolvedMethod};
-use resolved_code::operations::Operation;
-use resolved_code::types::NumberedType;
+use resolved_code::classes::{Body, ResolvedKind};
 use source_map::{LinePart, MemberPart, Outline, Place, token_at};
 use std::alloc::Global;
-use typing_search::refusals::FailurePoint;
+use std::fmt;
+use typing_search::refusals::{FailurePoint, IncomingStack};
 
 /// What a person is told of a method without a typing.
 #[derive(Drop)]
@@ -66,27 +64,42 @@ impl Found<'_> {
     }
 }
 
-/// The method of a number, counted through the whole source.
-fn method_of_number(tree: &Tree, number: usize) -> Option<Found<'_>> {
-    let mut left = number;
-    for (class, declared) in tree.classes.as_slice().iter().enumerate() {
-        let mut place = 0usize;
-        for (member, item) in declared.members.as_slice().iter().enumerate() {
-            let Member::Method(method) = item else {
-                continue;
-            };
-            if left == 0 {
-                return Some(Found {
-                    class,
-                    member,
-                    place,
-                    class_name: declared.name.as_str(),
-                    method,
-                });
-            }
-            left -= 1;
-            place = place.saturating_add(1);
+/// The method that has this place among those of a class, and its number among the members.
+fn method_at(class: &Class, place: usize) -> Option<(usize, &Method)> {
+    let mut left = place;
+    for (member, item) in class.members.as_slice().iter().enumerate() {
+        let Member::Method(method) = item else {
+            continue;
+        };
+        if left == 0 {
+            return Some((member, method));
         }
+        left -= 1;
+    }
+    None
+}
+
+fn count_methods(class: &Class) -> usize {
+    let members = class.members.as_slice().iter();
+    members
+        .filter(|member| matches!(member, Member::Method(_)))
+        .count()
+}
+
+/// The method of a number, counted through the whole source.
+fn method_of_number(classes: &[Class], number: usize) -> Option<Found<'_>> {
+    let mut place = number;
+    for (class, declared) in classes.iter().enumerate() {
+        if let Some((member, method)) = method_at(declared, place) {
+            return Some(Found {
+                class,
+                member,
+                place,
+                class_name: declared.name.as_str(),
+                method,
+            });
+        }
+        place = place.saturating_sub(count_methods(declared));
     }
     None
 }
@@ -100,81 +113,112 @@ fn body_of(kind: &ResolvedKind) -> Option<&Body> {
     }
 }
 
-/// The types of a method's arguments: its class's first, where it is not static.
-fn arguments_of(
-    alloc: Global,
-    class: usize,
-    method: &ResolvedMethod,
-) -> Result<Vec<NumberedType>, NoMemory> {
-    let mut types = Vec::new(alloc);
-    if !matches!(method.kind, ResolvedKind::Static(_)) {
-        types.push(type_of_class(class))?;
-    }
-    types.extend_from_slice(method.parameters.as_slice())?;
-    Ok(types)
+/// What a method is made of. None where the program has no code for it.
+fn scene_of<'a>(program: &'a Program, names: ClassNames<'a>, found: Found) -> Option<Scene<'a>> {
+    let class = found.class.checked_add(names.built_in.len())?;
+    let place = found.place;
+    let method = program.method(MemberNumber { class, place })?;
+    let body = body_of(&method.kind)?;
+    let is_static = matches!(method.kind, ResolvedKind::Static(_));
+    Some(Scene {
+        program,
+        names,
+        this: if is_static {
+            None
+        } else {
+            Some(type_of_class(class))
+        },
+        parameters: method.parameters.as_slice(),
+        locals: body.locals.as_slice(),
+        return_type: method.return_type,
+        max_stack: body.max_stack,
+        operations: body.operations.as_slice(),
+    })
 }
 
 /// The method, the instruction by its number from 0, and the stacks there.
-fn told_stacks(
-    alloc: Global,
-    found: &Found,
-    refusal: &Refusal,
-    failure: &FailurePoint,
-) -> Result<String, NoMemory> {
-    let names = refusal.scene.names;
-    let class = found.class_name;
-    let method = found.name();
-    let instruction = failure.instruction;
-    let stack = StackOf(names, failure.stack.as_slice());
-    let mut text = format!(in alloc;
-        "method {class}::{method}, instruction {instruction}; stack: {stack}"
-    )?;
-    match (refusal.operation, &failure.incoming) {
-        (Some(operation), _) if refusal.is_of_operands() => {
-            let wanted = Wanted(refusal.scene, operation);
-            write!(text, "; wanted: {wanted}")?;
+#[derive(Clone, Copy)]
+struct Stacks<'a> {
+    found: Found<'a>,
+    refusal: Refusal<'a>,
+    failure: &'a FailurePoint,
+}
+
+impl fmt::Display for Stacks<'_> {
+    fn fmt<W: fmt::Write>(&self, f: &mut fmt::Formatter<W>) -> fmt::Result {
+        let scene = self.refusal.scene;
+        let class = self.found.class_name;
+        let method = self.found.name();
+        let instruction = self.failure.instruction;
+        let stack = StackOf(scene.names, self.failure.stack.as_slice());
+        write!(
+            f,
+            "method {class}::{method}, instruction {instruction}; stack: {stack}"
+        )?;
+        match (self.refusal.operation, &self.failure.incoming) {
+            (Some(operation), _) if self.refusal.is_of_operands() => {
+                let wanted = Wanted(scene, operation);
+                write!(f, "; wanted: {wanted}")
+            }
+            (_, Some(incoming)) => tell_incoming(f, scene.names, instruction, incoming),
+            _ => Ok(()),
         }
-        (_, Some(incoming)) if incoming.from != instruction => {
-            let from = incoming.from;
-            let stack = StackOf(names, incoming.stack.as_slice());
-            write!(text, "; stack from instruction {from}: {stack}")?;
-        }
-        (_, Some(incoming)) => {
-            let stack = StackOf(names, incoming.stack.as_slice());
-            write!(text, "; stack behind it: {stack}")?;
-        }
-        _ => {}
     }
-    Ok(text)
+}
+
+/// The stack that control brings to an instruction.
+fn tell_incoming<W: fmt::Write>(
+    f: &mut fmt::Formatter<W>,
+    names: ClassNames,
+    instruction: usize,
+    incoming: &IncomingStack,
+) -> fmt::Result {
+    let stack = StackOf(names, incoming.stack.as_slice());
+    let from = incoming.from;
+    if from == instruction {
+        return write!(f, "; stack behind it: {stack}");
+    }
+    write!(f, "; stack from instruction {from}: {stack}")
+}
+
+fn offset_of(alloc: Global, source: &[u8], place: Place) -> Result<Option<usize>, NoMemory> {
+    match Outline::new(alloc, source)? {
+        None => Ok(None),
+        Some(outline) => Ok(outline.offset(place)),
+    }
 }
 
 /// What is told of a method with instructions.
 fn told_instruction(
     alloc: Global,
     source: &[u8],
-    found: &Found,
+    found: Found,
     scene: Scene,
-    operations: &[Operation],
     failure: &FailurePoint,
 ) -> Result<Told, NoMemory> {
-    let place = found.line(failure.instruction, operations.len());
+    let place = found.line(failure.instruction, scene.operations.len());
     let offset = offset_of(alloc, source, place)?;
     let token = token_at(source, offset.unwrap_or(source.len()));
     let refusal = Refusal {
         scene,
         reason: failure.reason,
-        operation: operations.get(failure.instruction),
+        operation: scene.operations.get(failure.instruction),
         name: str::from_utf8(token).unwrap_or("?"),
+    };
+    let stacks = Stacks {
+        found,
+        refusal,
+        failure,
     };
     Ok(Told {
         offset,
         sentence: refusal.to_string(alloc)?,
-        stacks: told_stacks(alloc, found, &refusal, failure)?,
+        stacks: stacks.to_string(alloc)?,
     })
 }
 
 /// What is told of a method whose code has no instruction.
-fn told_empty(alloc: Global, source: &[u8], found: &Found) -> Result<Told, NoMemory> {
+fn told_empty(alloc: Global, source: &[u8], found: Found) -> Result<Told, NoMemory> {
     let class = found.class_name;
     let method = found.name();
     let sentence = "the method has no instruction: control runs off its end";
@@ -185,45 +229,17 @@ fn told_empty(alloc: Global, source: &[u8], found: &Found) -> Result<Told, NoMem
     })
 }
 
-fn offset_of(alloc: Global, source: &[u8], place: Place) -> Result<Option<usize>, NoMemory> {
-    match Outline::new(alloc, source)? {
-        None => Ok(None),
-        Some(outline) => Ok(outline.offset(place)),
-    }
-}
-
-/// What is told of a method of the class of a number. None where the program has no code for it.
 fn told_method(
     alloc: Global,
     source: &[u8],
-    program: &Program,
-    names: &[ClassKey],
-    class: usize,
-    found: &Found,
+    found: Found,
+    scene: Scene,
     failure: &FailurePoint,
-) -> Result<Option<Told>, NoMemory> {
-    let place = found.place;
-    let Some(method) = program.method(MemberNumber { class, place }) else {
-        return Ok(None);
-    };
-    let Some(body) = body_of(&method.kind) else {
-        return Ok(None);
-    };
-    let operations = body.operations.as_slice();
-    if operations.is_empty() {
-        return Ok(Some(told_empty(alloc, source, found)?));
+) -> Result<Told, NoMemory> {
+    if scene.operations.is_empty() {
+        return told_empty(alloc, source, found);
     }
-    let arguments = arguments_of(alloc, class, method)?;
-    let scene = Scene {
-        program,
-        names,
-        arguments: arguments.as_slice(),
-        locals: body.locals.as_slice(),
-        return_type: method.return_type,
-        max_stack: body.max_stack,
-    };
-    let told = told_instruction(alloc, source, found, scene, operations, failure)?;
-    Ok(Some(told))
+    told_instruction(alloc, source, found, scene, failure)
 }
 
 /// Why a method of a program, which was read from a source, has no typing (number 301), by the method's number in the source, from 0, and
@@ -235,22 +251,17 @@ pub fn told_typing(
     method: usize,
     failure: &FailurePoint,
 ) -> Result<Option<Told>, NoMemory> {
-    let tree = program.tree();
+    let sources = program.tree().classes.as_slice();
+    let Some(found) = method_of_number(sources, method) else {
+        return Ok(None);
+    };
     let table = BuiltInClass::all(alloc)?;
-    let keys = class_keys(alloc, table.as_slice(), tree)?;
-    let Some(found) = method_of_number(tree, method) else {
-        return Ok(None);
+    let names = ClassNames {
+        built_in: table.as_slice(),
+        sources,
     };
-    let Some(class) = found.class.checked_add(table.as_slice().len()) else {
-        return Ok(None);
-    };
-    told_method(
-        alloc,
-        source,
-        program,
-        keys.as_slice(),
-        class,
-        &found,
-        failure,
-    )
+    match scene_of(program, names, found) {
+        None => Ok(None),
+        Some(scene) => Ok(Some(told_method(alloc, source, found, scene, failure)?)),
+    }
 }

@@ -1,10 +1,9 @@
 //! The operands that an instruction wants.
 
-use crate::numbered::TypeOf;
+use crate::numbered::{ClassNames, TypeOf};
 use cil_model::instructions::{BranchComparison, Comparison};
 use flow_rules::type_tree::type_of_class;
 use metadata::Program;
-use name_tables::keys::ClassKey;
 use name_tables::lookups::MemberNumber;
 use resolved_code::operations::Operation;
 use resolved_code::types::NumberedType;
@@ -15,11 +14,14 @@ use std::slice::from_ref;
 #[derive(Clone, Copy)]
 pub(crate) struct Scene<'a> {
     pub program: &'a Program,
-    pub names: &'a [ClassKey<'a>],
-    pub arguments: &'a [NumberedType],
+    pub names: ClassNames<'a>,
+    /// The type of the first argument, where the method is not static.
+    pub this: Option<NumberedType>,
+    pub parameters: &'a [NumberedType],
     pub locals: &'a [NumberedType],
     pub return_type: Option<NumberedType>,
     pub max_stack: i64,
+    pub operations: &'a [Operation],
 }
 
 /// The operands that an instruction of a method takes, the topmost last.
@@ -27,9 +29,9 @@ pub(crate) struct Scene<'a> {
 pub(crate) struct Wanted<'a>(pub Scene<'a>, pub &'a Operation);
 
 /// Types, with commas between them, and one more before them; `nothing` where there are none.
-fn tell_types<'a, W: fmt::Write>(
+fn tell_types<W: fmt::Write>(
     f: &mut fmt::Formatter<W>,
-    names: &'a [ClassKey<'a>],
+    names: ClassNames,
     first: Option<NumberedType>,
     others: &[NumberedType],
 ) -> fmt::Result {
@@ -52,15 +54,31 @@ fn tell_types<'a, W: fmt::Write>(
 }
 
 impl<'a> Scene<'a> {
-    /// The type of an argument or a local, by the number that stands in the text.
-    fn at(types: &[NumberedType], number: i64) -> &[NumberedType] {
-        match usize::try_from(number) {
-            Ok(place) => types.get(place..).unwrap_or(&[]).get(..1).unwrap_or(&[]),
-            Err(_) => &[],
+    /// How many arguments the method has.
+    pub fn count_arguments(self) -> usize {
+        let this = usize::from(self.this.is_some());
+        this.saturating_add(self.parameters.len())
+    }
+
+    /// The type of an argument, by the number that stands in the text.
+    fn argument(self, number: i64) -> Option<NumberedType> {
+        let place = usize::try_from(number).ok()?;
+        if self.this.is_none() {
+            return self.parameters.get(place).copied();
+        }
+        match place.checked_sub(1) {
+            None => self.this,
+            Some(behind) => self.parameters.get(behind).copied(),
         }
     }
 
-    fn parameters(self, method: MemberNumber) -> &'a [NumberedType] {
+    /// The type of a local, by the number that stands in the text.
+    fn local(self, number: i64) -> Option<NumberedType> {
+        let place = usize::try_from(number).ok()?;
+        self.locals.get(place).copied()
+    }
+
+    fn parameters_of(self, method: MemberNumber) -> &'a [NumberedType] {
         match self.program.method(method) {
             None => &[],
             Some(method) => method.parameters.as_slice(),
@@ -77,8 +95,8 @@ impl<'a> Scene<'a> {
     /// The operands of an instruction that are declared types, the first by itself; None where they are told otherwise.
     fn declared(self, operation: &Operation) -> Option<(Option<NumberedType>, &'a [NumberedType])> {
         match operation {
-            Operation::StoreArgument(number) => Some((None, Scene::at(self.arguments, *number))),
-            Operation::StoreLocal(number) => Some((None, Scene::at(self.locals, *number))),
+            Operation::StoreArgument(number) => Some((self.argument(*number), &[])),
+            Operation::StoreLocal(number) => Some((self.local(*number), &[])),
             Operation::LoadField { owner, .. } => Some((Some(type_of_class(*owner)), &[])),
             Operation::StoreField { owner, field } => {
                 Some((Some(type_of_class(*owner)), self.field(*field)))
@@ -90,10 +108,10 @@ impl<'a> Scene<'a> {
                 method,
             }
             | Operation::CallVirtual { owner, method } => {
-                Some((Some(type_of_class(*owner)), self.parameters(*method)))
+                Some((Some(type_of_class(*owner)), self.parameters_of(*method)))
             }
-            Operation::Call { method, .. } => Some((None, self.parameters(*method))),
-            Operation::NewObject(method) => Some((None, self.parameters(*method))),
+            Operation::Call { method, .. } => Some((None, self.parameters_of(*method))),
+            Operation::NewObject(method) => Some((None, self.parameters_of(*method))),
             Operation::Return => Some((self.return_type, &[])),
             _ => None,
         }

@@ -7,7 +7,7 @@ use name_tables::lookups::NameTables;
 use source_map::{ClassPart, LinePart, MemberPart, Place};
 
 /// Where a rule is broken.
-#[derive(Clone, Copy, PartialEq, Eq, Debug)]
+#[derive(Clone, Copy)]
 pub struct Sites {
     /// The place itself; none where there is none, as of an entry point that is absent.
     pub place: Option<Place>,
@@ -40,7 +40,7 @@ impl Sites {
 }
 
 /// A member by the number of its class in the source, and its own number among the members of that class.
-#[derive(Clone, Copy, PartialEq, Eq, Debug)]
+#[derive(Clone, Copy)]
 pub struct MemberSpot {
     pub class: usize,
     pub member: usize,
