@@ -2,14 +2,9 @@
 #![tactic(auto)]
 
 mod explanations;
-mod hints;
 mod limits;
-mod messages;
-mod readings;
-mod rules;
-mod schedules;
 mod verdicts;
 
 pub use explanations::explain;
 pub use limits::explain_limits;
-pub use schedules::explain_schedule;
+pub use reading_messages::explain_schedule;

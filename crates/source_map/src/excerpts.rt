@@ -2,7 +2,6 @@
 
 use crate::lines::line_at;
 use cil_model::memory::NoMemory;
-use std::alloc::Global;
 
 /// The most columns of a line that are shown.
 const MOST_COLUMNS: usize = 120;
@@ -52,6 +51,16 @@ fn push_times(text: &mut String, character: char, times: usize) -> Result<(), No
     Ok(())
 }
 
+/// Adds what stands before a line, and answers how many digits its number has.
+fn push_number(text: &mut String, number: usize) -> Result<usize, NoMemory> {
+    text.push_str("  ")?;
+    let before = text.len();
+    write!(text, "{number}")?;
+    let digits = text.len().saturating_sub(before);
+    text.push_str(" | ")?;
+    Ok(digits)
+}
+
 fn push_line(text: &mut String, line: &[u8], window: Window) -> Result<(), NoMemory> {
     if window.from > 0 {
         text.push_str(CUT)?;
@@ -83,26 +92,25 @@ fn push_carets(
     push_times(text, '^', length.clamp(1, most))
 }
 
-/// The line in which an offset of a text stands, with its number before it, and below it carets under so many bytes from the offset on,
-/// but one at least and none beyond the line. Each of the two lines ends with a line feed. A longer line is cut to 120 columns round the
-/// offset, with dots where it is cut; tabs stay tabs in both lines, and bytes that are no visible characters are shown as `?`. Fails for
-/// want of memory alone.
-pub fn excerpt(
-    alloc: Global,
+/// Adds the line in which an offset of a text stands, with its number before it, and below it carets under so many bytes from the offset
+/// on, but one at least and none beyond the line. Each of the two lines ends with a line feed. A longer line is cut to 120 columns round
+/// the offset, with dots where it is cut; tabs stay tabs in both lines, and bytes that are no visible characters are shown as `?`. Fails
+/// for want of memory alone.
+pub(crate) fn push_excerpt(
+    shown: &mut String,
     text: &[u8],
     offset: usize,
     length: usize,
-) -> Result<String, NoMemory> {
+) -> Result<(), NoMemory> {
     let line = line_at(text, offset);
     let column = offset.saturating_sub(line.start).min(line.bytes.len());
     let window = Window::round(column, line.bytes.len());
-    let number = line.number.to_string(alloc)?;
-    let mut shown = format!(in alloc; "  {number} | ")?;
-    push_line(&mut shown, line.bytes, window)?;
+    let digits = push_number(shown, line.number)?;
+    push_line(shown, line.bytes, window)?;
     shown.push_str("\n  ")?;
-    push_times(&mut shown, ' ', number.len())?;
+    push_times(shown, ' ', digits)?;
     shown.push_str(" | ")?;
-    push_carets(&mut shown, line.bytes, window, column, length)?;
+    push_carets(shown, line.bytes, window, column, length)?;
     shown.push('\n')?;
-    Ok(shown)
+    Ok(())
 }

@@ -1,120 +1,26 @@
 //! Where a method has no typing (number 301).
 
+use crate::methods::{SourceMethod, method_of_number};
 use crate::numbered::{ClassNames, StackOf};
 use crate::refusals::Refusal;
 use crate::wanted::{Scene, Wanted};
-use cil_model::instructions::MethodName;
 use cil_model::memory::NoMemory;
-use cil_model::trees::{Class, Member, Method};
 use flow_rules::type_tree::type_of_class;
-use metadata::Program;
 use name_tables::built_in::BuiltInClass;
 use name_tables::lookups::MemberNumber;
-use resolved_code::classes::{Body, ResolvedKind};
-use source_map::{LinePart, MemberPart, Outline, Place, token_at};
+use programs::Program;
+use resolved_code::classes::{ResolvedKind, body_of};
+use source_map::{Named, Outline, Place, token_at};
 use std::alloc::Global;
 use std::fmt;
 use typing_search::refusals::{FailurePoint, IncomingStack};
 
-/// What a person is told of a method without a typing.
-#[derive(Drop)]
-pub struct Told {
-    /// The offset in the source of the instruction at fault, in bytes from 0; of the method's name, where it has no instruction. None where
-    /// it is not found.
-    pub offset: Option<usize>,
-    /// What is wrong with the instruction.
-    pub sentence: String,
-    /// The method, the instruction's number from 0, and the stacks there, the deepest value first.
-    pub stacks: String,
-}
-
-/// A method in the source: the place of its class, its own among the members of that class, and among its methods.
-#[derive(Clone, Copy)]
-struct Found<'a> {
-    class: usize,
-    member: usize,
-    place: usize,
-    class_name: &'a str,
-    method: &'a Method,
-}
-
-impl Found<'_> {
-    fn name(&self) -> &str {
-        match &self.method.name {
-            MethodName::Constructor => ".ctor",
-            MethodName::Named(name) => name.as_str(),
-        }
-    }
-
-    /// The name of an instruction, and of the method where it has no such instruction.
-    fn line(&self, line: usize, lines: usize) -> Place {
-        if line < lines {
-            return Place::InLine {
-                class: self.class,
-                member: self.member,
-                line,
-                part: LinePart::Name,
-            };
-        }
-        Place::InMember {
-            class: self.class,
-            member: self.member,
-            part: MemberPart::Name,
-        }
-    }
-}
-
-/// The method that has this place among those of a class, and its number among the members.
-fn method_at(class: &Class, place: usize) -> Option<(usize, &Method)> {
-    let mut left = place;
-    for (member, item) in class.members.as_slice().iter().enumerate() {
-        let Member::Method(method) = item else {
-            continue;
-        };
-        if left == 0 {
-            return Some((member, method));
-        }
-        left -= 1;
-    }
-    None
-}
-
-fn count_methods(class: &Class) -> usize {
-    let members = class.members.as_slice().iter();
-    members
-        .filter(|member| matches!(member, Member::Method(_)))
-        .count()
-}
-
-/// The method of a number, counted through the whole source.
-fn method_of_number(classes: &[Class], number: usize) -> Option<Found<'_>> {
-    let mut place = number;
-    for (class, declared) in classes.iter().enumerate() {
-        if let Some((member, method)) = method_at(declared, place) {
-            return Some(Found {
-                class,
-                member,
-                place,
-                class_name: declared.name.as_str(),
-                method,
-            });
-        }
-        place = place.saturating_sub(count_methods(declared));
-    }
-    None
-}
-
-fn body_of(kind: &ResolvedKind) -> Option<&Body> {
-    match kind {
-        ResolvedKind::Static(body) => Some(body),
-        ResolvedKind::Instance(body) => Some(body),
-        ResolvedKind::Virtual { body, .. } => Some(body),
-        ResolvedKind::Abstract { .. } => None,
-    }
-}
-
 /// What a method is made of. None where the program has no code for it.
-fn scene_of<'a>(program: &'a Program, names: ClassNames<'a>, found: Found) -> Option<Scene<'a>> {
+fn scene_of<'a>(
+    program: &'a Program,
+    names: ClassNames<'a>,
+    found: SourceMethod,
+) -> Option<Scene<'a>> {
     let class = found.class.checked_add(names.built_in.len())?;
     let place = found.place;
     let method = program.method(MemberNumber { class, place })?;
@@ -139,7 +45,7 @@ fn scene_of<'a>(program: &'a Program, names: ClassNames<'a>, found: Found) -> Op
 /// The method, the instruction by its number from 0, and the stacks there.
 #[derive(Clone, Copy)]
 struct Stacks<'a> {
-    found: Found<'a>,
+    found: SourceMethod<'a>,
     refusal: Refusal<'a>,
     failure: &'a FailurePoint,
 }
@@ -191,14 +97,14 @@ fn offset_of(alloc: Global, source: &[u8], place: Place) -> Result<Option<usize>
 /// What is told of a method with instructions.
 fn told_instruction(
     alloc: Global,
-    source: &[u8],
-    found: Found,
+    named: Named,
+    found: SourceMethod,
     scene: Scene,
     failure: &FailurePoint,
-) -> Result<Told, NoMemory> {
+) -> Result<String, NoMemory> {
     let place = found.line(failure.instruction, scene.operations.len());
-    let offset = offset_of(alloc, source, place)?;
-    let token = token_at(source, offset.unwrap_or(source.len()));
+    let offset = offset_of(alloc, named.text, place)?;
+    let token = token_at(named.text, offset.unwrap_or(named.text.len()));
     let refusal = Refusal {
         scene,
         reason: failure.reason,
@@ -210,47 +116,47 @@ fn told_instruction(
         refusal,
         failure,
     };
-    Ok(Told {
-        offset,
-        sentence: refusal.to_string(alloc)?,
-        stacks: stacks.to_string(alloc)?,
-    })
+    let sentence = refusal.to_string(alloc)?;
+    let mut message = named.message(alloc, offset, sentence.as_str())?;
+    writeln!(message, "{stacks}")?;
+    Ok(message)
 }
 
 /// What is told of a method whose code has no instruction.
-fn told_empty(alloc: Global, source: &[u8], found: Found) -> Result<Told, NoMemory> {
+fn told_empty(alloc: Global, named: Named, found: SourceMethod) -> Result<String, NoMemory> {
     let class = found.class_name;
     let method = found.name();
+    let offset = offset_of(alloc, named.text, found.line(0, 0))?;
     let sentence = "the method has no instruction: control runs off its end";
-    Ok(Told {
-        offset: offset_of(alloc, source, found.line(0, 0))?,
-        sentence: String::from_str(alloc, sentence)?,
-        stacks: format!(in alloc; "method {class}::{method}")?,
-    })
+    let mut message = named.message(alloc, offset, sentence)?;
+    writeln!(message, "method {class}::{method}")?;
+    Ok(message)
 }
 
 fn told_method(
     alloc: Global,
-    source: &[u8],
-    found: Found,
+    named: Named,
+    found: SourceMethod,
     scene: Scene,
     failure: &FailurePoint,
-) -> Result<Told, NoMemory> {
+) -> Result<String, NoMemory> {
     if scene.operations.is_empty() {
-        return told_empty(alloc, source, found);
+        return told_empty(alloc, named, found);
     }
-    told_instruction(alloc, source, found, scene, failure)
+    told_instruction(alloc, named, found, scene, failure)
 }
 
-/// Why a method of a program, which was read from a source, has no typing (number 301), by the method's number in the source, from 0, and
-/// what the verifier tells of its failure. None where the program has no method of the number with code. Fails for want of memory alone.
-pub fn told_typing(
+/// Why a method of a program, which was read from a text, has no typing (number 301), by the method's number in the source, from 0, and
+/// what the verifier tells of its failure: what is wrong with the instruction at fault, that line, and then the method, the instruction's
+/// number from 0 and the stacks there, the deepest value first. None where the program has no method of the number with code. Fails for
+/// want of memory alone.
+pub fn explain_typing(
     alloc: Global,
-    source: &[u8],
+    named: Named,
     program: &Program,
     method: usize,
     failure: &FailurePoint,
-) -> Result<Option<Told>, NoMemory> {
+) -> Result<Option<String>, NoMemory> {
     let sources = program.tree().classes.as_slice();
     let Some(found) = method_of_number(sources, method) else {
         return Ok(None);
@@ -262,6 +168,6 @@ pub fn told_typing(
     };
     match scene_of(program, names, found) {
         None => Ok(None),
-        Some(scene) => Ok(Some(told_method(alloc, source, found, scene, failure)?)),
+        Some(scene) => Ok(Some(told_method(alloc, named, found, scene, failure)?)),
     }
 }

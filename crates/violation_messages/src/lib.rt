@@ -1,4 +1,4 @@
-//! What of a tree breaks a rule on names and limits (numbers 201 to 207), in words, and where it stands in the source.
+//! Why a tree is no legal program (numbers 201 to 207), to a person: what breaks a rule on names and limits, and where it stands.
 #![tactic(auto)]
 
 mod breaches;
@@ -9,8 +9,8 @@ mod implemented;
 mod kinds;
 mod limits;
 mod references;
+mod rules;
 mod sites;
 mod unknown;
 
-pub use breaches::{Breach, breach_of};
-pub use sites::Sites;
+pub use rules::{broken, explain_rule};
