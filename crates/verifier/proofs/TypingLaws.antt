@@ -1,8 +1,9 @@
 -- The typings of all methods, one after another.
-use Rattle.std.proofs.Common.{◌≡◌, ◌<◌, ◌⊎◌, ◌+◌, ℕ, List, [], ◌∷◌, ◌++◌, map, length, get_or, Option, Some, None, option_map, slice_get, Ok, Err, refl, sym, ap, subst, ◌∙◌, zero, suc, inl, inr}
+use Rattle.std.proofs.Common.{◌≡◌, ◌<◌, ◌≤◌, ◌⊎◌, ◌+◌, ℕ, List, [], ◌∷◌, ◌++◌, map, length, get_or, Option, Some, None, option_map, slice_get, Ok, Err, refl, sym, ap, subst, ◌∙◌, zero, suc, inl, inr, arith}
 use Rattle.std.proofs.lemmas.Option.{slice_get-map, slice_get_read, slice_get-get_or, slice_get_within, get_or_from_slice_get}
 use Rattle.std.specs.Prelude.{IfSome}
 use Rattle.std.proofs.lemmas.List.{length-map, length-append}
+use Rattle.cil_model.proofs.Lists.{none_is_outside}
 use Rattle.cil_model.specs.Legality.{IsLegal}
 use Rattle.cil_model.specs.declared.types.ClassName.{ClassName}
 use Rattle.cil_model.specs.declared.trees.Tree.{Tree}
@@ -100,6 +101,16 @@ absent_at shown tree typings n found e are absent = by_method (slice_get (source
     by_method : (o : Option (ClassName × Method)) → slice_get (source_methods tree) n ≡ o → slice_get (source_methods tree) n ≡ None
     by_method None h = h
     by_method (Some x) h = none_is_some (missing ∙ slice_get-get_or typings n [] (subst (λ (z : ℕ). n < z) (sym are.whole) (slice_get_within (source_methods tree) n x h)))
+
+-- where there is no method of the number none is found
+pub none_beyond : {B : Type 0} (shown : B → List (Option (List StackEntry))) (tree : Tree) (typings : List (List (Option (List StackEntry)))) (n : ℕ) (found : Option B) →
+    option_map shown found ≡ slice_get typings n → AreTypings tree typings → slice_get (source_methods tree) n ≡ None → found ≡ None
+none_beyond shown tree typings n None e are beyond = refl
+none_beyond shown tree typings n (Some b) e are beyond =
+    let within : n < length typings = slice_get_within typings n (shown b) (sym e) in
+    let outside : length (source_methods tree) ≤ n = none_is_outside (source_methods tree) n beyond in
+    let whole : length typings ≡ length (source_methods tree) = are.whole in
+    absurd (omega (arith, within, outside, whole))
 
 -- ---- one method after another
 
