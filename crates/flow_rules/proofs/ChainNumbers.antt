@@ -10,6 +10,7 @@ use Rattle.cil_model.specs.Same.{same_class}
 use Rattle.cil_model.specs.Declarations.{Declaration}
 use Rattle.cil_model.specs.Chains.{base_of, chain_within, interfaces_declared, listed_by}
 use Rattle.cil_model.specs.Legality.{IsLegal}
+use Rattle.cil_model.proofs.Lists.{none_is_some}
 use Rattle.cil_model.proofs.SameLaws.{same_class_equal, same_class_itself, class_equivalence}
 use Rattle.resolved_code.specs.Numbered.{class_name}
 use Rattle.resolved_code.specs.declared.types.NumberedElement.TheVariants.{Class}
@@ -17,12 +18,6 @@ use Rattle.resolved_code.specs.declared.classes.ResolvedClass.{ResolvedClass}
 use Rattle.flow_rules.specs.Named.{class_named}
 use Rattle.flow_rules.specs.Merging.{IsClassAt}
 use Rattle.flow_rules.proofs.Classes.{one_element, own_declaration, element_at_number, base_at, base_known}
-
-none_is_some : {X A : Type 0} (x : X) → None ≡ Some x → A
-none_is_some {X} {A} x e = absurd (lost e)
-  where
-    lost : None ≡ Some x → ⊥
-    lost h = cc
 
 module _ (tree : Tree) where
   -- the class is the one, or lists it

@@ -5,13 +5,14 @@ use Rattle.std.proofs.lemmas.Option.{same_Some}
 use Rattle.cil_model.specs.declared.types.DeclaredType.{DeclaredType}
 use Rattle.cil_model.specs.declared.trees.Tree.{Tree}
 use Rattle.cil_model.specs.TypeTree.{StackType, Declared, NativeInt, Null, parent, ancestor, IsBelow, IsMerge}
+use Rattle.cil_model.proofs.MergeLaws.{on_from}
 use Rattle.cil_model.proofs.Lists.{none_is_some}
 use Rattle.cil_model.proofs.BelowLaws.{declared_is_null, declared_is_native, climb, transitive}
 use Rattle.flow_rules.specs.Merging.{IsDepth, AreLevel, IsMerged}
 use Rattle.flow_rules.specs.Named.{type_named}
 use Rattle.resolved_code.specs.declared.types.NumberedType.{NumberedType}
 use Rattle.flow_rules.specs.declared.entries.StackEntry.TheVariants as Entry
-use Rattle.flow_rules.proofs.Climbing.{beyond, on_from, closest, apart}
+use Rattle.flow_rules.proofs.Climbing.{beyond, closest, apart}
 
 module _ (tree : Tree) where
   -- a type has one depth

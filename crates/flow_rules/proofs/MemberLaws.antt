@@ -1,5 +1,5 @@
 -- What a reference finds, by its number.
-use Rattle.std.proofs.Common.{◌≡◌, ℕ, Bool, true, false, ◌&&◌, not, if◌then◌else◌, IsTrue, List, [], ◌∷◌, map, Option, Some, None, option_map, option_and_then, slice_get, refl, sym, ap, subst, ◌∙◌}
+use Rattle.std.proofs.Common.{◌≡◌, ℕ, Bool, true, false, ◌&&◌, not, IsTrue, List, [], ◌∷◌, map, Option, Some, None, option_map, option_and_then, slice_get, refl, sym, ap, ◌∙◌}
 use Rattle.std.specs.Prelude.{find}
 use Rattle.std.specs.Option.{option_map_or}
 use Rattle.std.proofs.lemmas.Option.{same_Some}
@@ -15,6 +15,7 @@ use Rattle.cil_model.specs.declared.instructions.MethodReference.{MethodReferenc
 use Rattle.cil_model.specs.Same.{same_text, same_type, same_flag, same_method_name, same_signature}
 use Rattle.cil_model.specs.Chains.{nearest, fields_declared, methods_declared, chain_of, classes_searched, find_field, find_method, is_static}
 use Rattle.cil_model.specs.Declarations.{Declaration}
+use Rattle.cil_model.proofs.Lists.{none_is_some, find_passes}
 use Rattle.cil_model.proofs.SameLaws.{both_first, both_second, same_type_equal, same_signature_equal}
 use Rattle.name_tables.specs.Numbers.{declarations, member_at, method_at}
 use Rattle.resolved_code.specs.Numbered.{class_name, element_at, type_at, AreTypes}
@@ -42,28 +43,13 @@ use Rattle.resolved_code.specs.declared.classes.ResolvedClass.{ResolvedClass}
 use Rattle.flow_rules.specs.Members.{IsCallable, is_abstract_kind}
 use Rattle.flow_rules.proofs.Classes.{element_at_number, alike_at, alike_beyond, own_declaration}
 
-none_is_some : {X A : Type 0} (x : X) → None ≡ Some x → A
-none_is_some {X} {A} x e = absurd (lost e)
-  where
-    lost : None ≡ Some x → ⊥
-    lost h = cc
-
--- what is found passes the test
-found_passes : {X : Type 0} (test : X → Bool) (xs : List X) (x : X) → find test xs ≡ Some x → IsTrue (test x)
-found_passes test [] x e = none_is_some x e
-found_passes {X} test (y ∷ ys) x e = by_test (found_passes test ys x) (test y) refl e
-  where
-    by_test : (find test ys ≡ Some x → IsTrue (test x)) → (b : Bool) → test y ≡ b → (if b then Some y else find test ys) ≡ Some x → IsTrue (test x)
-    by_test further true h k = let s : y ≡ x = cc in subst (λ (z : X). IsTrue (test z)) s h
-    by_test further false h k = further k
-
 nearest_passes : {X : Type 0} (test : X → Bool) (held : ClassName → List X) (cs : List ClassName) (c : ClassName) (x : X) → nearest (λ k. find test (held k)) cs ≡ Some (c, x) → IsTrue (test x)
 nearest_passes test held [] c x e = none_is_some (c, x) e
 nearest_passes {X} test held (k ∷ cs) c x e = by_found (nearest_passes test held cs c x) (find test (held k)) refl e
   where
     by_found : (nearest (λ k. find test (held k)) cs ≡ Some (c, x) → IsTrue (test x)) → (o : Option X) → find test (held k) ≡ o → option_map_or (λ y. Some (k, y)) o (nearest (λ k. find test (held k)) cs) ≡ Some (c, x) → IsTrue (test x)
     by_found further None h f = further f
-    by_found further (Some y) h f = let s : (k, y) ≡ (c, x) = same_Some (k, y) (c, x) f in found_passes test (held k) x (h ∙ ap (λ (p : ClassName × X). Some p.1) s)
+    by_found further (Some y) h f = let s : (k, y) ≡ (c, x) = same_Some (k, y) (c, x) f in find_passes test (held k) x (h ∙ ap (λ (p : ClassName × X). Some p.1) s)
 
 module _ (tree : Tree) where
   -- the field that a reference finds has the type that it names
@@ -125,7 +111,7 @@ module _ (tree : Tree) where
       where
         by_member : (o : Option X) → slice_get (part d) p ≡ o → option_map {U = ClassName × X} (λ z. (name, z)) o ≡ Some (c, x) → (slice_get (part d) p ≡ Some x) × (name ≡ c)
         by_member None h f = none_is_some (c, x) f
-        by_member (Some z) h f = let s : (name, z) ≡ (c, x) = same_Some {X = ClassName × X} (name, z) (c, x) f in (h ∙ ap (λ (y : ClassName × X). Some y.1) s, ap (λ (y : ClassName × X). y.0) s)
+        by_member (Some z) h f = let s : (name, z) ≡ (c, x) = same_Some {A = ClassName × X} (name, z) (c, x) f in (h ∙ ap (λ (y : ClassName × X). Some y.1) s, ap (λ (y : ClassName × X). y.0) s)
 
     pub member_nowhere : (n p : ℕ) (c : ClassName) (x : X) → class_name tree n ≡ None → member_at part tree (n, p) ≡ Some (c, x) → ⊥
     member_nowhere n p c x none e = by_entry (slice_get (declarations tree) n) none e
@@ -200,7 +186,7 @@ module _ (tree : Tree) where
 
       alone : (o : Option Method) → option_map_or {U = Option (ClassName × Method)} (λ (y : Method). Some (c, y)) o None ≡ Some (is.declared_in, is.found) → is.declared_in ≡ c
       alone None h = none_is_some (is.declared_in, is.found) h
-      alone (Some y) h = let s : (c, y) ≡ (is.declared_in, is.found) = same_Some {X = ClassName × Method} (c, y) (is.declared_in, is.found) h in sym (ap (λ (z : ClassName × Method). z.0) s)
+      alone (Some y) h = let s : (c, y) ≡ (is.declared_in, is.found) = same_Some {A = ClassName × Method} (c, y) (is.declared_in, is.found) h in sym (ap (λ (z : ClassName × Method). z.0) s)
 
       by_entry : (o : Option (ClassName × Declaration)) → slice_get (declarations tree) f.class ≡ o → method_at tree (f.class, f.place) ≡ Some (is.declared_in, is.found) → is.declared_in ≡ c → class_name tree f.class ≡ Some c
       by_entry None at h owner = absurd (method_nowhere true (constructor_reference c ps) f is (ap (option_map (λ (y : ClassName × Declaration). y.0)) at))

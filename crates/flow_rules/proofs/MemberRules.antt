@@ -23,12 +23,7 @@ use Rattle.flow_rules.specs.Flow.{flow_of}
 use Rattle.flow_rules.specs.Members.{IsCallable, operands_named}
 use Rattle.flow_rules.specs.declared.entries.StackEntry.{StackEntry}
 use Rattle.flow_rules.specs.declared.method_types.MethodTypes.{MethodTypes}
-
-none_is_some : {X A : Type 0} (x : X) → None ≡ Some x → A
-none_is_some {X} {A} x e = absurd (lost e)
-  where
-    lost : None ≡ Some x → ⊥
-    lost h = cc
+use Rattle.cil_model.proofs.Lists.{none_is_some}
 
 module _ (m : MethodTypes) where
   abbrev tree : Tree
