@@ -61,10 +61,11 @@ impl fmt::Display for MethodText<'_> {
             Some(name) => name.as_str(),
         };
         write!(f, "{name}(")?;
-        for (place, parameter) in self.0.parameters.iter().enumerate() {
-            let comma = if place == 0 { "" } else { ", " };
+        let mut comma = "";
+        for parameter in self.0.parameters {
             let parameter = TypeText(parameter);
             write!(f, "{comma}{parameter}")?;
+            comma = ", ";
         }
         write!(f, ")")
     }

@@ -3,36 +3,24 @@
 use crate::marks::{Mark, is_symbol, is_word, marked};
 use crate::places::{ClassPart, LinePart, MemberPart, Place};
 use cil_model::memory::NoMemory;
-use cil_model::sequences::Sequence;
 use cil_model::tokens::Symbol;
 use ilasm_tokens::failure::Failure;
 use ilasm_tokens::source::{token_offset, tokens};
-use ilasm_tokens::source_tokens::{SourceToken, Tokens};
+use ilasm_tokens::source_tokens::Tokens;
 use std::alloc::Global;
 
-/// A source with its tokens.
-#[derive(Drop)]
-pub struct Outline<'s> {
-    source: &'s [u8],
-    tokens: Sequence<SourceToken<'s>>,
+/// The offset in bytes, from 0, at which a part of a source begins. None where it is not there. What is answered of a source that is no
+/// sentence of the grammar, or of a part that its tree lacks, says nothing. Fails for want of memory alone.
+pub fn offset_of(alloc: Global, source: &[u8], place: Place) -> Result<Option<usize>, NoMemory> {
+    match tokens(alloc, source) {
+        Ok(tokens) => Ok(offset_among(source, tokens.as_slice(), place)),
+        Err(Failure::Refused { .. }) => Ok(None),
+        Err(Failure::OutOfMemory) => Err(NoMemory),
+    }
 }
 
-impl<'s> Outline<'s> {
-    /// The outline of a source; None where it has no tokens. Fails for want of memory alone.
-    pub fn new(alloc: Global, source: &'s [u8]) -> Result<Option<Self>, NoMemory> {
-        match tokens(alloc, source) {
-            Ok(tokens) => Ok(Some(Outline { source, tokens })),
-            Err(Failure::Refused { .. }) => Ok(None),
-            Err(Failure::OutOfMemory) => Err(NoMemory),
-        }
-    }
-
-    /// The offset in bytes, from 0, at which a part of the source begins. None where it is not there. What is answered of a source that
-    /// is no sentence of the grammar, or of a part that its tree lacks, says nothing.
-    pub fn offset(&self, place: Place) -> Option<usize> {
-        let number = number_of(self.tokens.as_slice(), place)?;
-        token_offset(self.source, number).ok()
-    }
+fn offset_among(source: &[u8], tokens: Tokens, place: Place) -> Option<usize> {
+    token_offset(source, number_of(tokens, place)?).ok()
 }
 
 /// The number of the token with which a part begins.

@@ -1,21 +1,31 @@
-//! Methods of a source, by their numbers.
+//! A method of a source, by its number.
 
 use cil_model::instructions::MethodName;
-use cil_model::trees::{Class, Member, Method};
-use source_map::{LinePart, MemberPart, Place};
+use cil_model::trees::{Class, Method};
+use source_map::{LinePart, MemberPart, MethodPlace, Place, method_of_number, nth_method};
 
-/// A method in the source: the place of its class, its own among the members of that class, and among its methods.
+/// A method of a source, with the name of its class.
 #[derive(Clone, Copy)]
 pub(crate) struct SourceMethod<'a> {
-    pub class: usize,
-    pub member: usize,
-    pub place: usize,
+    pub number: MethodPlace,
     pub class_name: &'a str,
     pub method: &'a Method,
 }
 
-impl SourceMethod<'_> {
-    pub fn name(&self) -> &str {
+impl<'a> SourceMethod<'a> {
+    /// The method of a number, counted through the whole source.
+    pub fn find(classes: &'a [Class], number: usize) -> Option<Self> {
+        let number = method_of_number(classes, number)?;
+        let class = classes.get(number.class)?;
+        let (_, method) = nth_method(class, number.place)?;
+        Some(SourceMethod {
+            number,
+            class_name: class.name.as_str(),
+            method,
+        })
+    }
+
+    pub fn name(self) -> &'a str {
         match &self.method.name {
             MethodName::Constructor => ".ctor",
             MethodName::Named(name) => name.as_str(),
@@ -23,59 +33,20 @@ impl SourceMethod<'_> {
     }
 
     /// The name of an instruction, and of the method where it has no such instruction.
-    pub fn line(&self, line: usize, lines: usize) -> Place {
+    pub fn line(self, line: usize, lines: usize) -> Place {
+        let MethodPlace { class, member, .. } = self.number;
         if line < lines {
             return Place::InLine {
-                class: self.class,
-                member: self.member,
+                class,
+                member,
                 line,
                 part: LinePart::Name,
             };
         }
         Place::InMember {
-            class: self.class,
-            member: self.member,
+            class,
+            member,
             part: MemberPart::Name,
         }
     }
-}
-
-/// The method that has this place among those of a class, and its number among the members.
-fn method_at(class: &Class, place: usize) -> Option<(usize, &Method)> {
-    let mut left = place;
-    for (member, item) in class.members.as_slice().iter().enumerate() {
-        let Member::Method(method) = item else {
-            continue;
-        };
-        if left == 0 {
-            return Some((member, method));
-        }
-        left -= 1;
-    }
-    None
-}
-
-fn count_methods(class: &Class) -> usize {
-    let members = class.members.as_slice().iter();
-    members
-        .filter(|member| matches!(member, Member::Method(_)))
-        .count()
-}
-
-/// The method of a number, counted through the whole source.
-pub(crate) fn method_of_number(classes: &[Class], number: usize) -> Option<SourceMethod<'_>> {
-    let mut place = number;
-    for (class, declared) in classes.iter().enumerate() {
-        if let Some((member, method)) = method_at(declared, place) {
-            return Some(SourceMethod {
-                class,
-                member,
-                place,
-                class_name: declared.name.as_str(),
-                method,
-            });
-        }
-        place = place.saturating_sub(count_methods(declared));
-    }
-    None
 }

@@ -17,11 +17,10 @@ pub(crate) struct ClassNames<'a> {
 
 impl<'a> ClassNames<'a> {
     fn name(self, number: usize) -> Option<ClassKey<'a>> {
-        if let Some(class) = self.built_in.get(number) {
-            return Some(ClassKey::of(&class.name));
+        match number.checked_sub(self.built_in.len()) {
+            None => Some(ClassKey::of(&self.built_in.get(number)?.name)),
+            Some(source) => Some(ClassKey::of_source(self.sources.get(source)?)),
         }
-        let source = number.checked_sub(self.built_in.len())?;
-        Some(ClassKey::of_source(self.sources.get(source)?))
     }
 }
 
@@ -87,13 +86,14 @@ pub(crate) struct StackOf<'a>(pub ClassNames<'a>, pub &'a [StackEntry]);
 
 impl fmt::Display for StackOf<'_> {
     fn fmt<W: fmt::Write>(&self, f: &mut fmt::Formatter<W>) -> fmt::Result {
-        if self.1.is_empty() {
+        let Some((deepest, others)) = self.1.split_last() else {
             return write!(f, "empty");
-        }
-        for (place, entry) in self.1.iter().rev().enumerate() {
-            let comma = if place == 0 { "" } else { ", " };
+        };
+        let deepest = EntryOf(self.0, *deepest);
+        write!(f, "{deepest}")?;
+        for entry in others.iter().rev() {
             let entry = EntryOf(self.0, *entry);
-            write!(f, "{comma}{entry}")?;
+            write!(f, ", {entry}")?;
         }
         Ok(())
     }

@@ -55,13 +55,12 @@ impl Refusal<'_> {
     pub fn is_of_operands(&self) -> bool {
         match self.reason {
             Reason::NoResult(Mismatch::OperandType(found)) => !self.is_cast_of(found),
-            Reason::NoResult(mismatch) => matches!(
-                mismatch,
+            Reason::NoResult(
                 Mismatch::OperandMissing
-                    | Mismatch::OperandTypes(..)
-                    | Mismatch::NotAssignable(..)
-                    | Mismatch::LeftOnStack(_)
-            ),
+                | Mismatch::OperandTypes(..)
+                | Mismatch::NotAssignable(..)
+                | Mismatch::LeftOnStack(_),
+            ) => true,
             _ => false,
         }
     }
@@ -105,11 +104,10 @@ impl Refusal<'_> {
 
     /// Whether it is a cast of a reference, so that the type is at fault and not the operand.
     fn is_cast_of(&self, operand: StackEntry) -> bool {
-        let is_cast = matches!(
-            self.operation,
-            Some(Operation::CastClass(_) | Operation::IsInstance(_))
-        );
-        is_cast && operand.is_reference()
+        match self.operation {
+            Some(Operation::CastClass(_) | Operation::IsInstance(_)) => operand.is_reference(),
+            _ => false,
+        }
     }
 
     /// A cast of a reference to a type that is none.

@@ -1,6 +1,6 @@
 //! Where a method has no typing (number 301).
 
-use crate::methods::{SourceMethod, method_of_number};
+use crate::methods::SourceMethod;
 use crate::numbered::{ClassNames, StackOf};
 use crate::refusals::Refusal;
 use crate::wanted::{Scene, Wanted};
@@ -10,7 +10,7 @@ use name_tables::built_in::BuiltInClass;
 use name_tables::lookups::MemberNumber;
 use programs::Program;
 use resolved_code::classes::{ResolvedKind, body_of};
-use source_map::{Named, Outline, Place, token_at};
+use source_map::{Named, offset_of, token_at};
 use std::alloc::Global;
 use std::fmt;
 use typing_search::refusals::{FailurePoint, IncomingStack};
@@ -21,8 +21,8 @@ fn scene_of<'a>(
     names: ClassNames<'a>,
     found: SourceMethod,
 ) -> Option<Scene<'a>> {
-    let class = found.class.checked_add(names.built_in.len())?;
-    let place = found.place;
+    let class = found.number.class.checked_add(names.built_in.len())?;
+    let place = found.number.place;
     let method = program.method(MemberNumber { class, place })?;
     let body = body_of(&method.kind)?;
     let is_static = matches!(method.kind, ResolvedKind::Static(_));
@@ -85,13 +85,6 @@ fn tell_incoming<W: fmt::Write>(
         return write!(f, "; stack behind it: {stack}");
     }
     write!(f, "; stack from instruction {from}: {stack}")
-}
-
-fn offset_of(alloc: Global, source: &[u8], place: Place) -> Result<Option<usize>, NoMemory> {
-    match Outline::new(alloc, source)? {
-        None => Ok(None),
-        Some(outline) => Ok(outline.offset(place)),
-    }
 }
 
 /// What is told of a method with instructions.
@@ -158,7 +151,7 @@ pub fn explain_typing(
     failure: &FailurePoint,
 ) -> Result<Option<String>, NoMemory> {
     let sources = program.tree().classes.as_slice();
-    let Some(found) = method_of_number(sources, method) else {
+    let Some(found) = SourceMethod::find(sources, method) else {
         return Ok(None);
     };
     let table = BuiltInClass::all(alloc)?;

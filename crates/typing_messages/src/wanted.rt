@@ -56,19 +56,20 @@ fn tell_types<W: fmt::Write>(
 impl<'a> Scene<'a> {
     /// How many arguments the method has.
     pub fn count_arguments(self) -> usize {
-        let this = usize::from(self.this.is_some());
-        this.saturating_add(self.parameters.len())
+        let parameters = self.parameters.len();
+        match self.this {
+            None => parameters,
+            Some(_) => parameters.saturating_add(1),
+        }
     }
 
     /// The type of an argument, by the number that stands in the text.
     fn argument(self, number: i64) -> Option<NumberedType> {
         let place = usize::try_from(number).ok()?;
-        if self.this.is_none() {
-            return self.parameters.get(place).copied();
-        }
-        match place.checked_sub(1) {
-            None => self.this,
-            Some(behind) => self.parameters.get(behind).copied(),
+        match (self.this, place) {
+            (None, _) => self.parameters.get(place).copied(),
+            (this, 0) => this,
+            _ => self.parameters.get(place - 1).copied(),
         }
     }
 

@@ -8,14 +8,12 @@ use crate::kinds::{Misfit, misfit_of};
 use crate::limits::{Passed, passed_limit};
 use crate::sites::Sites;
 use crate::unknown::{Unknown, unknown_name};
-use cil_model::memory::NoMemory;
 use metadata::violations::Violation;
 use name_tables::lookups::NameTables;
-use std::alloc::Global;
 use std::fmt;
 
 /// What breaks a rule. It prints as one sentence without an end.
-#[derive(Drop)]
+#[derive(Clone, Copy)]
 pub enum Breach<'a> {
     /// Of rule 201.
     Doubled(Doubled<'a>),
@@ -47,24 +45,40 @@ impl fmt::Display for Breach<'_> {
     }
 }
 
-/// A breach, and where it is. None where the tree has no such place. Fails for want of memory alone.
+/// A breach, and where it is. None where the tree has no such place.
 pub fn breach_of<'a>(
-    alloc: Global,
-    names: &NameTables<'a>,
+    names: &'a NameTables<'a>,
     violation: Violation,
-) -> Result<Option<(Breach<'a>, Sites)>, NoMemory> {
+) -> Option<(Breach<'a>, Sites)> {
     let tree = names.classes.tree;
-    Ok(match violation {
-        Violation::Doubled(d) => doubled_name(tree, d).map(|(d, at)| (Breach::Doubled(d), at)),
-        Violation::Unknown(u) => unknown_name(names, u).map(|(u, at)| (Breach::Unknown(u), at)),
+    match violation {
+        Violation::Doubled(doubled) => {
+            let (doubled, sites) = doubled_name(tree, doubled)?;
+            Some((Breach::Doubled(doubled), sites))
+        }
+        Violation::Unknown(unknown) => {
+            let (unknown, sites) = unknown_name(names, unknown)?;
+            Some((Breach::Unknown(unknown), sites))
+        }
         Violation::OwnBase { class } => {
-            own_base(alloc, names, class)?.map(|(o, at)| (Breach::OwnBase(o), at))
+            let (own_base, sites) = own_base(names, class)?;
+            Some((Breach::OwnBase(own_base), sites))
         }
         Violation::NotImplemented(absent) => {
-            not_implemented(names, absent).map(|(n, at)| (Breach::NotImplemented(n), at))
+            let (absent, sites) = not_implemented(names, absent)?;
+            Some((Breach::NotImplemented(absent), sites))
         }
-        Violation::Misfit(m) => misfit_of(names, m).map(|(m, at)| (Breach::Misfit(m), at)),
-        Violation::BadEntry(e) => bad_entry(tree, e).map(|(e, at)| (Breach::BadEntry(e), at)),
-        Violation::Passed(p) => passed_limit(names, p).map(|(p, at)| (Breach::Passed(p), at)),
-    })
+        Violation::Misfit(misfit) => {
+            let (misfit, sites) = misfit_of(names, misfit)?;
+            Some((Breach::Misfit(misfit), sites))
+        }
+        Violation::BadEntry(entry) => {
+            let (entry, sites) = bad_entry(tree, entry)?;
+            Some((Breach::BadEntry(entry), sites))
+        }
+        Violation::Passed(passed) => {
+            let (passed, sites) = passed_limit(names, passed)?;
+            Some((Breach::Passed(passed), sites))
+        }
+    }
 }

@@ -1,6 +1,6 @@
 //! Names that stand twice (number 201).
 
-use crate::sites::{MemberSpot, Sites, class_name, key_of, located_field, located_method};
+use crate::sites::{MemberSpot, Sites, class_name, key_of, located_method};
 use cil_model::texts::Text;
 use cil_model::trees::{ClassKind, Method, Tree};
 use metadata::violations;
@@ -8,7 +8,7 @@ use metadata::violations::{DoubledInClass, Repeat, SourceMember};
 use name_tables::bodies::lines_of;
 use name_tables::keys::{ClassKey, MethodKey};
 use name_texts::{ClassText, MethodText};
-use source_map::{ClassPart, LinePart, Place};
+use source_map::{ClassPart, LinePart, Place, nth_field, nth_method};
 use std::fmt;
 
 /// A name that stands twice where it must stand once.
@@ -88,50 +88,44 @@ fn doubled_class(tree: &Tree, repeat: Repeat) -> Option<Found<'_>> {
     Some(found(doubled, class_name(repeat.again), class_name(repeat.first)))
 }
 
+/// A member of a class that stands twice, by its two numbers among the members.
+fn found_in(doubled: Doubled<'_>, class: usize, again: usize, first: usize) -> Found<'_> {
+    let again = MemberSpot {
+        class,
+        member: again,
+    };
+    let first = MemberSpot {
+        class,
+        member: first,
+    };
+    found(doubled, again.name(), first.name())
+}
+
 fn doubled_field(tree: &Tree, class: usize, repeat: Repeat) -> Option<Found<'_>> {
-    let Repeat { first, again } = repeat;
-    let (second, field) = located_field(
-        tree,
-        SourceMember {
-            class,
-            place: again,
-        },
-    )?;
-    let (first, _) = located_field(
-        tree,
-        SourceMember {
-            class,
-            place: first,
-        },
-    )?;
+    let declared = tree.classes.as_slice().get(class)?;
+    let (again, field) = nth_field(declared, repeat.again)?;
+    let (first, _) = nth_field(declared, repeat.first)?;
     let doubled = Doubled::Field {
-        class: &tree.classes.as_slice().get(class)?.name,
+        class: &declared.name,
         field: &field.name,
     };
-    Some(found(doubled, second.name(), first.name()))
+    Some(found_in(doubled, class, again, first))
 }
 
 fn doubled_method(tree: &Tree, class: usize, repeat: Repeat) -> Option<Found<'_>> {
-    let Repeat { first, again } = repeat;
-    let (second, method) = located_method(
-        tree,
-        SourceMember {
-            class,
-            place: again,
-        },
-    )?;
-    let (first, _) = located_method(
-        tree,
-        SourceMember {
-            class,
-            place: first,
-        },
-    )?;
+    let declared = tree.classes.as_slice().get(class)?;
+    let (again, method) = nth_method(declared, repeat.again)?;
+    let (first, _) = nth_method(declared, repeat.first)?;
     let doubled = Doubled::Method {
-        class: &tree.classes.as_slice().get(class)?.name,
+        class: &declared.name,
         method: key_of(method),
     };
-    Some(found(doubled, second.name(), first.name()))
+    Some(found_in(doubled, class, again, first))
+}
+
+fn interface_name(class: usize, entry: usize) -> Place {
+    let part = ClassPart::Interface(entry);
+    Place::InClass { class, part }
 }
 
 fn doubled_interface(tree: &Tree, class: usize, repeat: Repeat) -> Option<Found<'_>> {
@@ -143,10 +137,8 @@ fn doubled_interface(tree: &Tree, class: usize, repeat: Repeat) -> Option<Found<
         class: &declared.name,
         interface: ClassKey::of(interfaces.as_slice().get(repeat.again)?),
     };
-    let [first, again] = [repeat.first, repeat.again].map(|entry| Place::InClass {
-        class,
-        part: ClassPart::Interface(entry),
-    });
+    let again = interface_name(class, repeat.again);
+    let first = interface_name(class, repeat.first);
     Some(found(doubled, again, first))
 }
 

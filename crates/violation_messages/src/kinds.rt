@@ -1,13 +1,14 @@
 //! Methods whose kinds do not fit (number 205).
 
-use crate::sites::{Sites, class_name, key_of, located_method, method_place};
+use crate::sites::{MemberSpot, Sites, class_name, key_of, method_place};
 use cil_model::texts::Text;
 use cil_model::trees::Class;
 use metadata::violations;
-use metadata::violations::{KindFault, SourceMember};
+use metadata::violations::KindFault;
 use name_tables::keys::{ClassKey, MethodKey};
 use name_tables::lookups::{MemberNumber, NameTables};
 use name_texts::{ClassText, MethodText};
+use source_map::nth_method;
 use std::fmt;
 
 /// A method whose kind does not fit its class or what it inherits.
@@ -155,17 +156,17 @@ fn left_open<'a>(names: &NameTables<'a>, class: &Class, open: MemberNumber) -> O
     Some((misfit, Sites::beside(class_name(number), declared)))
 }
 
-fn over_plain<'a>(names: &NameTables<'a>, method: SourceMember, base: usize) -> Option<Found<'a>> {
-    let tree = names.classes.tree;
-    let (spot, declared) = located_method(tree, method)?;
-    let key = key_of(declared);
-    let misfit = Misfit::OverPlain {
-        class: &tree.classes.as_slice().get(method.class)?.name,
-        method: key,
+fn over_plain<'a>(
+    names: &NameTables<'a>,
+    class: &'a Class,
+    method: MethodKey<'a>,
+    base: usize,
+) -> Option<Misfit<'a>> {
+    Some(Misfit::OverPlain {
+        class: &class.name,
+        method,
         owner: *names.classes.names().get(base)?,
-    };
-    let overridden = method_place(names, base, key);
-    Some((misfit, Sites::beside(spot.name(), overridden)))
+    })
 }
 
 /// A method whose kind does not fit its class or what that inherits. None where the tree has no such place.
@@ -173,48 +174,33 @@ pub(crate) fn misfit_of<'a>(
     names: &NameTables<'a>,
     misfit: violations::Misfit,
 ) -> Option<Found<'a>> {
-    let tree = names.classes.tree;
     let violations::Misfit { class, fault } = misfit;
-    let declared = tree.classes.as_slice().get(class)?;
+    let declared = names.classes.tree.classes.as_slice().get(class)?;
     match fault {
         KindFault::InInterface { method } => {
-            let (spot, found) = located_method(
-                tree,
-                SourceMember {
-                    class,
-                    place: method,
-                },
-            )?;
+            let (member, method) = nth_method(declared, method)?;
             let misfit = Misfit::InInterface {
                 interface: &declared.name,
-                method: key_of(found),
+                method: key_of(method),
             };
-            Some((misfit, Sites::at(spot.name())))
+            Some((misfit, Sites::at(MemberSpot { class, member }.name())))
         }
         KindFault::Abstract { method } => {
-            let (spot, found) = located_method(
-                tree,
-                SourceMember {
-                    class,
-                    place: method,
-                },
-            )?;
+            let (member, method) = nth_method(declared, method)?;
             let misfit = Misfit::Abstract {
                 class: &declared.name,
-                method: key_of(found),
+                method: key_of(method),
             };
-            Some((misfit, Sites::at(spot.name())))
+            Some((misfit, Sites::at(MemberSpot { class, member }.name())))
         }
         KindFault::LeftOpen { open } => left_open(names, declared, open),
         KindFault::OverPlain { method, base } => {
-            over_plain(
-                names,
-                SourceMember {
-                    class,
-                    place: method,
-                },
-                base,
-            )
+            let (member, method) = nth_method(declared, method)?;
+            let key = key_of(method);
+            let misfit = over_plain(names, declared, key, base)?;
+            let overridden = method_place(names, base, key);
+            let place = MemberSpot { class, member }.name();
+            Some((misfit, Sites::beside(place, overridden)))
         }
     }
 }

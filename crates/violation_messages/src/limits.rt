@@ -15,7 +15,7 @@ use name_tables::bodies::{code_of, lines_of, locals_of};
 use name_tables::keys::ClassKey;
 use name_tables::kinds::is_static;
 use name_tables::lookups::NameTables;
-use source_map::{LinePart, MemberPart, Place};
+use source_map::{LinePart, MemberPart, MethodPlace, Place, method_of_number};
 use std::fmt;
 
 /// A limit that is passed, with the number that passes it.
@@ -113,15 +113,19 @@ fn passed_by_instruction(instruction: &Instruction) -> Option<Passed<'_>> {
     }
 }
 
+fn count_arguments(method: &Method) -> usize {
+    let parameters = method.signature.parameters.as_slice().len();
+    if is_static(&method.kind) {
+        return parameters;
+    }
+    parameters.saturating_add(1)
+}
+
 fn passed_by_method(spot: MemberSpot, method: &Method, limit: MethodLimit) -> Option<Found<'_>> {
     match limit {
         MethodLimit::Arguments => {
-            let this = usize::from(!is_static(&method.kind));
-            let parameters = method.signature.parameters.as_slice().len();
-            found(
-                Passed::Arguments(this.saturating_add(parameters)),
-                spot.name(),
-            )
+            let count = count_arguments(method);
+            found(Passed::Arguments(count), spot.name())
         }
         MethodLimit::Instructions => {
             let place = spot.line(MOST_INSTRUCTIONS, LinePart::Name);
@@ -147,19 +151,8 @@ fn passed_by_method(spot: MemberSpot, method: &Method, limit: MethodLimit) -> Op
 
 /// The first method of the source that is too many.
 fn method_beyond(classes: &[Class]) -> Option<MemberSpot> {
-    let mut left = MOST_METHODS;
-    for (class, declared) in classes.iter().enumerate() {
-        for (member, item) in declared.members.as_slice().iter().enumerate() {
-            if !matches!(item, Member::Method(_)) {
-                continue;
-            }
-            if left == 0 {
-                return Some(MemberSpot { class, member });
-            }
-            left -= 1;
-        }
-    }
-    None
+    let MethodPlace { class, member, .. } = method_of_number(classes, MOST_METHODS)?;
+    Some(MemberSpot { class, member })
 }
 
 /// The static field of a class that has this place among them.

@@ -85,13 +85,12 @@ pub(crate) fn class_of(declared: &DeclaredType) -> Option<ClassKey<'_>> {
 
 /// How many of these types name a class.
 fn count_classes(types: NamedTypes) -> usize {
-    let last = match types.last {
-        None => 0usize,
-        Some(declared) => usize::from(class_of(declared).is_some()),
-    };
     let parameters = types.parameters.iter();
     let others = parameters.filter(|t| class_of(t).is_some()).count();
-    last.saturating_add(others)
+    match types.last {
+        Some(last) if class_of(last).is_some() => others.saturating_add(1),
+        _ => others,
+    }
 }
 
 /// How many types that name a class stand in the text of a member or a line before one: a result before its parameters, and locals

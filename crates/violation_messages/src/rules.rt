@@ -7,40 +7,13 @@ use cil_model::trees::Tree;
 use metadata::violations::Violation;
 use name_tables::built_in::BuiltInClass;
 use name_tables::lookups::NameTables;
-use source_map::{Named, Outline};
+use source_map::{Named, Place, offset_of};
 use std::alloc::Global;
 
-/// The offsets at which the two places of a breach begin, where they are there.
-#[derive(Clone, Copy)]
-struct Offsets {
-    place: Option<usize>,
-    other: Option<usize>,
-}
-
-impl Offsets {
-    const NONE: Offsets = Offsets {
-        place: None,
-        other: None,
-    };
-
-    fn of(outline: &Outline, sites: Sites) -> Offsets {
-        Offsets {
-            place: match sites.place {
-                None => None,
-                Some(place) => outline.offset(place),
-            },
-            other: match sites.other {
-                None => None,
-                Some(other) => outline.offset(other),
-            },
-        }
-    }
-}
-
-fn offsets_of(alloc: Global, text: &[u8], sites: Sites) -> Result<Offsets, NoMemory> {
-    match Outline::new(alloc, text)? {
-        None => Ok(Offsets::NONE),
-        Some(outline) => Ok(Offsets::of(&outline, sites)),
+fn offset_at(alloc: Global, text: &[u8], place: Option<Place>) -> Result<Option<usize>, NoMemory> {
+    match place {
+        None => Ok(None),
+        Some(place) => offset_of(alloc, text, place),
     }
 }
 
@@ -58,11 +31,12 @@ fn told_breach(
     breach: &Breach,
     sites: Sites,
 ) -> Result<String, NoMemory> {
-    let offsets = offsets_of(alloc, named.text, sites)?;
+    let place = offset_at(alloc, named.text, sites.place)?;
+    let other = offset_at(alloc, named.text, sites.other)?;
     let sentence = breach.to_string(alloc)?;
-    let mut message = named.message(alloc, offsets.place, sentence.as_str())?;
-    if offsets.other.is_some() {
-        named.push_where(&mut message, offsets.other, note(breach))?;
+    let mut message = named.message(alloc, place, sentence.as_str())?;
+    if other.is_some() {
+        named.push_where(&mut message, other, note(breach))?;
     }
     Ok(message)
 }
@@ -77,7 +51,7 @@ pub fn explain_rule(
 ) -> Result<String, NoMemory> {
     let table = BuiltInClass::all(alloc)?;
     let names = NameTables::new(alloc, tree, table.as_slice())?;
-    match breach_of(alloc, &names, violation)? {
+    match breach_of(&names, violation) {
         Some((breach, sites)) => told_breach(alloc, named, &breach, sites),
         None => broken(alloc, named, violation),
     }

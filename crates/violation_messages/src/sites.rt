@@ -4,7 +4,7 @@ use cil_model::trees::{Class, Field, Member, Method, Tree};
 use metadata::violations::SourceMember;
 use name_tables::keys::MethodKey;
 use name_tables::lookups::NameTables;
-use source_map::{ClassPart, LinePart, MemberPart, Place};
+use source_map::{ClassPart, LinePart, MemberPart, Place, nth_field, nth_method};
 
 /// Where a rule is broken.
 #[derive(Clone, Copy)]
@@ -87,36 +87,16 @@ pub fn key_of(method: &Method) -> MethodKey<'_> {
 
 /// A method of the source, and its number among the members of its class.
 pub fn located_method(tree: &Tree, number: SourceMember) -> Option<(MemberSpot, &Method)> {
-    let class = number.class;
-    let mut left = number.place;
-    let declared = tree.classes.as_slice().get(class)?;
-    for (member, item) in declared.members.as_slice().iter().enumerate() {
-        let Member::Method(method) = item else {
-            continue;
-        };
-        if left == 0 {
-            return Some((MemberSpot { class, member }, method));
-        }
-        left -= 1;
-    }
-    None
+    let SourceMember { class, place } = number;
+    let (member, method) = nth_method(tree.classes.as_slice().get(class)?, place)?;
+    Some((MemberSpot { class, member }, method))
 }
 
 /// A field of the source, and its number among the members of its class.
 pub fn located_field(tree: &Tree, number: SourceMember) -> Option<(MemberSpot, &Field)> {
-    let class = number.class;
-    let mut left = number.place;
-    let declared = tree.classes.as_slice().get(class)?;
-    for (member, item) in declared.members.as_slice().iter().enumerate() {
-        let Member::Field(field) = item else {
-            continue;
-        };
-        if left == 0 {
-            return Some((MemberSpot { class, member }, field));
-        }
-        left -= 1;
-    }
-    None
+    let SourceMember { class, place } = number;
+    let (member, field) = nth_field(tree.classes.as_slice().get(class)?, place)?;
+    Some((MemberSpot { class, member }, field))
 }
 
 /// The number of a method among the members of its class.
