@@ -9,3 +9,4 @@ pub mod SlotLaws
 pub mod TargetLaws
 pub mod ResolvedLaws
 pub mod RoleLaws
+pub mod ApartLaws
