@@ -10,3 +10,4 @@ pub mod TargetLaws
 pub mod ResolvedLaws
 pub mod RoleLaws
 pub mod ApartLaws
+pub mod CountLaws
