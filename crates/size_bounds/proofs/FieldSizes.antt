@@ -19,7 +19,7 @@ use Rattle.cil_model.proofs.SameLaws.{both_first}
 use Rattle.name_tables.specs.Numbers.{declarations, source_entry}
 use Rattle.resolved_code.specs.Numbered.{class_name}
 use Rattle.size_bounds.proofs.Lists.{item_passes, all_weaker, found_within}
-use Rattle.size_bounds.proofs.Limits.{source_classes_few, static_fields_few, source_classes_small}
+use Rattle.programs.proofs.Limits.{source_classes_few, static_fields_few, source_classes_small}
 
 module _ (tree : Tree) (legal : IsLegal tree) where
   -- the entry of a class with this number
