@@ -1,13 +1,21 @@
 -- What two ways to a label may leave on the stack: merges of two types (III.1.8.1.3), stacks slot by slot, and bodies with such a label.
-use Rattle.std.proofs.Common.{◌≡◌, zero, suc, false, IsTrue, List, [], ◌∷◌, Some, option_and_then, refl, sym, ap, ◌∙◌, subst, codes}
+use Rattle.std.proofs.Common.{◌≡◌, ◌⊎◌, ℕ, zero, suc, pos, ◌≤ℤ◌, false, true, IsTrue, List, [], ◌∷◌, length, Option, Some, None, option_and_then, slice_get, Contains, refl, inl, inr, sym, ap, ◌∙◌, subst, arith, codes, lit<}
+use Rattle.std.specs.Int.Signed.{le_z_yes}
 use Rattle.std.proofs.lemmas.Option.{same_Some}
+use Rattle.std.proofs.lemmas.List.Elements.{Contains-push_cases}
 use Rattle.cil_model.specs.declared.types.Element.TheVariants.{Int32, Int64, Object, String}
 use Rattle.cil_model.specs.declared.types.DeclaredType.{DeclaredType}
+use Rattle.cil_model.specs.declared.instructions.Instruction.TheVariants.{LoadInt32, LoadArgument, Pop, Branch, BranchTrue, Return}
 use Rattle.cil_model.specs.declared.trees.Tree.{Tree}
+use Rattle.cil_model.specs.declared.trees.Code.{Code}
+use Rattle.cil_model.specs.declared.trees.Line.{Line}
 use Rattle.cil_model.specs.Same.{same_type}
 use Rattle.cil_model.specs.Declarations.{object_name, plain}
+use Rattle.cil_model.specs.Bodies.{place_of}
+use Rattle.cil_model.specs.FlowRules.{flow}
 use Rattle.cil_model.specs.TypeTree.{StackType, Declared, NativeInt, Null, i4, i8, parent, ancestor, IsBelow, IsMerge}
-use Rattle.cil_model.specs.Typings.{AreBelow}
+use Rattle.cil_model.specs.Typings.{Typing, AreBelow, Reaches, ReachesLabel, FlowsOn, IsCodeTyping}
+use Rattle.cil_model.specs.Examples.{unlabelled}
 use Rattle.cil_model.proofs.SameLaws.{never, same_type_itself}
 use Rattle.cil_model.proofs.Lists.{none_is_some}
 use Rattle.cil_model.proofs.BelowLaws.{declared_is_null, declared_is_native, null_is_native, reflexive}
@@ -242,3 +250,127 @@ one_slot_apart (a ∷ []) h k = h.1
 one_slot_apart (a ∷ Declared t ∷ bs) h k = declared_is_native t (sym k.1.0)
 one_slot_apart (a ∷ Null ∷ bs) h k = null_is_native (sym k.1.0)
 one_slot_apart (a ∷ NativeInt ∷ bs) h k = null_is_native h.1.0
+
+-- ---- a label to which two ways lead
+
+-- each time round the loop there is one more on the stack: `A: ldc.i4 0` and `br A`
+abbrev growing : Code
+growing = record { is_entry_point = false; max_stack = pos 8; locals = []; lines = record { labels = codes "A" ∷ []; instruction = LoadInt32 (pos 0) } ∷ unlabelled (Branch (codes "A")) ∷ [] }
+
+growing_has_no_typing : (typing : Typing) → IsCodeTyping zoo [] None growing typing → ⊥
+growing_has_no_typing typing t = first (t.each 0 _ [] refl t.start)
+  where
+    back : (a : StackType) (rest after : List StackType) → Some (a ∷ rest) ≡ Some after → Reaches zoo typing after 0 → ⊥
+    back a rest after e (stack, at, below) =
+        let empty : [] ≡ stack = same_Some [] stack (same_Some (Some []) (Some stack) (sym t.start ∙ at)) in
+        let behind : AreBelow zoo (a ∷ rest) stack = subst (λ x. AreBelow zoo x stack) (sym (same_Some (a ∷ rest) after e)) below in
+        subst (λ x. AreBelow zoo (a ∷ rest) x) (sym empty) behind
+
+    third : (stack : List StackType) → AreBelow zoo (i4 ∷ []) stack → ((after : List StackType) × (Some stack ≡ Some after) × FlowsOn zoo growing typing 1 (unlabelled (Branch (codes "A"))) after) → ⊥
+    third [] below x = below
+    third (a ∷ rest) below (after, e, on) = back a rest after e (on.branches (codes "A") (0, lit< tt, refl))
+
+    second : (after : List StackType) → Some (i4 ∷ []) ≡ Some after → Reaches zoo typing after 1 → ⊥
+    second after e (stack, at, below) = third stack (subst (λ x. AreBelow zoo x stack) (sym (same_Some (i4 ∷ []) after e)) below) (t.each 1 _ stack refl at)
+
+    first : ((after : List StackType) × (Some (i4 ∷ []) ≡ Some after) × FlowsOn zoo growing typing 0 (record { labels = codes "A" ∷ []; instruction = LoadInt32 (pos 0) }) after) → ⊥
+    first (after, e, on) = second after e (on.falls refl)
+
+-- the loop that takes what it puts has one: `A: ldc.i4 0`, `pop` and `br A`
+abbrev steady : Code
+steady = record { is_entry_point = false; max_stack = pos 1; locals = []; lines = record { labels = codes "A" ∷ []; instruction = LoadInt32 (pos 0) } ∷ unlabelled Pop ∷ unlabelled (Branch (codes "A")) ∷ [] }
+
+abbrev steady_typing : Typing
+steady_typing = Some [] ∷ Some (i4 ∷ []) ∷ Some [] ∷ []
+
+-- a branch of two ways that leave a Dog and a Cat at L, of a Dog, a Cat and a number
+abbrev two_ways : Code
+two_ways = record {
+  is_entry_point = false;
+  max_stack = pos 1;
+  locals = [];
+  lines =
+      unlabelled (LoadArgument (pos 2)) ∷ unlabelled (BranchTrue (codes "K")) ∷ unlabelled (LoadArgument (pos 0)) ∷ unlabelled (Branch (codes "L")) ∷
+      record { labels = codes "K" ∷ []; instruction = LoadArgument (pos 1) } ∷ record { labels = codes "L" ∷ []; instruction = Return } ∷ [];
+}
+
+-- what is returned there is an Animal, and so is the stack at L
+abbrev two_ways_typing : Typing
+two_ways_typing = Some [] ∷ Some (i4 ∷ []) ∷ Some [] ∷ Some (Declared dog ∷ []) ∷ Some [] ∷ Some (Declared animal ∷ []) ∷ []
+
+-- what a typing needs at each place, told of the line and the stack that stand there
+module _ (arguments : List DeclaredType) (return_type : Option DeclaredType) (code : Code) (typing : Typing) where
+  abbrev IsFine : ℕ → Line → List StackType → Type 0
+  IsFine place line stack = (after : List StackType) × (flow zoo arguments code.locals return_type line.instruction stack ≡ Some after) × FlowsOn zoo code typing place line after
+
+  fine_at : (place : ℕ) (l line : Line) (s stack : List StackType) → Some l ≡ Some line → Some (Some s) ≡ Some (Some stack) → IsFine place l s → IsFine place line stack
+  fine_at place l line s stack e f fine =
+      subst (λ x. IsFine place line x) (same_Some s stack (same_Some (Some s) (Some stack) f)) (subst (λ x. IsFine place x s) (same_Some l line e) fine)
+
+-- where there is no label, and where there is one
+no_label : {A : Type 0} (label : List ℕ) → Contains [] label → A
+no_label {A} label (k, below, at) = absurd (omega (arith, below))
+
+its_label : (P : List ℕ → Type 0) (only label : List ℕ) → Contains (only ∷ []) label → P only → P label
+its_label P only label c h = by_case (Contains-push_cases [] only label c)
+  where
+    by_case : Contains [] label ⊎ (only ≡ label) → P label
+    by_case (inl c') = no_label label c'
+    by_case (inr e) = subst P e h
+
+low : (top : ℕ) (s stack : List StackType) → Some (Some s) ≡ Some (Some stack) → pos (length s) ≤ℤ pos top → pos (length stack) ≤ℤ pos top
+low top s stack f h = subst (λ x. pos (length x) ≤ℤ pos top) (same_Some s stack (same_Some (Some s) (Some stack) f)) h
+
+steady_has_a_typing : IsCodeTyping zoo [] None steady steady_typing
+steady_has_a_typing = record { whole = refl; start = refl; height = height; each = each }
+  where
+    height : (place : ℕ) (stack : List StackType) → slice_get steady_typing place ≡ Some (Some stack) → pos (length stack) ≤ℤ pos 1
+    height zero stack f = low 1 [] stack f (le_z_yes tt)
+    height (suc zero) stack f = low 1 (i4 ∷ []) stack f (le_z_yes tt)
+    height (suc (suc zero)) stack f = low 1 [] stack f (le_z_yes tt)
+    height (suc (suc (suc n))) stack f = none_is_some (Some stack) f
+
+    each : (place : ℕ) (line : Line) (stack : List StackType) → slice_get steady.lines place ≡ Some line → slice_get steady_typing place ≡ Some (Some stack) → IsFine [] None steady steady_typing place line stack
+    each zero line stack e f = fine_at [] None steady steady_typing 0 _ line [] stack e f (_, refl, record { falls = λ t. (_, refl, ((0, refl), tt)); branches = λ label c. no_label label c })
+    each (suc zero) line stack e f = fine_at [] None steady steady_typing 1 _ line (i4 ∷ []) stack e f (_, refl, record { falls = λ t. (_, refl, tt); branches = λ label c. no_label label c })
+    each (suc (suc zero)) line stack e f =
+        fine_at [] None steady steady_typing 2 _ line [] stack e f (
+          _,
+          refl,
+          record { falls = λ t. never t; branches = λ label c. its_label (λ x. ReachesLabel zoo steady_typing [] (place_of x steady.lines)) (codes "A") label c (_, refl, tt) },
+        )
+    each (suc (suc (suc n))) line stack e f = none_is_some line e
+
+two_ways_have_a_typing : IsCodeTyping zoo (dog ∷ cat ∷ plain Int32 ∷ []) (Some animal) two_ways two_ways_typing
+two_ways_have_a_typing = record { whole = refl; start = refl; height = height; each = each }
+  where
+    height : (place : ℕ) (stack : List StackType) → slice_get two_ways_typing place ≡ Some (Some stack) → pos (length stack) ≤ℤ pos 1
+    height zero stack f = low 1 [] stack f (le_z_yes tt)
+    height (suc zero) stack f = low 1 (i4 ∷ []) stack f (le_z_yes tt)
+    height (suc (suc zero)) stack f = low 1 [] stack f (le_z_yes tt)
+    height (suc (suc (suc zero))) stack f = low 1 (Declared dog ∷ []) stack f (le_z_yes tt)
+    height (suc (suc (suc (suc zero)))) stack f = low 1 [] stack f (le_z_yes tt)
+    height (suc (suc (suc (suc (suc zero))))) stack f = low 1 (Declared animal ∷ []) stack f (le_z_yes tt)
+    height (suc (suc (suc (suc (suc (suc n)))))) stack f = none_is_some (Some stack) f
+
+    fine : (place : ℕ) (l line : Line) (s stack : List StackType) → Some l ≡ Some line → Some (Some s) ≡ Some (Some stack) → IsFine (dog ∷ cat ∷ plain Int32 ∷ []) (Some animal) two_ways two_ways_typing place l s → IsFine (dog ∷ cat ∷ plain Int32 ∷ []) (Some animal) two_ways two_ways_typing place line stack
+    fine = fine_at (dog ∷ cat ∷ plain Int32 ∷ []) (Some animal) two_ways two_ways_typing
+
+    each : (place : ℕ) (line : Line) (stack : List StackType) → slice_get two_ways.lines place ≡ Some line → slice_get two_ways_typing place ≡ Some (Some stack) → IsFine (dog ∷ cat ∷ plain Int32 ∷ []) (Some animal) two_ways two_ways_typing place line stack
+    each zero line stack e f = fine 0 _ line [] stack e f (_, refl, record { falls = λ t. (_, refl, ((0, refl), tt)); branches = λ label c. no_label label c })
+    each (suc zero) line stack e f =
+        fine 1 _ line (i4 ∷ []) stack e f (
+          _,
+          refl,
+          record { falls = λ t. (_, refl, tt); branches = λ label c. its_label (λ x. ReachesLabel zoo two_ways_typing [] (place_of x two_ways.lines)) (codes "K") label c (_, refl, tt) },
+        )
+    each (suc (suc zero)) line stack e f = fine 2 _ line [] stack e f (_, refl, record { falls = λ t. (_, refl, ((0, refl), tt)); branches = λ label c. no_label label c })
+    each (suc (suc (suc zero))) line stack e f =
+        fine 3 _ line (Declared dog ∷ []) stack e f (
+          _,
+          refl,
+          record { falls = λ t. never t; branches = λ label c. its_label (λ x. ReachesLabel zoo two_ways_typing (Declared dog ∷ []) (place_of x two_ways.lines)) (codes "L") label c (_, refl, ((1, refl), tt)) },
+        )
+    each (suc (suc (suc (suc zero)))) line stack e f = fine 4 _ line [] stack e f (_, refl, record { falls = λ t. (_, refl, ((1, refl), tt)); branches = λ label c. no_label label c })
+    each (suc (suc (suc (suc (suc zero))))) line stack e f = fine 5 _ line (Declared animal ∷ []) stack e f (_, refl, record { falls = λ t. never t; branches = λ label c. no_label label c })
+    each (suc (suc (suc (suc (suc (suc n)))))) line stack e f = none_is_some line e
