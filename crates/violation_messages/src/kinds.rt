@@ -121,7 +121,8 @@ fn hiding_class(names: &NameTables, nearer: &[usize], key: MethodKey) -> Option<
 /// The last class of these that is not abstract: there first a method behind them is left open.
 fn open_class(names: &NameTables, nearer: &[usize]) -> Option<usize> {
     for class in nearer.iter().rev() {
-        if !names.classes.class(*class)?.is_abstract {
+        let declared = names.classes.class(*class)?;
+        if !declared.is_abstract {
             return Some(*class);
         }
     }

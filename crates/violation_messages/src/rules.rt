@@ -51,7 +51,16 @@ pub fn explain_rule(
 ) -> Result<String, NoMemory> {
     let table = BuiltInClass::all(alloc)?;
     let names = NameTables::new(alloc, tree, table.as_slice())?;
-    match breach_of(&names, violation) {
+    told_violation(alloc, named, &names, violation)
+}
+
+fn told_violation(
+    alloc: Global,
+    named: Named,
+    names: &NameTables,
+    violation: Violation,
+) -> Result<String, NoMemory> {
+    match breach_of(names, violation) {
         Some((breach, sites)) => told_breach(alloc, named, &breach, sites),
         None => broken(alloc, named, violation),
     }

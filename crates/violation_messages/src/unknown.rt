@@ -161,13 +161,14 @@ fn tell_class<W: fmt::Write>(
 
 /// The built-in class that a name without an assembly may mean.
 fn tell_assembly<W: fmt::Write>(f: &mut fmt::Formatter<W>, name: &str) -> fmt::Result {
-    match name {
+    let library = match name {
         "System.Object" | "System.String" | "System.Console" | "System.Threading.Monitor" => {
-            write!(f, ", but `[mscorlib]{name}` is built in")
+            "mscorlib"
         }
-        "Cilvm.Thread" => write!(f, ", but `[cilvm]{name}` is built in"),
-        _ => Ok(()),
-    }
+        "Cilvm.Thread" => "cilvm",
+        _ => return Ok(()),
+    };
+    write!(f, ", but `[{library}]{name}` is built in")
 }
 
 fn tell_near_field<W: fmt::Write>(f: &mut fmt::Formatter<W>, near: Option<&Field>) -> fmt::Result {
