@@ -2,6 +2,7 @@
 use Rattle.std.proofs.Common.{◌≡◌, ◌≤◌, ◌^◌, ℕ, suc, true, if◌then◌else◌, List, ◌∷◌, length, find, Option, Some, None, option_map, option_and_then, slice_get, sym, ap, ◌∙◌, arith}
 use Rattle.std.specs.Prelude.{not, ◌&&◌, nat_lt}
 use Rattle.std.specs.Option.{option_map_or}
+use Rattle.std.proofs.lemmas.Option.{same_Some}
 use Rattle.simulation.specs.cil_model.declared.types.ClassName.{ClassName}
 use Rattle.simulation.specs.cil_model.declared.types.DeclaredType.{DeclaredType}
 use Rattle.simulation.specs.cil_model.declared.types.Signature.{Signature}
@@ -16,7 +17,6 @@ use Rattle.simulation.specs.cil_model.Bodies.{argument_types, constructor_refere
 use Rattle.simulation.specs.cil_model.Chains.{is_static, methods_declared, find_method}
 use Rattle.simulation.specs.cil_model.Fields.{slot_types}
 use Rattle.simulation.specs.cil_model.Legality.{IsLegal}
-use Rattle.simulation.proofs.cil_model.BelowLaws.{none_is_some, same_some}
 use Rattle.simulation.specs.reference_machine.BuiltIn.{Action, action_of}
 use Rattle.simulation.proofs.type_soundness.BuiltInMembers.{IsMember, acts_as_member}
 use Rattle.simulation.proofs.type_soundness.FoundMethods.{IsFound, found}
@@ -33,6 +33,7 @@ use Rattle.simulation.proofs.method_table.NumberLaws.{declared_is_numbered}
 use Rattle.simulation.specs.interpreter.Calls.{class_in, slots_at}
 use Rattle.simulation.proofs.Zeros.{locals_low}
 use Rattle.simulation.proofs.Going.{below_test}
+use Rattle.simulation.proofs.cil_model.Lists.{none_is_some}
 
 -- a method with its class
 abbrev Owned : Type 0
@@ -44,7 +45,7 @@ class_of_number tree class place c m h = by_entry (slice_get (declarations tree)
   where
     by_method : (k : ClassName) (o : Option Method) → option_map {U = Owned} (λ x. (k, x)) o ≡ Some (c, m) → k ≡ c
     by_method k None e = none_is_some (c, m) e
-    by_method k (Some x) e = ap (λ (p : ClassName × Method). p.0) (same_some (k, x) (c, m) e)
+    by_method k (Some x) e = ap (λ (p : ClassName × Method). p.0) (same_Some (k, x) (c, m) e)
 
     by_entry : (o : Option (ClassName × Declaration)) → option_and_then (λ (e : ClassName × Declaration). option_map {U = Owned} (λ x. (e.0, x)) (slice_get e.1.methods place)) o ≡ Some (c, m) → option_map (λ (e : ClassName × Declaration). e.0) o ≡ Some c
     by_entry None e = none_is_some (c, m) e
@@ -56,7 +57,7 @@ own_class tree c k parameters m h = by_found (find (λ (y : Method). same_method
   where
     by_found : (o : Option Method) → option_map_or {U = Option Owned} (λ x. Some (c, x)) o None ≡ Some (k, m) → c ≡ k
     by_found None e = none_is_some (k, m) e
-    by_found (Some x) e = ap (λ (p : ClassName × Method). p.0) (same_some (c, x) (k, m) e)
+    by_found (Some x) e = ap (λ (p : ClassName × Method). p.0) (same_Some (c, x) (k, m) e)
 
 module _ (tree : Tree) (legal : IsLegal tree) (c : ClassName) (parameters : List DeclaredType) (number : MemberNumber) (is : IsMethod tree true (constructor_reference c parameters) number) where
   abbrev pub constructor : Method

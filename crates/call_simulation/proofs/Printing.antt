@@ -4,7 +4,6 @@ use Rattle.std.specs.Prelude.{if◌then◌else◌}
 use Rattle.std.specs.Option.{option_map_or}
 use Rattle.simulation.specs.cil_model.declared.trees.Tree.{Tree}
 use Rattle.simulation.specs.cil_model.Mentions.{literals_of}
-use Rattle.simulation.proofs.cil_model.BelowLaws.{none_is_some}
 use Rattle.simulation.specs.reference_machine.Values.{Born, Literal, Value as StateValue}
 use Rattle.simulation.specs.reference_machine.States.{State}
 use Rattle.simulation.specs.reference_machine.BuiltIn.{line_of as state_line_of}
@@ -14,6 +13,7 @@ use Rattle.simulation.specs.object_memory.Objects.{Objects}
 use Rattle.simulation.specs.instructions.BuiltInTurns.{line_of}
 use Rattle.simulation.specs.StandsFor.{Names, IsValue, int32, int64, native, null_reference, reference, IsLiteralAt, IsHeap, IsMemory}
 use Rattle.simulation.proofs.Memories.{named_is_not_null, heap_beside}
+use Rattle.simulation.proofs.cil_model.Lists.{none_is_some}
 
 module _ (tree : Tree) (name : Names) (o : Objects) (s : State) (heap : IsHeap tree name o s) where
   -- the line of a value

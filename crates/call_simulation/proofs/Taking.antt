@@ -2,7 +2,7 @@
 use Rattle.std.proofs.Common.{◌≡◌, ◌≤◌, ◌<◌, ◌+◌, ℕ, ℤ, pos, negsuc, Bool, true, false, List, [], ◌∷◌, length, Option, Some, None, option_map, slice_get, slice_set, Result, Ok, Err, refl, sym, ap, subst, arith, inr, ◌∙◌}
 use Rattle.std.specs.Prelude.{if◌then◌else◌, nat_lt}
 use Rattle.std.specs.Option.{option_map_or}
-use Rattle.std.proofs.lemmas.Option.{slice_get_within}
+use Rattle.std.proofs.lemmas.Option.{slice_get_within, same_Some}
 use Rattle.simulation.specs.cil_model.declared.instructions.Instruction.{Instruction}
 use Rattle.simulation.specs.cil_model.declared.limits.TheConstants.{MOST_INSTRUCTIONS}
 use Rattle.simulation.specs.cil_model.declared.reports.Fault.{Fault}
@@ -10,7 +10,6 @@ use Rattle.simulation.specs.cil_model.declared.trees.Code.{Code}
 use Rattle.simulation.specs.cil_model.declared.trees.Line.{Line}
 use Rattle.simulation.specs.cil_model.Bodies.{lines_of, place_of, at_place}
 use Rattle.simulation.specs.cil_model.Stacks.{take_one, take_two}
-use Rattle.simulation.proofs.cil_model.BelowLaws.{none_is_some, same_some}
 use Rattle.simulation.specs.reference_machine.Values.{Value as StateValue, same_kind}
 use Rattle.simulation.specs.reference_machine.States.{Frame as StateFrame, State, same_kind_or_none}
 use Rattle.simulation.specs.reference_machine.Effects.{Setting, Effect as StateEffect, Goes, Raises as StateRaises, Sticks, given as given_value, unless_fault, after}
@@ -33,6 +32,7 @@ use Rattle.simulation.proofs.Instructions.{IsSetting, DoesAlike, no_refusal, ref
 use Rattle.simulation.proofs.Going.{below_test, own_frame, place_is_small, onward_is, leaves_is, moved_frames, next_alike, jump_alike}
 use Rattle.simulation.proofs.Operands.{one_operand, two_operands}
 use Rattle.call_simulation.proofs.Meeting.{Meets, IsResult, meets_at}
+use Rattle.simulation.proofs.cil_model.Lists.{none_is_some}
 
 module _ (here : Setting) (name : Names) (m : Frames) (o : Objects) (statics : List Value) (printed : List ℕ) (s : State) (f : StateFrame) (below : List StateFrame) (i : Instruction) (operation : Operation)
     (at : IsSetting here name m o statics printed s f below i operation) where
@@ -142,7 +142,7 @@ module _ (here : Setting) (name : Names) (m : Frames) (o : Objects) (statics : L
   pub to_label_does : (place : Option ℕ) (label : Option (List ℕ)) → option_map (λ l. place_of l (lines_of f.method)) label ≡ option_map Some place →
       (rest : List Value) (rest' : List StateValue) → Stands rest rest' → Alike (to_place place (with_stack m rest)) (to_label here s f below label rest')
   to_label_does None None is rest rest' k = onward_does rest rest' k
-  to_label_does (Some place) (Some label) is rest rest' k = jump_does label place (same_some (place_of label (lines_of f.method)) (Some place) is) rest rest' k
+  to_label_does (Some place) (Some label) is rest rest' k = jump_does label place (same_Some (place_of label (lines_of f.method)) (Some place) is) rest rest' k
   to_label_does (Some place) None is rest rest' k = none_is_some (Some place) is
   to_label_does None (Some label) is rest rest' k = none_is_some (place_of label (lines_of f.method)) (sym is)
 

@@ -2,6 +2,7 @@
 use Rattle.std.proofs.Common.{◌≡◌, ◌==◌, ℤ, pos, Bool, true, false, not, Some, Result, Ok, Err, refl, sym, ap, ◌∙◌, subst, true≢false, lit<}
 use Rattle.std.specs.Int.{w32, w64}
 use Rattle.std.proofs.lemmas.Bool.{eqb-true, eq-eqb}
+use Rattle.std.proofs.lemmas.Option.{same_Some}
 use Rattle.simulation.specs.cil_model.declared.instructions.BinaryOperation.{BinaryOperation}
 use Rattle.simulation.specs.cil_model.declared.instructions.UnaryOperation.{UnaryOperation}
 use Rattle.simulation.specs.cil_model.declared.instructions.ShiftOperation.{ShiftOperation}
@@ -11,7 +12,6 @@ use Rattle.simulation.specs.cil_model.declared.instructions.BranchComparison.{Br
 use Rattle.simulation.specs.cil_model.declared.instructions.BranchComparison.TheVariants.{Equal as BranchEqual, NotEqual}
 use Rattle.simulation.specs.cil_model.declared.reports.Fault.{Fault}
 use Rattle.simulation.specs.cil_model.declared.trees.Tree.{Tree}
-use Rattle.simulation.proofs.cil_model.BelowLaws.{same_some}
 use Rattle.simulation.proofs.cil_model.SameLaws.{same_text_equal, same_text_itself}
 use Rattle.simulation.specs.reference_machine.Values.{ObjectName, Born, Literal, Value as StateValue, Int32 as Int32Value, Int64 as Int64Value, same_object}
 use Rattle.simulation.specs.reference_machine.Arithmetic.{binary, binary_value, unary_value, shift_value, compare_values, branch_values, is_set as is_set_value, convert_32, convert_64, one_or_zero as one_or_zero_value, result_as}
@@ -50,7 +50,7 @@ module _ (tree : Tree) (name : Names) (o : Objects) (s : State) (heap : IsHeap t
   pub same_reference_alike : (a b : Addr) (m n : ObjectName) → name a.number ≡ Some m → name b.number ≡ Some n → (a.number == b.number) ≡ same_object m n
   same_reference_alike a b m n is is' =
       same_tests (a.number == b.number) (same_object m n)
-      (λ h. let e : m ≡ n = same_some m n (sym is ∙ ap name (eqb-true a.number b.number h) ∙ is') in subst (λ k. same_object m k ≡ true) e (same_object_itself m))
+      (λ h. let e : m ≡ n = same_Some m n (sym is ∙ ap name (eqb-true a.number b.number h) ∙ is') in subst (λ k. same_object m k ≡ true) e (same_object_itself m))
       (λ h. eq-eqb a.number b.number (heap.apart a.number b.number n (is ∙ ap Some (same_object_equal m n h)) is'))
 
   -- ---- tests

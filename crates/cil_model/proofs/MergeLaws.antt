@@ -1,27 +1,18 @@
 -- Two types with a type above both have a merge.
 use Rattle.std.proofs.Common.{◌≡◌, ◌≤◌, ◌<◌, ◌+◌, ◌-◌, ◌⊎◌, ℕ, zero, suc, Bool, true, false, IsTrue, Option, Some, None, option_and_then, refl, inl, inr, sym, ap, ◌∙◌, subst, arith}
-use Rattle.std.proofs.lemmas.Bool.{eqb-true, eq-eqb, and_from, cases_lt}
-use Rattle.cil_model.specs.declared.types.Element.{Element}
-use Rattle.cil_model.specs.declared.types.Element.TheVariants.{Int32, Int64, Object, String, Class}
+use Rattle.std.proofs.lemmas.Bool.{cases_lt}
+use Rattle.std.proofs.lemmas.Option.{same_Some}
 use Rattle.cil_model.specs.declared.types.DeclaredType.{DeclaredType}
 use Rattle.cil_model.specs.declared.trees.Tree.{Tree}
 use Rattle.cil_model.specs.Same.{same_type}
-use Rattle.cil_model.specs.Assignable.{is_reference, is_reference_element}
-use Rattle.cil_model.specs.TypeTree.{StackType, Declared, NativeInt, Null, parent_at, parent, ancestor, IsBelow, IsMerge}
+use Rattle.cil_model.specs.Assignable.{is_reference}
+use Rattle.cil_model.specs.TypeTree.{StackType, Declared, NativeInt, Null, parent, ancestor, IsBelow, IsMerge}
 use Rattle.cil_model.specs.Legality.{IsLegal}
-use Rattle.cil_model.proofs.SameLaws.{both_first, both_second, same_element_equal, same_element_itself}
-use Rattle.cil_model.proofs.BelowLaws.{none_is_some, same_some, declared_is_null, declared_is_native, null_is_native, climb, both_up}
+use Rattle.cil_model.proofs.SameLaws.{same_type_equal, same_type_itself}
+use Rattle.cil_model.proofs.Lists.{none_is_some}
+use Rattle.cil_model.proofs.BelowLaws.{declared_is_null, declared_is_native, null_is_native, lower_is_reference, climb, both_up}
 
 -- ---- equal types
-
-same_type_equal : (t u : DeclaredType) → IsTrue (same_type t u) → t ≡ u
-same_type_equal t u h = λ i. record {
-  element = same_element_equal t.element u.element (both_first _ _ h) i;
-  brackets = eqb-true t.brackets u.brackets (both_second _ _ h) i;
-}
-
-same_type_itself : (t : DeclaredType) → IsTrue (same_type t t)
-same_type_itself t = and_from _ _ (same_element_itself t.element) (eq-eqb t.brackets t.brackets refl)
 
 equal_or_not : (t u : DeclaredType) → (t ≡ u) ⊎ (t ≡ u → ⊥)
 equal_or_not t u = by_test (same_type t u) refl
@@ -34,28 +25,18 @@ equal_or_not t u = by_test (same_type t u) refl
     by_test false h = inr (λ e. let P : DeclaredType → Type 0 = λ x. IsTrue (same_type t x) in lost (sym h ∙ subst P e (same_type_itself t)))
 
 module _ (tree : Tree) where
-  -- ---- what has a parent is a reference
-
-  lower_is_reference : (e : Element) (n : ℕ) (p : DeclaredType) → parent_at tree e n ≡ Some p → IsTrue (is_reference_element e n)
-  lower_is_reference e (suc n) p h = refl
-  lower_is_reference Object zero p h = refl
-  lower_is_reference String zero p h = refl
-  lower_is_reference (Class c) zero p h = refl
-  lower_is_reference Int32 zero p h = none_is_some p h
-  lower_is_reference Int64 zero p h = none_is_some p h
-
   below_is_reference : (n : ℕ) (a b : DeclaredType) → IsTrue (is_reference b) → ancestor tree n a ≡ Some b → IsTrue (is_reference a)
-  below_is_reference zero a b r e = let P : DeclaredType → Type 0 = λ x. IsTrue (is_reference x) in subst P (sym (same_some a b e)) r
+  below_is_reference zero a b r e = let P : DeclaredType → Type 0 = λ x. IsTrue (is_reference x) in subst P (sym (same_Some a b e)) r
   below_is_reference (suc n) a b r e = by_parent (parent tree a) refl e
     where
       by_parent : (o : Option DeclaredType) → parent tree a ≡ o → option_and_then (ancestor tree n) o ≡ Some b → IsTrue (is_reference a)
       by_parent None h e' = none_is_some b e'
-      by_parent (Some p) h e' = lower_is_reference a.element a.brackets p h
+      by_parent (Some p) h e' = lower_is_reference tree a.element a.brackets p h
 
   -- ---- the types on the way up
 
   -- from one ancestor on to a further one
-  on_from : (m j : ℕ) (b t v : DeclaredType) → m ≤ j → ancestor tree m b ≡ Some t → ancestor tree j b ≡ Some v → (r : ℕ) × (ancestor tree r t ≡ Some v)
+  pub on_from : (m j : ℕ) (b t v : DeclaredType) → m ≤ j → ancestor tree m b ≡ Some t → ancestor tree j b ≡ Some v → (r : ℕ) × (ancestor tree r t ≡ Some v)
   on_from m j b t v h e f =
       let c : (k : ℕ) × (k ≡ m + (j - m)) × (ancestor tree k b ≡ ancestor tree (j - m) t) = climb tree m (j - m) b t e in
       let same : c.0 ≡ j = omega (arith, h, c.1) in
@@ -67,7 +48,7 @@ module _ (tree : Tree) where
     where
       by_same : (b ≡ u) ⊎ (b ≡ u → ⊥) → ((j : ℕ) × (ancestor tree j b ≡ Some u)) ⊎ ((j : ℕ) → j ≤ zero → ancestor tree j b ≡ Some u → ⊥)
       by_same (inl e) = inl (0, ap Some e)
-      by_same (inr differs) = inr (λ j h k. let P : ℕ → Type 0 = λ x. ancestor tree x b ≡ Some u in let none : j ≡ 0 = omega (arith, h) in differs (same_some b u (subst P none k)))
+      by_same (inr differs) = inr (λ j h k. let P : ℕ → Type 0 = λ x. ancestor tree x b ≡ Some u in let none : j ≡ 0 = omega (arith, h) in differs (same_Some b u (subst P none k)))
   among (suc m) b u = by_same (equal_or_not b u) (by_parent (parent tree b) refl (λ p. among m p u))
     where
       by_parent : (o : Option DeclaredType) → parent tree b ≡ o → ((p : DeclaredType) → ((j : ℕ) × (ancestor tree j p ≡ Some u)) ⊎ ((j : ℕ) → j ≤ m → ancestor tree j p ≡ Some u → ⊥)) →
@@ -86,7 +67,7 @@ module _ (tree : Tree) where
       by_same (inr differs) (inr none) = inr neither
         where
           neither : (j : ℕ) → j ≤ suc m → ancestor tree j b ≡ Some u → ⊥
-          neither zero k e = differs (same_some b u e)
+          neither zero k e = differs (same_Some b u e)
           neither (suc j) k e = none j (omega (arith, k)) e
 
   module _ (legal : IsLegal tree) where

@@ -7,7 +7,7 @@ use Rattle.cil_model.specs.declared.types.Signature.{Signature}
 use Rattle.cil_model.specs.declared.instructions.FieldReference.{FieldReference}
 use Rattle.cil_model.specs.declared.instructions.MethodName.TheVariants.{Named}
 use Rattle.cil_model.specs.declared.instructions.Instruction.{Instruction}
-use Rattle.cil_model.specs.declared.instructions.Instruction.TheVariants.{NoOperation, Branch, Switch, LoadField, LoadStaticField, StoreField, Call, CallVirtual, NewObject, NewArray, Return}
+use Rattle.cil_model.specs.declared.instructions.Instruction.TheVariants.{NoOperation, Branch, Switch, LoadField, LoadStaticField, StoreField, Call, CallVirtual, NewObject, NewArray, CastClass, IsInstance, Return}
 use Rattle.cil_model.specs.declared.trees.Class.{Class}
 use Rattle.cil_model.specs.declared.trees.ClassKind.TheVariants.{Class as PlainClass}
 use Rattle.cil_model.specs.declared.trees.Code.{Code}
@@ -225,6 +225,81 @@ member_of_built_in = refl
 no_member_of_built_in : least_broken (main_does (Call true (reference_to thread_name (Named (codes "Stop")) []))) ≡ Some 202
 no_member_of_built_in = refl
 
+-- a type that stands for nothing in each place where a type may stand
+abbrev z : DeclaredType
+z = of_class (codes "Z")
+
+-- A with a static method that has this local
+abbrev with_local : DeclaredType → Tree
+with_local t = a_with (void (Static (code_with (t ∷ []) (Return ∷ []))) (codes "m") [] ∷ [])
+
+-- no parameters, and this result
+abbrev returning : DeclaredType → Signature
+returning t = record { parameters = []; return_type = Some t }
+
+local_found : least_broken (with_local (of_class (codes "A"))) ≡ None
+local_found = refl
+
+local_unknown : least_broken (with_local z) ≡ Some 202
+local_unknown = refl
+
+local_console : least_broken (with_local (plain (ClassElement console_name))) ≡ Some 202
+local_console = refl
+
+local_array_unknown : least_broken (with_local (arrays_of z 1)) ≡ Some 202
+local_array_unknown = refl
+
+result_unknown : least_broken (a_with (MethodMember (record { name = Named (codes "m"); signature = returning z; kind = Static plain_code }) ∷ [])) ≡ Some 202
+result_unknown = refl
+
+array_found : least_broken (main_does (NewArray (of_class (codes "I")))) ≡ None
+array_found = refl
+
+array_unknown : least_broken (main_does (NewArray z)) ≡ Some 202
+array_unknown = refl
+
+cast_found : least_broken (main_does (CastClass (of_class (codes "I")))) ≡ None
+cast_found = refl
+
+cast_unknown : least_broken (main_does (CastClass z)) ≡ Some 202
+cast_unknown = refl
+
+cast_array_unknown : least_broken (main_does (CastClass (arrays_of z 2))) ≡ Some 202
+cast_array_unknown = refl
+
+-- `string` has a word of its own, and its class is no type behind `class`
+cast_string_by_class : least_broken (main_does (CastClass (plain (ClassElement string_name)))) ≡ Some 202
+cast_string_by_class = refl
+
+instance_found : least_broken (main_does (IsInstance (plain (ClassElement thread_name)))) ≡ None
+instance_found = refl
+
+instance_unknown : least_broken (main_does (IsInstance z)) ≡ Some 202
+instance_unknown = refl
+
+-- a bracketed name is looked for among the built-in classes alone, and A is none
+instance_in_other_assembly : least_broken (main_does (IsInstance (plain (ClassElement (record { assembly = Some mscorlib; name = codes "A" }))))) ≡ Some 202
+instance_in_other_assembly = refl
+
+-- a method with that signature would need the type, so an unknown type in a call's signature finds none
+call_of_unknown_parameter : least_broken (main_does (Call false (reference_to a (Named (codes "k")) (z ∷ [])))) ≡ Some 202
+call_of_unknown_parameter = refl
+
+call_of_unknown_result : least_broken (main_does (Call true (record { owner = a; name = Named (codes "m"); signature = returning z }))) ≡ Some 202
+call_of_unknown_result = refl
+
+virtual_call_of_unknown_result : least_broken (main_does (CallVirtual a (codes "m") (returning z))) ≡ Some 202
+virtual_call_of_unknown_result = refl
+
+constructor_of_unknown_parameter : least_broken (main_does (NewObject a (z ∷ []))) ≡ Some 202
+constructor_of_unknown_parameter = refl
+
+call_owner_unknown : least_broken (main_does (Call false (reference_to (named (codes "Z")) (Named (codes "k")) (plain Int32 ∷ [])))) ≡ Some 202
+call_owner_unknown = refl
+
+constructor_owner_unknown : least_broken (main_does (NewObject (named (codes "Z")) [])) ≡ Some 202
+constructor_owner_unknown = refl
+
 -- ---- 203: a class in its own chain
 
 own_base : least_broken (beside (class_with (codes "A") a ([]) ([]) ∷ [])) ≡ Some 203
@@ -252,6 +327,35 @@ inherited = refl
 
 by_run_of_thread : least_broken (beside (interface_with (codes "R") (void (Abstract true) (codes "Run") [] ∷ []) ∷ class_with (codes "A") thread_name (named (codes "R") ∷ []) ([]) ∷ [])) ≡ None
 by_run_of_thread = refl
+
+-- an abstract class that lists an interface has each of its methods too, as a virtual or an abstract one (this profile)
+abbrev abstract_with : List Member → Class
+abstract_with members = record { name = codes "A"; kind = PlainClass true object_name (i ∷ []); members = members }
+
+absent_in_abstract_class : least_broken (beside (interface_i ∷ abstract_with [] ∷ [])) ≡ Some 204
+absent_in_abstract_class = refl
+
+abstract_for_abstract_class : least_broken (beside (interface_i ∷ abstract_with (abstract_f ∷ []) ∷ [])) ≡ None
+abstract_for_abstract_class = refl
+
+virtual_for_abstract_class : least_broken (beside (interface_i ∷ abstract_with (virtual_f true ∷ []) ∷ [])) ≡ None
+virtual_for_abstract_class = refl
+
+-- it does not wait for a class below it
+filled_below_abstract_class : least_broken (beside (interface_i ∷ abstract_with [] ∷ class_with (codes "B") a [] (virtual_f true ∷ []) ∷ [])) ≡ Some 204
+filled_below_abstract_class = refl
+
+-- a class below that lists nothing itself has only to fill the slot (205)
+open_below_abstract_class : least_broken (beside (interface_i ∷ abstract_with (abstract_f ∷ []) ∷ class_with (codes "B") a [] [] ∷ [])) ≡ Some 205
+open_below_abstract_class = refl
+
+-- an abstract method of a base implements it, and the open slot breaks the next rule
+by_abstract_of_base : least_broken (beside (interface_i ∷ record { name = codes "A"; kind = PlainClass true object_name []; members = abstract_f ∷ [] } ∷ class_with (codes "B") a (i ∷ []) [] ∷ [])) ≡ Some 205
+by_abstract_of_base = refl
+
+-- of two interfaces each has to be there
+second_of_two_absent : least_broken (beside (interface_i ∷ interface_with (codes "J") (void (Abstract true) (codes "g") [] ∷ []) ∷ record { name = codes "A"; kind = PlainClass true object_name (i ∷ named (codes "J") ∷ []); members = abstract_f ∷ [] } ∷ [])) ≡ Some 204
+second_of_two_absent = refl
 
 -- ---- 205: a method's kind doesn't fit
 

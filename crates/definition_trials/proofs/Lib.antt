@@ -8,7 +8,9 @@ mod FlowTrials
 mod LegalityTrials
 mod SlotTrials
 mod TypeTrials
+mod JoinTrials
 mod TokenTrials
+mod LexemeTrials
 mod CollectorTrials
 mod RunTrials
 mod ObjectTrials

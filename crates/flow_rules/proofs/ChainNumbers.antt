@@ -2,6 +2,7 @@
 use Rattle.std.proofs.Common.{◌≡◌, ◌==◌, ◌<◌, ◌+◌, ◌-◌, ℕ, zero, suc, Bool, true, false, ◌||◌, is_some, List, [], ◌∷◌, map, Option, Some, None, option_map, refl, sym, ap, ◌∙◌, arith}
 use Rattle.std.specs.List.{list_any}
 use Rattle.std.proofs.lemmas.Bool.{eqb-true, eq-eqb}
+use Rattle.std.proofs.lemmas.Option.{same_Some}
 use Rattle.cil_model.specs.declared.types.ClassName.{ClassName}
 use Rattle.cil_model.specs.declared.types.Element.TheVariants as Named
 use Rattle.cil_model.specs.declared.trees.Tree.{Tree}
@@ -9,7 +10,7 @@ use Rattle.cil_model.specs.Same.{same_class}
 use Rattle.cil_model.specs.Declarations.{Declaration}
 use Rattle.cil_model.specs.Chains.{base_of, chain_within, interfaces_declared, listed_by}
 use Rattle.cil_model.specs.Legality.{IsLegal}
-use Rattle.cil_model.proofs.BelowLaws.{same_some}
+use Rattle.cil_model.proofs.Lists.{none_is_some}
 use Rattle.cil_model.proofs.SameLaws.{same_class_equal, same_class_itself, class_equivalence}
 use Rattle.resolved_code.specs.Numbered.{class_name}
 use Rattle.resolved_code.specs.declared.types.NumberedElement.TheVariants.{Class}
@@ -17,12 +18,6 @@ use Rattle.resolved_code.specs.declared.classes.ResolvedClass.{ResolvedClass}
 use Rattle.flow_rules.specs.Named.{class_named}
 use Rattle.flow_rules.specs.Merging.{IsClassAt}
 use Rattle.flow_rules.proofs.Classes.{one_element, own_declaration, element_at_number, base_at, base_known}
-
-none_is_some : {X A : Type 0} (x : X) → None ≡ Some x → A
-none_is_some {X} {A} x e = absurd (lost e)
-  where
-    lost : None ≡ Some x → ⊥
-    lost h = cc
 
 module _ (tree : Tree) where
   -- the class is the one, or lists it
@@ -84,7 +79,7 @@ module _ (tree : Tree) where
       where
         by_base : (b : Option ClassName) → Some (class_name tree m) ≡ option_map Some b → b ≡ Some (class_named tree m)
         by_base None h = none_is_some (class_name tree m) (sym h)
-        by_base (Some c) h = ap Some (sym (element_at_number tree m c (same_some (class_name tree m) (Some c) h)))
+        by_base (Some c) h = ap Some (sym (element_at_number tree m c (same_Some (class_name tree m) (Some c) h)))
 
     baseless : (n : ℕ) (k : ResolvedClass) → IsClassAt tree n k → k.base ≡ None → base_of tree (class_named tree n) ≡ None
     baseless n k at e = by_base (base_of tree (class_named tree n)) (sym (ap (option_map (class_name tree)) e) ∙ base_at tree legal n k at)

@@ -1,9 +1,11 @@
 -- Classes by their numbers in a legal tree.
-use Rattle.std.proofs.Common.{◌≡◌, ◌≤◌, ◌<◌, ◌+◌, ℕ, zero, suc, Bool, true, false, cond, ◌||◌, if◌then◌else◌, is_some, List, [], ◌∷◌, map, length, Option, Some, None, option_map, option_and_then, slice_get, refl, sym, ap, subst, ◌∙◌, arith}
+use Rattle.std.proofs.Common.{◌≡◌, ◌≤◌, ◌<◌, ◌+◌, ℕ, zero, suc, Bool, true, false, cond, ◌||◌, is_some, List, [], ◌∷◌, map, length, Option, Some, None, option_map, option_and_then, slice_get, refl, sym, ap, subst, ◌∙◌, arith}
 use Rattle.std.proofs.lemmas.List.{length-map}
 use Rattle.std.specs.Prelude.{IfSome}
 use Rattle.std.specs.List.{position_from, list_any}
 use Rattle.std.specs.Option.{option_map_or}
+use Rattle.std.proofs.lemmas.Option.{same_Some}
+use Rattle.std.proofs.lemmas.Bool.{or_parts}
 use Rattle.cil_model.specs.declared.types.ClassName.{ClassName}
 use Rattle.cil_model.specs.declared.types.Element.{Element}
 use Rattle.cil_model.specs.declared.types.Element.TheVariants as Named
@@ -16,7 +18,8 @@ use Rattle.cil_model.specs.Chains.{base_of}
 use Rattle.cil_model.specs.Assignable.{element_of_class}
 use Rattle.cil_model.specs.TypeTree.{parent_element}
 use Rattle.cil_model.specs.Legality.{IsLegal, has_repeat, class_doubles, doubles_name}
-use Rattle.cil_model.proofs.BelowLaws.{same_some}
+use Rattle.cil_model.proofs.Legal.{unbroken}
+use Rattle.cil_model.proofs.Lists.{none_is_some, passes_not, has_repeat-map}
 use Rattle.cil_model.proofs.SameLaws.{same_class_itself, class_equivalence}
 use Rattle.name_tables.specs.Numbers.{declarations, class_number, source_entry}
 use Rattle.name_tables.proofs.NumberLaws.{IsNumbered, numbered}
@@ -28,12 +31,6 @@ use Rattle.resolved_code.specs.declared.types.NumberedElement.TheVariants.{Int32
 use Rattle.resolved_code.specs.declared.types.NumberedType.{NumberedType}
 use Rattle.flow_rules.specs.Named.{class_named, element_named, type_named, is_known}
 use Rattle.flow_rules.specs.Merging.{IsClassAt}
-
-none_is_some : {X A : Type 0} (x : X) → None ≡ Some x → A
-none_is_some {X} {A} x e = absurd (lost e)
-  where
-    lost : None ≡ Some x → ⊥
-    lost h = cc
 
 pub if_some_then : {T : Type 0} (o : Option T) (P Q : T → Type 0) → ((v : T) → P v → Q v) → IfSome o P → IfSome o Q
 if_some_then None P Q f h = h
@@ -64,24 +61,6 @@ module _ {X Y : Type 0} (R : X → Y → Type 0) where
 
 -- ---- names are not doubled
 
-both_false : (a b : Bool) → a || b ≡ false → (a ≡ false) × (b ≡ false)
-both_false false b h = (refl, h)
-both_false true b h = absurd (cc h)
-
-pub has_repeat-map : {X Y : Type 0} (f : X → Y) (same : Y → Y → Bool) (xs : List X) → has_repeat same (map f xs) ≡ has_repeat (λ a b. same (f a) (f b)) xs
-has_repeat-map {X} {Y} f same [] = refl
-has_repeat-map {X} {Y} f same (x ∷ xs) = ap (λ b. b || has_repeat same (map f xs)) (any_mapped (same (f x)) xs) ∙ ap (λ b. list_any (λ y. same (f x) (f y)) xs || b) (has_repeat-map f same xs)
-  where
-    any_mapped : (test : Y → Bool) (ys : List X) → list_any test (map f ys) ≡ list_any (λ y. test (f y)) ys
-    any_mapped test [] = refl
-    any_mapped test (y ∷ ys) = ap (λ b. test (f y) || b) (any_mapped test ys)
-
--- what passes no test among the items does not at a place of theirs
-none_at : {X : Type 0} (test : X → Bool) (xs : List X) → list_any test xs ≡ false → (n : ℕ) (x : X) → slice_get xs n ≡ Some x → test x ≡ false
-none_at test [] h n x e = none_is_some x e
-none_at {X} test (y ∷ ys) h zero x e = let same : y ≡ x = cc in subst (λ (z : X). test z ≡ false) same (both_false (test y) (list_any test ys) h).0
-none_at test (y ∷ ys) h (suc n) x e = none_at test ys (both_false (test y) (list_any test ys) h).1 n x e
-
 module _ {X : Type 0} (same : X → X → Bool) (itself : (x : X) → same x x ≡ true) (symmetric : (x y : X) → same x y ≡ same y x) where
   -- an item among those that are not doubled is found at its own place
   pub own_place : (xs : List X) → has_repeat same xs ≡ false → (i n : ℕ) (x : X) → slice_get xs n ≡ Some x → position_from (same x) i xs ≡ Some (i + n)
@@ -92,14 +71,10 @@ module _ {X : Type 0} (same : X → X → Bool) (itself : (x : X) → same x x �
       let here : i ≡ i + 0 = omega arith in
       ap (λ b. cond b (Some i) (position_from (same x) (i + 1) ys)) passes ∙ ap Some here
   own_place (y ∷ ys) h i (suc n) x e =
-      let parts : (list_any (same y) ys ≡ false) × (has_repeat same ys ≡ false) = both_false (list_any (same y) ys) (has_repeat same ys) h in
-      let differs : same x y ≡ false = symmetric x y ∙ none_at (same y) ys parts.0 n x e in
+      let parts : (list_any (same y) ys ≡ false) × (has_repeat same ys ≡ false) = or_parts (list_any (same y) ys) (has_repeat same ys) h in
+      let differs : same x y ≡ false = symmetric x y ∙ passes_not (same y) ys n x parts.0 e in
       let here : i + 1 + n ≡ i + suc n = omega arith in
       ap (λ b. cond b (Some i) (position_from (same x) (i + 1) ys)) differs ∙ own_place ys parts.1 (i + 1) n x e ∙ ap Some here
-
-unbroken : (b : Bool) (n : ℕ) (rest : Option ℕ) → (if b then Some n else rest) ≡ None → b ≡ false
-unbroken false n rest h = refl
-unbroken true n rest h = none_is_some n (sym h)
 
 class_in : Element → ClassName
 class_in (Named.Class c) = c
@@ -119,8 +94,8 @@ module _ (tree : Tree) where
 
   source_repeats : IsLegal tree → has_repeat same_entry (map source_entry tree.classes) ≡ false
   source_repeats legal =
-      let doubled : doubles_name tree ≡ false = unbroken (doubles_name tree) 201 _ legal in
-      let classes : has_repeat (λ (a b : SourceClass). same_text a.name b.name) tree.classes ≡ false = (both_false (has_repeat same_text tree.externs) _ (both_false (has_repeat same_text tree.externs || has_repeat (λ (a b : SourceClass). same_text a.name b.name) tree.classes) (list_any class_doubles tree.classes) doubled).0).1 in
+      let doubled : doubles_name tree ≡ false = (unbroken (doubles_name tree) 201 _ legal).0 in
+      let classes : has_repeat (λ (a b : SourceClass). same_text a.name b.name) tree.classes ≡ false = (or_parts (has_repeat same_text tree.externs) _ (or_parts (has_repeat same_text tree.externs || has_repeat (λ (a b : SourceClass). same_text a.name b.name) tree.classes) (list_any class_doubles tree.classes) doubled).0).1 in
       has_repeat-map source_entry same_entry tree.classes ∙ classes
 
   no_repeats : IsLegal tree → has_repeat same_entry (declarations tree) ≡ false
@@ -150,7 +125,7 @@ module _ (tree : Tree) where
     own_declaration n c d e =
         let number : class_number tree c ≡ Some n = own_number n c (ap (option_map (λ (x : ClassName × Declaration). x.0)) e) in
         let found : (d' : Declaration) × (declaration_of tree c ≡ Some d') × (slice_get (declarations tree) n ≡ Some (c, d')) = subst (IsNumbered tree c) number (numbered tree c) in
-        let pairs : (c, found.0) ≡ (c, d) = same_some (c, found.0) (c, d) (sym found.2 ∙ e) in
+        let pairs : (c, found.0) ≡ (c, d) = same_Some (c, found.0) (c, d) (sym found.2 ∙ e) in
         found.1 ∙ ap (λ (x : ClassName × Declaration). Some x.1) pairs
 
     -- what stands at a class's number, where the classes are resolved
@@ -198,14 +173,14 @@ module _ (tree : Tree) where
   number_of_type : (n : ℕ) (c : ClassName) → 1 < n → class_name tree n ≡ Some c → element_of_class c ≡ Named.Class c
   number_of_type zero c h e = absurd (omega (arith, h))
   number_of_type (suc zero) c h e = absurd (omega (arith, h))
-  number_of_type (suc (suc zero)) c h e = subst (λ (d : ClassName). element_of_class d ≡ Named.Class d) (same_some console_name c e) refl
-  number_of_type (suc (suc (suc zero))) c h e = subst (λ (d : ClassName). element_of_class d ≡ Named.Class d) (same_some monitor_name c e) refl
-  number_of_type (suc (suc (suc (suc zero)))) c h e = subst (λ (d : ClassName). element_of_class d ≡ Named.Class d) (same_some thread_name c e) refl
+  number_of_type (suc (suc zero)) c h e = subst (λ (d : ClassName). element_of_class d ≡ Named.Class d) (same_Some console_name c e) refl
+  number_of_type (suc (suc (suc zero))) c h e = subst (λ (d : ClassName). element_of_class d ≡ Named.Class d) (same_Some monitor_name c e) refl
+  number_of_type (suc (suc (suc (suc zero)))) c h e = subst (λ (d : ClassName). element_of_class d ≡ Named.Class d) (same_Some thread_name c e) refl
   number_of_type (suc (suc (suc (suc (suc n))))) c h e = source_type tree.classes n e
     where
       source_type : (cs : List SourceClass) (m : ℕ) → option_map (λ (x : ClassName × Declaration). x.0) (slice_get (map source_entry cs) m) ≡ Some c → element_of_class c ≡ Named.Class c
       source_type [] m f = none_is_some c f
-      source_type (k ∷ cs) zero f = subst (λ (d : ClassName). element_of_class d ≡ Named.Class d) (same_some (source_name k) c f) refl
+      source_type (k ∷ cs) zero f = subst (λ (d : ClassName). element_of_class d ≡ Named.Class d) (same_Some (source_name k) c f) refl
       source_type (k ∷ cs) (suc m) f = source_type cs m f
 
   pub element_at_number : (n : ℕ) (c : ClassName) → class_name tree n ≡ Some c → class_named tree n ≡ c
@@ -240,7 +215,7 @@ module _ (tree : Tree) where
 
   base_present : (m : ℕ) (b : Option ClassName) → Some (class_name tree m) ≡ option_map Some b → (c : ClassName) × (b ≡ Some c) × (class_name tree m ≡ Some c)
   base_present m None h = none_is_some (class_name tree m) (sym h)
-  base_present m (Some c) h = (c, refl, same_some (class_name tree m) (Some c) h)
+  base_present m (Some c) h = (c, refl, same_Some (class_name tree m) (Some c) h)
 
   pub base_known : (o : Option ℕ) (m : ℕ) (b : Option ClassName) → option_map (class_name tree) o ≡ option_map Some b → o ≡ Some m → is_some (class_name tree m) ≡ true
   base_known o m b h e = let f : (c : ClassName) × (b ≡ Some c) × (class_name tree m ≡ Some c) = base_present m b (sym (ap (option_map (class_name tree)) e) ∙ h) in ap is_some f.2

@@ -1,6 +1,8 @@
 -- Ancestors end in a legal tree, within the number of its classes and the brackets.
-use Rattle.std.proofs.Common.{◌≡◌, ◌≤◌, ◌<◌, ◌+◌, ◌-◌, ◌⊎◌, ℕ, zero, suc, Bool, true, false, IsTrue, List, [], ◌∷◌, Option, Some, None, option_and_then, refl, inl, inr, sym, ap, ◌∙◌, subst, arith}
+use Rattle.std.proofs.Common.{◌≡◌, ◌≤◌, ◌<◌, ◌+◌, ◌-◌, ◌⊎◌, ℕ, zero, suc, Bool, true, false, IsTrue, Option, Some, None, option_and_then, refl, inl, inr, sym, ap, ◌∙◌, subst, arith}
 use Rattle.std.proofs.lemmas.Bool.{cases_lt}
+use Rattle.std.proofs.lemmas.Option.{same_Some}
+use Rattle.std.specs.Prelude.{drop}
 use Rattle.cil_model.specs.declared.types.ClassName.{ClassName}
 use Rattle.cil_model.specs.declared.types.Element.{Element}
 use Rattle.cil_model.specs.declared.types.Element.TheVariants.{Int32, Int64, Object, String, Class}
@@ -9,22 +11,14 @@ use Rattle.cil_model.specs.declared.trees.Tree.{Tree}
 use Rattle.cil_model.specs.Same.{same_class}
 use Rattle.cil_model.specs.Declarations.{object_name, string_name}
 use Rattle.cil_model.specs.Chains.{base_of, chain_within, longest_chain}
-use Rattle.cil_model.specs.Assignable.{is_reference, is_reference_element, element_named}
-use Rattle.cil_model.specs.TypeTree.{StackType, Declared, NativeInt, Null, parent_element, parent_at, parent, ancestor, IsBelow, IsMerge}
+use Rattle.cil_model.specs.Assignable.{is_reference, element_named}
+use Rattle.cil_model.specs.TypeTree.{StackType, Declared, NativeInt, Null, parent_element, parent, ancestor, IsBelow, IsMerge}
 use Rattle.cil_model.specs.Legality.{IsLegal}
+use Rattle.cil_model.proofs.MergeLaws.{on_from}
+use Rattle.cil_model.proofs.Lists.{none_is_some, no_item}
 use Rattle.cil_model.proofs.Legal.{no_cycle}
 use Rattle.cil_model.proofs.ChainLaws.{chain_ends}
-use Rattle.cil_model.proofs.BelowLaws.{typed, same_some, none_is_some, declared_is_null, declared_is_native, climb}
-
-no_item : {A : Type 0} (c : ClassName) (cs : List ClassName) → c ∷ cs ≡ [] → A
-no_item {A} c cs e = absurd (lost e)
-  where
-    lost : c ∷ cs ≡ [] → ⊥
-    lost h = cc
-
-rest_of : List ClassName → List ClassName
-rest_of [] = []
-rest_of (c ∷ cs) = cs
+use Rattle.cil_model.proofs.BelowLaws.{typed, declared_is_null, declared_is_native, climb, lower_is_reference}
 
 module _ (tree : Tree) where
   -- one more parent up
@@ -45,13 +39,6 @@ module _ (tree : Tree) where
   pub beyond : (n j : ℕ) (a b v : DeclaredType) → ancestor tree n a ≡ Some b → parent tree b ≡ None → n < j → ancestor tree j a ≡ Some v → ⊥
   beyond n j a b v e f h g = none_is_some v (sym (past n j a b e f h) ∙ g)
 
-  -- from one ancestor on to a further one
-  pub on_from : (m j : ℕ) (b t v : DeclaredType) → m ≤ j → ancestor tree m b ≡ Some t → ancestor tree j b ≡ Some v → (r : ℕ) × (ancestor tree r t ≡ Some v)
-  on_from m j b t v h e f =
-      let c : (k : ℕ) × (k ≡ m + (j - m)) × (ancestor tree k b ≡ ancestor tree (j - m) t) = climb tree m (j - m) b t e in
-      let same : c.0 ≡ j = omega (arith, h, c.1) in
-      (j - m, sym c.2 ∙ ap (λ k. ancestor tree k b) same ∙ f)
-
   object_ends : (k n : ℕ) → k < n → ancestor tree n (typed Object k) ≡ None
   object_ends k zero h = absurd (omega (arith, h))
   object_ends zero (suc n) h = refl
@@ -62,10 +49,9 @@ module _ (tree : Tree) where
   string_ends k (suc n) h = object_ends k n (omega (arith, h))
 
   class_ends : (m : ℕ) (c : ClassName) → chain_within tree (suc m) (Some c) ≡ chain_within tree m (Some c) → (k n : ℕ) → m + k + 2 ≤ n → ancestor tree n (typed (Class c) k) ≡ None
-  unfolding rest_of
   class_ends zero c e k n h = no_item c (chain_within tree zero (base_of tree c)) e
   class_ends (suc m) c e k zero h = absurd (omega (arith, h))
-  class_ends (suc m) c e k (suc n) h = by_base (base_of tree c) (ap rest_of e) (λ b f. class_ends m b f k n (omega (arith, h)))
+  class_ends (suc m) c e k (suc n) h = by_base (base_of tree c) (ap (drop 1) e) (λ b f. class_ends m b f k n (omega (arith, h)))
     where
       by_name : (v w : Bool) (b : ClassName) → ancestor tree n (typed (Class b) k) ≡ None → ancestor tree n (typed (element_named v w b) k) ≡ None
       by_name true w b f = object_ends k n (omega (arith, h))
@@ -99,7 +85,7 @@ module _ (tree : Tree) where
         where
           by_order : (i < k) ⊎ (k ≤ i) → IsBelow tree (Declared u) (Declared v)
           by_order (inl l) = absurd (nearer i v l h under)
-          by_order (inr l) = on_from k i a u v l first h
+          by_order (inr l) = on_from tree k i a u v l first h
       least Null h h' = declared_is_null a h
       least NativeInt h h' = declared_is_native a h
 
@@ -110,14 +96,6 @@ module _ (tree : Tree) where
   apart a b none NativeInt h under = declared_is_native a h
 
   -- null and what is no reference have no type above both
-  no_reference : (e : Element) (n : ℕ) (p : DeclaredType) → parent_at tree e n ≡ Some p → IsTrue (is_reference_element e n)
-  no_reference e (suc n) p h = refl
-  no_reference Object zero p h = refl
-  no_reference String zero p h = refl
-  no_reference (Class c) zero p h = refl
-  no_reference Int32 zero p h = none_is_some p h
-  no_reference Int64 zero p h = none_is_some p h
-
   never : {A : Type 0} → true ≡ false → A
   never {A} e = absurd (lost e)
     where
@@ -125,12 +103,12 @@ module _ (tree : Tree) where
       lost h = cc
 
   alone : (n : ℕ) (t v : DeclaredType) → is_reference t ≡ false → IsTrue (is_reference v) → ancestor tree n t ≡ Some v → ⊥
-  alone zero t v none r e = let P : DeclaredType → Type 0 = λ x. IsTrue (is_reference x) in never (sym (subst P (sym (same_some t v e)) r) ∙ none)
+  alone zero t v none r e = let P : DeclaredType → Type 0 = λ x. IsTrue (is_reference x) in never (sym (subst P (sym (same_Some t v e)) r) ∙ none)
   alone (suc n) t v none r e = by_parent (parent tree t) refl e
     where
       by_parent : (o : Option DeclaredType) → parent tree t ≡ o → option_and_then (ancestor tree n) o ≡ Some v → ⊥
       by_parent None h f = none_is_some v f
-      by_parent (Some p) h f = never (sym (no_reference t.element t.brackets p h) ∙ none)
+      by_parent (Some p) h f = never (sym (lower_is_reference tree t.element t.brackets p h) ∙ none)
 
   pub null_apart : (t : DeclaredType) → is_reference t ≡ false → (above : StackType) → IsBelow tree Null above → IsBelow tree (Declared t) above → ⊥
   null_apart t none (Declared v) r (n, e) = alone n t v none r e

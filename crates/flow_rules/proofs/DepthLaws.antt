@@ -1,15 +1,18 @@
 -- How many parents types have above them, and merges of types that have as many.
 use Rattle.std.proofs.Common.{◌≡◌, ◌≤◌, ◌<◌, ◌+◌, ◌-◌, ◌⊎◌, ℕ, zero, suc, Option, Some, None, option_map, option_and_then, inl, inr, sym, ap, ◌∙◌, subst, arith}
 use Rattle.std.proofs.lemmas.Bool.{cases_lt}
+use Rattle.std.proofs.lemmas.Option.{same_Some}
 use Rattle.cil_model.specs.declared.types.DeclaredType.{DeclaredType}
 use Rattle.cil_model.specs.declared.trees.Tree.{Tree}
 use Rattle.cil_model.specs.TypeTree.{StackType, Declared, NativeInt, Null, parent, ancestor, IsBelow, IsMerge}
-use Rattle.cil_model.proofs.BelowLaws.{same_some, none_is_some, declared_is_null, declared_is_native, climb, transitive}
+use Rattle.cil_model.proofs.MergeLaws.{on_from}
+use Rattle.cil_model.proofs.Lists.{none_is_some}
+use Rattle.cil_model.proofs.BelowLaws.{declared_is_null, declared_is_native, climb, transitive}
 use Rattle.flow_rules.specs.Merging.{IsDepth, AreLevel, IsMerged}
 use Rattle.flow_rules.specs.Named.{type_named}
 use Rattle.resolved_code.specs.declared.types.NumberedType.{NumberedType}
 use Rattle.flow_rules.specs.declared.entries.StackEntry.TheVariants as Entry
-use Rattle.flow_rules.proofs.Climbing.{beyond, on_from, closest, apart}
+use Rattle.flow_rules.proofs.Climbing.{beyond, closest, apart}
 
 module _ (tree : Tree) where
   -- a type has one depth
@@ -63,8 +66,8 @@ module _ (tree : Tree) where
       by_order (inl l) = before j v l e f
       by_order (inr l) =
           let same : j ≡ k = omega (arith, h, l) in
-          let first : u ≡ v = same_some u v (sym one ∙ ap (λ m. ancestor tree m a) (sym same) ∙ e) in
-          let second : w ≡ v = same_some w v (sym other ∙ ap (λ m. ancestor tree m b) (sym same) ∙ f) in
+          let first : u ≡ v = same_Some u v (sym one ∙ ap (λ m. ancestor tree m a) (sym same) ∙ e) in
+          let second : w ≡ v = same_Some w v (sym other ∙ ap (λ m. ancestor tree m b) (sym same) ∙ f) in
           differs (first ∙ sym second)
 
   -- where the one chain ends they have none in common

@@ -1,7 +1,8 @@
 -- What a reference finds, by its number.
-use Rattle.std.proofs.Common.{◌≡◌, ℕ, Bool, true, false, ◌&&◌, not, if◌then◌else◌, IsTrue, List, [], ◌∷◌, map, Option, Some, None, option_map, option_and_then, slice_get, refl, sym, ap, subst, ◌∙◌}
+use Rattle.std.proofs.Common.{◌≡◌, ℕ, Bool, true, false, ◌&&◌, not, IsTrue, List, [], ◌∷◌, map, Option, Some, None, option_map, option_and_then, slice_get, refl, sym, ap, ◌∙◌}
 use Rattle.std.specs.Prelude.{find}
 use Rattle.std.specs.Option.{option_map_or}
+use Rattle.std.proofs.lemmas.Option.{same_Some}
 use Rattle.cil_model.specs.declared.types.ClassName.{ClassName}
 use Rattle.cil_model.specs.declared.types.DeclaredType.{DeclaredType}
 use Rattle.cil_model.specs.declared.types.Element.{Element}
@@ -14,8 +15,8 @@ use Rattle.cil_model.specs.declared.instructions.MethodReference.{MethodReferenc
 use Rattle.cil_model.specs.Same.{same_text, same_type, same_flag, same_method_name, same_signature}
 use Rattle.cil_model.specs.Chains.{nearest, fields_declared, methods_declared, chain_of, classes_searched, find_field, find_method, is_static}
 use Rattle.cil_model.specs.Declarations.{Declaration}
+use Rattle.cil_model.proofs.Lists.{none_is_some, find_passes}
 use Rattle.cil_model.proofs.SameLaws.{both_first, both_second, same_type_equal, same_signature_equal}
-use Rattle.cil_model.proofs.BelowLaws.{same_some}
 use Rattle.name_tables.specs.Numbers.{declarations, member_at, method_at}
 use Rattle.resolved_code.specs.Numbered.{class_name, element_at, type_at, AreTypes}
 use Rattle.resolved_code.specs.declared.types.NumberedElement.{NumberedElement}
@@ -42,28 +43,13 @@ use Rattle.resolved_code.specs.declared.classes.ResolvedClass.{ResolvedClass}
 use Rattle.flow_rules.specs.Members.{IsCallable, is_abstract_kind}
 use Rattle.flow_rules.proofs.Classes.{element_at_number, alike_at, alike_beyond, own_declaration}
 
-none_is_some : {X A : Type 0} (x : X) → None ≡ Some x → A
-none_is_some {X} {A} x e = absurd (lost e)
-  where
-    lost : None ≡ Some x → ⊥
-    lost h = cc
-
--- what is found passes the test
-found_passes : {X : Type 0} (test : X → Bool) (xs : List X) (x : X) → find test xs ≡ Some x → IsTrue (test x)
-found_passes test [] x e = none_is_some x e
-found_passes {X} test (y ∷ ys) x e = by_test (found_passes test ys x) (test y) refl e
-  where
-    by_test : (find test ys ≡ Some x → IsTrue (test x)) → (b : Bool) → test y ≡ b → (if b then Some y else find test ys) ≡ Some x → IsTrue (test x)
-    by_test further true h k = let s : y ≡ x = cc in subst (λ (z : X). IsTrue (test z)) s h
-    by_test further false h k = further k
-
 nearest_passes : {X : Type 0} (test : X → Bool) (held : ClassName → List X) (cs : List ClassName) (c : ClassName) (x : X) → nearest (λ k. find test (held k)) cs ≡ Some (c, x) → IsTrue (test x)
 nearest_passes test held [] c x e = none_is_some (c, x) e
 nearest_passes {X} test held (k ∷ cs) c x e = by_found (nearest_passes test held cs c x) (find test (held k)) refl e
   where
     by_found : (nearest (λ k. find test (held k)) cs ≡ Some (c, x) → IsTrue (test x)) → (o : Option X) → find test (held k) ≡ o → option_map_or (λ y. Some (k, y)) o (nearest (λ k. find test (held k)) cs) ≡ Some (c, x) → IsTrue (test x)
     by_found further None h f = further f
-    by_found further (Some y) h f = let s : (k, y) ≡ (c, x) = same_some (k, y) (c, x) f in found_passes test (held k) x (h ∙ ap (λ (p : ClassName × X). Some p.1) s)
+    by_found further (Some y) h f = let s : (k, y) ≡ (c, x) = same_Some (k, y) (c, x) f in find_passes test (held k) x (h ∙ ap (λ (p : ClassName × X). Some p.1) s)
 
 module _ (tree : Tree) where
   -- the field that a reference finds has the type that it names
@@ -80,15 +66,15 @@ module _ (tree : Tree) where
   -- ---- types that numbers stand for
 
   pub element_is_named : (e : NumberedElement) (d : Element) → element_at tree e ≡ Some d → element_named tree e ≡ d
-  element_is_named Int32 d h = same_some _ d h
-  element_is_named Int64 d h = same_some _ d h
-  element_is_named Object d h = same_some _ d h
-  element_is_named String d h = same_some _ d h
+  element_is_named Int32 d h = same_Some _ d h
+  element_is_named Int64 d h = same_Some _ d h
+  element_is_named Object d h = same_Some _ d h
+  element_is_named String d h = same_Some _ d h
   element_is_named (Class n) d h = by_name (class_name tree n) refl h
     where
       by_name : (o : Option ClassName) → class_name tree n ≡ o → option_map ClassElement o ≡ Some d → element_named tree (Class n) ≡ d
       by_name None e f = none_is_some d f
-      by_name (Some c) e f = ap ClassElement (element_at_number tree n c e) ∙ same_some (ClassElement c) d f
+      by_name (Some c) e f = ap ClassElement (element_at_number tree n c e) ∙ same_Some (ClassElement c) d f
 
   pub type_is_named : (t : NumberedType) (d : DeclaredType) → type_at tree t ≡ Some d → type_named tree t ≡ d
   type_is_named t d h = by_element (element_at tree t.element) refl h
@@ -100,7 +86,7 @@ module _ (tree : Tree) where
       by_element None e f = none_is_some d f
       by_element (Some x) e f =
           let s : DeclaredType = record { element = x; brackets = t.brackets } in
-          ap (λ (y : Element). let s : DeclaredType = record { element = y; brackets = t.brackets } in s) (element_is_named t.element x e) ∙ same_some s d f
+          ap (λ (y : Element). let s : DeclaredType = record { element = y; brackets = t.brackets } in s) (element_is_named t.element x e) ∙ same_Some s d f
 
   pub types_are_named : (ts : List NumberedType) (ds : List DeclaredType) → AreTypes tree ts ds → types_named tree ts ≡ ds
   types_are_named [] [] h = refl
@@ -113,7 +99,7 @@ module _ (tree : Tree) where
 
   pub return_is_named : (o : Option NumberedType) (d : Option DeclaredType) → option_map (type_at tree) o ≡ option_map Some d → option_map (type_named tree) o ≡ d
   return_is_named None None h = refl
-  return_is_named (Some t) (Some d) h = ap Some (type_is_named t d (same_some (type_at tree t) (Some d) h))
+  return_is_named (Some t) (Some d) h = ap Some (type_is_named t d (same_Some (type_at tree t) (Some d) h))
   return_is_named None (Some d) h = none_is_some (Some d) h
   return_is_named (Some t) None h = none_is_some (type_at tree t) (sym h)
 
@@ -125,7 +111,7 @@ module _ (tree : Tree) where
       where
         by_member : (o : Option X) → slice_get (part d) p ≡ o → option_map {U = ClassName × X} (λ z. (name, z)) o ≡ Some (c, x) → (slice_get (part d) p ≡ Some x) × (name ≡ c)
         by_member None h f = none_is_some (c, x) f
-        by_member (Some z) h f = let s : (name, z) ≡ (c, x) = same_some {X = ClassName × X} (name, z) (c, x) f in (h ∙ ap (λ (y : ClassName × X). Some y.1) s, ap (λ (y : ClassName × X). y.0) s)
+        by_member (Some z) h f = let s : (name, z) ≡ (c, x) = same_Some {A = ClassName × X} (name, z) (c, x) f in (h ∙ ap (λ (y : ClassName × X). Some y.1) s, ap (λ (y : ClassName × X). y.0) s)
 
     pub member_nowhere : (n p : ℕ) (c : ClassName) (x : X) → class_name tree n ≡ None → member_at part tree (n, p) ≡ Some (c, x) → ⊥
     member_nowhere n p c x none e = by_entry (slice_get (declarations tree) n) none e
@@ -140,7 +126,7 @@ module _ (tree : Tree) where
   field_there b r f k x is (name, d, at, alike) e =
       let member : (slice_get d.fields f.place ≡ Some is.found) × (name ≡ is.declared_in) = member_of_class (λ y. y.fields) f.class f.place is.declared_in name d is.found at is.numbered in
       let field : (y : Field) × (slice_get d.fields f.place ≡ Some y) × IsResolvedField tree y x = alike_at (IsResolvedField tree) d.fields k.fields alike.fields f.place x e in
-      let same : field.0 ≡ is.found = same_some field.0 is.found (sym field.1 ∙ member.0) in
+      let same : field.0 ≡ is.found = same_Some field.0 is.found (sym field.1 ∙ member.0) in
       type_is_named x.field_type field.0.field_type field.2.field_type ∙ ap (λ (y : Field). y.field_type) same ∙ field_has_type b r is.declared_in is.found is.finds
 
   pub field_lacks : (b : Bool) (r : FieldReference) (f : MemberNumber) (k : ResolvedClass) → IsField tree b r f → IsClassAt tree f.class k → slice_get k.fields f.place ≡ None → ⊥
@@ -173,7 +159,7 @@ module _ (tree : Tree) where
   method_there b r f k x is (name, d, at, alike) e =
       let member : (slice_get d.methods f.place ≡ Some is.found) × (name ≡ is.declared_in) = member_of_class (λ y. y.methods) f.class f.place is.declared_in name d is.found at is.numbered in
       let method : (y : Method) × (slice_get d.methods f.place ≡ Some y) × IsResolvedMethod tree y x = alike_at (IsResolvedMethod tree) d.methods k.methods alike.methods f.place x e in
-      let same : method.0 ≡ is.found = same_some method.0 is.found (sym method.1 ∙ member.0) in
+      let same : method.0 ≡ is.found = same_Some method.0 is.found (sym method.1 ∙ member.0) in
       let signature : method.0.signature ≡ r.signature = ap (λ (y : Method). y.signature) same ∙ method_has_signature b r is.declared_in is.found is.finds in
       record {
         parameters = types_are_named x.parameters method.0.signature.parameters method.2.parameters ∙ ap (λ (y : Signature). y.parameters) signature;
@@ -200,7 +186,7 @@ module _ (tree : Tree) where
 
       alone : (o : Option Method) → option_map_or {U = Option (ClassName × Method)} (λ (y : Method). Some (c, y)) o None ≡ Some (is.declared_in, is.found) → is.declared_in ≡ c
       alone None h = none_is_some (is.declared_in, is.found) h
-      alone (Some y) h = let s : (c, y) ≡ (is.declared_in, is.found) = same_some {X = ClassName × Method} (c, y) (is.declared_in, is.found) h in sym (ap (λ (z : ClassName × Method). z.0) s)
+      alone (Some y) h = let s : (c, y) ≡ (is.declared_in, is.found) = same_Some {A = ClassName × Method} (c, y) (is.declared_in, is.found) h in sym (ap (λ (z : ClassName × Method). z.0) s)
 
       by_entry : (o : Option (ClassName × Declaration)) → slice_get (declarations tree) f.class ≡ o → method_at tree (f.class, f.place) ≡ Some (is.declared_in, is.found) → is.declared_in ≡ c → class_name tree f.class ≡ Some c
       by_entry None at h owner = absurd (method_nowhere true (constructor_reference c ps) f is (ap (option_map (λ (y : ClassName × Declaration). y.0)) at))
@@ -211,6 +197,6 @@ module _ (tree : Tree) where
   -- whether newobj makes objects of a class
   pub concrete_class : IsLegal tree → (n : ℕ) (c : ClassName) (k : ResolvedClass) → IsClassAt tree n k → class_name tree n ≡ Some c → not k.is_abstract ≡ is_concrete tree c
   concrete_class legal n c k (name, d, at, alike) e =
-      let own : name ≡ c = same_some name c (sym (ap (option_map (λ (z : ClassName × Declaration). z.0)) at) ∙ e) in
+      let own : name ≡ c = same_Some name c (sym (ap (option_map (λ (z : ClassName × Declaration). z.0)) at) ∙ e) in
       let declared : declaration_of tree c ≡ Some d = ap (declaration_of tree) (sym own) ∙ own_declaration tree legal n name d at in
       ap not alike.is_abstract ∙ sym (ap (λ (o : Option Declaration). option_map_or (λ (z : Declaration). not z.is_abstract) o false) declared)

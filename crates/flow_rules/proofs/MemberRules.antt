@@ -1,5 +1,6 @@
 -- The flow rule for members, once what their references find is known.
 use Rattle.std.proofs.Common.{◌≡◌, ℕ, Bool, true, false, if◌then◌else◌, List, [], ◌∷◌, Option, Some, None, option_map, option_and_then, sym, ap, ◌∙◌}
+use Rattle.std.proofs.lemmas.Option.{same_Some}
 use Rattle.cil_model.specs.declared.types.ClassName.{ClassName}
 use Rattle.cil_model.specs.declared.types.DeclaredType.{DeclaredType}
 use Rattle.cil_model.specs.declared.types.Signature.{Signature}
@@ -15,7 +16,6 @@ use Rattle.cil_model.specs.Chains.{find_field, find_method, is_abstract_method}
 use Rattle.cil_model.specs.TypeTree.{StackType}
 use Rattle.cil_model.specs.TypeTree as OnStack
 use Rattle.cil_model.specs.FlowRules.{StackAfter, take_operands, give, is_concrete}
-use Rattle.cil_model.proofs.BelowLaws.{same_some}
 use Rattle.resolved_code.specs.declared.types.NumberedType.{NumberedType}
 use Rattle.resolved_code.specs.declared.classes.ResolvedMethod.{ResolvedMethod}
 use Rattle.flow_rules.specs.Named.{type_named, types_named, stack_types}
@@ -23,12 +23,7 @@ use Rattle.flow_rules.specs.Flow.{flow_of}
 use Rattle.flow_rules.specs.Members.{IsCallable, operands_named}
 use Rattle.flow_rules.specs.declared.entries.StackEntry.{StackEntry}
 use Rattle.flow_rules.specs.declared.method_types.MethodTypes.{MethodTypes}
-
-none_is_some : {X A : Type 0} (x : X) → None ≡ Some x → A
-none_is_some {X} {A} x e = absurd (lost e)
-  where
-    lost : None ≡ Some x → ⊥
-    lost h = cc
+use Rattle.cil_model.proofs.Lists.{none_is_some}
 
 module _ (m : MethodTypes) where
   abbrev tree : Tree
@@ -64,7 +59,7 @@ module _ (m : MethodTypes) where
 
   operands_are : (b : Bool) (owner : Option NumberedType) (o : DeclaredType) (ps : List NumberedType) (qs : List DeclaredType) → option_map (type_named tree) owner ≡ (if b then Some o else None) → types_named tree ps ≡ qs →
       operands_named tree owner ps ≡ (if b then o ∷ qs else qs)
-  operands_are true (Some t) o ps qs h k = λ i. same_some (type_named tree t) o h i ∷ k i
+  operands_are true (Some t) o ps qs h k = λ i. same_Some (type_named tree t) o h i ∷ k i
   operands_are false None o ps qs h k = k
   operands_are true None o ps qs h k = none_is_some o h
   operands_are false (Some t) o ps qs h k = none_is_some (type_named tree t) (sym h)

@@ -1,5 +1,6 @@
 -- Every reference of a legal tree is below `object`.
-use Rattle.std.proofs.Common.{◌≡◌, ℕ, zero, suc, Bool, true, false, IsTrue, List, [], ◌∷◌, Option, Some, None, option_and_then, refl, ap, ◌∙◌, arith}
+use Rattle.std.proofs.Common.{◌≡◌, ℕ, zero, suc, Bool, true, false, IsTrue, Option, Some, None, option_and_then, refl, ap, ◌∙◌, arith}
+use Rattle.std.specs.Prelude.{drop}
 use Rattle.cil_model.specs.declared.types.ClassName.{ClassName}
 use Rattle.cil_model.specs.declared.types.Element.{Element}
 use Rattle.cil_model.specs.declared.types.Element.TheVariants.{Int32, Int64, Object, String, Class}
@@ -11,6 +12,7 @@ use Rattle.cil_model.specs.Chains.{base_of, chain_within, longest_chain}
 use Rattle.cil_model.specs.Assignable.{is_reference, is_reference_element, element_named}
 use Rattle.cil_model.specs.TypeTree.{StackType, Declared, parent_element, parent, ancestor, IsMerge}
 use Rattle.cil_model.specs.Legality.{IsLegal}
+use Rattle.cil_model.proofs.Lists.{no_item}
 use Rattle.cil_model.proofs.Legal.{no_cycle}
 use Rattle.cil_model.proofs.ChainLaws.{chain_ends}
 use Rattle.cil_model.proofs.BelowLaws.{typed}
@@ -28,21 +30,10 @@ module _ (tree : Tree) where
   objects zero = (0, refl)
   objects (suc n) = under_parent (typed Object (suc n)) (typed Object n) refl (objects n)
 
-  rest_of : List ClassName → List ClassName
-  rest_of [] = []
-  rest_of (c ∷ cs) = cs
-
-  no_item : {A : Type 0} (c : ClassName) (cs : List ClassName) → c ∷ cs ≡ [] → A
-  no_item {A} c cs e = absurd (lost e)
-    where
-      lost : c ∷ cs ≡ [] → ⊥
-      lost h = cc
-
   classes : (n : ℕ) (c : ClassName) → chain_within tree (suc n) (Some c) ≡ chain_within tree n (Some c) → (k : ℕ) → IsUnderObject (typed (Class c) k)
-  unfolding rest_of
   classes zero c e k = no_item c (chain_within tree zero (base_of tree c)) e
   classes (suc n) c e k =
-      under_parent (typed (Class c) k) (typed (parent_element (base_of tree c)) k) refl (by_base (base_of tree c) (ap rest_of e) (λ b h. classes n b h k))
+      under_parent (typed (Class c) k) (typed (parent_element (base_of tree c)) k) refl (by_base (base_of tree c) (ap (drop 1) e) (λ b h. classes n b h k))
     where
       by_name : (v w : Bool) (b : ClassName) → IsUnderObject (typed (Class b) k) → IsUnderObject (typed (element_named v w b) k)
       by_name true w b h = objects k

@@ -1,9 +1,10 @@
 -- Laws of the search through all classes.
 use Rattle.std.proofs.Common.{◌≡◌, ◌≢◌, ◌<◌, ◌≤◌, ◌+◌, ◌⊎◌, inl, inr, ℕ, zero, suc, true, false, not, nat_eq, ◌==◌, nat_le, if◌then◌else◌, List, [], ◌∷◌, length, map, Option, None, Some, option_map, slice_index_or, replicate, slice_set, refl, sym, ap, subst, ◌∙◌, arith}
-use Rattle.std.proofs.lemmas.Bool.{and_from, le-leb, lt-leb, leb-true}
+use Rattle.std.proofs.lemmas.Bool.{and_from, le-leb, lt-leb, leb-true, true≢false}
 use Rattle.std.proofs.lemmas.Bool.Decides.{eqb_tells}
 use Rattle.std.proofs.lemmas.List.{get_or-set_same, get_or-set_other, length-replicate}
 use Rattle.std.specs.Option.{option_map_or, option_eq}
+use Rattle.std.proofs.lemmas.Option.{same_Some, none-some}
 use Rattle.cil_model.proofs.SameLaws.{both_first, both_second}
 use Rattle.inheritance.specs.declared.changes.Declared.{Declared}
 use Rattle.inheritance.specs.declared.changes.Change.{Change}
@@ -36,24 +37,15 @@ unpair_pair (Some d) = refl
 same_pairs : (o other : Option Declared) → pair_of o ≡ pair_of other → o ≡ other
 same_pairs o other e = sym (unpair_pair o) ∙ ap unpair e ∙ unpair_pair other
 
-some_same : {X : Type 0} (x y : X) → Some x ≡ Some y → x ≡ y
-some_same x y e = cc
-
-none_is_some : {X : Type 0} (x : X) → None ≡ Some x → ⊥
-none_is_some x e = cc
-
-lost : true ≡ false → ⊥
-lost e = cc
-
 pub same_options : (o other : Option ℕ) → not (option_eq nat_eq o other) ≡ false → o ≡ other
 same_options None None e = refl
-same_options None (Some n) e = absurd (lost e)
-same_options (Some n) None e = absurd (lost e)
+same_options None (Some n) e = absurd (true≢false e)
+same_options (Some n) None e = absurd (true≢false e)
 same_options (Some m) (Some n) e = by_test (eqb_tells m n)
   where
     by_test : ((m == n) ≡ true) × (m ≡ n) ⊎ ((m == n) ≡ false) × (m ≢ n) → Some m ≡ Some n
     by_test (inl h) = ap Some h.1
-    by_test (inr h) = absurd (lost (sym (ap not h.0) ∙ e))
+    by_test (inr h) = absurd (true≢false (sym (ap not h.0) ∙ e))
 
 module _ (forest : Forest) where
   abbrev bases : List (Option ℕ)
@@ -106,7 +98,7 @@ module _ (forest : Forest) where
         pair_of (known_of rows key u) ≡ nearest_from forest key m now
     found_standing None s height e key m u h k l = ap pair_of (s key u h l) ∙ sym (nearest_nowhere key m)
     found_standing (Some n) s height e key m u h k l =
-        let same : s.0.length ≡ height = some_same s.0.length height (sym (ap (option_map (λ (x : Entry). x.length)) s.1) ∙ e) in
+        let same : s.0.length ≡ height = same_Some s.0.length height (sym (ap (option_map (λ (x : Entry). x.length)) s.1) ∙ e) in
         ap pair_of (s.2 key u h l) ∙ (r.entered n s.0 s.1).right key m h (omega (arith, same, k))
 
     steady : (now : Option ℕ) → IsStanding forest rows entries t now → (key u w : ℕ) → key < forest.keys → t ≤ u → t ≤ w → known_of rows key u ≡ known_of rows key w
@@ -145,13 +137,13 @@ module _ (forest : Forest) where
 
     entered_after : (n : ℕ) (entry : Entry) → ((n == class) ≡ true) × (n ≡ class) ⊎ ((n == class) ≡ false) × (n ≢ class) → entry_in after n ≡ Some entry → IsEntered forest new n entry
     entered_after n entry (inl h) e =
-        let same : made ≡ entry = some_same made entry (sym after_same ∙ ap (entry_in after) (sym h.1) ∙ e) in
+        let same : made ≡ entry = same_Some made entry (sym after_same ∙ ap (entry_in after) (sym h.1) ∙ e) in
         subst (λ k. IsEntered forest new k entry) (sym h.1) (subst (IsEntered forest new class) same made_entered)
     entered_after n entry (inr h) e = entered_still t rows new entries current r class (Class class) a n entry (sym (after_other n h.1) ∙ e)
 
     earlier_after : (n : ℕ) (entry : Entry) → ((n == class) ≡ true) × (n ≡ class) ⊎ ((n == class) ≡ false) × (n ≢ class) → entry_in after n ≡ Some entry → entry.time < t + 1
     earlier_after n entry (inl h) e =
-        let same : made ≡ entry = some_same made entry (sym after_same ∙ ap (entry_in after) (sym h.1) ∙ e) in
+        let same : made ≡ entry = same_Some made entry (sym after_same ∙ ap (entry_in after) (sym h.1) ∙ e) in
         subst (λ (x : Entry). x.time < t + 1) same (omega arith)
     earlier_after n entry (inr h) e = let was : entry.time < t = r.earlier n entry (sym (after_other n h.1) ∙ e) in omega (arith, was)
 
@@ -160,9 +152,9 @@ module _ (forest : Forest) where
     still n entry e (inr h) = (entry, after_other n h.1 ∙ e)
 
     of_current : (b : ℕ) (now : Option ℕ) → now ≡ Some b → IsStanding forest rows entries t now → (other : Entry) × (entry_in after b ≡ Some other)
-    of_current b None e s = absurd (none_is_some b e)
+    of_current b None e s = absurd (none-some b e)
     of_current b (Some n) e s =
-        let same : n ≡ b = some_same n b e in
+        let same : n ≡ b = same_Some n b e in
         still b s.0 (ap (entry_in entries) (sym same) ∙ s.1) (eqb_tells b class)
 
     based_after : (n b : ℕ) (entry : Entry) → ((n == class) ≡ true) × (n ≡ class) ⊎ ((n == class) ≡ false) × (n ≢ class) → entry_in after n ≡ Some entry → base_in bases n ≡ Some b → (other : Entry) × (entry_in after b ≡ Some other)
@@ -261,8 +253,8 @@ pub right_at_start : (forest : Forest) (n : ℕ) → IsRightBefore forest 0 (rep
 right_at_start forest n = record {
   width = length-replicate forest.keys [];
   up_to = record { ordered = λ key. ap is_ordered (rows_empty forest.keys key); past = λ key. ap (is_past 0) (rows_empty forest.keys key) };
-  earlier = λ class entry e. absurd (none_is_some entry (sym (entries_empty n class) ∙ e));
-  entered = λ class entry e. absurd (none_is_some entry (sym (entries_empty n class) ∙ e));
-  based = λ class base entry e k. absurd (none_is_some entry (sym (entries_empty n class) ∙ e));
+  earlier = λ class entry e. absurd (none-some entry (sym (entries_empty n class) ∙ e));
+  entered = λ class entry e. absurd (none-some entry (sym (entries_empty n class) ∙ e));
+  based = λ class base entry e k. absurd (none-some entry (sym (entries_empty n class) ∙ e));
   standing = λ key t h k. ap (known None t) (rows_empty forest.keys key);
 }

@@ -7,7 +7,6 @@ use Rattle.cil_model.specs.declared.types.Element.{Element}
 use Rattle.cil_model.specs.declared.trees.Tree.{Tree}
 use Rattle.cil_model.specs.Declarations.{object_name}
 use Rattle.cil_model.specs.Assignable.{element_of_class, type_of_class}
-use Rattle.cil_model.proofs.BelowLaws.{none_is_some}
 use Rattle.resolved_code.specs.Numbered.{class_name, element_at, type_at}
 use Rattle.resolved_code.specs.declared.types.NumberedElement.{NumberedElement}
 use Rattle.resolved_code.specs.declared.types.NumberedElement.TheVariants.{Int32, Int64, Object, String, Class}
@@ -19,6 +18,7 @@ use Rattle.object_memory.specs.declared.values.Value.TheVariants.{Ref}
 use Rattle.object_memory.specs.Objects.{Objects}
 use Rattle.instructions.specs.TypeTurns.{type_of_address, may_stand_as}
 use Rattle.flow_rules.specs.Named.{class_named, element_named, is_known}
+use Rattle.cil_model.proofs.Lists.{none_is_some}
 
 module _ (tree : Tree) where
   named_at : (o : Option ClassName) → is_some o ≡ true → o ≡ Some (option_map_or (λ (c : ClassName). c) o object_name)

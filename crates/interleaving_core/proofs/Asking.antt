@@ -2,13 +2,13 @@
 use Rattle.std.proofs.Common.{◌≡◌, ℕ, Bool, true, false, List, [], ◌∷◌, Option, Some, None, option_map, refl, sym, ap, ◌∙◌}
 use Rattle.std.specs.Prelude.{◌==◌, if◌then◌else◌, length}
 use Rattle.std.specs.Option.{option_map_or}
+use Rattle.std.proofs.lemmas.Option.{same_Some}
 use Rattle.cil_model.specs.declared.types.ClassName.{ClassName}
 use Rattle.cil_model.specs.declared.trees.Tree.{Tree}
 use Rattle.cil_model.specs.declared.trees.Method.{Method}
 use Rattle.cil_model.specs.declared.reports.Fault.TheVariants.{NullReference}
 use Rattle.cil_model.specs.Bodies.{argument_types}
 use Rattle.cil_model.specs.Mentions.{literals_of}
-use Rattle.cil_model.proofs.BelowLaws.{none_is_some, same_some}
 use Rattle.reference_machine.specs.BuiltIn.{Action, Construct, Write, Enter, Exit, Start, Join, action_of}
 use Rattle.name_tables.specs.declared.lookups.MemberNumber.{MemberNumber}
 use Rattle.name_tables.specs.Numbers.{method_at}
@@ -31,6 +31,7 @@ use Rattle.interpreter.specs.Calls.{CallTurn, act_turn, beside_console, called_a
 use Rattle.interpreter.specs.declared.outcomes.Outcome.{Outcome}
 use Rattle.interpreter.specs.declared.outcomes.Outcome.TheVariants.{Comes, Starts, Joins}
 use Rattle.step_simulation.specs.simulation.Turns.{Answer}
+use Rattle.cil_model.proofs.Lists.{none_is_some}
 
 -- an outcome for the thread itself, or a wait, is no start
 comes_not : {A : Type 0} (e : Effect) (object : Addr) → Comes e ≡ Starts object → A
@@ -57,7 +58,7 @@ module _ (m : Frames) (o : Objects) (statics : List Value) (printed : List ℕ) 
 
   other_outcome : {A : Type 0} (answer other : Answer) (e : Effect) (object : Addr) → Some answer ≡ Some other → other.4 ≡ Comes e → answer.4 ≡ Starts object → A
   other_outcome answer other e object is comes starts =
-      comes_not e object (sym comes ∙ sym (ap (λ (x : Answer). x.4) (same_some answer other is)) ∙ starts)
+      comes_not e object (sym comes ∙ sym (ap (λ (x : Answer). x.4) (same_Some answer other is)) ∙ starts)
 
   frames_keep : (turn : Turn) → KeepsAll (of_frames o statics printed turn)
   frames_keep None answer object is starts = none_is_some answer (sym is)
@@ -76,13 +77,13 @@ module _ (m : Frames) (o : Objects) (statics : List Value) (printed : List ℕ) 
   calls_keep : (turn : CallTurn) → KeepsCall turn → KeepsAll (of_calls o statics printed turn)
   calls_keep None keeps answer object is starts = none_is_some answer (sym is)
   calls_keep (Some t) keeps answer object is starts =
-      let same : answer ≡ (t.0, t.1, statics, t.2, t.3) = same_some answer (t.0, t.1, statics, t.2, t.3) is in
+      let same : answer ≡ (t.0, t.1, statics, t.2, t.3) = same_Some answer (t.0, t.1, statics, t.2, t.3) is in
       same ∙ ap (λ (x : Frames × Objects × List ℕ × Outcome). (x.0, x.1, statics, x.2, x.3)) (keeps t object refl (sym (ap (λ (x : Answer). x.4) same) ∙ starts))
 
   -- a call that comes to an effect
   effect_keeps : (n : Frames) (p : Objects) (w : List ℕ) (e : Effect) → KeepsCall (Some (n, p, w, Comes e))
   effect_keeps n p w e t object is starts =
-      comes_not e object (sym (ap (λ (x : Frames × Objects × List ℕ × Outcome). x.3) (same_some t (n, p, w, Comes e) is)) ∙ starts)
+      comes_not e object (sym (ap (λ (x : Frames × Objects × List ℕ × Outcome). x.3) (same_Some t (n, p, w, Comes e) is)) ∙ starts)
 
   none_keeps : KeepsCall None
   none_keeps t object is starts = none_is_some t (sym is)
@@ -102,12 +103,12 @@ module _ (m : Frames) (o : Objects) (statics : List Value) (printed : List ℕ) 
   start_keeps : (found : Option Addr) → KeepsCall (option_map (λ a. (m, o, printed, Starts a)) found)
   start_keeps None t object is starts = none_is_some t (sym is)
   start_keeps (Some a) t object is starts =
-      let same : t ≡ (m, o, printed, Starts a) = same_some t (m, o, printed, Starts a) is in
+      let same : t ≡ (m, o, printed, Starts a) = same_Some t (m, o, printed, Starts a) is in
       same ∙ ap (λ (x : Outcome). (m, o, printed, x)) (sym (ap (λ (x : Frames × Objects × List ℕ × Outcome). x.3) same) ∙ starts)
 
   join_keeps : (found : Option Addr) → KeepsCall (option_map (λ a. (m, o, printed, Joins a)) found)
   join_keeps None t object is starts = none_is_some t (sym is)
-  join_keeps (Some a) t object is starts = joins_not a object (sym (ap (λ (x : Frames × Objects × List ℕ × Outcome). x.3) (same_some t (m, o, printed, Joins a) is)) ∙ starts)
+  join_keeps (Some a) t object is starts = joins_not a object (sym (ap (λ (x : Frames × Objects × List ℕ × Outcome). x.3) (same_Some t (m, o, printed, Joins a) is)) ∙ starts)
 
   construct_keeps : (stack : List Value) → KeepsCall (top_of stack m (λ v n. beside_console printed (beside o (onward n))))
   construct_keeps [] = none_keeps

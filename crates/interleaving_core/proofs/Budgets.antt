@@ -8,9 +8,6 @@ use Rattle.cil_model.specs.declared.events.Event.TheVariants.{Step, Ack, Gc}
 use Rattle.cil_model.specs.declared.reports.End.{End}
 use Rattle.cil_model.specs.declared.reports.Report.{Report}
 use Rattle.cil_model.specs.declared.reports.Report.TheVariants.{Absent, NothingPosted, Waiting}
-use Rattle.cil_model.proofs.BelowLaws.{none_is_some}
-use Rattle.size_bounds.proofs.ChangedEntries.{set_is_there}
-use Rattle.reference_machine.proofs.RunLaws.{get_before}
 use Rattle.threads_monitors.specs.Frames.{Frames}
 use Rattle.threads_monitors.specs.Threads.{end_after, is_live, is_live_at, report_of, standing_after}
 use Rattle.threads_monitors.specs.declared.effects.Effect.{Effect}
@@ -23,6 +20,7 @@ use Rattle.step_simulation.specs.simulation.Budgets.{KeepsBudgets, made_step, st
 use Rattle.step_simulation.specs.simulation.MachineContents.{Content}
 use Rattle.step_simulation.specs.simulation.Turns.{Answer, IsStandingTurn, IsThreadTurn, IsTurn, counted, finished, left_by, live_thread}
 use Rattle.step_simulation.proofs.Finished.{HasBegun, finished_by}
+use Rattle.cil_model.proofs.Lists.{none_is_some, get_before, set_is_there}
 
 -- ---- one thread among others
 

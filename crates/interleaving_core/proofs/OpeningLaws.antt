@@ -19,7 +19,7 @@ use Rattle.cil_model.specs.Fields.{FieldKey, keyed_fields, static_fields}
 use Rattle.cil_model.specs.Legality.{IsLegal}
 use Rattle.cil_model.specs.Mentions.{literals_of}
 use Rattle.cil_model.specs.Same.{same_flag}
-use Rattle.cil_model.proofs.BelowLaws.{none_is_some}
+use Rattle.cil_model.proofs.Lists.{none_is_some}
 use Rattle.cil_model.proofs.Legal.{entry_alone}
 use Rattle.name_tables.specs.declared.lookups.MemberNumber.{MemberNumber}
 use Rattle.name_tables.specs.Numbers.{declarations, method_at, source_entry}

@@ -1,6 +1,6 @@
 -- Memory is wanted for a print or a start alone.
 use Rattle.std.proofs.Common.{◌≡◌, ◌<◌, ◌+◌, ℕ, List, [], ◌∷◌, ◌++◌, length, Option, Some, None, option_map, slice_get, Result, Ok, Err, refl, inl, inr, sym, ap, ◌∙◌, subst, arith}
-use Rattle.std.proofs.lemmas.List.{length-append}
+use Rattle.std.proofs.lemmas.List.{length-append, length-set}
 use Rattle.std.specs.Option.{option_map_or}
 use Rattle.std.specs.Prelude.{IsSome, OnErr}
 use Rattle.cil_model.specs.declared.events.Event.TheVariants.{Step}
@@ -20,7 +20,7 @@ use Rattle.step_simulation.specs.simulation.MachineContents.{Content}
 use Rattle.step_simulation.specs.simulation.Turns.{Answer, IsThreadTurn, IsTurn, PrintsOrStarts, after_request, counted, finished, left_by, live_thread, started, thread_for}
 use Rattle.step_simulation.specs.simulation.Ready.{IsAnswerable}
 use Rattle.interleaving_core.specs.Finishing.{IsInstructed}
-use Rattle.step_simulation.proofs.Finished.{finished_printed, set_length}
+use Rattle.step_simulation.proofs.Finished.{finished_printed}
 
 -- what holds anyway holds of an error
 pub on_err : {T E P : Type 0} (r : Result T E) → P → OnErr r P
@@ -64,8 +64,8 @@ module _ (c : Content) (t left : ℕ) (a : Answer) where
       ap (λ (f : Option Fault). option_map_or {U = Option (List Thread × Objects × Effect)} (λ y. Some (threads, a.1, Raises y)) f (option_map (with_start threads a.1 object) (thread_for c.tree c.limits a.1 object))) free
       ∙ (new.2 ∙ ap (λ (f : Option Fault). Some (option_map_or {U = List Thread × Objects × Effect} (λ y. (threads, a.1, Raises y)) f x)) free) in
       let more : length (threads ++ new.0 ∷ []) ≡ length threads + 1 = length-append threads (new.0 ∷ []) in
-      let same : length threads ≡ length c.threads = set_length c.threads t (live_thread left a.0) in
-      let kept : length (started_in x).0.threads ≡ length (threads ++ new.0 ∷ []) = set_length (threads ++ new.0 ∷ []) t _ in
+      let same : length threads ≡ length c.threads = length-set c.threads t (live_thread left a.0) in
+      let kept : length (started_in x).0.threads ≡ length (threads ++ new.0 ∷ []) = length-set (threads ++ new.0 ∷ []) t _ in
       (started_in x, ap (option_map started_in) begun, omega (arith, more, same, kept))
 
 module _ (c : Content) (t left : ℕ) (m : Frames) (there : slice_get c.threads t ≡ Some (live_thread left m)) where

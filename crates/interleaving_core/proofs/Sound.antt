@@ -1,6 +1,7 @@
 -- A machine that represents a state goes on to one that does.
 use Rattle.std.proofs.Common.{◌≡◌, ◌≤◌, ℕ, length, Some, Result, Ok, Err, sym, ap, ◌∙◌, subst}
 use Rattle.std.specs.Prelude.{IfOk, IsTrue, OnErr}
+use Rattle.std.proofs.lemmas.Option.{same_Some}
 use Rattle.cil_model.specs.declared.events.Event.{Event}
 use Rattle.cil_model.specs.declared.limits.Limits.{Limits}
 use Rattle.cil_model.specs.declared.limits.TheConstants.{MOST_THREADS}
@@ -9,7 +10,6 @@ use Rattle.cil_model.specs.declared.reports.Report.{Report}
 use Rattle.cil_model.specs.declared.trees.Tree.{Tree}
 use Rattle.cil_model.specs.Ranges.{are_in_range}
 use Rattle.cil_model.specs.Typings.{IsAccepted}
-use Rattle.cil_model.proofs.BelowLaws.{same_some}
 use Rattle.reference_machine.specs.Runs.{opening}
 use Rattle.reference_machine.specs.States.{State}
 use Rattle.method_table.specs.Prepared.{IsMethodTable}
@@ -66,4 +66,4 @@ module _ (tree : Tree) (limits : Limits) (accepted : IsAccepted tree) (in_range 
   pub opened_represents : (s : State) × (opening tree limits ≡ Some s) × Represents c s
   opened_represents =
       let first = opening_is_represented tree limits accepted in_range in
-      (first.1, first.3, subst (λ x. Represents x first.1) (same_some first.0 c (sym first.2 ∙ is)) first.4)
+      (first.1, first.3, subst (λ x. Represents x first.1) (same_Some first.0 c (sym first.2 ∙ is)) first.4)

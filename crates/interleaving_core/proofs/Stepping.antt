@@ -1,14 +1,12 @@
 -- The two halves of a step of a thread make one turn of its machine.
 use Rattle.std.proofs.Common.{◌≡◌, ◌+◌, ℕ, zero, suc, true, false, List, [], ◌∷◌, ◌++◌, length, Option, Some, None, option_map, slice_get, slice_set, refl, sym, ap, ◌∙◌, subst}
 use Rattle.std.specs.Option.{option_map_or}
+use Rattle.std.proofs.lemmas.Option.{same_Some}
 use Rattle.cil_model.specs.declared.events.Event.TheVariants.{Step}
 use Rattle.cil_model.specs.declared.limits.Limits.{Limits}
 use Rattle.cil_model.specs.declared.reports.Fault.{Fault}
 use Rattle.cil_model.specs.declared.reports.Report.{Report}
 use Rattle.cil_model.specs.declared.trees.Tree.{Tree}
-use Rattle.cil_model.proofs.BelowLaws.{none_is_some, same_some}
-use Rattle.size_bounds.proofs.ChangedEntries.{set_is_there}
-use Rattle.reference_machine.proofs.RunLaws.{get_before}
 use Rattle.object_memory.specs.declared.addresses.Addr.{Addr}
 use Rattle.object_memory.specs.Objects.{Objects, with_slot}
 use Rattle.threads_monitors.specs.Frames.{Frames}
@@ -25,13 +23,7 @@ use Rattle.step_simulation.specs.simulation.Turns.{Answer, IsStandingTurn, IsThr
 use Rattle.step_simulation.specs.simulation.Ready.{CanFinish, IsAnswerable}
 use Rattle.interleaving_core.specs.Finishing.{IsInstructed}
 use Rattle.interleaving_core.proofs.Asking.{start_changes_nothing}
-
--- ---- lists of threads
-
-set_again : {X : Type 0} (xs : List X) (n : ℕ) (x : X) → slice_get xs n ≡ Some x → slice_set xs n x ≡ xs
-set_again [] n x e = none_is_some x e
-set_again (z ∷ zs) zero x e = ap (λ y. y ∷ zs) (sym (same_some z x e))
-set_again (z ∷ zs) (suc n) x e = ap (λ ys. z ∷ ys) (set_again zs n x e)
+use Rattle.cil_model.proofs.Lists.{none_is_some, get_before, set_is_there, set_itself}
 
 -- ---- live threads
 
@@ -68,9 +60,9 @@ pub started_keeps : (tree : Tree) (limits : Limits) (threads : List Thread) (o :
 started_keeps tree limits threads o a n t after is done = by_fault (start_fault threads o a) (thread_for tree limits o a) done
   where
     by_fault : (f : Option Fault) (new : Option Thread) → Some after ≡ option_map_or (λ x. Some (threads, o, Raises x)) f (option_map (with_start threads o a) new) → slice_get after.0 n ≡ Some t
-    by_fault (Some x) new e = ap (λ (r : List Thread × Objects × Effect). slice_get r.0 n) (same_some after (threads, o, Raises x) e) ∙ is
+    by_fault (Some x) new e = ap (λ (r : List Thread × Objects × Effect). slice_get r.0 n) (same_Some after (threads, o, Raises x) e) ∙ is
     by_fault None None e = none_is_some after (sym e)
-    by_fault None (Some new) e = ap (λ (r : List Thread × Objects × Effect). slice_get r.0 n) (same_some after (with_start threads o a new) e) ∙ with_start_keeps threads o a new n t is
+    by_fault None (Some new) e = ap (λ (r : List Thread × Objects × Effect). slice_get r.0 n) (same_Some after (with_start threads o a new) e) ∙ with_start_keeps threads o a new n t is
 
 -- ---- both halves
 
@@ -95,7 +87,7 @@ module _ (c : Content) (t : ℕ) (outcome : Outcome) (after : Content) (half : I
   pub refused_back : (object : Addr) → outcome ≡ Starts object → after ≡ c
   refused_back object starts =
       let same = start_changes_nothing half.frames c.objects c.statics c.printed c.tree t half.answer object half.done (half.comes ∙ starts) in
-      half.is ∙ ap (left_by c t half.left) same ∙ ap (λ (x : List Thread). record c { threads = x }) (set_again c.threads t (live_thread half.left half.frames) half.there)
+      half.is ∙ ap (left_by c t half.left) same ∙ ap (λ (x : List Thread). record c { threads = x }) (set_itself c.threads t (live_thread half.left half.frames) half.there)
 
 -- ---- what was asked for can be answered
 
@@ -111,5 +103,5 @@ module _ (c : Content) (t : ℕ) (outcome : Outcome) (after : Content) (half : I
       let asked : CanFinish (left_by c t half.left half.answer) half.answer.0 outcome = subst (IsAnswerable c t half.left half.answer) half.comes answerable in
       let there : CanFinish after half.answer.0 outcome = subst (λ (x : Content). CanFinish x half.answer.0 outcome) (sym half.is) asked in
       let same : half.answer.0 ≡ m =
-      same_frames half.left left half.answer.0 m (same_some (live_thread half.left half.answer.0) (live_thread left m) (sym (thread_left c t outcome after half) ∙ is)) in
+      same_frames half.left left half.answer.0 m (same_Some (live_thread half.left half.answer.0) (live_thread left m) (sym (thread_left c t outcome after half) ∙ is)) in
       subst (λ (x : Frames). CanFinish after x outcome) same there

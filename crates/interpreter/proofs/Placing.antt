@@ -8,7 +8,7 @@ use Rattle.cil_model.specs.declared.trees.Code.{Code}
 use Rattle.cil_model.specs.declared.trees.Line.{Line}
 use Rattle.cil_model.specs.declared.trees.Method.{Method}
 use Rattle.cil_model.specs.Bodies.{code_of, lines_of}
-use Rattle.cil_model.proofs.BelowLaws.{none_is_some}
+use Rattle.cil_model.proofs.Lists.{none_is_some}
 use Rattle.resolved_code.specs.Resolved.{IsOperation, IsBody, BothAlike}
 use Rattle.resolved_code.specs.declared.classes.Body.{Body}
 use Rattle.resolved_code.specs.declared.operations.Operation.{Operation}

@@ -11,8 +11,8 @@ use Rattle.cil_model.specs.Declarations.{Declaration}
 use Rattle.name_tables.specs.Numbers.{declarations, method_at}
 use Rattle.name_tables.proofs.NumberLaws.{none_is_some}
 use Rattle.resolved_code.specs.Resolved.{AllAlike}
-use Rattle.reference_machine.proofs.RunLaws.{get_before}
 use Rattle.method_table.specs.AllMethods.{owned_methods, all_methods, flat_number, first_numbers}
+use Rattle.cil_model.proofs.Lists.{get_before}
 
 -- ---- lists whose items stand in a relation
 

@@ -12,6 +12,7 @@ use Rattle.cil_model.specs.Same.{same_options, same_text, same_class}
 use Rattle.cil_model.specs.Declarations.{Declaration, built_ins, source_name, method_members}
 use Rattle.cil_model.specs.Chains.{listed_by, methods_declared}
 use Rattle.cil_model.specs.Legality.{IsLegal, has_repeat, same_method, class_doubles, doubles_name}
+use Rattle.cil_model.proofs.Lists.{passes_not}
 use Rattle.cil_model.proofs.SameLaws.{never, both_first, both_second, same_class_itself, same_method_name_itself, same_signature_itself}
 use Rattle.name_tables.specs.Numbers.{declarations, class_number, source_entry, method_at}
 use Rattle.name_tables.proofs.NumberLaws.{IsNumbered, numbered, none_is_some, position_from-suc}
@@ -21,14 +22,6 @@ use Rattle.method_table.specs.MethodNumbers.{number_of}
 use Rattle.method_table.proofs.FlatLaws.{numbered_at, first_is_there, number_behind}
 
 -- ---- lists in which no item stands twice
-
--- an item of a list in which no item passes does not pass
-passes_not : {X : Type 0} (test : X → Bool) (xs : List X) (n : ℕ) (x : X) → list_any test xs ≡ false → slice_get xs n ≡ Some x → test x ≡ false
-passes_not test [] n x h e = absurd (none_is_some x e)
-passes_not {X} test (y ∷ ys) zero x h e =
-    let s : y ≡ x = cc in
-    ap test (sym s) ∙ (or_parts _ _ h).0
-passes_not test (y ∷ ys) (suc n) x h e = passes_not test ys n x (or_parts _ _ h).1 e
 
 -- each is found first at its own place
 found_first : {X : Type 0} (same : X → X → Bool) → ((x : X) → IsTrue (same x x)) → (xs : List X) (n : ℕ) (x : X) → has_repeat same xs ≡ false → slice_get xs n ≡ Some x → position_from (λ y. same y x) 0 xs ≡ Some n

@@ -1,5 +1,6 @@
 -- Loads and stores of elements, and lengths.
 use Rattle.std.proofs.Common.{◌≡◌, ◌≤◌, ℕ, zero, suc, Bool, true, false, IsTrue, if◌then◌else◌, List, ◌∷◌, length, Option, Some, None, option_map, option_and_then, slice_get, slice_set, refl, sym, ap, ◌∙◌, subst, arith}
+use Rattle.std.proofs.lemmas.Option.{same_Some}
 use Rattle.simulation.specs.cil_model.declared.instructions.Instruction.{Instruction}
 use Rattle.simulation.specs.cil_model.declared.instructions.Instruction.TheVariants as Named
 use Rattle.simulation.specs.cil_model.declared.types.Element.TheVariants.{Int32 as Int32Element, Int64 as Int64Element, Object, String, Class}
@@ -8,8 +9,8 @@ use Rattle.simulation.specs.cil_model.declared.types.Element.{Element}
 use Rattle.simulation.specs.cil_model.Same.{same_type}
 use Rattle.simulation.specs.cil_model.Declarations.{plain}
 use Rattle.simulation.specs.cil_model.Assignable.{is_reference, is_reference_element}
+use Rattle.simulation.proofs.cil_model.Lists.{none_is_some}
 use Rattle.simulation.proofs.cil_model.SameLaws.{same_type_equal}
-use Rattle.simulation.proofs.cil_model.BelowLaws.{none_is_some, same_some}
 use Rattle.simulation.specs.reference_machine.Values.{ObjectName, Born, Value as StateValue, same_kind}
 use Rattle.simulation.specs.reference_machine.States.{Array as IsArray, HeapObject, Frame as StateFrame, State, same_kind_or_none, replaced_at, elements_of_contents, array_at, with_object, with_element}
 use Rattle.simulation.specs.reference_machine.Effects.{Setting, given as state_given, onward as onward_frame}
@@ -52,7 +53,7 @@ element_stored s k object t elements n v s' there holds is =
     by_old (slice_get elements n) by_contents
   where
     by_kind : (b : Bool) → option_map (λ vs. with_object s (Born k) (record object { contents = IsArray t vs })) (if b then Some (slice_set elements n v) else None) ≡ Some s' → s' ≡ with_object s (Born k) (record object { contents = IsArray t (slice_set elements n v) })
-    by_kind true e = sym (same_some (with_object s (Born k) (record object { contents = IsArray t (slice_set elements n v) })) s' e)
+    by_kind true e = sym (same_Some (with_object s (Born k) (record object { contents = IsArray t (slice_set elements n v) })) s' e)
     by_kind false e = none_is_some s' e
 
     by_old : (old : Option StateValue) → option_map (λ vs. with_object s (Born k) (record object { contents = IsArray t vs })) (same_kind_or_none old v (slice_set elements n v)) ≡ Some s' → s' ≡ with_object s (Born k) (record object { contents = IsArray t (slice_set elements n v) })

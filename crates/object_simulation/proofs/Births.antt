@@ -4,13 +4,12 @@ use Rattle.std.specs.Prelude.{nat_le, nat_lt}
 use Rattle.std.proofs.lemmas.Bool.Decides.{nat_tests}
 use Rattle.std.proofs.lemmas.List.{length-replicate}
 use Rattle.std.proofs.lemmas.List.Sums.{sum_by-cons, sum_by_push}
-use Rattle.std.proofs.lemmas.Option.{slice_get_within}
+use Rattle.std.proofs.lemmas.Option.{slice_get_within, same_Some}
 use Rattle.simulation.specs.cil_model.declared.trees.Tree.{Tree}
+use Rattle.simulation.proofs.cil_model.Lists.{none_is_some, last_is_there}
 use Rattle.simulation.proofs.cil_model.SameLaws.{if_true, if_false}
-use Rattle.simulation.proofs.cil_model.BelowLaws.{none_is_some, same_some}
 use Rattle.simulation.specs.reference_machine.Values.{ObjectName, Born, Literal}
 use Rattle.simulation.specs.reference_machine.States.{Contents, HeapObject, State, Free as IsFree, with_birth as with_state_birth}
-use Rattle.simulation.proofs.type_soundness.StateChanges.{last_is_there}
 use Rattle.simulation.specs.object_memory.declared.addresses.Addr.{Addr}
 use Rattle.simulation.specs.object_memory.declared.addresses.TheConstants.{ADDRESSES, FIRST_LITERAL}
 use Rattle.simulation.specs.object_memory.declared.kinds.Kind.{Kind}
@@ -129,7 +128,7 @@ module _ (tree : Tree) (name : Names) (o : Objects) (s : State) (h : IsHeap tree
   either b n is = by_test (b == place) refl is
     where
       by_test : (t : Bool) → (b == place) ≡ t → (if t then Some (Born (length s.objects)) else name b) ≡ Some n → ((b ≡ place) × (Born (length s.objects) ≡ n)) ⊎ (name b ≡ Some n)
-      by_test true test is' = inl ((grind (arith, nat_tests)), same_some (Born (length s.objects)) n is')
+      by_test true test is' = inl ((grind (arith, nat_tests)), same_Some (Born (length s.objects)) n is')
       by_test false test is' = inr is'
 
   -- an object that was born lies at the address afterwards
@@ -244,7 +243,7 @@ births_by : (tree : Tree) (name : Names) (o : Objects) (s : State) → IsHeap tr
     (born : Objects) (a : Addr) (t : Bool) → nat_le (3 + count) (free_words o.block) ≡ t → ◌≡◌ {A = Objects × Option Addr} (answer o k count t) (born, Some a) → IsBirth tree name s contents born a
 births_by tree name o s h k count contents stands born a true test e =
     let room : 3 + count ≤ free_words o.block = grind (arith, nat_tests) in
-    let at' : next_address o.block ≡ a = same_some (next_address o.block) a (ap (λ (x : Objects × Option Addr). x.1) e) in
+    let at' : next_address o.block ≡ a = same_Some (next_address o.block) a (ap (λ (x : Objects × Option Addr). x.1) e) in
     subst (λ x. IsBirth tree name s contents x a) (ap (λ (x : Objects × Option Addr). x.0) e) (subst (λ x. IsBirth tree name s contents (after tree name o s h k count contents stands room) x) at' (birth_stands tree name o s h k count contents stands room))
 births_by tree name o s h k count contents stands born a false test e = none_is_some a (ap (λ (x : Objects × Option Addr). x.1) e)
 

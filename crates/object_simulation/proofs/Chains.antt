@@ -5,6 +5,7 @@ use Rattle.std.proofs.lemmas.Bool.{or_left, or_right}
 use Rattle.std.proofs.lemmas.List.{reverse-append}
 use Rattle.std.proofs.lemmas.List.Folds.{list_any-append}
 use Rattle.std.proofs.lemmas.Grind.{flat_map-append}
+use Rattle.std.proofs.lemmas.Option.{same_Some}
 use Rattle.simulation.specs.cil_model.declared.types.ClassName.{ClassName}
 use Rattle.simulation.specs.cil_model.declared.types.DeclaredType.{DeclaredType}
 use Rattle.simulation.specs.cil_model.declared.trees.Tree.{Tree}
@@ -14,11 +15,12 @@ use Rattle.simulation.specs.cil_model.Declarations.{object_name, thread_name}
 use Rattle.simulation.specs.cil_model.Chains.{base_of, chain_within, longest_chain, chain_of, is_thread_class, fields_declared}
 use Rattle.simulation.specs.cil_model.Fields.{FieldKey, same_key, keyed_fields, instance_fields}
 use Rattle.simulation.specs.cil_model.Legality.{IsLegal}
+use Rattle.simulation.proofs.cil_model.CompleteLaws.{chain_of_base}
+use Rattle.simulation.proofs.cil_model.Lists.{none_is_some}
 use Rattle.simulation.proofs.cil_model.SameLaws.{either, if_false, same_class_equal, same_class_itself, same_text_itself, class_equivalence}
-use Rattle.simulation.proofs.cil_model.BelowLaws.{none_is_some, same_some}
 use Rattle.simulation.specs.reference_machine.States.{entry_at}
-use Rattle.simulation.proofs.type_soundness.Targets.{chain_of_base}
 use Rattle.object_simulation.proofs.Words.{lost}
+use Rattle.simulation.proofs.type_soundness.DeclaredFields.{entry_behind}
 
 -- ---- lists
 
@@ -40,12 +42,6 @@ keyed c f = (record { declared_in = c; name = f.name }, f.field_type)
 -- whether the field has the key
 abbrev pub has_key : FieldKey → FieldKey × DeclaredType → Bool
 has_key k y = same_key y.0 k
-
--- fields of another class are passed by
-passed_by : (k : FieldKey) (c : ClassName) (fs : List Field) (es : List (FieldKey × DeclaredType)) → same_class c k.declared_in ≡ false → entry_at same_key k (map (keyed c) fs ++ es) ≡ entry_at same_key k es
-passed_by k c [] es other = refl
-passed_by k c (f ∷ fs) es other =
-    if_false (same_key (record { declared_in = c; name = f.name }) k) (Some f.field_type) (entry_at same_key k (map (keyed c) fs ++ es)) (ap (λ b. b && same_text f.name k.name) other) ∙ passed_by k c fs es other
 
 -- an entry among the first ones is that of all
 pub entry_of_first : (k : FieldKey) (fs gs : List (FieldKey × DeclaredType)) → IsTrue (list_any (has_key k) fs) → entry_at same_key k (fs ++ gs) ≡ entry_at same_key k fs
@@ -74,7 +70,7 @@ own_key d flag p g (f ∷ fs) found flagged = by_test (p f) found (λ rest. own_
 
     by_test : (b : Bool) → cond b (Some f) (find p fs) ≡ Some g → (find p fs ≡ Some g → IsTrue (list_any (has_key (record { declared_in = d; name = g.name })) (map (keyed d) (filter (λ (x : Field). same_flag x.is_static flag) fs)))) →
         IsTrue (list_any (has_key (record { declared_in = d; name = g.name })) (map (keyed d) (cond (same_flag f.is_static flag) (f ∷ filter (λ (x : Field). same_flag x.is_static flag) fs) (filter (λ (x : Field). same_flag x.is_static flag) fs))))
-    by_test true e later = here (same_some f g e) (same_flag f.is_static flag) refl
+    by_test true e later = here (same_Some f g e) (same_flag f.is_static flag) refl
     by_test false e later = by_flag (same_flag f.is_static flag) (later e)
 
 module _ (tree : Tree) where
@@ -98,7 +94,7 @@ module _ (tree : Tree) where
       by_test : (b : Bool) → same_class x k.declared_in ≡ b → (entry_at same_key k (flat_map (keyed_fields tree false) xs) ≡ Some t → IsTrue (list_any (same_class k.declared_in) xs)) → IsTrue (list_any (same_class k.declared_in) (x ∷ xs))
       by_test true is later = or_left (same_class k.declared_in x) (list_any (same_class k.declared_in) xs) (class_equivalence.symm k.declared_in x ∙ is)
       by_test false is later =
-          or_right (same_class k.declared_in x) (list_any (same_class k.declared_in) xs) (later (sym (passed_by k x (filter (λ (f : Field). same_flag f.is_static false) (fields_declared tree x)) (flat_map (keyed_fields tree false) xs) is) ∙ h))
+          or_right (same_class k.declared_in x) (list_any (same_class k.declared_in) xs) (later (sym (entry_behind k x (filter (λ (f : Field). same_flag f.is_static false) (fields_declared tree x)) (flat_map (keyed_fields tree false) xs) is) ∙ h))
 
   -- the class of an object's field is in its chain
   pub chain_of_field : (k : FieldKey) (t : DeclaredType) (c : ClassName) → entry_at same_key k (instance_fields tree c) ≡ Some t → IsTrue (list_any (same_class k.declared_in) (chain_of tree c))
@@ -156,7 +152,7 @@ module _ (tree : Tree) where
         of_base b is there (inl same) later =
             let own : thread_name ≡ c = same_class_equal thread_name c same in
             let object : Some object_name ≡ Some b = ap (base_of tree) own ∙ is in
-            elim (no_object (only_object n d (subst (λ x. IsTrue (list_any (same_class d) (chain_within tree n (Some x)))) (sym (same_some object_name b object)) there))) [ ]
+            elim (no_object (only_object n d (subst (λ x. IsTrue (list_any (same_class d) (chain_within tree n (Some x)))) (sym (same_Some object_name b object)) there))) [ ]
         of_base b is there (inr above) later = later above
 
         by_base : (b : Option ClassName) → base_of tree c ≡ b → IsTrue (list_any (same_class d) (chain_within tree n b)) →

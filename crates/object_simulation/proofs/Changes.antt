@@ -2,14 +2,15 @@
 use Rattle.std.proofs.Common.{◌≡◌, ◌≢◌, ◌⊎◌, ◌+◌, ◌≤◌, ◌==◌, ℕ, Bool, true, false, if◌then◌else◌, List, [], ◌∷◌, length, Option, Some, slice_get, slice_set, refl, inl, inr, sym, ap, ◌∙◌, subst, arith}
 use Rattle.std.proofs.lemmas.Bool.Decides.{nat_tests}
 use Rattle.std.proofs.lemmas.List.Sums.{sum_by-cons}
+use Rattle.std.proofs.lemmas.Option.{same_Some}
 use Rattle.simulation.specs.cil_model.declared.trees.Tree.{Tree}
 use Rattle.simulation.specs.cil_model.Same.{same_text}
 use Rattle.simulation.specs.cil_model.Mentions.{literals_of}
+use Rattle.simulation.proofs.cil_model.Lists.{none_is_some, set_is_there}
 use Rattle.simulation.proofs.cil_model.SameLaws.{same_text_equal, same_text_itself, if_true, if_false}
-use Rattle.simulation.proofs.cil_model.BelowLaws.{none_is_some, same_some}
 use Rattle.simulation.specs.reference_machine.Values.{ObjectName, Born, Literal}
 use Rattle.simulation.specs.reference_machine.States.{Monitor as StateMonitor, HeapObject, State, entry_at, with_entry, with_object, with_monitor as with_state_monitor}
-use Rattle.simulation.proofs.size_bounds.ChangedEntries.{set_or_stays, set_is_there}
+use Rattle.simulation.proofs.size_bounds.ChangedEntries.{set_or_stays}
 use Rattle.simulation.specs.object_memory.declared.addresses.Addr.{Addr}
 use Rattle.simulation.specs.object_memory.declared.monitors.Monitor.{Monitor}
 use Rattle.simulation.specs.object_memory.Cells.{Cell, size, used_words, change_from, cell_at, store_monitor}
@@ -64,7 +65,7 @@ module _ (tree : Tree) (name : Names) (o : Objects) (s : State) (h : IsHeap tree
 
     -- an address has one name
     same_name : (m : ObjectName) (b : ℕ) → b ≡ a.number → name b ≡ Some m → Born n ≡ m
-    same_name m b is named' = same_some (Born n) m (sym named ∙ ap name (sym is) ∙ named')
+    same_name m b is named' = same_Some (Born n) m (sym named ∙ ap name (sym is) ∙ named')
 
     -- another address has another name
     other_number : (b k : ℕ) → name b ≡ Some (Born k) → a.number ≢ b → k ≡ n → ⊥
@@ -133,7 +134,7 @@ module _ (tree : Tree) (name : Names) (o : Objects) (s : State) (h : IsHeap tree
     own_words : cell_words tree object.contents ≡ cell_words tree (h.born a.number n named).object.contents
     own_words =
         let before = h.born a.number n named in
-        let same : before.cell ≡ cell = same_some before.cell cell (sym before.lies ∙ lies) in
+        let same : before.cell ≡ cell = same_Some before.cell cell (sym before.lies ∙ lies) in
         sym (cell_size tree name (change cell) object stands) ∙ sizes_stay cell ∙ ap size (sym same) ∙ cell_size tree name before.cell before.object before.stands
 
     all_words : words_of_all tree (slice_set s.objects n object) ≡ words_of_all tree s.objects
@@ -178,7 +179,7 @@ module _ (tree : Tree) (name : Names) (o : Objects) (s : State) (h : IsHeap tree
     }
       where
         same_place : l.number ≡ own_literal.number → characters ≡ characters'
-        same_place same = same_some characters characters' (sym own_literal.is ∙ ap (slice_get (literals_of tree)) (sym same) ∙ l.is)
+        same_place same = same_Some characters characters' (sym own_literal.is ∙ ap (slice_get (literals_of tree)) (sym same) ∙ l.is)
 
         clash : characters ≡ characters' → ⊥
         clash same =

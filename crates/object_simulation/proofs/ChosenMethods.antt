@@ -1,7 +1,7 @@
 -- The method that a virtual call runs has a number, and as many arguments as the call has operands.
 use Rattle.std.proofs.Common.{◌≡◌, ℕ, suc, Bool, true, false, if◌then◌else◌, ◌&&◌, IsTrue, List, [], ◌∷◌, length, Option, Some, None, option_and_then, slice_get, unwrap_or, refl, sym, ap, ◌∙◌, subst}
 use Rattle.std.specs.Option.{option_map_or}
-use Rattle.std.proofs.lemmas.Option.{option_and_then_some}
+use Rattle.std.proofs.lemmas.Option.{option_and_then_some, same_Some}
 use Rattle.simulation.specs.cil_model.declared.trees.Tree.{Tree}
 use Rattle.simulation.specs.cil_model.declared.trees.Method.{Method}
 use Rattle.simulation.specs.cil_model.declared.trees.MethodKind.{MethodKind}
@@ -15,10 +15,9 @@ use Rattle.simulation.specs.cil_model.Chains.{chain_of, listed_by, methods_decla
 use Rattle.simulation.specs.cil_model.Declarations.{Declaration}
 use Rattle.simulation.specs.cil_model.Same.{same_class, same_options, same_signature, same_method_name}
 use Rattle.simulation.specs.cil_model.Slots.{slot_filled, slot_along, filler_along, class_target, virtual_in, lister_along, interface_target, target}
+use Rattle.simulation.proofs.cil_model.Lists.{none_is_some, find_passes}
 use Rattle.simulation.proofs.cil_model.SameLaws.{never, both_second, same_signature_equal}
-use Rattle.simulation.proofs.cil_model.BelowLaws.{none_is_some, same_some}
 use Rattle.simulation.proofs.reference_machine.MethodLaws.{IsDeclared, target_is_declared}
-use Rattle.simulation.proofs.type_soundness.DeclaredClasses.{found_itself}
 use Rattle.simulation.specs.name_tables.Numbers.{class_number, method_at}
 use Rattle.simulation.proofs.name_tables.NumberLaws.{IsNumbered, numbered}
 use Rattle.simulation.proofs.method_table.FlatLaws.{numbered_at}
@@ -54,9 +53,9 @@ module _ (tree : Tree) (name : MethodName) (signature : Signature) where
       by_class (Some x) e false same h' later = later h'
       by_class (Some x) e true same h' later =
           let inherited : Option ClassName = slot_along tree name signature ds in
-          let passes : IsTrue (same_method_name x.name name && same_signature x.signature signature) = found_itself (λ (y : Method). same_method_name y.name name && same_signature y.signature signature) (methods_declared tree d) x e in
+          let passes : IsTrue (same_method_name x.name name && same_signature x.signature signature) = find_passes (λ (y : Method). same_method_name y.name name && same_signature y.signature signature) (methods_declared tree d) x e in
           let fills : IsTrue (same_options same_class (slot_filled d inherited x) (Some slot)) = subst (λ o. IsTrue (same_options same_class (option_map_or (slot_filled d inherited) o inherited) (Some slot))) e same in
-          subst HasObject (ap (λ (p : ClassName × Method). p.1) (same_some (d, x) (k, m) h'))
+          subst HasObject (ap (λ (p : ClassName × Method). p.1) (same_Some (d, x) (k, m) h'))
           (same_signature_equal x.signature signature (both_second _ _ passes), virtual_has_object x.kind (fills_virtual d inherited x slot (is_virtual x.kind) fills))
 
   class_target_has_object : (d c k : ClassName) (m : Method) → class_target tree name signature d c ≡ Some (k, m) → HasObject m
@@ -73,7 +72,7 @@ target_has_object tree d c m k m' h object = by_kind (is_virtual m.kind) (is_int
     by_kind : (v w : Bool) → (if v then (if w then interface_target tree m.name m.signature d c else class_target tree m.name m.signature d c) else Some (c, m)) ≡ Some (k, m') → (m'.signature ≡ m.signature) × (is_static m'.kind ≡ false)
     by_kind true true e = interface_target_has_object tree m.name m.signature d c k m' e
     by_kind true false e = class_target_has_object tree m.name m.signature d c k m' e
-    by_kind false w e = subst (λ (p : ClassName × Method). (p.1.signature ≡ m.signature) × (is_static p.1.kind ≡ false)) (same_some (c, m) (k, m') e) (refl, object)
+    by_kind false w e = subst (λ (p : ClassName × Method). (p.1.signature ≡ m.signature) × (is_static p.1.kind ≡ false)) (same_Some (c, m) (k, m') e) (refl, object)
 
 -- ---- numbers
 
@@ -113,7 +112,7 @@ pub chosen_has_number : (tree : Tree) (signature : Signature) (found : ClassName
 chosen_has_number tree signature found declared same object class run h = by_kind (is_virtual found.1.kind) h
   where
     by_kind : (v : Bool) → (if v then option_and_then (λ d. target tree d found.0 found.1) class else Some found) ≡ Some run → IsChosen tree signature run
-    by_kind false e = subst (IsChosen tree signature) (same_some found run e) (is_chosen tree signature found declared same object)
+    by_kind false e = subst (IsChosen tree signature) (same_Some found run e) (is_chosen tree signature found declared same object)
     by_kind true e = option_and_then_some (λ d. target tree d found.0 found.1) class run e (λ d e' f.
         let kept = target_has_object tree d found.0 found.1 run.0 run.1 f object in
         is_chosen tree signature run (target_is_declared tree d found.0 found.1 run.0 run.1 f declared) (kept.0 ∙ same) kept.1)

@@ -1,6 +1,7 @@
 -- The slot of an instance field in the objects of every class that has it.
 use Rattle.std.proofs.Common.{◌≡◌, ◌+◌, ℕ, suc, Bool, true, false, IsTrue, if◌then◌else◌, List, [], ◌∷◌, ◌++◌, find, length, Option, Some, None, option_map, option_and_then, slice_get, slice_set, refl, sym, ap, ◌∙◌, subst, arith}
 use Rattle.std.specs.List.{list_any, position_from}
+use Rattle.std.proofs.lemmas.Option.{same_Some}
 use Rattle.simulation.specs.cil_model.declared.instructions.FieldReference.{FieldReference}
 use Rattle.simulation.specs.cil_model.declared.trees.Field.{Field}
 use Rattle.simulation.specs.cil_model.declared.trees.Tree.{Tree}
@@ -12,8 +13,8 @@ use Rattle.simulation.specs.cil_model.Declarations.{Declaration, object_name}
 use Rattle.simulation.specs.cil_model.Chains.{chain_of, fields_declared, is_thread_class}
 use Rattle.simulation.specs.cil_model.Fields.{FieldKey, same_key, instance_fields, hidden_slots, instance_slot}
 use Rattle.simulation.specs.cil_model.Legality.{IsLegal}
+use Rattle.simulation.proofs.cil_model.Lists.{none_is_some}
 use Rattle.simulation.proofs.cil_model.CompleteLaws.{test_is_complete}
-use Rattle.simulation.proofs.cil_model.BelowLaws.{none_is_some, same_some}
 use Rattle.simulation.specs.name_tables.Numbers.{declarations, field_at}
 use Rattle.simulation.specs.name_tables.declared.lookups.MemberNumber.{MemberNumber}
 use Rattle.simulation.specs.reference_machine.Values.{Born, Value as StateValue}
@@ -54,7 +55,7 @@ class_of_field tree n p d g is = by_entry (slice_get (declarations tree) n) is
   where
     by_field : (c : ClassName) (x : Option Field) → option_map {U = ClassName × Field} (λ y. (c, y)) x ≡ Some (d, g) → c ≡ d
     by_field c None e = none_is_some (d, g) e
-    by_field c (Some y) e = ap (λ (z : ClassName × Field). z.0) (same_some (c, y) (d, g) e)
+    by_field c (Some y) e = ap (λ (z : ClassName × Field). z.0) (same_Some (c, y) (d, g) e)
 
     by_entry : (x : Option (ClassName × Declaration)) → option_and_then {U = ClassName × Field} (λ (y : ClassName × Declaration). option_map (λ z. (y.0, z)) (slice_get y.1.fields p)) x ≡ Some (d, g) → option_map (λ (y : ClassName × Declaration). y.0) x ≡ Some d
     by_entry None e = none_is_some (d, g) e
@@ -114,8 +115,8 @@ module _ (tree : Tree) (legal : IsLegal tree) (r : FieldReference) (field : Memb
   -- and is of the owner
   owner_is : of_owner.class_name ≡ r.owner
   owner_is =
-      let contents : Instance of_owner.class_name of_owner.fields ≡ Instance r.owner [] = sym of_owner.holds ∙ ap (λ (x : HeapObject). x.contents) (sym (same_some (record { contents = Instance r.owner []; monitor = Free; thread = None }) of_owner.object of_owner.there)) in
-      same_some of_owner.class_name r.owner (ap class_of_contents contents)
+      let contents : Instance of_owner.class_name of_owner.fields ≡ Instance r.owner [] = sym of_owner.holds ∙ ap (λ (x : HeapObject). x.contents) (sym (same_Some (record { contents = Instance r.owner []; monitor = Free; thread = None }) of_owner.object of_owner.there)) in
+      same_Some of_owner.class_name r.owner (ap class_of_contents contents)
 
   -- the entry of the class that declares the field
   own_entry : entry_at same_key key (instance_fields tree is.declared_in) ≡ Some r.field_type
@@ -140,17 +141,17 @@ module _ (tree : Tree) (legal : IsLegal tree) (r : FieldReference) (field : Memb
       let inside : IsTrue (list_any (same_class is.declared_in) (chain_of tree c)) = chain_of_field tree key own.0 c own.1 in
       let begins = fields_begin tree legal c is.declared_in inside in
       let place : IsPlaced key (instance_fields tree is.declared_in) fields = placed tree s key (instance_fields tree is.declared_in) begins.0 fields (subst (λ fs. HaveFieldTypes tree s fields fs) begins.1 typed) among in
-      let numbers : 0 + place.place ≡ 0 + position.0 = same_some (0 + place.place) (0 + position.0) (sym (place.position 0) ∙ position.1 0) in
+      let numbers : 0 + place.place ≡ 0 + position.0 = same_Some (0 + place.place) (0 + position.0) (sym (place.position 0) ∙ position.1 0) in
       let same : place.place ≡ position.0 = omega (arith, numbers) in
       let type_is : entry_at same_key key (instance_fields tree c) ≡ Some r.field_type = ap (entry_at same_key key) begins.1 ∙ entry_of_first key (instance_fields tree is.declared_in) begins.0 among ∙ own_entry in
       let loaded = entry_typed tree legal s key r.field_type fields (instance_fields tree c) typed type_is in
-      let same_value : loaded.0 ≡ v = same_some loaded.0 v (sym loaded.1 ∙ value) in
+      let same_value : loaded.0 ≡ v = same_Some loaded.0 v (sym loaded.1 ∙ value) in
       let same_type : r.field_type ≡ is.found.field_type = sym (found_type tree legal false r is.declared_in is.found is.finds) in
       record {
         hidden = same_thread tree legal c is.declared_in inside no_object;
         entry = place.entry;
         there = subst (λ p. slice_get fields p ≡ Some place.entry) same place.there;
-        value_is = same_some place.entry.1 v (sym place.found ∙ value);
+        value_is = same_Some place.entry.1 v (sym place.found ∙ value);
         changed = λ u. subst (λ p. with_entry same_key key u fields ≡ slice_set fields p (place.entry.0, u)) same (place.changed u);
         typed = subst (λ x. HasType tree s v x) same_type (subst (λ x. HasType tree s x r.field_type) same_value loaded.2);
       }

@@ -1,5 +1,6 @@
 -- Loads and stores of instance fields.
 use Rattle.std.proofs.Common.{◌≡◌, ◌≤◌, ℕ, Bool, true, false, if◌then◌else◌, List, ◌∷◌, length, Option, Some, None, option_map, option_and_then, slice_get, slice_set, refl, sym, ap, ◌∙◌, subst}
+use Rattle.std.proofs.lemmas.Option.{same_Some}
 use Rattle.simulation.specs.cil_model.declared.instructions.Instruction.{Instruction}
 use Rattle.simulation.specs.cil_model.declared.instructions.Instruction.TheVariants as Named
 use Rattle.simulation.specs.cil_model.declared.instructions.FieldReference.{FieldReference}
@@ -7,7 +8,6 @@ use Rattle.simulation.specs.cil_model.declared.reports.Fault.TheVariants.{NullRe
 use Rattle.simulation.specs.cil_model.declared.types.ClassName.{ClassName}
 use Rattle.simulation.specs.cil_model.Chains.{find_field, is_thread_class}
 use Rattle.simulation.specs.cil_model.Fields.{FieldKey, same_key}
-use Rattle.simulation.proofs.cil_model.BelowLaws.{none_is_some, same_some}
 use Rattle.simulation.specs.name_tables.declared.lookups.MemberNumber.{MemberNumber}
 use Rattle.simulation.specs.reference_machine.Values.{ObjectName, Value as StateValue, same_kind}
 use Rattle.simulation.specs.reference_machine.States.{Contents, Instance as IsInstance, Array as IsArray, HeapObject, Frame as StateFrame, State, entry_at, with_entry, same_kind_or_none, replaced_entry, object_at, with_object, fields_of_contents, with_fields, field_value, with_field}
@@ -40,6 +40,7 @@ use Rattle.object_simulation.proofs.Words.{word_value, kind_fits}
 use Rattle.object_simulation.proofs.Things.{IsInstanceThere, instance_there}
 use Rattle.object_simulation.proofs.Parts.{alike_turn, given_alike, known_alike, loaded_alike, replaced_alike, object_alike}
 use Rattle.object_simulation.proofs.FieldSlots.{slot_get, slot_set, position, slot, slot_is, held_is, IsFieldAt, field_at_slot}
+use Rattle.simulation.proofs.cil_model.Lists.{none_is_some}
 
 -- ---- what the reference machine finds
 
@@ -79,7 +80,7 @@ stored_in s n k v s' is = by_object (object_at s n) refl is
     by_kind object there c fields holds old found true e = record {
       old = old;
       field = record { object = object; class = c; fields = fields; there = there; holds = holds; found = found };
-      is = sym (same_some (with_object s n (record object { contents = IsInstance c (with_entry same_key k v fields) })) s' e);
+      is = sym (same_Some (with_object s n (record object { contents = IsInstance c (with_entry same_key k v fields) })) s' e);
     }
     by_kind object there c fields holds old found false e = none_is_some s' e
 

@@ -3,6 +3,7 @@ use Rattle.std.proofs.Common.{◌≡◌, ◌≤◌, ◌<◌, ◌+◌, ◌==◌, 
 use Rattle.std.specs.Prelude.{nat_lt}
 use Rattle.std.proofs.lemmas.Bool.Decides.{nat_tests}
 use Rattle.std.proofs.lemmas.List.Sums.{sum_by-cons}
+use Rattle.std.proofs.lemmas.Option.{same_Some}
 use Rattle.simulation.specs.cil_model.declared.instructions.Instruction.TheVariants as Named
 use Rattle.simulation.specs.cil_model.declared.limits.TheConstants.{MOST_WORDS, MOST_BRACKETS}
 use Rattle.simulation.specs.cil_model.declared.reports.Fault.TheVariants.{Overflow, OutOfMemory, NullReference}
@@ -14,7 +15,6 @@ use Rattle.simulation.specs.cil_model.declared.types.Element.TheVariants.{Int32 
 use Rattle.simulation.specs.cil_model.Assignable.{is_reference}
 use Rattle.simulation.specs.cil_model.Fields.{FieldKey}
 use Rattle.simulation.specs.cil_model.Legality.{IsLegal}
-use Rattle.simulation.proofs.cil_model.BelowLaws.{none_is_some, same_some}
 use Rattle.simulation.specs.reference_machine.Values.{ObjectName, Value as StateValue, Int32 as Int32Value, Native as NativeValue, Null, Reference, integer_zero, zero_of}
 use Rattle.simulation.specs.reference_machine.Arithmetic.{as_index}
 use Rattle.simulation.specs.reference_machine.States.{Array as IsArray, Frame as StateFrame, State, array_at, next_name, with_birth as with_state_birth}
@@ -57,6 +57,7 @@ use Rattle.object_simulation.proofs.Things.{IsArrayThere, array_there}
 use Rattle.object_simulation.proofs.Parts.{alike_turn, given_alike, raised_alike, left_alike, object_alike, same_index}
 use Rattle.std.proofs.lemmas.List.{length-replicate}
 use Rattle.simulation.proofs.Rooms.{contents_size, refused_room}
+use Rattle.simulation.proofs.cil_model.Lists.{none_is_some}
 
 -- ---- how long an array is
 
@@ -66,7 +67,7 @@ slots_inside at [] a cell e = none_is_some cell e
 slots_inside at (c ∷ cs) a cell e = by_test (a == at) e (slots_inside (at + size c) cs a cell)
   where
     by_test : (b : Bool) → (if b then Some c else cell_from (at + size c) cs a) ≡ Some cell → (cell_from (at + size c) cs a ≡ Some cell → length cell.slots ≤ used_words cs) → length cell.slots ≤ used_words (c ∷ cs)
-    by_test true here later = let same : length c.slots ≡ length cell.slots = ap (λ (x : Cell). length x.slots) (same_some c cell here) in omega (arith, sum_by-cons size c cs, same)
+    by_test true here later = let same : length c.slots ≡ length cell.slots = ap (λ (x : Cell). length x.slots) (same_Some c cell here) in omega (arith, sum_by-cons size c cs, same)
     by_test false there later = omega (arith, sum_by-cons size c cs, later there)
 
 -- a number of slots has 64 bits
@@ -101,7 +102,7 @@ type_held_back tree legal n t is few = by_element (element_at tree n.element) re
     by_element None named e = none_is_some t e
     by_element (Some x) named e =
         let held = held_back tree legal n.element x named in
-        let same : n.brackets ≡ t.brackets = ap (λ (y : DeclaredType). y.brackets) (same_some (record { element = x; brackets = n.brackets }) t e) in
+        let same : n.brackets ≡ t.brackets = ap (λ (y : DeclaredType). y.brackets) (same_Some (record { element = x; brackets = n.brackets }) t e) in
         let shallow : n.brackets < 256 = omega (arith, same, few) in
         let first : array_held n ≡ option_map {U = ArrayElement} (λ h. record { element = h; brackets = n.brackets }) (element_held n.element) =
         ap (λ b. if b then option_map {U = ArrayElement} (λ h. record { element = h; brackets = n.brackets }) (element_held n.element) else None) (test shallow) in (

@@ -1,12 +1,12 @@
 -- What lies at an address is of the type of the object that has that address.
 use Rattle.std.proofs.Common.{◌≡◌, ℕ, true, if◌then◌else◌, List, Option, Some, option_map, option_and_then, slice_get, refl, sym, ap, ◌∙◌, subst}
 use Rattle.std.specs.Option.{option_map_or}
+use Rattle.std.proofs.lemmas.Option.{same_Some}
 use Rattle.simulation.specs.cil_model.declared.trees.Tree.{Tree}
 use Rattle.simulation.specs.cil_model.declared.types.DeclaredType.{DeclaredType}
 use Rattle.simulation.specs.cil_model.declared.types.Element.TheVariants.{String}
 use Rattle.simulation.specs.cil_model.Assignable.{array_of, type_of_class, is_assignable}
 use Rattle.simulation.specs.cil_model.Declarations.{plain}
-use Rattle.simulation.proofs.cil_model.BelowLaws.{none_is_some, same_some}
 use Rattle.simulation.specs.reference_machine.Values.{ObjectName, Born, Literal, Value as StateValue}
 use Rattle.simulation.specs.reference_machine.States.{Contents, Instance as IsInstance, Array as IsArray, HeapObject, Frame as StateFrame, State, array_at, elements_of_contents, type_of, type_of_contents}
 use Rattle.simulation.specs.reference_machine.Effects.{Setting}
@@ -24,6 +24,7 @@ use Rattle.simulation.specs.instructions.TypeTurns.{held_type, type_of_kind, typ
 use Rattle.simulation.specs.Agreement.{Agree}
 use Rattle.simulation.specs.StandsFor.{Names, IsValue, int32, int64, native, null_reference, reference, IsWord, IsOfContents, IsMonitor, IsBornAt, IsLiteralAt, IsHeap}
 use Rattle.simulation.proofs.Memories.{named_is_not_null}
+use Rattle.simulation.proofs.cil_model.Lists.{none_is_some}
 
 -- ---- the type of an object
 
@@ -69,7 +70,7 @@ module _ (here : Setting) (name : Names) (o : Objects) (s : State) (f : StateFra
 -- what has elements is an array
 array_contents : (c : Contents) (t : DeclaredType) (elements : List StateValue) → elements_of_contents c ≡ Some (t, elements) → c ≡ IsArray t elements
 array_contents (IsInstance c fields) t elements e = none_is_some (t, elements) e
-array_contents (IsArray u others) t elements e = ap (λ (p : DeclaredType × List StateValue). IsArray p.0 p.1) (same_some (u, others) (t, elements) e)
+array_contents (IsArray u others) t elements e = ap (λ (p : DeclaredType × List StateValue). IsArray p.0 p.1) (same_Some (u, others) (t, elements) e)
 
 -- the cell of an array, with a word for each element
 pub record IsArrayAt (tree : Tree) (name : Names) (o : Objects) (s : State) (a : Addr) (n : ℕ) (t : DeclaredType) (elements : List StateValue) : Type 0 where

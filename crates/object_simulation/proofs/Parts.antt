@@ -9,7 +9,6 @@ use Rattle.simulation.specs.cil_model.declared.instructions.Instruction.{Instruc
 use Rattle.simulation.specs.cil_model.declared.reports.Fault.{Fault}
 use Rattle.simulation.specs.cil_model.declared.reports.Fault.TheVariants.{NullReference, IndexOutOfRange}
 use Rattle.simulation.specs.cil_model.declared.types.DeclaredType.{DeclaredType}
-use Rattle.simulation.proofs.cil_model.BelowLaws.{none_is_some}
 use Rattle.simulation.specs.reference_machine.Values.{ObjectName, Born, Value as StateValue}
 use Rattle.simulation.specs.reference_machine.States.{HeapObject, Frame as StateFrame, State, array_at, with_object}
 use Rattle.simulation.specs.reference_machine.Arithmetic.{as_index}
@@ -37,6 +36,7 @@ use Rattle.simulation.proofs.Going.{leaves_is, onward_is, next_alike, onward_ali
 use Rattle.object_simulation.proofs.Changes.{cells_may_change}
 use Rattle.simulation.proofs.Memories.{named_is_not_null}
 use Rattle.object_simulation.proofs.Things.{IsArrayThere, array_there}
+use Rattle.simulation.proofs.cil_model.Lists.{none_is_some, none_is_outside}
 
 module _ (here : Setting) (name : Names) (m : Frames) (o : Objects) (statics : List Value) (printed : List ℕ) (s : State) (f : StateFrame) (below : List StateFrame) (i : Instruction) (operation : Operation)
     (at : IsSetting here name m o statics printed s f below i operation) where
@@ -154,14 +154,6 @@ module _ (here : Setting) (name : Names) (m : Frames) (o : Objects) (statics : L
 
   is_outside : (n count : ℕ) → count ≤ n → nat_lt n count ≡ false
   is_outside n count h = grind (arith, nat_tests)
-
-  -- where there is no element the place is outside
-  none_is_outside : {X : Type 0} (xs : List X) (n : ℕ) → slice_get xs n ≡ None → length xs ≤ n
-  none_is_outside {X} xs n none = by_case (slice_get_cases xs n).1
-    where
-      by_case : ((x : X) × (n < length xs) × (slice_get xs n ≡ Some x) × (get_or xs n x ≡ x)) ⊎ ((length xs ≤ n) × (slice_get xs n ≡ None)) → length xs ≤ n
-      by_case (inl found) = none_is_some found.0 (sym none ∙ found.2)
-      by_case (inr far) = far.0
 
   -- the turn by whether a place is inside
   abbrev turn_by : ℕ → Frames → (ℕ → ObjectTurn) → Bool → MachineTurn

@@ -1,11 +1,12 @@
 -- Where an entry stands under its key.
 use Rattle.std.proofs.Common.{◌≡◌, ◌+◌, ℕ, suc, Bool, true, false, cond, ◌||◌, if◌then◌else◌, IsTrue, List, [], ◌∷◌, ◌++◌, Option, Some, None, slice_get, slice_set, refl, sym, ap, ◌∙◌, arith}
 use Rattle.std.specs.List.{list_any, position_from}
+use Rattle.std.proofs.lemmas.Option.{same_Some}
 use Rattle.simulation.specs.cil_model.declared.types.DeclaredType.{DeclaredType}
 use Rattle.simulation.specs.cil_model.declared.trees.Tree.{Tree}
 use Rattle.simulation.specs.cil_model.Fields.{FieldKey, same_key}
+use Rattle.simulation.proofs.cil_model.Lists.{none_is_some}
 use Rattle.simulation.proofs.cil_model.SameLaws.{if_true, if_false}
-use Rattle.simulation.proofs.cil_model.BelowLaws.{none_is_some, same_some}
 use Rattle.simulation.specs.reference_machine.Values.{Value as StateValue, same_kind}
 use Rattle.simulation.specs.reference_machine.States.{State, entry_at, with_entry, same_kind_or_none, replaced_entry}
 use Rattle.simulation.specs.type_soundness.TypedStates.{HaveFieldTypes}
@@ -89,7 +90,7 @@ pub replaced_is : (k : FieldKey) (v : StateValue) (es es' : List (FieldKey × St
 replaced_is k v es es' is = by_old (entry_at same_key k es) is
   where
     by_kind : (b : Bool) → (if b then Some (with_entry same_key k v es) else None) ≡ Some es' → es' ≡ with_entry same_key k v es
-    by_kind true e = sym (same_some (with_entry same_key k v es) es' e)
+    by_kind true e = sym (same_Some (with_entry same_key k v es) es' e)
     by_kind false e = none_is_some es' e
 
     by_old : (old : Option StateValue) → same_kind_or_none old v (with_entry same_key k v es) ≡ Some es' → es' ≡ with_entry same_key k v es

@@ -14,6 +14,7 @@ use Rattle.simulation.specs.cil_model.declared.types.ClassName.{ClassName}
 use Rattle.simulation.specs.cil_model.Same.{same_class, same_text, same_type, same_flag}
 use Rattle.simulation.specs.cil_model.Chains.{chain_of, fields_declared, find_field}
 use Rattle.simulation.specs.cil_model.Fields.{FieldKey, same_key, static_fields, static_slot}
+use Rattle.simulation.proofs.cil_model.Lists.{find_passes}
 use Rattle.simulation.proofs.cil_model.SameLaws.{both_second, same_flag_equal}
 use Rattle.simulation.specs.name_tables.declared.lookups.MemberNumber.{MemberNumber}
 use Rattle.simulation.specs.reference_machine.Values.{Value as StateValue}
@@ -21,7 +22,6 @@ use Rattle.simulation.specs.reference_machine.States.{Frame as StateFrame, State
 use Rattle.simulation.specs.reference_machine.Effects.{Setting, given as state_given, onward as onward_frame}
 use Rattle.simulation.specs.reference_machine.Steps.{execute, key_of, next}
 use Rattle.simulation.specs.type_soundness.TypedStates.{HaveFieldTypes}
-use Rattle.simulation.proofs.type_soundness.DeclaredClasses.{found_itself}
 use Rattle.simulation.proofs.type_soundness.DeclaredFields.{static_field_there}
 use Rattle.simulation.proofs.type_soundness.Targets.{nearest_at}
 use Rattle.simulation.proofs.size_bounds.FieldSizes.{static_slot_small}
@@ -66,7 +66,7 @@ module _ (tree : Tree) (flag : Bool) (r : FieldReference) (d : ClassName) (g : F
 
   -- it is static or not, as the look-up asks
   pub found_flag : g.is_static ≡ flag
-  found_flag = same_flag_equal g.is_static flag (both_second _ _ (found_itself (asked flag r) (fields_declared tree d) g found_in.0))
+  found_flag = same_flag_equal g.is_static flag (both_second _ _ (find_passes (asked flag r) (fields_declared tree d) g found_in.0))
 
 module _ (here : Setting) (name : Names) (m : Frames) (o : Objects) (statics : List Value) (printed : List ℕ) (s : State) (f : StateFrame) (below : List StateFrame) where
   abbrev HoldsStatic : Value → FieldKey × StateValue → Type 0

@@ -11,7 +11,6 @@ use Rattle.simulation.specs.cil_model.declared.reports.Fault.TheVariants.{NullRe
 use Rattle.simulation.specs.cil_model.declared.trees.Tree.{Tree}
 use Rattle.simulation.specs.cil_model.declared.types.DeclaredType.{DeclaredType}
 use Rattle.simulation.specs.cil_model.Assignable.{is_reference}
-use Rattle.simulation.proofs.cil_model.BelowLaws.{none_is_some}
 use Rattle.simulation.specs.reference_machine.Values.{ObjectName, Born, Literal, Value as StateValue, same_kind}
 use Rattle.simulation.specs.reference_machine.Arithmetic.{as_index}
 use Rattle.simulation.specs.reference_machine.States.{Array as IsArray, HeapObject, Frame as StateFrame, State, array_at, elements_of_contents, replaced_at, same_kind_or_none, with_element, with_object}
@@ -42,6 +41,7 @@ use Rattle.simulation.proofs.Operands.{fine, three_operands}
 use Rattle.simulation.proofs.Statements.{CellsMayChange}
 use Rattle.object_simulation.proofs.ObjectTypes.{may_stand_as_is, IsArrayAt, array_there}
 use Rattle.simulation.proofs.Memories.{named_is_not_null}
+use Rattle.simulation.proofs.cil_model.Lists.{none_is_some}
 
 -- an index is one on both
 index_is : (name : Names) (v : Value) (u : StateValue) → IsValue name v u → index_in v ≡ as_index u

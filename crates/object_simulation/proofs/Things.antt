@@ -1,10 +1,10 @@
 -- The object or the array at a named address, and the cell that lies there.
 use Rattle.std.proofs.Common.{◌≡◌, ℕ, List, Option, Some, None, option_and_then, slice_get, refl, sym, ap, ◌∙◌, subst}
+use Rattle.std.proofs.lemmas.Option.{same_Some}
 use Rattle.simulation.specs.cil_model.declared.types.ClassName.{ClassName}
 use Rattle.simulation.specs.cil_model.declared.types.DeclaredType.{DeclaredType}
 use Rattle.simulation.specs.cil_model.declared.trees.Tree.{Tree}
 use Rattle.simulation.specs.cil_model.Fields.{FieldKey}
-use Rattle.simulation.proofs.cil_model.BelowLaws.{none_is_some, same_some}
 use Rattle.simulation.specs.reference_machine.Values.{ObjectName, Born, Literal, Value as StateValue}
 use Rattle.simulation.specs.reference_machine.States.{Contents, Instance as IsInstance, Array as IsArray, HeapObject, State, object_at, elements_of_contents, array_at}
 use Rattle.simulation.specs.instructions.TypeTurns.{held_type}
@@ -17,6 +17,7 @@ use Rattle.simulation.specs.object_memory.Cells.{Cell, cell_at}
 use Rattle.simulation.specs.object_memory.Objects.{Objects}
 use Rattle.simulation.specs.Agreement.{Agree}
 use Rattle.simulation.specs.StandsFor.{Names, IsWord, IsInstanceCell, IsOfContents, IsCell, IsBornAt, IsHeap}
+use Rattle.simulation.proofs.cil_model.Lists.{none_is_some}
 
 module _ (tree : Tree) (name : Names) (o : Objects) (s : State) (h : IsHeap tree name o s) where
   -- ---- the object of a name
@@ -41,7 +42,7 @@ module _ (tree : Tree) (name : Names) (o : Objects) (s : State) (h : IsHeap tree
         there = there;
         cell = born.cell;
         lies = born.lies;
-        stands = subst (λ x. IsCell tree name born.cell x) (same_some born.object object (sym born.is ∙ there)) born.stands;
+        stands = subst (λ x. IsCell tree name born.cell x) (same_Some born.object object (sym born.is ∙ there)) born.stands;
       }
 
   -- ---- arrays
@@ -70,7 +71,7 @@ module _ (tree : Tree) (name : Names) (o : Objects) (s : State) (h : IsHeap tree
       by_contents : (object : HeapObject) → object_at s n ≡ Some object → (c : Contents) → object.contents ≡ c → elements_of_contents c ≡ Some (t, elements) → IsArrayThere a n t elements
       by_contents object there (IsInstance c fields) holds e = none_is_some (t, elements) e
       by_contents object there (IsArray u es) holds e =
-          let pairs : (u, es) ≡ (t, elements) = same_some (u, es) (t, elements) e in
+          let pairs : (u, es) ≡ (t, elements) = same_Some (u, es) (t, elements) e in
           with_thing object (holds ∙ ap (λ (p : DeclaredType × List StateValue). IsArray p.0 p.1) pairs) (thing_there a n object named there)
 
       by_object : (x : Option HeapObject) → object_at s n ≡ x → option_and_then (λ (object : HeapObject). elements_of_contents object.contents) x ≡ Some (t, elements) → IsArrayThere a n t elements

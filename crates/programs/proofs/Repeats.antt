@@ -1,15 +1,8 @@
 -- Repeats in a list, told by keys.
 use Rattle.std.proofs.Common.{◌≡◌, Bool, true, false, ◌||◌, List, [], ◌∷◌, map, refl, IfOk, Result, Ok, Err, ap, ◌∙◌}
 use Rattle.std.specs.List.{list_any}
+pub use Rattle.cil_model.proofs.Lists.{list_any-map, has_repeat-map}
 use Rattle.cil_model.specs.Legality.{has_repeat}
-
-pub list_any-map : {X Y : Type 0} (f : X → Y) (test : Y → Bool) (xs : List X) → list_any test (map f xs) ≡ list_any (λ x. test (f x)) xs
-list_any-map f test [] = refl
-list_any-map f test (x ∷ xs) = ap (λ b. test (f x) || b) (list_any-map f test xs)
-
-pub has_repeat-map : {X Y : Type 0} (f : X → Y) (same : Y → Y → Bool) (xs : List X) → has_repeat same (map f xs) ≡ has_repeat (λ a b. same (f a) (f b)) xs
-has_repeat-map f same [] = refl
-has_repeat-map f same (x ∷ xs) = ap (λ b. b || has_repeat same (map f xs)) (list_any-map f (same (f x)) xs) ∙ ap (λ b. list_any (λ y. same (f x) (f y)) xs || b) (has_repeat-map f same xs)
 
 -- what the first of two tests decides, or the second
 pub first_decides : (a b : Bool) → true ≡ a → true ≡ a || b

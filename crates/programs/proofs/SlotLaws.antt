@@ -12,13 +12,13 @@ use Rattle.cil_model.specs.Declarations.{Declaration, declaration_of}
 use Rattle.cil_model.specs.Chains.{listed_by, chain_of, methods_declared, method_declared, nearest, is_virtual, is_new_slot_method, is_abstract_method}
 use Rattle.cil_model.specs.Slots.{slot_filled, slot_along, filler_along, class_target}
 use Rattle.cil_model.specs.Legality.{is_filled_abstract, is_found_not_virtual, has_abstract_slot}
+use Rattle.cil_model.proofs.Lists.{list_any_congr}
 use Rattle.cil_model.proofs.SameLaws.{same_class_equal, same_class_itself}
 use Rattle.name_tables.specs.Sameness.{MethodIdentity, identity_of}
 use Rattle.name_tables.specs.Numbers.{declarations, class_number, chain_numbers, method_found}
 use Rattle.name_tables.proofs.NumberLaws.{IsNumbered, numbered, declared_at_none}
 use Rattle.programs.specs.Found.{slot_filled_at, slot_over, slot_numbered, open_over, open_numbered, is_left_open, class_leaves_open, plain_numbered}
 use Rattle.programs.proofs.NumberedMethods.{found_by_number, nothing_found}
-use Rattle.programs.proofs.Tests.{list_any_congr}
 
 module _ (tree : Tree) where
   -- two declared names are the same where their numbers are equal

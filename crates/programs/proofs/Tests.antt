@@ -37,25 +37,9 @@ pub list_all_congr : {X : Type 0} (p q : X → Bool) → ((x : X) → p x ≡ q 
 list_all_congr p q same [] = refl
 list_all_congr p q same (x ∷ xs) = ap (λ b. b && list_all p xs) (same x) ∙ ap (λ b. q x && b) (list_all_congr p q same xs)
 
-pub list_any_congr : {X : Type 0} (p q : X → Bool) → ((x : X) → p x ≡ q x) → (xs : List X) → list_any p xs ≡ list_any q xs
-list_any_congr p q same [] = refl
-list_any_congr p q same (x ∷ xs) = ap (λ b. b || list_any p xs) (same x) ∙ ap (λ b. q x || b) (list_any_congr p q same xs)
-
-pub list_all-flat_map : {X Y : Type 0} (p : Y → Bool) (f : X → List Y) (xs : List X) → list_all p (flat_map f xs) ≡ list_all (λ x. list_all p (f x)) xs
-list_all-flat_map p f [] = refl
-list_all-flat_map p f (x ∷ xs) = list_all-append p (f x) (flat_map f xs) ∙ ap (λ b. list_all p (f x) && b) (list_all-flat_map p f xs)
-
 pub list_any-flat_map : {X Y : Type 0} (p : Y → Bool) (f : X → List Y) (xs : List X) → list_any p (flat_map f xs) ≡ list_any (λ x. list_any p (f x)) xs
 list_any-flat_map p f [] = refl
 list_any-flat_map p f (x ∷ xs) = list_any-append p (f x) (flat_map f xs) ∙ ap (λ b. list_any p (f x) || b) (list_any-flat_map p f xs)
-
-pub list_all-filter_map : {X Y : Type 0} (p : Y → Bool) (f : X → Option Y) (xs : List X) → list_all p (filter_map f xs) ≡ list_all (λ x. option_map_or p (f x) true) xs
-list_all-filter_map p f [] = refl
-list_all-filter_map {X} {Y} p f (x ∷ xs) = by_found (f x) (list_all-filter_map p f xs)
-  where
-    by_found : (o : Option Y) → list_all p (filter_map f xs) ≡ list_all (λ x. option_map_or p (f x) true) xs → list_all p (cons_option o (filter_map f xs)) ≡ option_map_or p o true && list_all (λ x. option_map_or p (f x) true) xs
-    by_found None e = e
-    by_found (Some y) e = ap (λ b. p y && b) e
 
 -- two tests of a list as one
 pub list_all_both : {X : Type 0} (p q : X → Bool) (xs : List X) → list_all p xs && list_all q xs ≡ list_all (λ x. p x && q x) xs

@@ -9,7 +9,7 @@ use Rattle.cil_model.specs.declared.reports.Fault.TheVariants.{DivideByZero, Ari
 use Rattle.reference_machine.specs.Values.{Value, Int32, Int64, Native, Null, Reference}
 use Rattle.reference_machine.specs.Arithmetic.{is_in_range, exact, least, divided, binary, result_as, binary_value}
 use Rattle.reference_machine.specs.Faults.{faults_of_operation}
-use Rattle.cil_model.proofs.BelowLaws.{none_is_some}
+use Rattle.cil_model.proofs.Lists.{none_is_some}
 
 no_fault : {X A : Type 0} (x : X) (f : Fault) → Ok x ≡ Err f → A
 no_fault {X} {A} x f e = absurd (lost e)

@@ -22,11 +22,10 @@ use Rattle.cil_model.specs.Slots.{slot_along, filler_along, class_target, virtua
 use Rattle.cil_model.specs.Bodies.{argument_types, source_methods}
 use Rattle.reference_machine.specs.BuiltIn.{Action, Construct, Write, Enter, Exit, Start, Join, action_of}
 use Rattle.cil_model.specs.Typings.{Typing, FlowsOn, IsTyping, IsAccepted}
+use Rattle.cil_model.proofs.Lists.{none_is_some, get_before}
 use Rattle.cil_model.proofs.SameLaws.{never, same_class_equal}
 use Rattle.cil_model.proofs.ChainLaws.{found_or_none}
-use Rattle.cil_model.proofs.BelowLaws.{none_is_some, same_some}
-use Rattle.reference_machine.proofs.RunLaws.{get_before}
-use Rattle.std.proofs.lemmas.Option.{option_and_then_some}
+use Rattle.std.proofs.lemmas.Option.{option_and_then_some, same_Some}
 
 -- ---- lists
 
@@ -50,13 +49,13 @@ stands_in_flat : {X Y : Type 0} (f : X → List Y) (xs : List X) (x : X) (y : Y)
 stands_in_flat f [] x y (n, h) k = none_is_some x h
 stands_in_flat {X} {Y} f (z ∷ zs) x y (zero, h) (j, k) =
     let P : X → Type 0 = λ w. slice_get (f w) j ≡ Some y in
-    (j, get_before (f z) (flat_map f zs) j y (subst P (sym (same_some z x h)) k))
+    (j, get_before (f z) (flat_map f zs) j y (subst P (sym (same_Some z x h)) k))
 stands_in_flat f (z ∷ zs) x y (suc n, h) k =
     stands_behind (f z) (flat_map f zs) y (stands_in_flat f zs x y (n, h) k)
 
 stands_in_map : {X Y : Type 0} (f : X → Y) (xs : List X) (x : X) → Stands xs x → Stands (map f xs) (f x)
 stands_in_map f [] x (n, h) = none_is_some x h
-stands_in_map f (y ∷ ys) x (zero, h) = (0, ap Some (ap f (same_some y x h)))
+stands_in_map f (y ∷ ys) x (zero, h) = (0, ap Some (ap f (same_Some y x h)))
 stands_in_map f (y ∷ ys) x (suc n, h) = let s : Stands (map f ys) (f x) = stands_in_map f ys x (n, h) in (suc s.0, s.1)
 
 -- ---- what is found is declared
@@ -68,7 +67,7 @@ nearest_found {X} at (d ∷ ds) c x h = by_class (at d) refl h (nearest_found at
     by_class : (o : Option X) → at d ≡ o → option_map_or (λ y. Some (d, y)) o (nearest at ds) ≡ Some (c, x) → (nearest at ds ≡ Some (c, x) → at c ≡ Some x) → at c ≡ Some x
     by_class None e k later = later k
     by_class (Some y) e k later =
-        let same : (d, y) ≡ (c, x) = same_some (d, y) (c, x) k in
+        let same : (d, y) ≡ (c, x) = same_Some (d, y) (c, x) k in
         sym (ap (λ (p : ClassName × X). at p.0) same) ∙ e ∙ ap (λ (p : ClassName × X). Some p.1) same
 
 module _ (tree : Tree) where
@@ -93,7 +92,7 @@ module _ (tree : Tree) where
         by_class None e b k later = later k
         by_class (Some x) e false k later = later k
         by_class (Some x) e true k later =
-            let same : (d, x) ≡ (c, m) = same_some (d, x) (c, m) k in
+            let same : (d, x) ≡ (c, m) = same_Some (d, x) (c, m) k in
             sym (ap (λ (p : ClassName × Method). method_declared tree name signature p.0) same) ∙ e ∙ ap (λ (p : ClassName × Method). Some p.1) same
 
     class_target_is_declared : (d c k : ClassName) (m : Method) → class_target tree name signature d c ≡ Some (k, m) → IsDeclared k m
@@ -112,7 +111,7 @@ module _ (tree : Tree) where
       by_kind true true e = interface_target_is_declared m.name m.signature d c k m' e
       by_kind true false e = class_target_is_declared m.name m.signature d c k m' e
       by_kind false w e =
-          let same : (c, m) ≡ (k, m') = same_some (c, m) (k, m') e in
+          let same : (c, m) ≡ (k, m') = same_Some (c, m) (k, m') e in
           let P : ClassName × Method → Type 0 = λ p. IsDeclared p.0 p.1 in
           subst P same there
 
@@ -132,12 +131,12 @@ module _ (tree : Tree) where
       no_more n stack e = none_is_some (Some stack) e
 
       height : (place : ℕ) (stack : List StackType) → slice_get (Some [] ∷ []) place ≡ Some (Some stack) → pos (length stack) ≤ℤ pos 0
-      height zero stack e = let P : List StackType → Type 0 = λ x. pos (length x) ≤ℤ pos 0 in subst P (same_some [] stack (same_some (Some []) (Some stack) e)) (le_z_yes tt)
+      height zero stack e = let P : List StackType → Type 0 = λ x. pos (length x) ≤ℤ pos 0 in subst P (same_Some [] stack (same_Some (Some []) (Some stack) e)) (le_z_yes tt)
       height (suc n) stack e = no_more n stack e
 
       each : (place : ℕ) (line : Line) (stack : List StackType) → slice_get (unlabelled Return ∷ []) place ≡ Some line → slice_get (Some [] ∷ []) place ≡ Some (Some stack) →
           (after : List StackType) × (flow tree (argument_types run_method thread_name) [] None line.instruction stack ≡ Some after) × FlowsOn tree return_alone (Some [] ∷ []) place line after
-      each zero line stack e h = at_return line stack (same_some (unlabelled Return) line e) (same_some [] stack (same_some (Some []) (Some stack) h))
+      each zero line stack e h = at_return line stack (same_Some (unlabelled Return) line e) (same_Some [] stack (same_Some (Some []) (Some stack) h))
         where
           no_label : {A : Type 0} (label : List ℕ) → Contains [] label → A
           no_label label (k, less, e') = absurd (omega (arith, less))
@@ -158,25 +157,25 @@ module _ (tree : Tree) where
 
   -- of the built-in members, all but Run act at once
   member_of_object : (n : ℕ) (m : Method) → slice_get (object_constructor ∷ []) n ≡ Some m → action_of object_name m ≡ None → HasTyping object_name m
-  member_of_object zero m e h = acts_at_once object_name Construct object_constructor m refl (same_some object_constructor m e) h
+  member_of_object zero m e h = acts_at_once object_name Construct object_constructor m refl (same_Some object_constructor m e) h
   member_of_object (suc n) m e h = none_is_some m e
 
   member_of_console : (n : ℕ) (m : Method) → slice_get (methods_declared tree console_name) n ≡ Some m → action_of console_name m ≡ None → HasTyping console_name m
-  member_of_console zero m e h = acts_at_once console_name Write _ m refl (same_some _ m e) h
-  member_of_console (suc zero) m e h = acts_at_once console_name Write _ m refl (same_some _ m e) h
-  member_of_console (suc (suc zero)) m e h = acts_at_once console_name Write _ m refl (same_some _ m e) h
+  member_of_console zero m e h = acts_at_once console_name Write _ m refl (same_Some _ m e) h
+  member_of_console (suc zero) m e h = acts_at_once console_name Write _ m refl (same_Some _ m e) h
+  member_of_console (suc (suc zero)) m e h = acts_at_once console_name Write _ m refl (same_Some _ m e) h
   member_of_console (suc (suc (suc n))) m e h = none_is_some m e
 
   member_of_monitor : (n : ℕ) (m : Method) → slice_get (methods_declared tree monitor_name) n ≡ Some m → action_of monitor_name m ≡ None → HasTyping monitor_name m
-  member_of_monitor zero m e h = acts_at_once monitor_name Enter _ m refl (same_some _ m e) h
-  member_of_monitor (suc zero) m e h = acts_at_once monitor_name Exit _ m refl (same_some _ m e) h
+  member_of_monitor zero m e h = acts_at_once monitor_name Enter _ m refl (same_Some _ m e) h
+  member_of_monitor (suc zero) m e h = acts_at_once monitor_name Exit _ m refl (same_Some _ m e) h
   member_of_monitor (suc (suc n)) m e h = none_is_some m e
 
   member_of_thread : (n : ℕ) (m : Method) → slice_get (methods_declared tree thread_name) n ≡ Some m → action_of thread_name m ≡ None → HasTyping thread_name m
-  member_of_thread zero m e h = acts_at_once thread_name Construct _ m refl (same_some _ m e) h
-  member_of_thread (suc zero) m e h = let P : Method → Type 0 = λ x. HasTyping thread_name x in subst P (same_some run_method m e) (Some [] ∷ [], run_typing)
-  member_of_thread (suc (suc zero)) m e h = acts_at_once thread_name Start _ m refl (same_some _ m e) h
-  member_of_thread (suc (suc (suc zero))) m e h = acts_at_once thread_name Join _ m refl (same_some _ m e) h
+  member_of_thread zero m e h = acts_at_once thread_name Construct _ m refl (same_Some _ m e) h
+  member_of_thread (suc zero) m e h = let P : Method → Type 0 = λ x. HasTyping thread_name x in subst P (same_Some run_method m e) (Some [] ∷ [], run_typing)
+  member_of_thread (suc (suc zero)) m e h = acts_at_once thread_name Start _ m refl (same_Some _ m e) h
+  member_of_thread (suc (suc (suc zero))) m e h = acts_at_once thread_name Join _ m refl (same_Some _ m e) h
   member_of_thread (suc (suc (suc (suc n)))) m e h = none_is_some m e
 
   -- a method of a class of the source

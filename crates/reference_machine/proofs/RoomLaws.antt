@@ -1,16 +1,17 @@
 -- Refusals along runs: one list of steps behind another; and the same events have one run.
 use Rattle.std.proofs.Common.{◌≡◌, ◌↔◌, ℕ, Bool, true, false, IsTrue, List, [], ◌∷◌, ◌++◌, length, refl, sym, ap, ◌∙◌, subst, arith}
 use Rattle.std.specs.List.{zip}
+use Rattle.std.proofs.lemmas.Option.{same_Some}
 use Rattle.cil_model.specs.declared.events.Event.{Event}
 use Rattle.cil_model.specs.declared.events.Event.TheVariants.{Step, Ack, Gc}
 use Rattle.cil_model.specs.declared.limits.Limits.{Limits}
 use Rattle.cil_model.specs.declared.reports.Report.{Report}
 use Rattle.cil_model.specs.declared.trees.Tree.{Tree}
-use Rattle.cil_model.proofs.BelowLaws.{same_some}
 use Rattle.reference_machine.specs.Rooms.{RefusesBeyondRoom}
 use Rattle.reference_machine.specs.Runs.{IsStateAfter, StepRequest, RunsTo, followed_by, is_refusal, run, step_reports, thread_part}
 use Rattle.reference_machine.specs.States.{State}
 use Rattle.reference_machine.specs.Steps.{Outcome, Answers, Stuck, step}
+use Rattle.reference_machine.proofs.StepLaws.{same_after}
 use Rattle.reference_machine.proofs.RunLaws.{behind_run, clash, same_state}
 
 -- two tests of one thing are equal
@@ -22,9 +23,6 @@ same_test false true h k = h.1 (k.0 refl)
 
 same_report : (q r : Report) (s t : State) → Answers q s ≡ Answers r t → q ≡ r
 same_report q r s t e = cc
-
-same_after : (q r : Report) (s t : State) → Answers q s ≡ Answers r t → s ≡ t
-same_after q r s t e = cc
 
 module _ (tree : Tree) (limits : Limits) where
   -- refusals of one list, and then of another
@@ -96,5 +94,5 @@ module _ (tree : Tree) (limits : Limits) where
   pub runs_are_one : (events : List Event) (reports reports' : List Report) → length reports ≡ length events → length reports' ≡ length events → (s s' : State) →
       IsStateAfter tree limits (zip events reports) s → IsStateAfter tree limits (zip events reports') s' → (step_reports (zip events reports) ≡ step_reports (zip events reports')) × (s ≡ s')
   runs_are_one events reports reports' each each' s s' h h' =
-      let same : h'.first ≡ h.first = same_some h'.first h.first (sym h'.begins ∙ h.begins) in
+      let same : h'.first ≡ h.first = same_Some h'.first h.first (sym h'.begins ∙ h.begins) in
       one_from events reports reports' each each' h.first s s' (h.comes, h.refuses) (subst (λ x. ComesTo x (zip events reports') s') same (h'.comes, h'.refuses))

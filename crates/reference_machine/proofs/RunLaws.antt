@@ -1,5 +1,6 @@
 -- Runs: one behind another, and what they keep.
-use Rattle.std.proofs.Common.{◌≡◌, ℕ, zero, suc, List, [], ◌∷◌, ◌++◌, map, Option, Some, None, option_map, option_and_then, slice_get, refl, sym, ap, ◌∙◌, subst}
+use Rattle.std.proofs.Common.{◌≡◌, ℕ, List, [], ◌∷◌, ◌++◌, Option, Some, None, option_map, option_and_then, slice_get, refl, sym, ap, ◌∙◌, subst}
+use Rattle.std.proofs.lemmas.Option.{same_Some, slice_get-map}
 use Rattle.cil_model.specs.declared.trees.Tree.{Tree}
 use Rattle.cil_model.specs.declared.types.ClassName.{ClassName}
 use Rattle.cil_model.specs.declared.types.DeclaredType.{DeclaredType}
@@ -11,9 +12,9 @@ use Rattle.reference_machine.specs.States.{Contents, Instance, Array, HeapObject
 use Rattle.reference_machine.specs.Steps.{Outcome, Answers, Stuck, step}
 use Rattle.reference_machine.specs.Growth.{Shape, OfInstance, OfArray, shape_of, shapes, Follows}
 use Rattle.reference_machine.specs.Runs.{StepRequest, Run, RunsTo, SticksAfter, preceded_by, followed_by, run}
-use Rattle.cil_model.proofs.BelowLaws.{none_is_some, same_some}
 use Rattle.reference_machine.proofs.StateLaws.{follows_itself, follows_more}
 use Rattle.reference_machine.proofs.StepLaws.{step_follows}
+use Rattle.cil_model.proofs.Lists.{none_is_some, get_before}
 
 abbrev pub IsStuck : Run → Type 0
 IsStuck (RunsTo reports s) = ⊥
@@ -84,16 +85,6 @@ module _ (tree : Tree) (limits : Limits) where
 
 -- ---- types stay
 
-get_of_map : {X Y : Type 0} (f : X → Y) (xs : List X) (n : ℕ) → slice_get (map f xs) n ≡ option_map f (slice_get xs n)
-get_of_map f [] n = refl
-get_of_map f (x ∷ xs) zero = refl
-get_of_map f (x ∷ xs) (suc n) = get_of_map f xs n
-
-pub get_before : {X : Type 0} (xs more : List X) (n : ℕ) (x : X) → slice_get xs n ≡ Some x → slice_get (xs ++ more) n ≡ Some x
-get_before [] more n x h = none_is_some x h
-get_before (y ∷ ys) more zero x h = h
-get_before (y ∷ ys) more (suc n) x h = get_before ys more n x h
-
 -- the type and the class of an object of a shape
 abbrev type_of_shape : Shape → DeclaredType
 type_of_shape (OfInstance c keys) = type_of_class c
@@ -115,13 +106,13 @@ module _ (s t : State) (follows : Follows s t) where
   shape_stays : (n : ℕ) (o : HeapObject) → slice_get s.objects n ≡ Some o → (o' : HeapObject) × (slice_get t.objects n ≡ Some o') × (shape_of o'.contents ≡ shape_of o.contents)
   shape_stays n o there =
       let f : HeapObject → Shape = λ x. shape_of x.contents in
-      let here : slice_get (shapes s) n ≡ Some (f o) = get_of_map f s.objects n ∙ ap (option_map f) there in
+      let here : slice_get (shapes s) n ≡ Some (f o) = slice_get-map f s.objects n ∙ ap (option_map f) there in
       let now : slice_get (shapes t) n ≡ Some (f o) = ap (λ xs. slice_get xs n) follows.objects.1 ∙ get_before (shapes s) follows.objects.0 n (f o) here in
-      by_object (slice_get t.objects n) (sym (get_of_map f t.objects n) ∙ now)
+      by_object (slice_get t.objects n) (sym (slice_get-map f t.objects n) ∙ now)
     where
       by_object : (found : Option HeapObject) → option_map (λ (x : HeapObject). shape_of x.contents) found ≡ Some (shape_of o.contents) → (o' : HeapObject) × (found ≡ Some o') × (shape_of o'.contents ≡ shape_of o.contents)
       by_object None e = none_is_some (shape_of o.contents) e
-      by_object (Some o') e = (o', refl, same_some (shape_of o'.contents) (shape_of o.contents) e)
+      by_object (Some o') e = (o', refl, same_Some (shape_of o'.contents) (shape_of o.contents) e)
 
   pub type_stays : (n : ObjectName) (type : DeclaredType) → type_of s n ≡ Some type → type_of t n ≡ Some type
   type_stays (Literal characters) type e = e

@@ -2,7 +2,7 @@
 use Rattle.std.proofs.Common.{◌≡◌, ℕ, Bool, true, false, IsTrue, if◌then◌else◌, List, [], ◌∷◌, ◌++◌, map, length, Option, Some, None, option_map, slice_get, slice_set, unwrap_or, refl, sym, ap, ◌∙◌, subst}
 use Rattle.std.proofs.lemmas.Bool.{and_from}
 use Rattle.std.proofs.lemmas.List.{append-nil, append_assoc, map-append, length-set}
-use Rattle.std.proofs.lemmas.Option.{get_or_from_slice_get, option_and_then_some}
+use Rattle.std.proofs.lemmas.Option.{get_or_from_slice_get, option_and_then_some, same_Some}
 use Rattle.std.proofs.Math.Seq.{map-set_same}
 use Rattle.std.specs.Cmp.{IsEquivalence}
 use Rattle.cil_model.specs.declared.types.DeclaredType.{DeclaredType}
@@ -11,8 +11,8 @@ use Rattle.cil_model.specs.Fields.{FieldKey, same_key}
 use Rattle.reference_machine.specs.Values.{ObjectName, Born, Literal, Value, same_kind}
 use Rattle.reference_machine.specs.States.{Monitor, Contents, Instance, Array, HeapObject, State, entry_at, with_entry, same_kind_or_none, replaced_entry, replaced_at, object_at, with_object, fields_of_contents, elements_of_contents, with_fields, with_field, with_element, with_birth, with_monitor}
 use Rattle.reference_machine.specs.Growth.{OfInstance, OfArray, shape_of, shapes, Continues, Follows}
+use Rattle.cil_model.proofs.Lists.{none_is_some}
 use Rattle.cil_model.proofs.SameLaws.{both_first, both_second, if_true, if_false, same_text_equal, same_text_itself, same_class_equal, same_class_itself, equivalence}
-use Rattle.cil_model.proofs.BelowLaws.{none_is_some, same_some}
 
 -- ---- lists
 
@@ -27,7 +27,7 @@ continues_equal xs ys e = ([], e ∙ sym (append-nil xs))
 
 mapped_some : {A B P : Type 0} (f : A → B) (o : Option A) (y : B) → option_map f o ≡ Some y → ((x : A) → o ≡ Some x → f x ≡ y → P) → P
 mapped_some f None y e go = none_is_some y e
-mapped_some f (Some x) y e go = go x refl (same_some (f x) y e)
+mapped_some f (Some x) y e go = go x refl (same_Some (f x) y e)
 
 -- entries keep their keys
 keys_stay : {K V : Type 0} (same : K → K → Bool) (k : K) (v : V) (es : List (K × V)) → map (λ (e : K × V). e.0) (with_entry same k v es) ≡ map (λ (e : K × V). e.0) es
@@ -43,7 +43,7 @@ replaced_is None v x y e = none_is_some y e
 replaced_is {X} (Some w) v x y e = by_test (same_kind w v) e
   where
     by_test : (b : Bool) → (if b then Some x else None) ≡ Some y → x ≡ y
-    by_test true h = same_some x y h
+    by_test true h = same_Some x y h
     by_test false h = none_is_some y h
 
 pub replaced_keys : (k : FieldKey) (v : Value) (es es' : List (FieldKey × Value)) → replaced_entry k v es ≡ Some es' → map (λ (e : FieldKey × Value). e.0) es' ≡ map (λ (e : FieldKey × Value). e.0) es
@@ -98,7 +98,7 @@ follows_field s n k v s' h =
   where
     by_contents : (c : Contents) (fields fields' : List (FieldKey × Value)) → fields_of_contents c ≡ Some fields → map (λ (e : FieldKey × Value). e.0) fields' ≡ map (λ (e : FieldKey × Value). e.0) fields →
         shape_of (with_fields c fields') ≡ shape_of c
-    by_contents (Instance c old) fields fields' held keys = ap (OfInstance c) (keys ∙ ap (map (λ (e : FieldKey × Value). e.0)) (sym (same_some old fields held)))
+    by_contents (Instance c old) fields fields' held keys = ap (OfInstance c) (keys ∙ ap (map (λ (e : FieldKey × Value). e.0)) (sym (same_Some old fields held)))
     by_contents (Array t elements) fields fields' held keys = refl
 
 pub follows_element : (s : State) (n : ObjectName) (i : ℕ) (v : Value) (s' : State) → with_element s n i v ≡ Some s' → Follows s s'
@@ -112,7 +112,7 @@ follows_element s n i v s' h =
     by_contents : (c : Contents) (array : DeclaredType × List Value) (elements : List Value) → elements_of_contents c ≡ Some array → length elements ≡ length array.1 → OfArray array.0 (length elements) ≡ shape_of c
     by_contents (Instance c old) array elements held e = none_is_some array held
     by_contents (Array t old) array elements held e =
-        let same : (t, old) ≡ array = same_some (t, old) array held in
+        let same : (t, old) ≡ array = same_Some (t, old) array held in
         ap (OfArray array.0) e ∙ sym (ap (λ (a : DeclaredType × List Value). OfArray a.0 (length a.1)) same)
 
 pub follows_monitor : (s : State) (n : ObjectName) (m : Monitor) → Follows s (with_monitor s n m)

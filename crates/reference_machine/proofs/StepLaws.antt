@@ -1,6 +1,7 @@
 -- What an instruction may do: it takes nothing back, and raises listed faults alone.
 use Rattle.std.proofs.Common.{◌≡◌, ◌==◌, ◌-◌, ℕ, zero, suc, ℤ, pos, negsuc, Bool, true, false, if◌then◌else◌, nat_le, List, [], ◌∷◌, length, reverse, take, drop, replicate, Option, Some, None, Result, Ok, Err, is_some, slice_get, Contains, refl, subst, lit<, ◌⊎◌, inl, inr, sym, option_and_then}
 use Rattle.std.specs.Option.{option_map_or}
+use Rattle.std.proofs.lemmas.Option.{same_Some}
 use Rattle.cil_model.specs.declared.types.ClassName.{ClassName}
 use Rattle.cil_model.specs.declared.types.DeclaredType.{DeclaredType}
 use Rattle.cil_model.specs.declared.instructions.Instruction.{Instruction}
@@ -18,7 +19,6 @@ use Rattle.cil_model.specs.declared.reports.End.TheVariants.{Done, Budget, Fault
 use Rattle.std.specs.Int.{w32, cast_unsigned}
 use Rattle.cil_model.specs.Declarations.{thread_name, run_method}
 use Rattle.cil_model.specs.Chains.{find_field, find_method, is_thread_class, is_virtual}
-use Rattle.cil_model.proofs.BelowLaws.{none_is_some, same_some}
 use Rattle.cil_model.specs.Fields.{same_key}
 use Rattle.cil_model.specs.Slots.{target}
 use Rattle.cil_model.specs.Assignable.{is_reference}
@@ -34,6 +34,7 @@ use Rattle.reference_machine.specs.Faults.{faults_of_action, MayRaise, itself, m
 use Rattle.reference_machine.specs.Growth.{shapes, Follows}
 use Rattle.reference_machine.proofs.FaultLaws.{operation_faults}
 use Rattle.reference_machine.proofs.StateLaws.{continues_itself, follows_itself, follows_object_at, follows_birth, follows_field, follows_statics, follows_element, follows_monitor}
+use Rattle.cil_model.proofs.Lists.{none_is_some}
 
 -- an effect that takes nothing back, and raises faults of a kind alone
 pub data Allowed (s : State) (F : Fault → Type 0) : Effect → Type 0 where
@@ -226,7 +227,7 @@ module _ (here : Setting) (s : State) (f : Frame) (below : List Frame) (F : Faul
       chosen_from : (n : ObjectName) (chosen : ClassName × Method) (b : Bool) → (if b then option_and_then (λ d. target here.tree d found.0 found.1) (class_of s n) else Some found) ≡ Some chosen →
           (chosen ≡ found) ⊎ ((d : ClassName) × (target here.tree d found.0 found.1 ≡ Some chosen))
       chosen_from n chosen true e = inr (by_class chosen (class_of s n) e)
-      chosen_from n chosen false e = inl (sym (same_some found chosen e))
+      chosen_from n chosen false e = inl (sym (same_Some found chosen e))
 
   pub construct_ok : (c : ClassName) (found : ClassName × Method) (arguments rest : List Value) → F StackOverflow → (here.is_refused ≡ true → F OutOfMemory) → Allowed s F (construct here s f below c found arguments rest)
   construct_ok c found arguments rest h k =
@@ -304,8 +305,9 @@ module _ (here : Setting) (s : State) (f : Frame) (below : List Frame) where
 
 -- ---- steps and runs
 
-answered : (r q : Report) (s t : State) → Answers r s ≡ Answers q t → s ≡ t
-answered r q s t e = cc
+-- a step answers with one state
+pub same_after : (r q : Report) (s t : State) → Answers r s ≡ Answers q t → s ≡ t
+same_after r q s t e = cc
 
 stuck_answers : {A : Type 0} (r : Report) (s : State) → Stuck ≡ Answers r s → A
 stuck_answers {A} r s e = absurd (lost e)
@@ -319,13 +321,13 @@ threads_aside s s' threads h = record { objects = h.objects; statics = h.statics
 ended_ok : (s s₁ s' : State) (t left : ℕ) (e : End) (r : Report) → Follows s s₁ → ended_as s₁ t left e ≡ Answers r s' → Follows s s'
 ended_ok s s₁ s' t left e r h k =
     let P : State → Type 0 = λ x. Follows s x in
-    subst P (answered (Ended e) r (with_thread_at s₁ t (record { frames = []; steps_left = left; ended = Some e })) s' k) (threads_aside s s₁ _ h)
+    subst P (same_after (Ended e) r (with_thread_at s₁ t (record { frames = []; steps_left = left; ended = Some e })) s' k) (threads_aside s s₁ _ h)
 
 going_ok : (s s₁ s' : State) (t left : ℕ) (frames : List Frame) (q r : Report) → Follows s s₁ → goes_on q s₁ t left frames ≡ Answers r s' → Follows s s'
 going_ok s s₁ s' t zero frames q r h k = ended_ok s s₁ s' t 0 Budget r h k
 going_ok s s₁ s' t (suc left) frames q r h k =
     let P : State → Type 0 = λ x. Follows s x in
-    subst P (answered q r (with_thread_at s₁ t (record { frames = frames; steps_left = suc left; ended = None })) s' k) (threads_aside s s₁ _ h)
+    subst P (same_after q r (with_thread_at s₁ t (record { frames = frames; steps_left = suc left; ended = None })) s' k) (threads_aside s s₁ _ h)
 
 settled_ok : (s s' : State) (t left : ℕ) (frames : List Frame) (F : Fault → Type 0) (e : Effect) (r : Report) → Allowed s F e → settled s t left frames e ≡ Answers r s' → Follows s s'
 settled_ok s s' t left frames F (Goes [] s₁) r (goes _ _ h) k = ended_ok s s₁ s' t left Done r h k
@@ -356,7 +358,7 @@ step_follows tree limits s t refused r s' e = by_thread (slice_get s.threads t) 
     here = record { tree = tree; limits = limits; thread = t; is_refused = refused }
 
     same : Answers Absent s ≡ Answers r s' → Follows s s'
-    same h = let P : State → Type 0 = λ x. Follows s x in subst P (answered Absent r s s' h) (follows_itself s)
+    same h = let P : State → Type 0 = λ x. Follows s x in subst P (same_after Absent r s s' h) (follows_itself s)
 
     by_life : (thread : Thread) (b : Bool) → (if b then settled s t (thread.steps_left - 1) thread.frames (effect_of here s thread.frames) else Answers Absent s) ≡ Answers r s' → Follows s s'
     by_life thread true h = settled_ok s s' t (thread.steps_left - 1) thread.frames AnyFault (effect_of here s thread.frames) r (effect_ok here s thread.frames) h

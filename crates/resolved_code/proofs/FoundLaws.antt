@@ -3,7 +3,8 @@ use Rattle.std.proofs.Common.{◌≡◌, ℕ, Bool, true, false, not, ◌&&◌, 
 use Rattle.std.specs.Prelude.{flat_map, filter_map, option_to_list}
 use Rattle.std.specs.List.{list_all, list_any, cons_option, position_from}
 use Rattle.std.specs.Option.{option_map_or}
-use Rattle.std.proofs.lemmas.List.Folds.{list_all-append}
+use Rattle.std.proofs.lemmas.List.Folds.{list_all-append, list_all-map}
+use Rattle.std.proofs.lemmas.Bool.{not-false}
 use Rattle.cil_model.specs.declared.types.ClassName.{ClassName}
 use Rattle.cil_model.specs.declared.types.Element.{Element}
 use Rattle.cil_model.specs.declared.types.Element.TheVariants.{Int32 as Int32Element, Int64 as Int64Element, Object as ObjectElement, String as StringElement, Class as ClassElement}
@@ -30,7 +31,8 @@ use Rattle.cil_model.specs.Bodies.{code_of, lines_of, labels_of, place_of, virtu
 use Rattle.cil_model.specs.Chains.{find_field, find_method, longest_chain, classes_searched}
 use Rattle.cil_model.specs.Mentions.{bases_named, literal_of, literals_of, types_of_instruction, types_of_method, types_of_signature, types_of_tree, instructions_of, instructions_of_tree, methods_of_tree, class_of_element, class_types_of_tree, class_names_of_tree, owners_of_instruction, codes_of}
 use Rattle.cil_model.specs.Legality.{IsLegal, is_known_extern, is_resolved, class_finds, is_possible_base, is_possible_type, is_source_interface, passes_source, finds_labels, finds_member, lacks_name}
-use Rattle.cil_model.proofs.SameLaws.{both_first, both_second, text_equivalence, same_text_itself}
+use Rattle.cil_model.proofs.Lists.{list_all-flat_map, list_all-filter_map}
+use Rattle.cil_model.proofs.SameLaws.{both_first, both_second, text_equivalence, same_text_itself, never}
 use Rattle.cil_model.proofs.Legal.{names_found}
 use Rattle.name_tables.specs.Sameness.{same_field, same_called, called_of}
 use Rattle.name_tables.specs.Numbers.{class_number, place_in, nearest_number, field_number, method_number, field_at, method_at, declarations, source_entry}
@@ -41,22 +43,12 @@ use Rattle.resolved_code.proofs.LiteralNumbers.{all_among_once}
 
 -- ---- tests
 
-untrue : {A : Type 0} → false ≡ true → A
-untrue {A} h = absurd (lost h)
-  where
-    lost : false ≡ true → ⊥
-    lost e = cc
-
-not_not : (b : Bool) → not b ≡ false → b ≡ true
-not_not true h = refl
-not_not false h = untrue (sym h)
-
 both : (a b : Bool) → a ≡ true → b ≡ true → a && b ≡ true
 both true b h k = k
-both false b h k = untrue h
+both false b h k = never h
 
 kept : {X Y : Type 0} (f : X → Y) (o : Option X) → is_some o ≡ true → is_some (option_map f o) ≡ true
-kept f None h = untrue h
+kept f None h = never h
 kept f (Some x) h = refl
 
 unkept : {X Y : Type 0} (f : X → Y) (o : Option X) → is_some (option_map f o) ≡ is_some o
@@ -64,7 +56,7 @@ unkept f None = refl
 unkept f (Some x) = refl
 
 then_kept : {X Y : Type 0} (f : X → Option Y) (o : Option X) → is_some o ≡ true → ((x : X) → is_some (f x) ≡ true) → is_some (option_and_then f o) ≡ true
-then_kept f None h each = untrue h
+then_kept f None h each = never h
 then_kept f (Some x) h each = each x
 
 all_kept : {X : Type 0} (p q : X → Bool) → ((x : X) → p x ≡ true → q x ≡ true) → (xs : List X) → list_all p xs ≡ true → list_all q xs ≡ true
@@ -76,22 +68,6 @@ all_four : {X : Type 0} (p q r s t : X → Bool) → ((x : X) → p x ≡ true �
 all_four p q r s t each [] h i j k = refl
 all_four p q r s t each (x ∷ xs) h i j k =
     both _ _ (each x (both_first _ _ h) (both_first _ _ i) (both_first _ _ j) (both_first _ _ k)) (all_four p q r s t each xs (both_second _ _ h) (both_second _ _ i) (both_second _ _ j) (both_second _ _ k))
-
-all_seen : {X Y : Type 0} (f : X → Y) (p : Y → Bool) (xs : List X) → list_all p (map f xs) ≡ list_all (λ x. p (f x)) xs
-all_seen f p [] = refl
-all_seen f p (x ∷ xs) = ap (λ b. p (f x) && b) (all_seen f p xs)
-
-all_within : {X Y : Type 0} (p : Y → Bool) (f : X → List Y) (xs : List X) → list_all p (flat_map f xs) ≡ list_all (λ x. list_all p (f x)) xs
-all_within p f [] = refl
-all_within p f (x ∷ xs) = list_all-append p (f x) (flat_map f xs) ∙ ap (λ b. list_all p (f x) && b) (all_within p f xs)
-
-all_chosen : {X Y : Type 0} (p : Y → Bool) (f : X → Option Y) (xs : List X) → list_all p (filter_map f xs) ≡ list_all (λ x. option_map_or p (f x) true) xs
-all_chosen p f [] = refl
-all_chosen {X} {Y} p f (x ∷ xs) = by_found (f x) (all_chosen p f xs)
-  where
-    by_found : (o : Option Y) → list_all p (filter_map f xs) ≡ list_all (λ x. option_map_or p (f x) true) xs → list_all p (cons_option o (filter_map f xs)) ≡ option_map_or p o true && list_all (λ x. option_map_or p (f x) true) xs
-    by_found None e = e
-    by_found (Some y) e = ap (λ b. p y && b) e
 
 all_first : {X : Type 0} (p : X → Bool) (xs ys : List X) → list_all p (xs ++ ys) ≡ true → list_all p xs ≡ true
 all_first p xs ys h = both_first _ _ (sym (list_all-append p xs ys) ∙ h)
@@ -120,22 +96,22 @@ module _ (tree : Tree) where
   declared_known c h = by_number (class_number tree c) refl
     where
       by_number : (o : Option ℕ) → class_number tree c ≡ o → is_some o ≡ true
-      by_number None e = untrue (sym (ap is_some (declared_at_none tree c e)) ∙ h)
+      by_number None e = never (sym (ap is_some (declared_at_none tree c e)) ∙ h)
       by_number (Some n) e = refl
 
   abbrev is_class : ClassKind → Bool
   is_class k = not (is_interface_kind k)
 
   source_there : {Y : Type 0} (f : Class → Y) (s : Option Class) → (passes_source is_class s || passes_source is_interface_kind s) || false ≡ true → is_some (option_map f s) ≡ true
-  source_there f None h = untrue h
+  source_there f None h = never h
   source_there f (Some k) h = refl
 
   base_there : {Y : Type 0} (f : Class → Y) (s : Option Class) → (passes_source is_class s || false) || false ≡ true → is_some (option_map f s) ≡ true
-  base_there f None h = untrue h
+  base_there f None h = never h
   base_there f (Some k) h = refl
 
   interface_there : {Y : Type 0} (f : Class → Y) (s : Option Class) → passes_source is_interface_kind s ≡ true → is_some (option_map f s) ≡ true
-  interface_there f None h = untrue h
+  interface_there f None h = never h
   interface_there f (Some k) h = refl
 
   type_known_at : (o : Option (List ℕ)) (n : List ℕ) → is_resolved tree (record { assembly = o; name = n }) ≡ true → is_possible_type tree (record { assembly = o; name = n }) ≡ true → is_known (record { assembly = o; name = n }) ≡ true
@@ -177,7 +153,7 @@ module _ (tree : Tree) where
   field_owner is_static r h = by_number (class_number tree r.owner) refl
     where
       by_number : (o : Option ℕ) → class_number tree r.owner ≡ o → is_some o ≡ true
-      by_number None e = untrue (sym (ap (λ ns. is_some (nearest_number (place_in (λ d. d.fields) (same_field (record { is_static = is_static; field_type = r.field_type; name = r.name })) tree) ns)) (numbers_of_unknown tree (longest_chain tree) r.owner e)) ∙ h)
+      by_number None e = never (sym (ap (λ ns. is_some (nearest_number (place_in (λ d. d.fields) (same_field (record { is_static = is_static; field_type = r.field_type; name = r.name })) tree) ns)) (numbers_of_unknown tree (longest_chain tree) r.owner e)) ∙ h)
       by_number (Some n) e = refl
 
   method_there : (is_instance : Bool) (r : MethodReference) → is_some (find_method tree is_instance r) ≡ true → is_some (method_number tree is_instance r) ≡ true
@@ -191,7 +167,7 @@ module _ (tree : Tree) where
   method_owner is_instance r h = by_number (class_number tree r.owner) refl
     where
       by_number : (o : Option ℕ) → class_number tree r.owner ≡ o → is_some o ≡ true
-      by_number None e = untrue (sym (ap (λ ns. is_some (nearest_number (place_in (λ d. d.methods) (λ m. same_called (record { name = r.name; signature = r.signature }, not is_instance) (called_of m)) tree) ns)) (none_searched r.name r.owner e)) ∙ h)
+      by_number None e = never (sym (ap (λ ns. is_some (nearest_number (place_in (λ d. d.methods) (λ m. same_called (record { name = r.name; signature = r.signature }, not is_instance) (called_of m)) tree) ns)) (none_searched r.name r.owner e)) ∙ h)
       by_number (Some n) e = refl
 
   -- ---- instructions
@@ -270,8 +246,8 @@ module _ (tree : Tree) where
     operations_found ls t l m s =
         let is = map (λ (x : Line). x.instruction) ls in
         all_there (λ (x : Line). operation_rule tree lines x.instruction) ls (
-        sym (all_seen (λ (x : Line). x.instruction) is_operation_found ls) ∙
-        all_four operand_test (label_test lines) (finds_member tree) literal_test is_operation_found operation_found is (sym (all_within is_type_found types_of_instruction is) ∙ t) l m s)
+        sym (list_all-map is_operation_found (λ (x : Line). x.instruction) ls) ∙
+        all_four operand_test (label_test lines) (finds_member tree) literal_test is_operation_found operation_found is (sym (list_all-flat_map is_type_found types_of_instruction is) ∙ t) l m s)
 
   -- ---- methods
 
@@ -311,7 +287,7 @@ module _ (tree : Tree) where
   fields_found : (k : ClassKind) (fs : List Field) → list_all is_type_found (map (λ (f : Field). f.field_type) fs) ≡ true → is_some (all_some (map (resolved_field_rule tree) (fields_unless_interface k fs))) ≡ true
   fields_found Interface fs h = refl
   fields_found (PlainClass a b i) fs h =
-      all_there (resolved_field_rule tree) fs (all_kept (λ (f : Field). is_type_found f.field_type) (λ f. is_some (resolved_field_rule tree f)) (λ f e. kept _ (type_rule tree f.field_type) e) fs (sym (all_seen (λ (f : Field). f.field_type) is_type_found fs) ∙ h))
+      all_there (resolved_field_rule tree) fs (all_kept (λ (f : Field). is_type_found f.field_type) (λ f. is_some (resolved_field_rule tree f)) (λ f e. kept _ (type_rule tree f.field_type) e) fs (sym (list_all-map is_type_found (λ (f : Field). f.field_type) fs) ∙ h))
 
   abbrev heading : Class → List ClassName
   heading c = bases_named c.kind ++ interfaces_named c.kind
@@ -342,7 +318,7 @@ module _ (tree : Tree) where
 
   module _ (legal : IsLegal tree) where
     named : (list_all is_known_extern tree.externs && list_all (is_resolved tree) (class_names_of_tree tree) && list_all (class_finds tree) tree.classes && list_all (is_possible_type tree) (class_types_of_tree tree) && list_all finds_labels (methods_of_tree tree) && list_all (finds_member tree) (instructions_of_tree tree)) ≡ true
-    named = not_not _ (names_found tree legal)
+    named = not-false _ (names_found tree legal)
 
     abbrev headings : List ClassName
     headings = flat_map heading tree.classes
@@ -370,7 +346,7 @@ module _ (tree : Tree) where
     types_found : list_all is_type_found (types_of_tree tree) ≡ true
     types_found =
         all_kept type_test is_type_found type_found (types_of_tree tree) (
-        sym (all_chosen (λ c. is_resolved tree c && is_possible_type tree c) (λ (t : DeclaredType). class_of_element t.element) (types_of_tree tree)) ∙
+        sym (list_all-filter_map (λ c. is_resolved tree c && is_possible_type tree c) (λ (t : DeclaredType). class_of_element t.element) (types_of_tree tree)) ∙
         two (class_types_of_tree tree) resolved_types (both_second _ _ (both_first _ _ (both_first _ _ named))))
 
     abbrev field_types : Class → List DeclaredType
@@ -379,18 +355,18 @@ module _ (tree : Tree) where
     methods_found : list_all is_method_found (methods_of_tree tree) ≡ true
     methods_found =
         all_four (λ m. list_all is_type_found (types_of_method m)) finds_labels (λ m. list_all (finds_member tree) (instructions_of m)) (λ m. list_all literal_test (instructions_of m)) is_method_found method_found (methods_of_tree tree)
-        (sym (all_within is_type_found types_of_method (methods_of_tree tree)) ∙ all_second is_type_found (flat_map field_types tree.classes) (flat_map types_of_method (methods_of_tree tree)) types_found)
+        (sym (list_all-flat_map is_type_found types_of_method (methods_of_tree tree)) ∙ all_second is_type_found (flat_map field_types tree.classes) (flat_map types_of_method (methods_of_tree tree)) types_found)
         (both_second _ _ (both_first _ _ named))
-        (sym (all_within (finds_member tree) instructions_of (methods_of_tree tree)) ∙ both_second _ _ named)
-        (sym (all_within literal_test instructions_of (methods_of_tree tree)) ∙ sym (all_chosen is_literal_there literal_of (instructions_of_tree tree)) ∙ literals_there)
+        (sym (list_all-flat_map (finds_member tree) instructions_of (methods_of_tree tree)) ∙ both_second _ _ named)
+        (sym (list_all-flat_map literal_test instructions_of (methods_of_tree tree)) ∙ sym (list_all-filter_map is_literal_there literal_of (instructions_of_tree tree)) ∙ literals_there)
 
     pub classes_found : is_some (classes_rule tree) ≡ true
     classes_found =
         let of_source = all_four (λ c. list_all (is_resolved tree) (heading c)) (class_finds tree) (λ c. list_all is_type_found (field_types c)) (λ c. list_all is_method_found (method_members c)) (λ c. is_class_found (declared_as c.kind (field_members c) (method_members c))) class_found tree.classes
-        (sym (all_within (is_resolved tree) heading tree.classes) ∙ resolved_headings)
+        (sym (list_all-flat_map (is_resolved tree) heading tree.classes) ∙ resolved_headings)
         (both_second _ _ (both_first _ _ (both_first _ _ (both_first _ _ named))))
-        (sym (all_within is_type_found field_types tree.classes) ∙ all_first is_type_found (flat_map field_types tree.classes) (flat_map types_of_method (methods_of_tree tree)) types_found)
-        (sym (all_within is_method_found method_members tree.classes) ∙ methods_found) in
+        (sym (list_all-flat_map is_type_found field_types tree.classes) ∙ all_first is_type_found (flat_map field_types tree.classes) (flat_map types_of_method (methods_of_tree tree)) types_found)
+        (sym (list_all-flat_map is_method_found method_members tree.classes) ∙ methods_found) in
         all_there (λ (e : ClassName × Declaration). class_rule tree e.1) (declarations tree) (
         list_all-append (λ (e : ClassName × Declaration). is_class_found e.1) built_ins (map source_entry tree.classes) ∙
-        both _ _ built_ins_found (all_seen source_entry (λ (e : ClassName × Declaration). is_class_found e.1) tree.classes ∙ of_source))
+        both _ _ built_ins_found (list_all-map (λ (e : ClassName × Declaration). is_class_found e.1) source_entry tree.classes ∙ of_source))

@@ -10,18 +10,11 @@ use Rattle.std.proofs.lemmas.List.Elements.{filter_map-append}
 use Rattle.cil_model.specs.declared.instructions.Instruction.{Instruction}
 use Rattle.cil_model.specs.Mentions.{each_once, literal_of}
 use Rattle.name_tables.proofs.Lists.{map-take_more}
+use Rattle.cil_model.proofs.Lists.{list_any_congr, list_any-map}
 use Rattle.cil_model.proofs.SameLaws.{text_equivalence, same_text_itself}
 use Rattle.cil_model.proofs.LiteralLaws.{each_once_more}
 use Rattle.name_tables.specs.declared.keys.TextKey.{TextKey}
 use Rattle.name_tables.specs.Keys.{text_of_key}
-
-any_seen : {X Y : Type 0} (view : X → Y) (test : Y → Bool) (xs : List X) → list_any (λ x. test (view x)) xs ≡ list_any test (map view xs)
-any_seen view test [] = refl
-any_seen view test (x ∷ xs) = ap (λ b. test (view x) || b) (any_seen view test xs)
-
-pub any_alike : {X : Type 0} (p q : X → Bool) → ((x : X) → p x ≡ q x) → (xs : List X) → list_any p xs ≡ list_any q xs
-any_alike p q same [] = refl
-any_alike p q same (x ∷ xs) = ap (λ b. b || list_any p xs) (same x) ∙ ap (λ b. q x || b) (any_alike p q same xs)
 
 -- a literal is met
 pub literal_met : (ks : List TextKey) (k : TextKey) (xs : List (List ℕ)) → map text_of_key ks ≡ each_once same_text xs →
@@ -32,7 +25,7 @@ literal_met ks k xs e = by_test (list_any (λ q. same_text x (text_of_key q)) ks
     x = text_of_key k
 
     among : list_any (λ q. same_text x (text_of_key q)) ks ≡ list_any (λ z. same_text z x) (each_once same_text xs)
-    among = any_seen text_of_key (same_text x) ks ∙ ap (list_any (same_text x)) e ∙ any_alike (same_text x) (λ z. same_text z x) (λ z. text_equivalence.symm x z) (each_once same_text xs)
+    among = sym (list_any-map text_of_key (same_text x) ks) ∙ ap (list_any (same_text x)) e ∙ list_any_congr (same_text x) (λ z. same_text z x) (λ z. text_equivalence.symm x z) (each_once same_text xs)
 
     by_test : (b : Bool) → list_any (λ q. same_text x (text_of_key q)) ks ≡ b →
         map text_of_key (if b then ks else ks ++ k ∷ []) ≡ (if list_any (λ z. same_text z x) (each_once same_text xs) then each_once same_text xs else each_once same_text xs ++ x ∷ [])
@@ -74,7 +67,7 @@ all_among_once xs = among [] xs
 
     one : (pre : List (List ℕ)) (s : List ℕ) (rest : List (List ℕ)) → list_any (same_text s) (each_once same_text (pre ++ s ∷ rest)) ≡ true
     one pre s rest =
-        any_alike (same_text s) (λ z. same_text z s) (λ z. text_equivalence.symm s z) (each_once same_text (pre ++ s ∷ rest)) ∙ any_once same_text text_equivalence s (pre ++ s ∷ rest) ∙ above s pre rest
+        list_any_congr (same_text s) (λ z. same_text z s) (λ z. text_equivalence.symm s z) (each_once same_text (pre ++ s ∷ rest)) ∙ any_once same_text text_equivalence s (pre ++ s ∷ rest) ∙ above s pre rest
 
     among : (pre rest : List (List ℕ)) → list_all (λ s. list_any (same_text s) (each_once same_text (pre ++ rest))) rest ≡ true
     among pre [] = refl

@@ -22,6 +22,7 @@ use Rattle.cil_model.specs.Declarations.{Declaration, declaration_of}
 use Rattle.cil_model.specs.Bodies.{place_of, virtual_reference, constructor_reference}
 use Rattle.cil_model.specs.Chains.{find_field, find_method}
 use Rattle.cil_model.specs.Mentions.{literals_of}
+use Rattle.cil_model.proofs.Lists.{none_is_some, find_passes}
 use Rattle.cil_model.proofs.SameLaws.{same_text_equal}
 use Rattle.name_tables.specs.declared.lookups.MemberNumber.{MemberNumber}
 use Rattle.name_tables.specs.Numbers.{class_number, field_number, method_number, field_at, method_at, declarations}
@@ -45,21 +46,15 @@ use Rattle.resolved_code.specs.Rules.{all_some, if_named, element_rule, type_rul
 
 -- ---- what was found, taken apart
 
-none_some : {A X : Type 0} (x : X) → None ≡ Some x → A
-none_some {A} {X} x e = absurd (lost e)
-  where
-    lost : None ≡ Some x → ⊥
-    lost h = cc
-
 given : {X : Type 0} (P : X → Type 0) (x y : X) → Some x ≡ Some y → P x → P y
 given P x y e p = let f : x ≡ y = cc in subst P f p
 
 mapped : {X Y : Type 0} (P : Y → Type 0) (f : X → Y) (o : Option X) (y : Y) → option_map f o ≡ Some y → ((x : X) → o ≡ Some x → P (f x)) → P y
-mapped P f None y e each = none_some y e
+mapped P f None y e each = none_is_some y e
 mapped P f (Some x) y e each = given P (f x) y e (each x refl)
 
 chosen : {X Y : Type 0} {P : Type 0} (f : X → Option Y) (o : Option X) (y : Y) → option_and_then f o ≡ Some y → ((x : X) → o ≡ Some x → f x ≡ Some y → P) → P
-chosen f None y e each = none_some y e
+chosen f None y e each = none_is_some y e
 chosen f (Some x) y e each = each x refl e
 
 -- ---- lists
@@ -86,22 +81,13 @@ named_back : {X Y : Type 0} (back : Y → Option X) (rule : X → Option Y) → 
 named_back {X} {Y} back rule stands None p h = given (λ (q : Option Y). option_map back q ≡ None) None p h refl
 named_back {X} {Y} back rule stands (Some x) p h = mapped (λ (q : Option Y). option_map back q ≡ Some (Some x)) Some (rule x) p h (λ y e. ap Some (stands x y e))
 
--- what is found passes
-passes : {X : Type 0} (test : X → Bool) (xs : List X) (x : X) → find test xs ≡ Some x → test x ≡ true
-passes test [] x e = none_some x e
-passes {X} test (y ∷ ys) x e = by_test (passes test ys x) (test y) refl e
-  where
-    by_test : (find test ys ≡ Some x → test x ≡ true) → (b : Bool) → test y ≡ b → cond b (Some y) (find test ys) ≡ Some x → test x ≡ true
-    by_test further true h k = given (λ (z : X). test z ≡ true) y x k h
-    by_test further false h k = further k
-
 -- the item at the place where a text is found
 found_text : (s : List ℕ) (i : ℕ) (xs : List (List ℕ)) → position_from (same_text s) 0 xs ≡ Some i → slice_get xs i ≡ Some s
 found_text s i xs h = by_find (find (same_text s) xs) refl
   where
     by_find : (o : Option (List ℕ)) → find (same_text s) xs ≡ o → slice_get xs i ≡ Some s
-    by_find None e = none_some (slice_get xs i) (sym (sym (ap (option_map (slice_get xs)) h) ∙ found_at_place (same_text s) xs ∙ ap (option_map Some) e))
-    by_find (Some x) e = found_some (same_text s) xs i h ∙ e ∙ ap Some (sym (same_text_equal s x (passes (same_text s) xs x e)))
+    by_find None e = none_is_some (slice_get xs i) (sym (sym (ap (option_map (slice_get xs)) h) ∙ found_at_place (same_text s) xs ∙ ap (option_map Some) e))
+    by_find (Some x) e = found_some (same_text s) xs i h ∙ e ∙ ap Some (sym (same_text_equal s x (find_passes (same_text s) xs x e)))
 
 module _ (tree : Tree) where
   -- ---- classes and types
@@ -132,14 +118,14 @@ module _ (tree : Tree) where
   field_stands is_static r m h = mapped (IsField tree is_static r) member_of (field_number tree is_static r) m h (λ p e. by_found p e (find_field tree is_static r) refl (sym (ap (option_map (field_at tree)) e) ∙ field_is_numbered tree is_static r))
     where
       by_found : (p : ℕ × ℕ) → field_number tree is_static r ≡ Some p → (f : Option (ClassName × Field)) → find_field tree is_static r ≡ f → Some (field_at tree p) ≡ option_map Some f → IsField tree is_static r (member_of p)
-      by_found p e None k g = none_some (field_at tree p) (sym g)
+      by_found p e None k g = none_is_some (field_at tree p) (sym g)
       by_found p e (Some x) k g = record { declared_in = x.0; found = x.1; finds = k; numbered = (let s : field_at tree p ≡ Some x = cc in s) }
 
   pub method_stands : (is_instance : Bool) (r : MethodReference) (m : MemberNumber) → method_rule tree is_instance r ≡ Some m → IsMethod tree is_instance r m
   method_stands is_instance r m h = mapped (IsMethod tree is_instance r) member_of (method_number tree is_instance r) m h (λ p e. by_found p e (find_method tree is_instance r) refl (sym (ap (option_map (method_at tree)) e) ∙ method_is_numbered tree is_instance r))
     where
       by_found : (p : ℕ × ℕ) → method_number tree is_instance r ≡ Some p → (f : Option (ClassName × Method)) → find_method tree is_instance r ≡ f → Some (method_at tree p) ≡ option_map Some f → IsMethod tree is_instance r (member_of p)
-      by_found p e None k g = none_some (method_at tree p) (sym g)
+      by_found p e None k g = none_is_some (method_at tree p) (sym g)
       by_found p e (Some x) k g = record { declared_in = x.0; found = x.1; finds = k; numbered = (let s : method_at tree p ≡ Some x = cc in s) }
 
   owned : (P : Operation → Type 0) (c : ClassName) (make : ℕ → MemberNumber → Operation) (member : Option MemberNumber) (o : Operation) → with_owner tree c make member ≡ Some o →

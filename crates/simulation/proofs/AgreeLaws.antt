@@ -1,8 +1,9 @@
 -- What agreeing lists have in common, and what changes keep them agreeing.
 use Rattle.std.proofs.Common.{◌≡◌, ℕ, zero, suc, List, [], ◌∷◌, ◌++◌, map, length, take, drop, reverse, Some, None, slice_get, slice_set, refl, sym, ap, subst}
 use Rattle.std.proofs.lemmas.List.{reverse-append}
-use Rattle.interpreter.proofs.cil_model.BelowLaws.{none_is_some, same_some}
+use Rattle.std.proofs.lemmas.Option.{same_Some}
 use Rattle.simulation.specs.Agreement.{Agree}
+use Rattle.interpreter.proofs.cil_model.Lists.{none_is_some}
 
 module _ {A B : Type 0} (R : A → B → Type 0) where
   -- ---- how long they are
@@ -18,7 +19,7 @@ module _ {A B : Type 0} (R : A → B → Type 0) where
   -- an element of the second is at the same place of the first
   pub agree_get : (xs : List A) (ys : List B) → Agree R xs ys → (n : ℕ) (y : B) → slice_get ys n ≡ Some y → (x : A) × (slice_get xs n ≡ Some x) × R x y
   agree_get [] [] h n y is = none_is_some y is
-  agree_get (x ∷ xs) (z ∷ zs) h zero y is = (x, refl, subst (λ w. R x w) (same_some z y is) h.0)
+  agree_get (x ∷ xs) (z ∷ zs) h zero y is = (x, refl, subst (λ w. R x w) (same_Some z y is) h.0)
   agree_get (x ∷ xs) (z ∷ zs) h (suc n) y is = agree_get xs zs h.1 n y is
   agree_get [] (z ∷ zs) h n y is = elim h [ ]
   agree_get (x ∷ xs) [] h n y is = elim h [ ]
@@ -26,7 +27,7 @@ module _ {A B : Type 0} (R : A → B → Type 0) where
   -- and one of the first at that of the second
   pub agree_at : (xs : List A) (ys : List B) → Agree R xs ys → (n : ℕ) (x : A) → slice_get xs n ≡ Some x → (y : B) × (slice_get ys n ≡ Some y) × R x y
   agree_at [] [] h n x is = none_is_some x is
-  agree_at (z ∷ zs) (y ∷ ys) h zero x is = (y, refl, subst (λ w. R w y) (same_some z x is) h.0)
+  agree_at (z ∷ zs) (y ∷ ys) h zero x is = (y, refl, subst (λ w. R w y) (same_Some z x is) h.0)
   agree_at (z ∷ zs) (y ∷ ys) h (suc n) x is = agree_at zs ys h.1 n x is
   agree_at [] (y ∷ ys) h n x is = elim h [ ]
   agree_at (z ∷ zs) [] h n x is = elim h [ ]

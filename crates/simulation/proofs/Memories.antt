@@ -4,7 +4,6 @@ use Rattle.std.proofs.lemmas.Bool.Decides.{nat_tests}
 use Rattle.interpreter.specs.cil_model.declared.trees.Tree.{Tree}
 use Rattle.interpreter.specs.cil_model.Fields.{FieldKey}
 use Rattle.interpreter.specs.cil_model.Same.{same_text}
-use Rattle.interpreter.proofs.cil_model.BelowLaws.{none_is_some}
 use Rattle.interpreter.specs.reference_machine.Rooms.{words_of_all}
 use Rattle.interpreter.specs.reference_machine.Values.{ObjectName, Value as StateValue}
 use Rattle.interpreter.specs.reference_machine.States.{State, entry_at}
@@ -12,6 +11,7 @@ use Rattle.interpreter.specs.object_memory.declared.values.Value.{Value}
 use Rattle.interpreter.specs.object_memory.Objects.{Objects}
 use Rattle.simulation.specs.Agreement.{Agree}
 use Rattle.simulation.specs.StandsFor.{Names, IsValue, IsHeap, IsMemory}
+use Rattle.interpreter.proofs.cil_model.Lists.{none_is_some}
 
 module _ (tree : Tree) (name : Names) (o : Objects) (s : State) (heap : IsHeap tree name o s) where
   -- the address of an object isn't null

@@ -3,10 +3,10 @@ use Rattle.std.proofs.Common.{◌≡◌, ◌<◌, ◌+◌, ℕ, zero, suc, Bool,
 use Rattle.std.specs.Prelude.{nat_le}
 use Rattle.std.proofs.lemmas.Bool.Decides.{nat_tests}
 use Rattle.std.proofs.lemmas.List.Sums.{sum_by-cons}
+use Rattle.std.proofs.lemmas.Option.{same_Some}
 use Rattle.interpreter.specs.cil_model.declared.trees.Tree.{Tree}
 use Rattle.interpreter.specs.cil_model.Chains.{is_thread_class}
 use Rattle.interpreter.specs.cil_model.Fields.{FieldKey}
-use Rattle.interpreter.proofs.cil_model.BelowLaws.{none_is_some, same_some}
 use Rattle.interpreter.specs.reference_machine.Rooms.{cell_words, words_of_all}
 use Rattle.interpreter.specs.reference_machine.States.{Contents, Instance as IsInstance, Array as IsArray, HeapObject}
 use Rattle.interpreter.specs.reference_machine.Values.{Value as StateValue}
@@ -17,6 +17,7 @@ use Rattle.interpreter.specs.object_memory.Cells.{Cell, Cells, free_words, new_c
 use Rattle.interpreter.specs.object_memory.Objects.{Objects, with_birth}
 use Rattle.simulation.specs.StandsFor.{Names, IsCell, IsOfContents, IsWord, thread_word}
 use Rattle.simulation.proofs.AgreeLaws.{agree_length}
+use Rattle.interpreter.proofs.cil_model.Lists.{none_is_some}
 
 -- ---- the words of a cell
 
@@ -44,7 +45,7 @@ pub words_stay : (tree : Tree) (objects : List HeapObject) (n : ℕ) (old new : 
 words_stay tree [] n old new is same = none_is_some old is
 words_stay tree (o ∷ os) zero old new is same =
     let words : HeapObject → ℕ = λ x. cell_words tree x.contents in
-    let first : words o ≡ words old = ap words (same_some o old is) in
+    let first : words o ≡ words old = ap words (same_Some o old is) in
     omega (arith, sum_by-cons words new os, sum_by-cons words o os, first, same)
 words_stay tree (o ∷ os) (suc n) old new is same =
     let words : HeapObject → ℕ = λ x. cell_words tree x.contents in

@@ -1,6 +1,6 @@
 -- What follows where a machine represents a state of the reference machine.
 use Rattle.std.proofs.Common.{◌≡◌, ◌≢◌, ◌<◌, ℕ, zero, suc, true, false, List, [], ◌∷◌, map, length, Option, Some, None, option_map, slice_get, is_none, refl, sym, ap, ◌∙◌, arith, subst}
-use Rattle.std.proofs.lemmas.Option.{option_and_then_some}
+use Rattle.std.proofs.lemmas.Option.{option_and_then_some, same_Some}
 use Rattle.std.specs.List.{zip}
 use Rattle.std.specs.Option.{option_map_or}
 use Rattle.interpreter.specs.cil_model.declared.types.ClassName.{ClassName}
@@ -12,7 +12,6 @@ use Rattle.interpreter.specs.cil_model.declared.limits.Limits.{Limits}
 use Rattle.interpreter.specs.cil_model.declared.reports.End.{End}
 use Rattle.interpreter.specs.cil_model.declared.reports.Report.{Report}
 use Rattle.interpreter.specs.cil_model.Bodies.{code_of, entry_points}
-use Rattle.interpreter.proofs.cil_model.BelowLaws.{none_is_some, same_some}
 use Rattle.interpreter.specs.reference_machine.States.{Frame as StateFrame, State, Thread as StateThread}
 use Rattle.interpreter.specs.reference_machine.Rooms.{RefusesBeyondRoom}
 use Rattle.interpreter.specs.reference_machine.Runs.{opening, opening_at, run, thread_part}
@@ -26,6 +25,7 @@ use Rattle.simulation.specs.MachineContents.{Content}
 use Rattle.simulation.specs.Runs.{FollowsReference, RunsAlike, StandsAfter}
 use Rattle.simulation.specs.StandsFor.{IsThread, Names, Represents, StandsAlike}
 use Rattle.simulation.proofs.AgreeLaws.{agree_at}
+use Rattle.interpreter.proofs.cil_model.Lists.{none_is_some}
 
 -- ---- how threads stand, and what was printed
 
@@ -56,12 +56,12 @@ opened_budget : (tree : Tree) (limits : Limits) (s : State) → opening tree lim
 opened_budget tree limits s opens t u there = option_and_then_some _ (slice_get (entry_points tree) 0) s opens (λ entry is h. by_code entry (code_of entry.1.kind) h)
   where
     opened : (entry : ClassName × Method) (code : Code) (n : ℕ) → slice_get (opening_at tree limits entry code).threads n ≡ Some u → u.steps_left ≡ limits.budget
-    opened entry code zero is = sym (ap (λ (x : StateThread). x.steps_left) (same_some _ u is))
+    opened entry code zero is = sym (ap (λ (x : StateThread). x.steps_left) (same_Some _ u is))
     opened entry code (suc n) is = none_is_some u is
 
     by_code : (entry : ClassName × Method) (o : Option Code) → option_map (opening_at tree limits entry) o ≡ Some s → u.steps_left ≡ limits.budget
     by_code entry None e = none_is_some s e
-    by_code entry (Some code) e = opened entry code t (ap (λ (x : State). slice_get x.threads t) (same_some (opening_at tree limits entry code) s e) ∙ there)
+    by_code entry (Some code) e = opened entry code t (ap (λ (x : State). slice_get x.threads t) (same_Some (opening_at tree limits entry code) s e) ∙ there)
 
 module _ (tree : Tree) (limits : Limits) (c : Content) (s : State) (opens : opening tree limits ≡ Some s) (r : Represents c s) (same : c.limits ≡ limits) where
   -- so it is on the machine

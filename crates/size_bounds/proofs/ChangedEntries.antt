@@ -1,15 +1,8 @@
 -- What is in a list after a change of one place.
-use Rattle.std.proofs.Common.{◌≡◌, ◌⊎◌, ℕ, zero, suc, Bool, true, false, if◌then◌else◌, List, [], ◌∷◌, ◌++◌, Some, slice_get, slice_set, refl, inl, inr, sym, ap}
-use Rattle.cil_model.proofs.BelowLaws.{none_is_some, same_some}
+use Rattle.std.proofs.Common.{◌≡◌, ◌⊎◌, ℕ, zero, suc, Bool, true, false, if◌then◌else◌, List, [], ◌∷◌, Some, slice_get, slice_set, refl, inl, inr, sym, ap}
+use Rattle.std.proofs.lemmas.Option.{same_Some}
 use Rattle.reference_machine.specs.States.{entry_at, with_entry}
-
--- what is there after a change of one place is the new one, or was there
-pub set_or_was : {X : Type 0} (xs : List X) (n m : ℕ) (y x : X) → slice_get (slice_set xs n y) m ≡ Some x → (x ≡ y) ⊎ (slice_get xs m ≡ Some x)
-set_or_was [] n m y x e = none_is_some x e
-set_or_was (z ∷ zs) zero zero y x e = inl (sym (same_some y x e))
-set_or_was (z ∷ zs) zero (suc m) y x e = inr e
-set_or_was (z ∷ zs) (suc n) zero y x e = inr e
-set_or_was (z ∷ zs) (suc n) (suc m) y x e = set_or_was zs n m y x e
+use Rattle.cil_model.proofs.Lists.{none_is_some}
 
 -- what was there stays, or its place is the one that changed
 pub set_or_stays : {X : Type 0} (xs : List X) (n m : ℕ) (y x : X) → slice_get xs m ≡ Some x → (m ≡ n) ⊎ (slice_get (slice_set xs n y) m ≡ Some x)
@@ -23,26 +16,13 @@ set_or_stays (z ∷ zs) (suc n) (suc m) y x e = by_place (set_or_stays zs n m y 
     by_place (inl same) = inl (ap suc same)
     by_place (inr stays) = inr stays
 
--- at a place that something was at, the change is there
-pub set_is_there : {X : Type 0} (xs : List X) (n : ℕ) (y x : X) → slice_get xs n ≡ Some x → slice_get (slice_set xs n y) n ≡ Some y
-set_is_there [] n y x e = none_is_some x e
-set_is_there (z ∷ zs) zero y x e = refl
-set_is_there (z ∷ zs) (suc n) y x e = set_is_there zs n y x e
-
--- what is there with one more at the end is that one, or was there
-pub last_or_was : {X : Type 0} (xs : List X) (m : ℕ) (y x : X) → slice_get (xs ++ y ∷ []) m ≡ Some x → (x ≡ y) ⊎ (slice_get xs m ≡ Some x)
-last_or_was [] zero y x e = inl (sym (same_some y x e))
-last_or_was [] (suc m) y x e = none_is_some x e
-last_or_was (z ∷ zs) zero y x e = inr e
-last_or_was (z ∷ zs) (suc m) y x e = last_or_was zs m y x e
-
 -- what is under a key after a change of one entry is the new value, or was there
 pub entry_or_was : {K V : Type 0} (same : K → K → Bool) (j k : K) (v w : V) (es : List (K × V)) → entry_at same j (with_entry same k v es) ≡ Some w → (w ≡ v) ⊎ (entry_at same j es ≡ Some w)
 entry_or_was same j k v w [] h = inr h
 entry_or_was {K} {V} same j k v w (e ∷ es) h = by_change (same e.0 k) h (entry_or_was same j k v w es)
   where
     at_change : (b : Bool) → (if b then Some v else entry_at same j es) ≡ Some w → (w ≡ v) ⊎ ((if b then Some e.1 else entry_at same j es) ≡ Some w)
-    at_change true h' = inl (sym (same_some v w h'))
+    at_change true h' = inl (sym (same_Some v w h'))
     at_change false h' = inr h'
 
     before_change : (b : Bool) → (if b then Some e.1 else entry_at same j (with_entry same k v es)) ≡ Some w → (entry_at same j (with_entry same k v es) ≡ Some w → (w ≡ v) ⊎ (entry_at same j es ≡ Some w)) →

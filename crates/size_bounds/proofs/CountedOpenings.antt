@@ -1,6 +1,6 @@
 -- The opening state is counted.
 use Rattle.std.proofs.Common.{◌≡◌, ◌≤◌, ℕ, zero, suc, Bool, true, false, if◌then◌else◌, List, [], ◌∷◌, map, Option, Some, None, option_map, slice_get, sym, ap, subst, arith}
-use Rattle.std.proofs.lemmas.Option.{option_and_then_some}
+use Rattle.std.proofs.lemmas.Option.{option_and_then_some, same_Some}
 use Rattle.cil_model.specs.declared.types.ClassName.{ClassName}
 use Rattle.cil_model.specs.declared.trees.Tree.{Tree}
 use Rattle.cil_model.specs.declared.trees.Method.{Method}
@@ -9,10 +9,10 @@ use Rattle.cil_model.specs.declared.limits.Limits.{Limits}
 use Rattle.cil_model.specs.Same.{same_text}
 use Rattle.cil_model.specs.Mentions.{literals_of}
 use Rattle.cil_model.specs.Bodies.{code_of, entry_points}
-use Rattle.cil_model.proofs.BelowLaws.{none_is_some, same_some}
 use Rattle.reference_machine.specs.States.{Monitor, Free, Thread, State, entry_at}
 use Rattle.reference_machine.specs.Runs.{opening_at, opening}
 use Rattle.size_bounds.specs.Counts.{IsCountedMonitor, IsCounted}
+use Rattle.cil_model.proofs.Lists.{none_is_some}
 
 -- no literal's monitor is held at first
 free_at_first : (cs : List (List ℕ)) (c : List ℕ) (m : Monitor) → entry_at same_text c (map (λ (d : List ℕ). (d, Free)) cs) ≡ Some m → Free ≡ m
@@ -20,7 +20,7 @@ free_at_first [] c m h = none_is_some m h
 free_at_first (d ∷ ds) c m h = by_test (same_text d c) h (free_at_first ds c m)
   where
     by_test : (b : Bool) → (if b then Some Free else entry_at same_text c (map (λ (x : List ℕ). (x, Free)) ds)) ≡ Some m → (entry_at same_text c (map (λ (x : List ℕ). (x, Free)) ds) ≡ Some m → Free ≡ m) → Free ≡ m
-    by_test true h' later = same_some Free m h'
+    by_test true h' later = same_Some Free m h'
     by_test false h' later = later h'
 
 module _ (tree : Tree) (limits : Limits) (allowed : 1 ≤ limits.budget) where
@@ -37,7 +37,7 @@ module _ (tree : Tree) (limits : Limits) (allowed : 1 ≤ limits.budget) where
       first = opening_at tree limits entry code
 
       whole : (n : ℕ) (t : Thread) → slice_get first.threads n ≡ Some t → t.steps_left ≡ limits.budget
-      whole zero t there = ap (λ (x : Thread). x.steps_left) (sym (same_some _ t there))
+      whole zero t there = ap (λ (x : Thread). x.steps_left) (sym (same_Some _ t there))
       whole (suc n) t there = none_is_some t there
 
   -- the opening state
@@ -46,4 +46,4 @@ module _ (tree : Tree) (limits : Limits) (allowed : 1 ≤ limits.budget) where
     where
       by_code : (entry : ClassName × Method) (code : Option Code) → option_map (opening_at tree limits entry) code ≡ Some s → IsCounted limits s
       by_code entry None e = none_is_some s e
-      by_code entry (Some code) e = subst (λ x. IsCounted limits x) (same_some (opening_at tree limits entry code) s e) (opening_at_counted entry code)
+      by_code entry (Some code) e = subst (λ x. IsCounted limits x) (same_Some (opening_at tree limits entry code) s e) (opening_at_counted entry code)

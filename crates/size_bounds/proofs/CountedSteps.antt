@@ -7,14 +7,14 @@ use Rattle.cil_model.specs.declared.reports.End.{End}
 use Rattle.cil_model.specs.declared.reports.End.TheVariants.{Done, Budget, Fault as ByFault}
 use Rattle.cil_model.specs.declared.reports.Report.{Report}
 use Rattle.cil_model.specs.declared.reports.Report.TheVariants.{Ran, Blocked, Absent}
-use Rattle.cil_model.proofs.BelowLaws.{none_is_some}
 use Rattle.reference_machine.specs.States.{Monitor, Free, Held, Frame, Thread, State}
 use Rattle.reference_machine.specs.Effects.{Setting, Effect, Goes, Blocks, Raises, Sticks}
 use Rattle.reference_machine.specs.Steps.{Outcome, Answers, Stuck, effect_of, with_thread_at, ended_as, goes_on, settled, step_of, step}
 use Rattle.size_bounds.specs.Counts.{IsCountedMonitor, IsCounted}
-use Rattle.size_bounds.proofs.ChangedEntries.{set_or_was, set_or_stays, set_is_there}
+use Rattle.size_bounds.proofs.ChangedEntries.{set_or_stays}
 use Rattle.size_bounds.proofs.StateChanges.{IsStepping, IsCountedAfter, KeepsCounts, own_count, itself_keeps}
 use Rattle.size_bounds.proofs.InstructionSteps.{KeepsInEffect, goes, effect_keeps}
+use Rattle.cil_model.proofs.Lists.{none_is_some, set_or_was, set_is_there}
 
 -- a state that an outcome answers is counted
 abbrev LeavesCounted : Limits → Outcome → Type 0

@@ -4,7 +4,7 @@ use Rattle.std.specs.List.{list_all}
 use Rattle.std.proofs.lemmas.Bool.{leb-true}
 use Rattle.std.proofs.lemmas.List.{length-map}
 use Rattle.std.proofs.lemmas.List.Folds.{list_all-map}
-use Rattle.std.proofs.lemmas.Option.{slice_get_within}
+use Rattle.std.proofs.lemmas.Option.{slice_get_within, same_Some}
 use Rattle.cil_model.specs.declared.types.ClassName.{ClassName}
 use Rattle.cil_model.specs.declared.types.DeclaredType.{DeclaredType}
 use Rattle.cil_model.specs.declared.trees.Tree.{Tree}
@@ -14,12 +14,12 @@ use Rattle.cil_model.specs.Declarations.{Declaration}
 use Rattle.cil_model.specs.Chains.{is_thread_class}
 use Rattle.cil_model.specs.Fields.{FieldKey, same_key, instance_fields, static_fields, hidden_slots, slot_types, instance_slot, static_slot}
 use Rattle.cil_model.specs.Legality.{IsLegal, is_small_class}
+use Rattle.cil_model.proofs.Lists.{none_is_some}
 use Rattle.cil_model.proofs.SameLaws.{both_first}
-use Rattle.cil_model.proofs.BelowLaws.{none_is_some, same_some}
-use Rattle.name_tables.specs.Numbers.{declarations, source_entry}
-use Rattle.resolved_code.specs.Numbered.{class_name}
+use Rattle.programs.specs.name_tables.Numbers.{declarations, source_entry}
+use Rattle.programs.specs.resolved_code.Numbered.{class_name}
 use Rattle.size_bounds.proofs.Lists.{item_passes, all_weaker, found_within}
-use Rattle.size_bounds.proofs.Limits.{source_classes_few, static_fields_few, source_classes_small}
+use Rattle.programs.proofs.Limits.{source_classes_few, static_fields_few, source_classes_small}
 
 module _ (tree : Tree) (legal : IsLegal tree) where
   -- the entry of a class with this number
@@ -28,7 +28,7 @@ module _ (tree : Tree) (legal : IsLegal tree) where
     where
       by_entry : (o : Option (ClassName × Declaration)) → slice_get (declarations tree) n ≡ o → option_map (λ (e : ClassName × Declaration). e.0) o ≡ Some c → (d : Declaration) × (slice_get (declarations tree) n ≡ Some (c, d))
       by_entry None at e = none_is_some c e
-      by_entry (Some (k, d)) at e = (d, at ∙ ap (λ z. Some (z, d)) (same_some k c e))
+      by_entry (Some (k, d)) at e = (d, at ∙ ap (λ z. Some (z, d)) (same_Some k c e))
 
   -- the number of a class has 16 bits
   pub class_number_small : (n : ℕ) (c : ClassName) → class_name tree n ≡ Some c → n < 2 ^ 16

@@ -6,16 +6,17 @@ use Rattle.std.proofs.lemmas.List.Concat.{length-flat_map}
 use Rattle.std.proofs.lemmas.List.Elements.{All-weaker}
 use Rattle.std.proofs.lemmas.List.Folds.{list_all-append}
 use Rattle.std.proofs.lemmas.List.Sums.{AllPass-from_list_all, list_all-from_AllPass, length-filter, count_by-le-length, sum_by-le}
+use Rattle.std.proofs.lemmas.Option.{same_Some}
 use Rattle.cil_model.specs.Mentions.{each_once}
+use Rattle.cil_model.proofs.Lists.{none_is_some}
 use Rattle.cil_model.proofs.SameLaws.{both_first, both_second}
-use Rattle.cil_model.proofs.BelowLaws.{none_is_some, same_some}
 
 -- ---- tests
 
 -- what all items pass, the one at a place passes
 pub item_passes : {X : Type 0} (test : X → Bool) (xs : List X) (n : ℕ) (x : X) → IsTrue (list_all test xs) → slice_get xs n ≡ Some x → IsTrue (test x)
 item_passes test [] n x all e = none_is_some x e
-item_passes test (y ∷ ys) zero x all e = subst (λ z. IsTrue (test z)) (same_some y x e) (both_first _ _ all)
+item_passes test (y ∷ ys) zero x all e = subst (λ z. IsTrue (test z)) (same_Some y x e) (both_first _ _ all)
 item_passes test (y ∷ ys) (suc n) x all e = item_passes test ys n x (both_second _ _ all) e
 
 -- a look-up finds nothing, or an item that passes its test and what all items pass
@@ -44,7 +45,7 @@ found_within test first [] n e = none_is_some n e
 found_within test first (x ∷ xs) n e = by_test (test x) e (found_within test (first + 1) xs n)
   where
     by_test : (b : Bool) → cond b (Some first) (position_from test (first + 1) xs) ≡ Some n → (position_from test (first + 1) xs ≡ Some n → n < first + 1 + length xs) → n < first + length (x ∷ xs)
-    by_test true h later = omega (arith, same_some first n h)
+    by_test true h later = omega (arith, same_Some first n h)
     by_test false h later = omega (arith, later h)
 
 -- short parts make no long whole

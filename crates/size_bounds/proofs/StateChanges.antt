@@ -1,16 +1,15 @@
 -- What a step of a thread may make of monitors and threads, and that each change of a state is so.
 use Rattle.std.proofs.Common.{◌≡◌, ◌≤◌, ◌+◌, ◌⊎◌, ℕ, List, [], ◌∷◌, ◌++◌, Option, Some, None, option_map, slice_get, unwrap_or, refl, inl, inr, sym, ap, ◌∙◌, subst}
-use Rattle.std.proofs.lemmas.Option.{option_and_then_some}
+use Rattle.std.proofs.lemmas.Option.{option_and_then_some, same_Some}
 use Rattle.cil_model.specs.declared.types.DeclaredType.{DeclaredType}
 use Rattle.cil_model.specs.Same.{same_text}
 use Rattle.cil_model.specs.Fields.{FieldKey}
-use Rattle.cil_model.proofs.BelowLaws.{none_is_some, same_some}
 use Rattle.reference_machine.specs.Values.{ObjectName, Born, Literal, Value}
 use Rattle.reference_machine.specs.States.{Monitor, Free, Held, Contents, Array, HeapObject, Thread, State, entry_at, replaced_entry, replaced_at, fields_of_contents, elements_of_contents, with_fields, with_field, with_element, object_at, with_object, monitor_of, with_monitor, with_birth}
 use Rattle.reference_machine.specs.Effects.{Setting}
-use Rattle.reference_machine.proofs.RunLaws.{get_before}
 use Rattle.size_bounds.specs.Counts.{IsCountedMonitor, IsCounted}
-use Rattle.size_bounds.proofs.ChangedEntries.{set_or_was, last_or_was, entry_or_was}
+use Rattle.size_bounds.proofs.ChangedEntries.{entry_or_was}
+use Rattle.cil_model.proofs.Lists.{none_is_some, get_before, set_or_was, last_or_was}
 
 -- a thread of a counted state that has so many steps left after the one that it makes
 pub record IsStepping (here : Setting) (s : State) (left : ℕ) : Type 0 where
@@ -50,13 +49,13 @@ module _ (here : Setting) (s : State) (left : ℕ) (stepping : IsStepping here s
     where
       by_object : (o : Option HeapObject) → slice_get s.objects n ≡ o → option_map (λ (x : HeapObject). x.monitor) o ≡ Some m → IsCountedMonitor here.limits s m
       by_object None is h' = none_is_some m h'
-      by_object (Some o) is h' = subst (λ x. IsCountedMonitor here.limits s x) (same_some o.monitor m h') (stepping.counted.objects n o is)
+      by_object (Some o) is h' = subst (λ x. IsCountedMonitor here.limits s x) (same_Some o.monitor m h') (stepping.counted.objects n o is)
   monitor_counted (Literal characters) m h = stepping.counted.literals characters m h
 
   -- the thread's own count with its steps stays within the budget
   pub own_count : (owner count : ℕ) → owner ≡ here.thread → IsCountedMonitor here.limits s (Held owner count) → count + (left + 1) ≤ here.limits.budget
   own_count owner count own (t, there, within) =
-      let same : t ≡ stepping.thread = same_some t stepping.thread (sym there ∙ ap (slice_get s.threads) own ∙ stepping.there) in
+      let same : t ≡ stepping.thread = same_Some t stepping.thread (sym there ∙ ap (slice_get s.threads) own ∙ stepping.there) in
       subst (λ x. count + x ≤ here.limits.budget) (ap (λ (x : Thread). x.steps_left) same ∙ stepping.one_less) within
 
   -- its steps alone do too
@@ -117,7 +116,7 @@ module _ (here : Setting) (s : State) (left : ℕ) (stepping : IsStepping here s
       by_fields : (o : HeapObject) → object_at s n ≡ Some o → (fields : Option (List (FieldKey × Value))) → option_map (λ es. with_object s n (record o { contents = with_fields o.contents es })) fields ≡ Some after → KeepsCounts here s left after
       by_fields o there None e = none_is_some after e
       by_fields o there (Some fields) e =
-          subst (λ x. KeepsCounts here s left x) (same_some _ after e) (object_keeps n (record o { contents = with_fields o.contents fields }) (inl (object_counted n o there)))
+          subst (λ x. KeepsCounts here s left x) (same_Some _ after e) (object_keeps n (record o { contents = with_fields o.contents fields }) (inl (object_counted n o there)))
 
   -- another element of an array
   pub element_keeps : (n : ObjectName) (i : ℕ) (v : Value) (after : State) → with_element s n i v ≡ Some after → KeepsCounts here s left after
@@ -129,7 +128,7 @@ module _ (here : Setting) (s : State) (left : ℕ) (stepping : IsStepping here s
       by_elements : (o : HeapObject) → object_at s n ≡ Some o → (t : DeclaredType) (elements : Option (List Value)) → option_map (λ vs. with_object s n (record o { contents = Array t vs })) elements ≡ Some after → KeepsCounts here s left after
       by_elements o there t None e = none_is_some after e
       by_elements o there t (Some elements) e =
-          subst (λ x. KeepsCounts here s left x) (same_some _ after e) (object_keeps n (record o { contents = Array t elements }) (inl (object_counted n o there)))
+          subst (λ x. KeepsCounts here s left x) (same_Some _ after e) (object_keeps n (record o { contents = Array t elements }) (inl (object_counted n o there)))
 
   -- other static fields, or other text printed
   pub aside_keeps : (statics : List (FieldKey × Value)) (printed : List ℕ) → KeepsCounts here s left (record s { statics = statics; printed = printed })

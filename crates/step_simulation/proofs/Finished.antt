@@ -1,8 +1,9 @@
 -- What a step leaves, by what its instruction comes to.
 use Rattle.std.proofs.Common.{◌≡◌, ◌⊎◌, ◌<◌, ◌≤◌, ◌+◌, ◌==◌, ℕ, zero, suc, Bool, true, false, nat_le, if◌then◌else◌, is_some, List, [], ◌∷◌, ◌++◌, length, Option, Some, None, option_map, option_and_then, slice_get, slice_set, refl, inl, inr, sym, ap, ◌∙◌, subst, arith, ◌-◌}
 use Rattle.std.proofs.lemmas.Bool.Decides.{nat_tests}
-use Rattle.std.proofs.lemmas.List.{length-append}
+use Rattle.std.proofs.lemmas.List.{length-append, length-set}
 use Rattle.std.specs.Option.{option_map_or}
+use Rattle.std.proofs.lemmas.Option.{same_Some}
 use Rattle.object_simulation.specs.simulation.cil_model.declared.events.Event.{Event}
 use Rattle.object_simulation.specs.simulation.cil_model.declared.events.Event.TheVariants.{Step, Ack, Gc}
 use Rattle.object_simulation.specs.simulation.cil_model.declared.limits.TheConstants.{MOST_THREADS}
@@ -11,7 +12,6 @@ use Rattle.object_simulation.specs.simulation.cil_model.declared.reports.Fault.T
 use Rattle.object_simulation.specs.simulation.cil_model.declared.reports.Report.{Report}
 use Rattle.object_simulation.specs.simulation.cil_model.declared.trees.Method.{Method}
 use Rattle.object_simulation.specs.simulation.cil_model.declared.types.ClassName.{ClassName}
-use Rattle.object_simulation.proofs.simulation.cil_model.BelowLaws.{none_is_some, same_some}
 use Rattle.object_simulation.specs.simulation.object_memory.declared.addresses.Addr.{Addr}
 use Rattle.object_simulation.specs.simulation.object_memory.declared.values.Value.TheVariants.{Ref}
 use Rattle.object_simulation.specs.simulation.object_memory.Objects.{Objects, with_slot}
@@ -33,11 +33,7 @@ use Rattle.step_simulation.proofs.Words.{instruction_keeps_words}
 use Rattle.object_simulation.specs.simulation.reference_machine.Runs.{is_refusal}
 use Rattle.object_simulation.proofs.simulation.Instructions.{is_refused_effect, is_refused_fault, is_refused_outcome}
 use Rattle.step_simulation.proofs.Settling.{refusal_of}
-
-pub set_length : {X : Type 0} (xs : List X) (n : ℕ) (x : X) → length (slice_set xs n x) ≡ length xs
-set_length [] n x = refl
-set_length (y ∷ ys) zero x = refl
-set_length (y ∷ ys) (suc n) x = ap suc (set_length ys n x)
+use Rattle.object_simulation.proofs.simulation.cil_model.Lists.{none_is_some}
 
 -- a thread that has begun beside these has its whole budget, and there was room for its number
 pub record HasBegun (budget : ℕ) (before threads : List Thread) : Type 0 where
@@ -71,7 +67,7 @@ module _ (c : Content) (t left : ℕ) (a : Answer) (after : Content × Report) w
       where
         by_number : (found : ClassName × Method) (k : Option ℕ) → option_map (thread_at c.limits found (Ref object ∷ [])) k ≡ Some new → new.steps_left ≡ c.limits.budget
         by_number found None e = none_is_some new e
-        by_number found (Some k) e = sym (ap (λ (x : Thread). x.steps_left) (same_some (thread_at c.limits found (Ref object ∷ []) k) new e))
+        by_number found (Some k) e = sym (ap (λ (x : Thread). x.steps_left) (same_Some (thread_at c.limits found (Ref object ∷ []) k) new e))
 
         by_found : (o : Option (ClassName × Method)) → option_and_then (λ (found : ClassName × Method). option_map (thread_at c.limits found (Ref object ∷ [])) (number_of c.tree found)) o ≡ Some new → new.steps_left ≡ c.limits.budget
         by_found None e = none_is_some new e
@@ -93,7 +89,7 @@ module _ (c : Content) (t left : ℕ) (a : Answer) (after : Content × Report) w
     fault_plain x fault = by_tests (object.number == 0) (is_some (thread_on a.1 object)) (nat_le MOST_THREADS (length threads)) fault
       where
         same : (y : Fault) → is_refused_fault y ≡ false → Some y ≡ Some x → is_refused_fault x ≡ false
-        same y plain e = ap is_refused_fault (sym (same_some y x e)) ∙ plain
+        same y plain e = ap is_refused_fault (sym (same_Some y x e)) ∙ plain
 
         by_tests : (null told full : Bool) → ◌≡◌ {A = Option Fault} (if null then Some NullReference else if told then Some ThreadState else if full then Some TooManyThreads else None) (Some x) → is_refused_fault x ≡ false
         by_tests true told full e = same NullReference refl e
@@ -109,7 +105,7 @@ module _ (c : Content) (t left : ℕ) (a : Answer) (after : Content × Report) w
       where
         by_fault : (f : Option Fault) → start_fault threads a.1 object ≡ f → (new : Option Thread) → thread_for c.tree c.limits a.1 object ≡ new →
             option_map started_in (option_map_or {U = Option (List Thread × Objects × Effect)} (λ x. Some (threads, a.1, Raises x)) f (option_map (with_start threads a.1 object) new)) ≡ Some after → IsFinished c t left a (Starts object) after
-        by_fault (Some x) fault new told e = alone (Starts object) (Raises x) a.0 (fault_plain x fault) (same_some (started_in (threads, a.1, Raises x)) after e)
+        by_fault (Some x) fault new told e = alone (Starts object) (Raises x) a.0 (fault_plain x fault) (same_Some (started_in (threads, a.1, Raises x)) after e)
         by_fault None fault None told e = none_is_some after e
         by_fault None fault (Some new) told e =
             let plain : with_start threads a.1 object new ≡ (threads ++ new ∷ [], with_slot a.1 object 0 (length threads + 1), GoesOn) =
@@ -119,7 +115,7 @@ module _ (c : Content) (t left : ℕ) (a : Answer) (after : Content × Report) w
               objects = with_slot a.1 object 0 (length threads + 1);
               effect = GoesOn;
               frames = after_request GoesOn a.0;
-              is = ap started_in (sym plain) ∙ same_some (started_in (with_start threads a.1 object new)) after e;
+              is = ap started_in (sym plain) ∙ same_Some (started_in (with_start threads a.1 object new)) after e;
               words = refl;
               refused = refl;
               are = inr (record { new = new; are = refl; whole = begins_whole new told; room = room_left fault });
@@ -142,9 +138,9 @@ module _ (c : Content) (t left : ℕ) (a : Answer) (after : Content × Report) w
       by_null false = by_thread (thread_on a.1 object)
 
   pub finished_by : (o : Outcome) → finished c t left a o ≡ Some after → IsFinished c t left a o after
-  finished_by (Comes e) is = alone (Comes e) e a.0 refl (same_some (counted (left_by c t left a) t left e a.0) after is)
+  finished_by (Comes e) is = alone (Comes e) e a.0 refl (same_Some (counted (left_by c t left a) t left e a.0) after is)
   finished_by (Joins object) is =
-      let effect = join_effect threads a.1 object in alone (Joins object) effect (after_request effect a.0) (join_plain object) (same_some (counted (left_by c t left a) t left effect (after_request effect a.0)) after is)
+      let effect = join_effect threads a.1 object in alone (Joins object) effect (after_request effect a.0) (join_plain object) (same_Some (counted (left_by c t left a) t left effect (after_request effect a.0)) after is)
   finished_by (Starts object) is = begins object is
 
   module _ (o : Outcome) (done : finished c t left a o ≡ Some after) where
@@ -170,8 +166,8 @@ module _ (c : Content) (t left : ℕ) (a : Answer) (after : Content × Report) w
     -- there are no more threads than there may be
     pub finished_few : length c.threads ≤ MOST_THREADS → length after.0.threads ≤ MOST_THREADS
     finished_few few =
-        let counted_length : length after.0.threads ≡ length way.threads = ap (λ (x : Content × Report). length x.0.threads) (sym way.is) ∙ set_length way.threads t _ in
-        let same : length threads ≡ length c.threads = set_length c.threads t _ in
+        let counted_length : length after.0.threads ≡ length way.threads = ap (λ (x : Content × Report). length x.0.threads) (sym way.is) ∙ length-set way.threads t _ in
+        let same : length threads ≡ length c.threads = length-set c.threads t _ in
         by_way counted_length same way.are
       where
         by_way : length after.0.threads ≡ length way.threads → length threads ≡ length c.threads → (way.threads ≡ threads) ⊎ HasBegun c.limits.budget threads way.threads → length after.0.threads ≤ MOST_THREADS

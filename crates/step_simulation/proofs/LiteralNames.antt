@@ -3,13 +3,13 @@ use Rattle.std.proofs.Common.{◌≡◌, ◌≤◌, ◌<◌, ◌+◌, ◌-◌, �
 use Rattle.std.specs.Prelude.{nat_lt}
 use Rattle.std.proofs.lemmas.Bool.Decides.{nat_tests}
 use Rattle.std.proofs.lemmas.List.{get_or-replicate, length-replicate}
-use Rattle.std.proofs.lemmas.Option.{slice_get-get_or, slice_get_within}
+use Rattle.std.proofs.lemmas.Option.{slice_get-get_or, slice_get_within, same_Some}
 use Rattle.object_simulation.specs.simulation.cil_model.declared.limits.TheConstants.{MOST_METHODS, MOST_INSTRUCTIONS}
 use Rattle.object_simulation.specs.simulation.cil_model.declared.trees.Tree.{Tree}
 use Rattle.object_simulation.specs.simulation.cil_model.Legality.{IsLegal}
 use Rattle.object_simulation.specs.simulation.cil_model.Mentions.{each_once, literal_of, instructions_of_tree, literals_of}
 use Rattle.object_simulation.specs.simulation.cil_model.Same.{same_text}
-use Rattle.object_simulation.proofs.simulation.cil_model.BelowLaws.{none_is_some, same_some}
+use Rattle.object_simulation.proofs.simulation.cil_model.Lists.{none_is_some}
 use Rattle.object_simulation.proofs.simulation.cil_model.SameLaws.{never, if_true, is_not, same_text_itself}
 use Rattle.object_simulation.specs.simulation.reference_machine.Values.{ObjectName, Literal}
 use Rattle.object_simulation.specs.simulation.reference_machine.States.{Free, entry_at}
@@ -73,7 +73,7 @@ same_for_each xs n x y e =
 -- a literal's monitor is free at first
 pub free_first : (cs : List (List ℕ)) (n : ℕ) (c : List ℕ) → slice_get cs n ≡ Some c → entry_at same_text c (map (λ (d : List ℕ). (d, Free)) cs) ≡ Some Free
 free_first [] n c e = none_is_some c e
-free_first (d ∷ ds) zero c e = if_true (same_text d c) (Some Free) (entry_at same_text c (map (λ (x : List ℕ). (x, Free)) ds)) (subst (λ x. IsTrue (same_text d x)) (same_some d c e) (same_text_itself d))
+free_first (d ∷ ds) zero c e = if_true (same_text d c) (Some Free) (entry_at same_text c (map (λ (x : List ℕ). (x, Free)) ds)) (subst (λ x. IsTrue (same_text d x)) (same_Some d c e) (same_text_itself d))
 free_first (d ∷ ds) (suc n) c e = by_test (same_text d c) (free_first ds n c e)
   where
     by_test : (b : Bool) → entry_at same_text c (map (λ (x : List ℕ). (x, Free)) ds) ≡ Some Free → (if b then Some Free else entry_at same_text c (map (λ (x : List ℕ). (x, Free)) ds)) ≡ Some Free
@@ -87,7 +87,7 @@ literal_is a k h = by_test (nat_lt a FIRST_LITERAL) refl h
   where
     by_test : (b : Bool) → nat_lt a FIRST_LITERAL ≡ b → (if b then None else Some (a - FIRST_LITERAL)) ≡ Some k → a ≡ FIRST_LITERAL + k
     by_test true is e = none_is_some k e
-    by_test false is e = let same : a - FIRST_LITERAL ≡ k = same_some (a - FIRST_LITERAL) k e in grind (arith, nat_tests)
+    by_test false is e = let same : a - FIRST_LITERAL ≡ k = same_Some (a - FIRST_LITERAL) k e in grind (arith, nat_tests)
 
 number_is : (n : ℕ) → literal_number (literal n) ≡ Some n
 number_is n =
@@ -115,7 +115,7 @@ module _ (tree : Tree) where
     where
       by_literal : (k : ℕ) → literal_number (record { number = a }) ≡ Some k → (o : Option (List ℕ)) → slice_get (literals_of tree) k ≡ o → option_map Literal o ≡ Some n → IsNamedLiteral a n
       by_literal k numbered None is e = none_is_some n e
-      by_literal k numbered (Some characters) is e = record { number = k; numbered = numbered; characters = characters; is = is; name = sym (same_some (Literal characters) n e) }
+      by_literal k numbered (Some characters) is e = record { number = k; numbered = numbered; characters = characters; is = is; name = sym (same_Some (Literal characters) n e) }
 
       by_number : (o : Option ℕ) → literal_number (record { number = a }) ≡ o → option_map Literal (option_and_then (slice_get (literals_of tree)) o) ≡ Some n → IsNamedLiteral a n
       by_number None numbered e = none_is_some n e

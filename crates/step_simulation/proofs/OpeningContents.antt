@@ -11,7 +11,7 @@ use Rattle.object_simulation.specs.simulation.cil_model.Fields.{static_fields}
 use Rattle.object_simulation.specs.simulation.cil_model.Mentions.{literals_of}
 use Rattle.object_simulation.specs.simulation.cil_model.Ranges.{are_in_range}
 use Rattle.object_simulation.specs.simulation.cil_model.Typings.{IsAccepted}
-use Rattle.object_simulation.proofs.simulation.cil_model.BelowLaws.{none_is_some}
+use Rattle.object_simulation.proofs.simulation.cil_model.Lists.{none_is_some}
 use Rattle.object_simulation.proofs.simulation.cil_model.Legal.{entry_alone}
 use Rattle.object_simulation.specs.simulation.reference_machine.States.{Free as IsFree, State}
 use Rattle.object_simulation.specs.simulation.reference_machine.Runs.{opening, opening_at}

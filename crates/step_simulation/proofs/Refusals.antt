@@ -3,6 +3,7 @@ use Rattle.std.proofs.Common.{◌≡◌, ◌↔◌, ◌⊎◌, ◌≤◌, ◌<�
 use Rattle.std.specs.Prelude.{nat_le}
 use Rattle.std.proofs.lemmas.Bool.Decides.{nat_tests}
 use Rattle.std.proofs.lemmas.List.Sums.{sum_by_push}
+use Rattle.std.proofs.lemmas.Option.{same_Some}
 use Rattle.object_simulation.specs.simulation.cil_model.declared.events.Event.TheVariants.{Step}
 use Rattle.object_simulation.specs.simulation.cil_model.declared.reports.Report.{Report}
 use Rattle.object_simulation.specs.simulation.cil_model.declared.reports.Report.TheVariants.{Ran, Absent}
@@ -14,6 +15,7 @@ use Rattle.object_simulation.specs.simulation.reference_machine.Rooms.{ExceedsRo
 use Rattle.object_simulation.specs.simulation.reference_machine.Runs.{is_refusal}
 use Rattle.object_simulation.specs.simulation.reference_machine.States.{Contents, Frame as StateFrame, HeapObject, State, Free, with_birth}
 use Rattle.object_simulation.specs.simulation.reference_machine.Steps.{Outcome, Answers, goes_on, settled, step}
+use Rattle.object_simulation.proofs.simulation.reference_machine.StepLaws.{same_after}
 use Rattle.object_simulation.proofs.simulation.reference_machine.UnrefusedLaws.{memory_is_refused}
 use Rattle.object_simulation.specs.simulation.threads_monitors.Frames.{Frames}
 use Rattle.object_simulation.specs.simulation.threads_monitors.declared.threads.Standing.{Standing}
@@ -25,14 +27,10 @@ use Rattle.object_simulation.specs.simulation.StandsFor.{Represents}
 use Rattle.object_simulation.specs.simulation.Turns.{Answer, IsStandingTurn, IsThreadTurn, IsTurn}
 use Rattle.object_simulation.proofs.simulation.Instructions.{ExceedsRoom as ExceedsFree, InstructionsAreAlike, is_refused_outcome, no_refusal}
 use Rattle.object_simulation.proofs.simulation.Statements.{CellsMayChange}
-use Rattle.object_simulation.proofs.simulation.cil_model.BelowLaws.{same_some}
 use Rattle.step_simulation.proofs.Finished.{finished_refusal, same_program}
 use Rattle.step_simulation.proofs.Settings.{setting_of, is_alive, is_running, does_alike}
 use Rattle.step_simulation.proofs.Settling.{done, step_is}
 use Rattle.step_simulation.proofs.Steps.{step_follows}
-
-same_after : (q r : Report) (s t : State) → Answers q s ≡ Answers r t → s ≡ t
-same_after q r s t e = cc
 
 -- ---- a test of room
 
@@ -67,7 +65,7 @@ module _ (each : InstructionsAreAlike) (c : Content) (s : State) (r : Represents
   instruction_exceeds : (a : Answer) → IsDone c.tree t m c.objects c.statics c.printed a → is_refused_outcome a.4 ≡ true → Exceeds (done c s r t left m there false)
   instruction_exceeds a d refused =
       let x = does_alike each c s r t left m there false d.operation d.at d.constant in
-      let same : x.answer ≡ a = same_some x.answer a (sym x.is ∙ sym d.is) in
+      let same : x.answer ≡ a = same_Some x.answer a (sym x.is ∙ sym d.is) in
       by_effect (x.refuses refl (ap (λ (y : Answer). is_refused_outcome y.4) same ∙ refused))
     where
       by_effect : Exceeds (done c s r t left m there false) ⊎ (done c s r t left m there false ≡ StateRaises OutOfMemory) → Exceeds (done c s r t left m there false)

@@ -1,13 +1,13 @@
 -- Where a live thread is: at an instruction of the reference machine, in a setting in which both do alike.
 use Rattle.std.proofs.Common.{◌≡◌, ℕ, Bool, false, List, [], ◌∷◌, Option, Some, None, option_map, option_and_then, slice_get, refl, sym, ap, ◌∙◌, subst}
 use Rattle.std.specs.Prelude.{IsSome}
+use Rattle.std.proofs.lemmas.Option.{same_Some}
 use Rattle.object_simulation.specs.simulation.cil_model.declared.instructions.Instruction.{Instruction}
 use Rattle.object_simulation.specs.simulation.cil_model.declared.reports.End.{End}
 use Rattle.object_simulation.specs.simulation.cil_model.declared.trees.Line.{Line}
 use Rattle.object_simulation.specs.simulation.cil_model.declared.trees.Method.{Method}
 use Rattle.object_simulation.specs.simulation.cil_model.declared.types.ClassName.{ClassName}
 use Rattle.object_simulation.specs.simulation.cil_model.Bodies.{lines_of}
-use Rattle.object_simulation.proofs.simulation.cil_model.BelowLaws.{none_is_some, same_some}
 use Rattle.object_simulation.specs.simulation.reference_machine.States.{Frame as StateFrame, Thread as StateThread, State}
 use Rattle.object_simulation.specs.simulation.reference_machine.Effects.{Setting}
 use Rattle.object_simulation.specs.simulation.reference_machine.Steps.{instruction_at, execute}
@@ -24,6 +24,7 @@ use Rattle.object_simulation.specs.simulation.StandsFor.{Names, IsFrame, AreFram
 use Rattle.object_simulation.proofs.simulation.AgreeLaws.{agree_at}
 use Rattle.object_simulation.proofs.simulation.Instructions.{IsSetting, DoesAlike, InstructionsAreAlike}
 use Rattle.object_simulation.proofs.simulation.LimitRanges.{budget_is_small}
+use Rattle.object_simulation.proofs.simulation.cil_model.Lists.{none_is_some}
 
 -- ---- a live thread
 
@@ -82,7 +83,7 @@ module _ (c : Content) (s : State) (r : Represents c s) (t left : ℕ) (m : Fram
         own = is_alive.frames.frames.0
 
         same_method : at.found ≡ (f.owner, f.method)
-        same_method = same_some at.found (f.owner, f.method) (sym at.found_is ∙ own.method)
+        same_method = same_Some at.found (f.owner, f.method) (sym at.found_is ∙ own.method)
 
         line_there : slice_get (lines_of f.method) f.place ≡ Some at.line
         line_there =
@@ -90,7 +91,7 @@ module _ (c : Content) (s : State) (r : Represents c s) (t left : ℕ) (m : Fram
             (subst (λ p. slice_get (lines_of at.found.1) p ≡ Some at.line) own.place at.line_is)
 
         same_instruction : at.line.instruction ≡ is_running.0
-        same_instruction = same_some at.line.instruction is_running.0 (sym (ap (option_map (λ (l : Line). l.instruction)) line_there) ∙ is_running.1)
+        same_instruction = same_Some at.line.instruction is_running.0 (sym (ap (option_map (λ (l : Line). l.instruction)) line_there) ∙ is_running.1)
 
 -- ---- each live thread is ready
 

@@ -3,10 +3,10 @@ use Rattle.std.proofs.Common.{◌≡◌, ◌+◌, if◌then◌else◌, ℕ, suc,
 use Rattle.std.specs.Prelude.{IsSome}
 use Rattle.std.specs.Option.{option_map_or}
 use Rattle.std.proofs.lemmas.List.{length-set}
+use Rattle.std.proofs.lemmas.Option.{same_Some}
 use Rattle.object_simulation.specs.simulation.cil_model.declared.reports.Fault.{Fault}
 use Rattle.object_simulation.specs.simulation.cil_model.declared.reports.Fault.TheVariants.{NullReference}
 use Rattle.object_simulation.specs.simulation.cil_model.declared.reports.Report.{Report}
-use Rattle.object_simulation.proofs.simulation.cil_model.BelowLaws.{none_is_some, same_some}
 use Rattle.object_simulation.specs.simulation.reference_machine.Values.{Born, Value as StateValue}
 use Rattle.object_simulation.specs.simulation.reference_machine.States.{HeapObject, State, with_object}
 use Rattle.object_simulation.specs.simulation.reference_machine.Effects.{Raises as StateRaises, new_frame, after}
@@ -39,6 +39,7 @@ use Rattle.step_simulation.proofs.Beginnings.{beginning_stands}
 use Rattle.step_simulation.proofs.ThreadObjects.{IsThreadObject}
 use Rattle.step_simulation.proofs.Requests.{here, running, below, Asks, IsAskedOf, asked_of, popped_frames}
 use Rattle.step_simulation.proofs.Starts.{state_with, IsBegun, IsStarted, faulted, begun, is_started}
+use Rattle.object_simulation.proofs.simulation.cil_model.Lists.{none_is_some}
 
 module _ (c : Content) (s : State) (r : Represents c s) (t left : ℕ) (m : Frames) (there : slice_get c.threads t ≡ Some (record { standing = Live m; steps_left = left })) where
   -- what is asked of the one operand
@@ -117,7 +118,7 @@ module _ (c : Content) (s : State) (r : Represents c s) (t left : ℕ) (m : Fram
     start_follows object asks after' h = by_object (start_asked object (m, c.objects, c.statics, c.printed, Starts object) asks)
       where
         leads : (y : List Thread × Objects × Effect) → started c.tree c.limits c.threads c.objects object ≡ Some y → Follows c s t (counted_with y) → Follows c s t after'
-        leads y is f = subst (Follows c s t) (same_some (counted_with y) after' (sym (ap (option_map counted_with) is) ∙ h)) f
+        leads y is f = subst (Follows c s t) (same_Some (counted_with y) after' (sym (ap (option_map counted_with) is) ∙ h)) f
 
         fault_starts : (fault : Fault) → start_fault c.threads c.objects object ≡ Some fault → started c.tree c.limits c.threads c.objects object ≡ Some (c.threads, c.objects, Raises fault)
         fault_starts fault is = ap (λ o. option_map_or (λ y. Some (c.threads, c.objects, Raises y)) o (option_map (with_start c.threads c.objects object) (thread_for c.tree c.limits c.objects object))) is

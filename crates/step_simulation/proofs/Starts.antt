@@ -35,11 +35,7 @@ use Rattle.object_simulation.proofs.simulation.Instructions.{is_refused_fault}
 use Rattle.step_simulation.proofs.Settling.{done}
 use Rattle.step_simulation.proofs.ThreadObjects.{IsThreadObject, thread_on_is, class_at_is, own_class_is}
 use Rattle.step_simulation.proofs.Requests.{here, running, below, done_typed}
-
--- the last of a list
-last_is_there : {X : Type 0} (xs : List X) (x : X) → slice_get (xs ++ x ∷ []) (length xs) ≡ Some x
-last_is_there [] x = refl
-last_is_there (y ∷ ys) x = last_is_there ys x
+use Rattle.object_simulation.proofs.simulation.cil_model.Lists.{last_is_there}
 
 module _ (c : Content) (s : State) (r : Represents c s) (t left : ℕ) (m : Frames) (there : slice_get c.threads t ≡ Some (record { standing = Live m; steps_left = left })) where
   module _ (rest : List StateValue) (object : Addr) (number : ℕ) (x : IsThreadObject c.tree r.stands.name c.objects s object number) where

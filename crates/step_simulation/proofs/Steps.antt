@@ -1,11 +1,12 @@
 -- Each step of a thread comes to the same on both machines.
 use Rattle.std.proofs.Common.{◌≡◌, ◌-◌, if◌then◌else◌, is_none, ℕ, zero, suc, Bool, false, List, [], ◌∷◌, Option, Some, None, slice_get, slice_set, refl, sym, ap, ◌∙◌, subst}
 use Rattle.std.specs.Option.{option_map_or}
+use Rattle.std.proofs.lemmas.Option.{same_Some}
+use Rattle.std.proofs.lemmas.List.{set-set}
 use Rattle.object_simulation.specs.simulation.cil_model.declared.events.Event.TheVariants.{Step}
 use Rattle.object_simulation.specs.simulation.cil_model.declared.reports.End.{End}
 use Rattle.object_simulation.specs.simulation.cil_model.declared.reports.Report.{Report}
 use Rattle.object_simulation.specs.simulation.cil_model.declared.reports.Report.TheVariants.{Absent}
-use Rattle.object_simulation.proofs.simulation.cil_model.BelowLaws.{none_is_some, same_some}
 use Rattle.object_simulation.specs.simulation.reference_machine.States.{Frame as StateFrame, Thread as StateThread, State}
 use Rattle.object_simulation.specs.simulation.reference_machine.Steps.{Answers, effect_of, settled, step, step_of}
 use Rattle.object_simulation.specs.simulation.reference_machine.Runs.{is_refusal}
@@ -31,20 +32,7 @@ use Rattle.step_simulation.proofs.Requests.{here, running, below, Asks, asked_of
 use Rattle.step_simulation.proofs.Joins.{joins}
 use Rattle.step_simulation.proofs.StartSteps.{start_asked, starts, start_has_thread}
 use Rattle.step_simulation.proofs.Finished.{turn_keeps_words}
-
--- ---- lists
-
--- the later change of one place stays
-set_twice : {X : Type 0} (xs : List X) (n : ℕ) (x y : X) → slice_set (slice_set xs n x) n y ≡ slice_set xs n y
-set_twice [] n x y = refl
-set_twice (z ∷ zs) zero x y = refl
-set_twice (z ∷ zs) (suc n) x y = ap (λ l. z ∷ l) (set_twice zs n x y)
-
--- what is there may be set again
-set_itself : {X : Type 0} (xs : List X) (n : ℕ) (x : X) → slice_get xs n ≡ Some x → slice_set xs n x ≡ xs
-set_itself [] n x e = refl
-set_itself (z ∷ zs) zero x e = ap (λ y. y ∷ zs) (sym (same_some z x e))
-set_itself (z ∷ zs) (suc n) x e = ap (λ l. z ∷ l) (set_itself zs n x e)
+use Rattle.object_simulation.proofs.simulation.cil_model.Lists.{none_is_some, set_itself}
 
 -- ---- an instruction that asks something of other threads
 
@@ -101,7 +89,7 @@ module _ (each : InstructionsAreAlike) (c : Content) (s : State) (r : Represents
   comes_alike a d =
       let refused : Bool = is_refused_outcome a.4 in
       let x = does_alike each c s r t left m there refused d.operation d.at d.constant in
-      let same : x.answer ≡ a = same_some x.answer a (sym x.is ∙ sym d.is) in
+      let same : x.answer ≡ a = same_Some x.answer a (sym x.is ∙ sym d.is) in
       subst (λ (y : Answer). refused ≡ is_refused_outcome y.4 →
       ComesAlike (setting_of c t refused) r.stands.name m c.objects c.statics c.printed s (is_alive c s r t left m there).running (is_alive c s r t left m there).below y.4 y (done c s r t left m there refused))
       same x.alike refl
@@ -116,8 +104,8 @@ module _ (each : InstructionsAreAlike) (c : Content) (s : State) (r : Represents
             (done c s r t left m there (is_refused_outcome a.4)) →
             finished c t left a a.4 ≡ Some after → Follows c s t after
         by_answer (m', o', statics', printed', Comes e) d' h is' =
-            subst (Follows c s t) (same_some _ after is')
-            (comes c s r t left m there (slice_set c.threads t (record { standing = Live m'; steps_left = left })) (λ x. set_twice c.threads t (record { standing = Live m'; steps_left = left }) x)
+            subst (Follows c s t) (same_Some _ after is')
+            (comes c s r t left m there (slice_set c.threads t (record { standing = Live m'; steps_left = left })) (λ x. set-set c.threads t (record { standing = Live m'; steps_left = left }) x)
             (is_refused_effect e) e refl (m', o', statics', printed', Comes e) h)
         by_answer (m', o', statics', printed', Starts object) d' h is' =
             starts c s r t left m there cells_may_change d'.operation d'.at d'.constant (slice_set c.threads t (record { standing = Live m; steps_left = left })) (threads_stay c s r t left m there) object
@@ -125,7 +113,7 @@ module _ (each : InstructionsAreAlike) (c : Content) (s : State) (r : Represents
             (subst (λ y. finished c t left y (Starts object) ≡ Some after) (asking_is c s r t left m there Start object (m', o', statics', printed', Starts object) h) is')
         by_answer (m', o', statics', printed', Joins object) d' h is' =
             subst (Follows c s t)
-            (same_some _ after (subst (λ y. finished c t left y (Joins object) ≡ Some after) (asking_is c s r t left m there Join object (m', o', statics', printed', Joins object) h) is'))
+            (same_Some _ after (subst (λ y. finished c t left y (Joins object) ≡ Some after) (asking_is c s r t left m there Join object (m', o', statics', printed', Joins object) h) is'))
             (joins c s r t left m there d'.operation d'.at d'.constant (slice_set c.threads t (record { standing = Live m; steps_left = left })) (threads_stay c s r t left m there) object
             (asks_itself c s r t left m there Join object (m', o', statics', printed', Joins object) (Joins object) h))
 

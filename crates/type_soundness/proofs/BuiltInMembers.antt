@@ -1,5 +1,6 @@
 -- What the members without code take and return, by what they do.
 use Rattle.std.proofs.Common.{◌≡◌, ◌⊎◌, ℕ, zero, suc, false, IsTrue, [], ◌∷◌, Some, None, slice_get, refl, inl, inr, sym, ap, ◌∙◌, subst}
+use Rattle.std.proofs.lemmas.Option.{same_Some}
 use Rattle.cil_model.specs.declared.types.ClassName.{ClassName}
 use Rattle.cil_model.specs.declared.types.DeclaredType.{DeclaredType}
 use Rattle.cil_model.specs.declared.types.Element.TheVariants.{String, Class}
@@ -9,10 +10,10 @@ use Rattle.cil_model.specs.Declarations.{Declaration, plain, object_name, consol
 use Rattle.cil_model.specs.Chains.{methods_declared, listed_by}
 use Rattle.cil_model.specs.Assignable.{is_reference}
 use Rattle.cil_model.specs.Bodies.{argument_types}
-use Rattle.cil_model.proofs.BelowLaws.{none_is_some, same_some}
 use Rattle.reference_machine.specs.BuiltIn.{Action, Construct, Write, Enter, Exit, Start, Join, action_of}
 use Rattle.reference_machine.proofs.MethodLaws.{IsDeclared}
 use Rattle.type_soundness.proofs.DeclaredClasses.{Standing, of_source, of_object, of_string, of_console, of_monitor, of_thread, of_none, standing, source_is_named}
+use Rattle.cil_model.proofs.Lists.{none_is_some}
 
 -- what the one operand of an action is
 abbrev pub IsOperandOf : Action → DeclaredType → Type 0
@@ -33,31 +34,31 @@ pub record IsMember (a : Action) (c : ClassName) (m : Method) : Type 0 where
 -- what is equal to a member is one
 same_member : (c : ClassName) (m m' : Method) (a b : Action) → action_of c m ≡ Some a → IsMember a c m → m ≡ m' → action_of c m' ≡ Some b → IsMember b c m'
 same_member c m m' a b acts member e h =
-    subst (λ x. IsMember b c x) e (subst (λ x. IsMember x c m) (same_some a b (sym acts ∙ subst (λ x. action_of c x ≡ Some b) (sym e) h)) member)
+    subst (λ x. IsMember b c x) e (subst (λ x. IsMember x c m) (same_Some a b (sym acts ∙ subst (λ x. action_of c x ≡ Some b) (sym e) h)) member)
 
 module _ (tree : Tree) (m : Method) (a : Action) where
   -- the members of each built-in class
   member_of_object : (n : ℕ) → slice_get (methods_declared tree object_name) n ≡ Some m → action_of object_name m ≡ Some a → IsMember a object_name m
-  member_of_object zero e h = same_member object_name object_constructor m Construct a refl (record { operand = _; takes = refl; fits = tt; nothing_returned = refl }) (same_some object_constructor m e) h
+  member_of_object zero e h = same_member object_name object_constructor m Construct a refl (record { operand = _; takes = refl; fits = tt; nothing_returned = refl }) (same_Some object_constructor m e) h
   member_of_object (suc n) e h = none_is_some m e
 
   member_of_console : (n : ℕ) → slice_get (methods_declared tree console_name) n ≡ Some m → action_of console_name m ≡ Some a → IsMember a console_name m
-  member_of_console zero e h = same_member console_name _ m Write a refl (record { operand = _; takes = refl; fits = inl refl; nothing_returned = refl }) (same_some _ m e) h
-  member_of_console (suc zero) e h = same_member console_name _ m Write a refl (record { operand = _; takes = refl; fits = inl refl; nothing_returned = refl }) (same_some _ m e) h
-  member_of_console (suc (suc zero)) e h = same_member console_name _ m Write a refl (record { operand = _; takes = refl; fits = inr refl; nothing_returned = refl }) (same_some _ m e) h
+  member_of_console zero e h = same_member console_name _ m Write a refl (record { operand = _; takes = refl; fits = inl refl; nothing_returned = refl }) (same_Some _ m e) h
+  member_of_console (suc zero) e h = same_member console_name _ m Write a refl (record { operand = _; takes = refl; fits = inl refl; nothing_returned = refl }) (same_Some _ m e) h
+  member_of_console (suc (suc zero)) e h = same_member console_name _ m Write a refl (record { operand = _; takes = refl; fits = inr refl; nothing_returned = refl }) (same_Some _ m e) h
   member_of_console (suc (suc (suc n))) e h = none_is_some m e
 
   member_of_monitor : (n : ℕ) → slice_get (methods_declared tree monitor_name) n ≡ Some m → action_of monitor_name m ≡ Some a → IsMember a monitor_name m
-  member_of_monitor zero e h = same_member monitor_name _ m Enter a refl (record { operand = _; takes = refl; fits = refl; nothing_returned = refl }) (same_some _ m e) h
-  member_of_monitor (suc zero) e h = same_member monitor_name _ m Exit a refl (record { operand = _; takes = refl; fits = refl; nothing_returned = refl }) (same_some _ m e) h
+  member_of_monitor zero e h = same_member monitor_name _ m Enter a refl (record { operand = _; takes = refl; fits = refl; nothing_returned = refl }) (same_Some _ m e) h
+  member_of_monitor (suc zero) e h = same_member monitor_name _ m Exit a refl (record { operand = _; takes = refl; fits = refl; nothing_returned = refl }) (same_Some _ m e) h
   member_of_monitor (suc (suc n)) e h = none_is_some m e
 
   -- all but Run act at once
   member_of_thread : (n : ℕ) → slice_get (methods_declared tree thread_name) n ≡ Some m → action_of thread_name m ≡ Some a → IsMember a thread_name m
-  member_of_thread zero e h = same_member thread_name object_constructor m Construct a refl (record { operand = _; takes = refl; fits = tt; nothing_returned = refl }) (same_some object_constructor m e) h
-  member_of_thread (suc zero) e h = none_is_some a (subst (λ x. action_of thread_name x ≡ Some a) (sym (same_some run_method m e)) h)
-  member_of_thread (suc (suc zero)) e h = same_member thread_name _ m Start a refl (record { operand = _; takes = refl; fits = refl; nothing_returned = refl }) (same_some _ m e) h
-  member_of_thread (suc (suc (suc zero))) e h = same_member thread_name _ m Join a refl (record { operand = _; takes = refl; fits = refl; nothing_returned = refl }) (same_some _ m e) h
+  member_of_thread zero e h = same_member thread_name object_constructor m Construct a refl (record { operand = _; takes = refl; fits = tt; nothing_returned = refl }) (same_Some object_constructor m e) h
+  member_of_thread (suc zero) e h = none_is_some a (subst (λ x. action_of thread_name x ≡ Some a) (sym (same_Some run_method m e)) h)
+  member_of_thread (suc (suc zero)) e h = same_member thread_name _ m Start a refl (record { operand = _; takes = refl; fits = refl; nothing_returned = refl }) (same_Some _ m e) h
+  member_of_thread (suc (suc (suc zero))) e h = same_member thread_name _ m Join a refl (record { operand = _; takes = refl; fits = refl; nothing_returned = refl }) (same_Some _ m e) h
   member_of_thread (suc (suc (suc (suc n)))) e h = none_is_some m e
 
   -- no class but a built-in one has a member that acts

@@ -3,6 +3,7 @@ use Rattle.std.proofs.Common.{◌≡◌, ◌≤◌, Bool, true, false, if◌then
 use Rattle.std.proofs.lemmas.Bool.{and_from, le-leb}
 use Rattle.std.proofs.lemmas.List.{reverse-reverse, length-reverse}
 use Rattle.std.proofs.lemmas.Grind.{reverse_onto}
+use Rattle.std.proofs.lemmas.Option.{same_Some}
 use Rattle.cil_model.specs.declared.types.DeclaredType.{DeclaredType}
 use Rattle.cil_model.specs.declared.trees.Tree.{Tree}
 use Rattle.cil_model.specs.declared.reports.Fault.{Fault}
@@ -10,8 +11,8 @@ use Rattle.cil_model.specs.Assignable.{is_reference}
 use Rattle.cil_model.specs.Legality.{IsLegal}
 use Rattle.cil_model.specs.TypeTree.{StackType, fits}
 use Rattle.cil_model.specs.FlowRules.{take_fitting, take_operands}
+use Rattle.cil_model.proofs.Lists.{none_is_some}
 use Rattle.cil_model.proofs.SameLaws.{never, if_true}
-use Rattle.cil_model.proofs.BelowLaws.{none_is_some, same_some}
 use Rattle.reference_machine.specs.Values.{ObjectName, Value, Int32, Int64, Native, Null, Reference, integer_zero, same_kind, is_of_kind}
 use Rattle.reference_machine.specs.States.{Frame, State}
 use Rattle.reference_machine.specs.Effects.{Setting, Effect, Sticks, not_null, are_of_kinds}
@@ -69,7 +70,7 @@ module _ (tree : Tree) (s : State) where
 
     -- what fits, one after another
     fitting_taken : (ts : List DeclaredType) (vs : List Value) (stack rest : List StackType) → take_fitting tree ts stack ≡ Some rest → HaveStackTypes tree s vs stack → Taken ts vs rest
-    fitting_taken [] vs stack rest e h = (omega arith, tt, subst (λ x. HaveStackTypes tree s vs x) (same_some stack rest e) h)
+    fitting_taken [] vs stack rest e h = (omega arith, tt, subst (λ x. HaveStackTypes tree s vs x) (same_Some stack rest e) h)
     fitting_taken (t ∷ ts) vs [] rest e h = none_is_some rest e
     fitting_taken (t ∷ ts) [] (a ∷ stack) rest e h = elim h [ ]
     fitting_taken (t ∷ ts) (v ∷ vs) (a ∷ stack) rest e h = by_fit (fits tree a t) refl e (λ e'. fitting_taken ts vs stack rest e' h.1)

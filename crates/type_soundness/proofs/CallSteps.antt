@@ -1,6 +1,7 @@
 -- Calls and returns leave typed states.
 use Rattle.std.proofs.Common.{◌≡◌, ℕ, ◌+◌, Bool, true, false, if◌then◌else◌, IsTrue, List, [], ◌∷◌, Option, Some, None, option_map, option_and_then, refl, sym, ap, ◌∙◌, subst}
 use Rattle.std.specs.Option.{option_map_or}
+use Rattle.std.proofs.lemmas.Option.{same_Some}
 use Rattle.cil_model.specs.declared.types.ClassName.{ClassName}
 use Rattle.cil_model.specs.declared.types.DeclaredType.{DeclaredType}
 use Rattle.cil_model.specs.declared.types.Signature.{Signature}
@@ -22,9 +23,10 @@ use Rattle.cil_model.specs.TypeTree.{StackType, Declared, fits}
 use Rattle.cil_model.specs.FlowRules.{give, take_operands, take_returned, nothing_below}
 use Rattle.cil_model.specs.Typings.{Reaches}
 use Rattle.cil_model.specs.Stacks.{take_one}
+use Rattle.cil_model.proofs.Lists.{none_is_some}
 use Rattle.cil_model.proofs.SameLaws.{never, both_first}
 use Rattle.cil_model.proofs.CompleteLaws.{test_is_complete}
-use Rattle.cil_model.proofs.BelowLaws.{none_is_some, same_some, element_is_reference}
+use Rattle.cil_model.proofs.BelowLaws.{element_is_reference}
 use Rattle.reference_machine.specs.Values.{ObjectName, Value, Int32, Int64, Native, Null, Reference, is_of_kind}
 use Rattle.reference_machine.specs.States.{Frame, State, type_of, class_of}
 use Rattle.reference_machine.specs.Effects.{Setting, Goes, Raises, Sticks, given, new_frame, after, returned}
@@ -209,7 +211,7 @@ plain_is_not_abstract (Abstract is_new_slot) h = h
 -- a result that gives a type to a stack
 pub given_to : {A : Type 0} (d : Option DeclaredType) (o : Option (List StackType)) (result : List StackType) → option_map (give d) o ≡ Some result → ((types : List StackType) → o ≡ Some types → result ≡ give d types → A) → A
 given_to d None result e each = none_is_some result e
-given_to d (Some types) result e each = each types refl (sym (same_some (give d types) result e))
+given_to d (Some types) result e each = each types refl (sym (same_Some (give d types) result e))
 
 module _ (here : Setting) (s : State) (f : Frame) (below : List Frame) where
   -- a method of the signature gives what the reference says

@@ -2,7 +2,8 @@
 use Rattle.std.proofs.Common.{◌≡◌, ◌⊎◌, ℕ, Bool, true, false, not, cond, if◌then◌else◌, ◌&&◌, ◌||◌, IsTrue, List, [], ◌∷◌, find, Option, Some, None, is_some, option_map, option_and_then, option_to_list, slice_get, refl, inl, inr, sym, ap, ◌∙◌, subst}
 use Rattle.std.specs.List.{list_any, list_all}
 use Rattle.std.specs.Option.{option_map_or}
-use Rattle.std.proofs.lemmas.Bool.{or_parts}
+use Rattle.std.proofs.lemmas.Bool.{or_parts, not-false}
+use Rattle.std.proofs.lemmas.Option.{same_Some}
 use Rattle.cil_model.specs.declared.types.ClassName.{ClassName}
 use Rattle.cil_model.specs.declared.trees.Tree.{Tree}
 use Rattle.cil_model.specs.declared.trees.Class.{Class}
@@ -15,21 +16,12 @@ use Rattle.cil_model.specs.Chains.{base_of, methods_declared, interfaces_declare
 use Rattle.cil_model.specs.FlowRules.{is_concrete}
 use Rattle.cil_model.specs.Mentions.{bases_named}
 use Rattle.cil_model.specs.Legality.{IsLegal, first_broken, has_repeat, same_method, class_doubles, doubles_name, lacks_name, has_cycle, lacks_implementation, misfits_kind, lacks_entry, passes_limit, is_source_class, is_source_interface, is_possible_base, passes_source, class_finds, implements_method, implements_all, has_abstract_slot, kinds_fit}
-use Rattle.cil_model.proofs.SameLaws.{never, both_first, both_second, either, is_not, if_false, same_class_equal}
-use Rattle.cil_model.proofs.Legal.{classes_find}
+use Rattle.cil_model.proofs.Lists.{none_is_some, find_passes}
+use Rattle.cil_model.proofs.SameLaws.{never, both_first, both_second, either, is_not, if_false, same_class_equal, not_both}
+use Rattle.cil_model.proofs.Legal.{classes_find, unbroken}
 use Rattle.cil_model.proofs.CompleteLaws.{all_pass}
-use Rattle.cil_model.proofs.BelowLaws.{none_is_some, same_some}
 
 -- ---- look-ups
-
--- what is found passes the test of the look-up
-pub found_itself : {X : Type 0} (p : X → Bool) (xs : List X) (x : X) → find p xs ≡ Some x → IsTrue (p x)
-found_itself p [] x h = none_is_some x h
-found_itself {X} p (y ∷ ys) x h = by_test (p y) refl h (found_itself p ys x)
-  where
-    by_test : (b : Bool) → p y ≡ b → cond b (Some y) (find p ys) ≡ Some x → (find p ys ≡ Some x → IsTrue (p x)) → IsTrue (p x)
-    by_test true is e later = subst (λ z. IsTrue (p z)) (same_some y x e) is
-    by_test false is e later = later e
 
 -- what all pass, the one that is found passes
 pub found_passes : {X : Type 0} (p test : X → Bool) (xs : List X) (x : X) → find p xs ≡ Some x → IsTrue (list_all test xs) → IsTrue (test x)
@@ -37,7 +29,7 @@ found_passes p test [] x h k = none_is_some x h
 found_passes {X} p test (y ∷ ys) x h k = by_test (p y) h (λ e. found_passes p test ys x e (both_second _ _ k))
   where
     by_test : (b : Bool) → cond b (Some y) (find p ys) ≡ Some x → (find p ys ≡ Some x → IsTrue (test x)) → IsTrue (test x)
-    by_test true e later = subst (λ z. IsTrue (test z)) (same_some y x e) (both_first _ _ k)
+    by_test true e later = subst (λ z. IsTrue (test z)) (same_Some y x e) (both_first _ _ k)
     by_test false e later = later e
 
 -- what none passes, the one that is found does not pass
@@ -46,24 +38,10 @@ found_fails p test [] x h k = none_is_some x h
 found_fails {X} p test (y ∷ ys) x h k = by_test (p y) h (λ e. found_fails p test ys x e (or_parts _ _ k).1)
   where
     by_test : (b : Bool) → cond b (Some y) (find p ys) ≡ Some x → (find p ys ≡ Some x → test x ≡ false) → test x ≡ false
-    by_test true e later = subst (λ z. test z ≡ false) (same_some y x e) (or_parts _ _ k).0
+    by_test true e later = subst (λ z. test z ≡ false) (same_Some y x e) (or_parts _ _ k).0
     by_test false e later = later e
 
-pub not_both : {A : Type 0} (b : Bool) → b ≡ false → b ≡ true → A
-not_both {A} b p q = absurd (lost p q)
-  where
-    lost : b ≡ false → b ≡ true → ⊥
-    lost h k = cc
-
 -- ---- rules 201, 204 and 205
-
-unbroken : (b : Bool) (n : ℕ) (rest : Option ℕ) → (if b then Some n else rest) ≡ None → (b ≡ false) × (rest ≡ None)
-unbroken false n rest h = (refl, h)
-unbroken true n rest h = absurd cc
-
-not_not : (b : Bool) → not b ≡ false → IsTrue b
-not_not true h = refl
-not_not false h = sym h
 
 module _ (tree : Tree) where
   abbrev pub declared : Class → Declaration
@@ -76,7 +54,7 @@ module _ (tree : Tree) where
   IsOfSource c = (x : Class) × (source_class tree c ≡ Some x)
 
   pub source_is_named : (c : ClassName) (x : Class) → source_class tree c ≡ Some x → source_name x ≡ c
-  source_is_named c x found = same_class_equal (source_name x) c (found_itself (λ k. same_class (source_name k) c) tree.classes x found)
+  source_is_named c x found = same_class_equal (source_name x) c (find_passes (λ k. same_class (source_name k) c) tree.classes x found)
 
   pub source_declares : (c : ClassName) (x : Class) → source_class tree c ≡ Some x → declaration_of tree c ≡ Some (declared x)
   source_declares c x found =
@@ -187,10 +165,10 @@ module _ (tree : Tree) where
         (one.0, (unbroken (has_cycle tree) 203 _ two.1).1)
 
     all_implement : IsTrue (list_all (implements_all tree) tree.classes)
-    all_implement = not_not _ (unbroken (lacks_implementation tree) 204 _ behind_cycles.1).0
+    all_implement = not-false _ (unbroken (lacks_implementation tree) 204 _ behind_cycles.1).0
 
     pub all_kinds_fit : IsTrue (list_all (kinds_fit tree) tree.classes)
-    all_kinds_fit = not_not _ (unbroken (misfits_kind tree) 205 _ (unbroken (lacks_implementation tree) 204 _ behind_cycles.1).1).0
+    all_kinds_fit = not-false _ (unbroken (misfits_kind tree) 205 _ (unbroken (lacks_implementation tree) 204 _ behind_cycles.1).1).0
 
     pub none_doubles : list_any class_doubles tree.classes ≡ false
     none_doubles = (or_parts _ _ behind_cycles.0).1
@@ -234,10 +212,10 @@ module _ (tree : Tree) where
             let finds : IsTrue (class_finds tree x) = found_passes (λ y. same_class (source_name y) c) (class_finds tree) tree.classes x found (classes_find tree legal) in
             possible_base_is_class b (named x.kind (sym (source_base c x found) ∙ e) (both_first _ _ finds))
         by_standing of_object e = none_is_some b e
-        by_standing of_string e = subst (λ k. is_interface tree k ≡ false) (same_some object_name b e) refl
+        by_standing of_string e = subst (λ k. is_interface tree k ≡ false) (same_Some object_name b e) refl
         by_standing of_console e = none_is_some b e
         by_standing of_monitor e = none_is_some b e
-        by_standing of_thread e = subst (λ k. is_interface tree k ≡ false) (same_some object_name b e) refl
+        by_standing of_thread e = subst (λ k. is_interface tree k ≡ false) (same_Some object_name b e) refl
         by_standing (of_none none) e = none_is_some b (sym (ap (option_and_then (λ (d : Declaration). d.base)) none) ∙ e)
 
     -- a class has a virtual method for each method of an interface that it lists

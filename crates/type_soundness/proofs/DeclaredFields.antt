@@ -5,6 +5,7 @@ use Rattle.std.proofs.lemmas.Bool.{or_parts, or_left, or_right, and_from}
 use Rattle.std.proofs.lemmas.Grind.{reverse_onto}
 use Rattle.std.proofs.lemmas.List.Folds.{list_any-append}
 use Rattle.std.proofs.lemmas.Map.Views.{list_any-from_Contains}
+use Rattle.std.proofs.lemmas.Option.{same_Some}
 use Rattle.cil_model.specs.declared.types.ClassName.{ClassName}
 use Rattle.cil_model.specs.declared.types.DeclaredType.{DeclaredType}
 use Rattle.cil_model.specs.declared.types.Element.{Element}
@@ -21,15 +22,16 @@ use Rattle.cil_model.specs.Chains.{chain_of, fields_declared, is_interface, inte
 use Rattle.cil_model.specs.Fields.{FieldKey, same_key, keyed_fields, instance_fields, static_fields}
 use Rattle.cil_model.specs.Assignable.{IsAssignable, to_itself, to_object, to_base, to_interface, of_arrays, chained, is_assignable, element_named, type_of_class}
 use Rattle.cil_model.specs.Legality.{IsLegal, has_repeat, class_doubles}
+use Rattle.cil_model.proofs.CompleteLaws.{chain_of_base}
+use Rattle.cil_model.proofs.Lists.{none_is_some, find_passes}
 use Rattle.cil_model.proofs.SameLaws.{never, both_first, both_second, either, if_true, if_false, same_class_equal, same_class_itself, same_text_itself, same_type_equal, class_equivalence}
 use Rattle.cil_model.proofs.AssignableLaws.{test_is_sound}
-use Rattle.cil_model.proofs.BelowLaws.{none_is_some, same_some}
 use Rattle.reference_machine.specs.Values.{ObjectName, Born, Literal, Value}
 use Rattle.reference_machine.specs.States.{Contents, Instance, Array, HeapObject, State, entry_at, object_at, type_of_contents}
 use Rattle.reference_machine.specs.Steps.{key_of}
 use Rattle.type_soundness.specs.TypedStates.{IsObjectOf}
-use Rattle.type_soundness.proofs.DeclaredClasses.{Standing, of_source, of_object, of_string, of_console, of_monitor, of_thread, of_none, standing, source_declares, interface_is_source, none_doubles, listed_is_interface, found_itself, found_fails}
-use Rattle.type_soundness.proofs.Targets.{weaker, nearest_at, interface_holds, chain_of_base}
+use Rattle.type_soundness.proofs.DeclaredClasses.{Standing, of_source, of_object, of_string, of_console, of_monitor, of_thread, of_none, standing, source_declares, interface_is_source, none_doubles, listed_is_interface, found_fails}
+use Rattle.type_soundness.proofs.Targets.{weaker, nearest_at, interface_holds}
 
 -- ---- entries under keys
 
@@ -50,7 +52,7 @@ abbrev same_field_name : Field → Field → Bool
 same_field_name a b = same_text a.name b.name
 
 -- fields of another class are passed by
-entry_behind : (k : FieldKey) (c : ClassName) (fs : List Field) (es : List (FieldKey × DeclaredType)) → same_class c k.declared_in ≡ false → entry_at same_key k (map (keyed c) fs ++ es) ≡ entry_at same_key k es
+pub entry_behind : (k : FieldKey) (c : ClassName) (fs : List Field) (es : List (FieldKey × DeclaredType)) → same_class c k.declared_in ≡ false → entry_at same_key k (map (keyed c) fs ++ es) ≡ entry_at same_key k es
 entry_behind k c [] es other = refl
 entry_behind k c (f ∷ fs) es other =
     if_false (same_key (record { declared_in = c; name = f.name }) k) (Some f.field_type) (entry_at same_key k (map (keyed c) fs ++ es)) (ap (λ b. b && same_text f.name k.name) other) ∙ entry_behind k c fs es other
@@ -89,7 +91,7 @@ own_entry is_static c p (f ∷ fs) g differ found flag = by_test (p f) found (λ
     by_test : (b : Bool) → cond b (Some f) (find p fs) ≡ Some g → (find p fs ≡ Some g → entry_at same_key (key_of (c, g)) (map (keyed c) (of_flag is_static fs)) ≡ Some g.field_type) →
         entry_at same_key (key_of (c, g)) (map (keyed c) (of_flag is_static (f ∷ fs))) ≡ Some g.field_type
     by_test true here later =
-        subst (λ x. entry_at same_key (key_of (c, g)) (map (keyed c) (of_flag is_static (x ∷ fs))) ≡ Some g.field_type) (sym (same_some f g here)) (first (same_flag g.is_static is_static) flag)
+        subst (λ x. entry_at same_key (key_of (c, g)) (map (keyed c) (of_flag is_static (x ∷ fs))) ≡ Some g.field_type) (sym (same_Some f g here)) (first (same_flag g.is_static is_static) flag)
     by_test false there later = behind (same_flag f.is_static is_static) (found_fails p (same_field_name f) fs g there (or_parts _ _ differ).0) (later there)
 
 -- where a look-up finds an element, some element passes
@@ -237,7 +239,7 @@ module _ (tree : Tree) where
 
       -- the field is as the reference says
       passes_asked : IsTrue (asked g)
-      passes_asked = found_itself asked (fields_declared tree d) g found_in.0
+      passes_asked = find_passes asked (fields_declared tree d) g found_in.0
 
       -- a field of the type that is named
       pub found_type : g.field_type ≡ r.field_type
@@ -283,7 +285,7 @@ module _ (tree : Tree) where
 
     -- an instance field that is found is one of an object of the owner's type
     pub field_there : (s : State) (r : FieldReference) (d : ClassName) (g : Field) → find_field tree false r ≡ Some (d, g) → (n : ObjectName) → IsObjectOf tree s n (type_of_class r.owner) → HasField s n (key_of (d, g)) r.field_type
-    field_there s r d g found (Literal characters) h = elim (subst (λ x. HasInChain x d) (sym (same_some (plain String) h.own h.is)) (below_owner false r d g found h.own h.fits)) [ ]
+    field_there s r d g found (Literal characters) h = elim (subst (λ x. HasInChain x d) (sym (same_Some (plain String) h.own h.is)) (below_owner false r d g found h.own h.fits)) [ ]
     field_there s r d g found (Born n) h = by_object (slice_get s.objects n) refl h.is
       where
         by_contents : (o : HeapObject) → slice_get s.objects n ≡ Some o → (c : Contents) → o.contents ≡ c → type_of_contents c ≡ h.own → HasField s (Born n) (key_of (d, g)) r.field_type
@@ -301,4 +303,4 @@ module _ (tree : Tree) where
 
         by_object : (o : Option HeapObject) → slice_get s.objects n ≡ o → option_map (λ (x : HeapObject). type_of_contents x.contents) o ≡ Some h.own → HasField s (Born n) (key_of (d, g)) r.field_type
         by_object None there is = none_is_some h.own is
-        by_object (Some o) there is = by_contents o there o.contents refl (same_some (type_of_contents o.contents) h.own is)
+        by_object (Some o) there is = by_contents o there o.contents refl (same_Some (type_of_contents o.contents) h.own is)

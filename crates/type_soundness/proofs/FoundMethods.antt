@@ -1,6 +1,7 @@
 -- What a reference to a method finds: a method that a class of the owner's chain declares, of the signature that is named.
 use Rattle.std.proofs.Common.{◌≡◌, ◌⊎◌, ℕ, zero, suc, Bool, true, false, not, if◌then◌else◌, ◌&&◌, IsTrue, List, [], ◌∷◌, find, Option, Some, None, refl, inl, inr, sym, ap, subst}
 use Rattle.std.specs.List.{list_any}
+use Rattle.std.proofs.lemmas.Option.{same_Some}
 use Rattle.cil_model.specs.declared.types.ClassName.{ClassName}
 use Rattle.cil_model.specs.declared.types.DeclaredType.{DeclaredType}
 use Rattle.cil_model.specs.declared.types.Element.TheVariants.{String, Class}
@@ -16,8 +17,8 @@ use Rattle.cil_model.specs.Assignable.{IsAssignable, to_itself, to_object, chain
 use Rattle.cil_model.specs.Bodies.{argument_types, reference_operands}
 use Rattle.cil_model.specs.TypeTree.{Declared, parent_element}
 use Rattle.cil_model.specs.Legality.{IsLegal}
+use Rattle.cil_model.proofs.Lists.{none_is_some, find_passes}
 use Rattle.cil_model.proofs.SameLaws.{never, both_first, both_second, either, same_class_equal, same_signature_equal, same_flag_equal}
-use Rattle.cil_model.proofs.BelowLaws.{none_is_some, same_some}
 use Rattle.cil_model.proofs.AssignableLaws.{test_is_sound}
 use Rattle.cil_model.proofs.CompleteLaws.{test_is_complete}
 use Rattle.cil_model.proofs.FitsLaws.{below_fits}
@@ -25,7 +26,6 @@ use Rattle.reference_machine.specs.Values.{Value}
 use Rattle.reference_machine.specs.States.{State}
 use Rattle.reference_machine.proofs.MethodLaws.{IsDeclared, found_is_declared}
 use Rattle.type_soundness.specs.TypedStates.{HasType, HaveTypes}
-use Rattle.type_soundness.proofs.DeclaredClasses.{found_itself}
 use Rattle.type_soundness.proofs.Targets.{nearest_at}
 use Rattle.type_soundness.proofs.Operands.{value_fits}
 
@@ -39,7 +39,7 @@ module _ (tree : Tree) (legal : IsLegal tree) where
       by_name : (v w : Bool) → same_class c object_name ≡ v → same_class c string_name ≡ w → IsAssignable tree (plain (element_named v w c)) (type_of_class b)
       by_name true w is is' = none_is_some b (subst (λ x. base_of tree x ≡ Some b) (same_class_equal c object_name is) e)
       by_name false true is is' =
-          let same : object_name ≡ b = same_some object_name b (subst (λ x. base_of tree x ≡ Some b) (same_class_equal c string_name is') e) in
+          let same : object_name ≡ b = same_Some object_name b (subst (λ x. base_of tree x ≡ Some b) (same_class_equal c string_name is') e) in
           subst (λ x. IsAssignable tree (plain String) (type_of_class x)) same (to_object refl)
       by_name false false is is' = test_is_sound tree (plain (Class c)) (type_of_class b) (below_fits tree legal (Declared (plain (Class c))) (type_of_class b) (1, ap (λ o. Some (plain (parent_element o))) e))
 
@@ -82,7 +82,7 @@ module _ (tree : Tree) (legal : IsLegal tree) (is_instance : Bool) (r : MethodRe
   found h =
       let fits : Method → Bool = λ x. same_method_name x.name r.name && same_signature x.signature r.signature && same_flag (is_static x.kind) (not is_instance) in
       let at : (find fits (methods_declared tree c) ≡ Some m) × IsTrue (list_any (same_class c) (classes_searched tree r.name r.owner)) = nearest_at (λ k. find fits (methods_declared tree k)) (classes_searched tree r.name r.owner) c m h in
-      let passes : IsTrue (fits m) = found_itself fits (methods_declared tree c) m at.0 in
+      let passes : IsTrue (fits m) = find_passes fits (methods_declared tree c) m at.0 in
       record {
         declared = found_is_declared tree is_instance r c m h;
         signature = same_signature_equal _ _ (both_second _ _ (both_first _ _ passes));

@@ -2,6 +2,7 @@
 use Rattle.std.proofs.Common.{◌≡◌, ◌≢◌, ◌⊎◌, ℕ, Bool, true, false, not, ◌||◌, IsTrue, Option, Some, None, option_map, option_and_then, slice_get, refl, inl, inr, sym, ap, ◌∙◌, subst}
 use Rattle.std.specs.Prelude.{IsSome}
 use Rattle.std.specs.List.{list_any}
+use Rattle.std.proofs.lemmas.Option.{same_Some}
 use Rattle.cil_model.specs.declared.types.ClassName.{ClassName}
 use Rattle.cil_model.specs.declared.types.DeclaredType.{DeclaredType}
 use Rattle.cil_model.specs.declared.types.Element.TheVariants.{String, Class}
@@ -12,9 +13,9 @@ use Rattle.cil_model.specs.Chains.{chain_of, interfaces_declared, is_interface, 
 use Rattle.cil_model.specs.Assignable.{to_itself, array_of, element_named, type_of_class, is_assignable}
 use Rattle.cil_model.specs.FlowRules.{is_concrete}
 use Rattle.cil_model.specs.Legality.{IsLegal}
+use Rattle.cil_model.proofs.Lists.{none_is_some}
 use Rattle.cil_model.proofs.SameLaws.{never, both_second, either, same_class_equal, same_class_itself}
 use Rattle.cil_model.proofs.CompleteLaws.{test_is_complete}
-use Rattle.cil_model.proofs.BelowLaws.{none_is_some, same_some}
 use Rattle.reference_machine.specs.Values.{ObjectName, Born, Literal, Reference}
 use Rattle.reference_machine.specs.States.{Contents, Instance, Array, HeapObject, State, object_at, type_of_contents, type_of, class_of_contents, class_of, monitor_of}
 use Rattle.type_soundness.specs.TypedStates.{IsObjectOf, HasType, has_objects, IsTypedContents, IsTyped}
@@ -44,7 +45,7 @@ IsStringOrArray own = (own ≡ plain String) ⊎ ((t : DeclaredType) × (own ≡
 module _ (tree : Tree) (s : State) (typed : IsTyped tree s) where
   -- where neither is of the type, each object of the type is of a class
   pub instance_of : (n : ObjectName) (t : DeclaredType) → IsObjectOf tree s n t → ((own : DeclaredType) → IsStringOrArray own → IsTrue (is_assignable tree own t) → ⊥) → IsInstanceOf tree s n t
-  instance_of (Literal characters) t h neither = absurd (neither h.own (inl (sym (same_some (plain String) h.own h.is))) h.fits)
+  instance_of (Literal characters) t h neither = absurd (neither h.own (inl (sym (same_Some (plain String) h.own h.is))) h.fits)
   instance_of (Born n) t h neither = by_object (slice_get s.objects n) refl h.is
     where
       with_contents : (o : HeapObject) → slice_get s.objects n ≡ Some o → (c : Contents) → o.contents ≡ c → type_of_contents c ≡ h.own → IsTypedContents tree s c → IsInstanceOf tree s (Born n) t
@@ -63,7 +64,7 @@ module _ (tree : Tree) (s : State) (typed : IsTyped tree s) where
 
       by_object : (found : Option HeapObject) → slice_get s.objects n ≡ found → option_map (λ (x : HeapObject). type_of_contents x.contents) found ≡ Some h.own → IsInstanceOf tree s (Born n) t
       by_object None there e = none_is_some h.own e
-      by_object (Some o) there e = with_contents o there o.contents refl (same_some (type_of_contents o.contents) h.own e) (typed.objects n o there)
+      by_object (Some o) there e = with_contents o there o.contents refl (same_Some (type_of_contents o.contents) h.own e) (typed.objects n o there)
 
   -- no object is a string but a literal
   pub string_is_literal : (n : ℕ) → IsObjectOf tree s (Born n) (plain String) → ⊥
@@ -83,7 +84,7 @@ module _ (tree : Tree) (s : State) (typed : IsTyped tree s) where
 
       by_object : (found : Option HeapObject) → slice_get s.objects n ≡ found → option_map (λ (x : HeapObject). type_of_contents x.contents) found ≡ Some h.own → ⊥
       by_object None there e = none_is_some h.own e
-      by_object (Some o) there e = by_contents o.contents (same_some (type_of_contents o.contents) h.own e) (typed.objects n o there)
+      by_object (Some o) there e = by_contents o.contents (same_Some (type_of_contents o.contents) h.own e) (typed.objects n o there)
 
 -- ---- threads
 

@@ -1,6 +1,7 @@
 -- Values keep their types: while states follow one another, and up the tree of types.
 use Rattle.std.proofs.Common.{◌≡◌, ℕ, zero, suc, Bool, true, false, IsTrue, if◌then◌else◌, List, [], ◌∷◌, map, Option, Some, None, option_map, slice_get, refl, sym, ap, ◌∙◌, subst}
 use Rattle.std.specs.Prelude.{IsSome}
+use Rattle.std.proofs.lemmas.Option.{same_Some}
 use Rattle.cil_model.specs.declared.types.DeclaredType.{DeclaredType}
 use Rattle.cil_model.specs.declared.trees.Tree.{Tree}
 use Rattle.cil_model.specs.Same.{same_text}
@@ -9,9 +10,10 @@ use Rattle.cil_model.specs.Fields.{FieldKey}
 use Rattle.cil_model.specs.Legality.{IsLegal}
 use Rattle.cil_model.specs.TypeTree.{StackType, Declared, NativeInt, Null as NullType, IsBelow, ancestor}
 use Rattle.cil_model.specs.Typings.{AreBelow}
+use Rattle.cil_model.proofs.Lists.{none_is_some}
 use Rattle.cil_model.proofs.AssignableLaws.{test_is_sound}
 use Rattle.cil_model.proofs.CompleteLaws.{test_is_complete}
-use Rattle.cil_model.proofs.BelowLaws.{none_is_some, same_some, ancestor_is_reference}
+use Rattle.cil_model.proofs.BelowLaws.{ancestor_is_reference}
 use Rattle.cil_model.proofs.FitsLaws.{below_fits}
 use Rattle.reference_machine.specs.Values.{ObjectName, Born, Literal, Value, Int32, Int64, Native, Null, Reference}
 use Rattle.reference_machine.specs.States.{Contents, Instance, Array, HeapObject, Frame, State, entry_at, type_of_contents, type_of, monitor_of}
@@ -136,9 +138,9 @@ module _ (tree : Tree) (legal : IsLegal tree) (s : State) where
   assignable_on a b c h k = test_is_complete tree legal a c (chained (test_is_sound tree a b h) (test_is_sound tree b c k))
 
   pub value_above : (v : Value) (a b : StackType) → IsBelow tree a b → HasStackType tree s v a → HasStackType tree s v b
-  value_above (Int32 z) (Declared a) (Declared b) (zero, e) h = sym (same_some a b e) ∙ h
+  value_above (Int32 z) (Declared a) (Declared b) (zero, e) h = sym (same_Some a b e) ∙ h
   value_above (Int32 z) (Declared a) (Declared b) (suc n, e) h = none_is_some b (subst (λ x. ancestor tree (suc n) x ≡ Some b) h e)
-  value_above (Int64 z) (Declared a) (Declared b) (zero, e) h = sym (same_some a b e) ∙ h
+  value_above (Int64 z) (Declared a) (Declared b) (zero, e) h = sym (same_Some a b e) ∙ h
   value_above (Int64 z) (Declared a) (Declared b) (suc n, e) h = none_is_some b (subst (λ x. ancestor tree (suc n) x ≡ Some b) h e)
   value_above (Native z) (Declared a) (Declared b) below h = h
   value_above Null (Declared a) (Declared b) (n, e) h = ancestor_is_reference tree n a b h e

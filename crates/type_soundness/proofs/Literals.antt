@@ -1,9 +1,10 @@
 -- The literal that a declared method loads is one of the program's.
-use Rattle.std.proofs.Common.{◌≡◌, ◌⊎◌, ℕ, zero, suc, Bool, true, false, not, IsTrue, ◌||◌, if◌then◌else◌, List, [], ◌∷◌, ◌++◌, map, filter, filter_map, flat_map, find, is_none, Option, Some, None, option_map, slice_get, Contains, refl, inl, inr, sym, ap, ◌∙◌, subst}
+use Rattle.std.proofs.Common.{◌≡◌, ◌⊎◌, ℕ, zero, suc, Bool, true, false, not, IsTrue, ◌||◌, if◌then◌else◌, List, [], ◌∷◌, ◌++◌, filter, filter_map, flat_map, find, is_none, Option, Some, None, option_map, slice_get, Contains, refl, inl, inr, sym, ap, ◌∙◌, subst}
 use Rattle.std.specs.List.{cons_option, list_any, list_all}
 use Rattle.std.specs.Option.{option_map_or}
 use Rattle.std.proofs.lemmas.Bool.{or_left, or_right}
 use Rattle.std.proofs.lemmas.Map.Views.{Contains-from_any}
+use Rattle.std.proofs.lemmas.Option.{same_Some, slice_get-map}
 use Rattle.cil_model.specs.declared.types.ClassName.{ClassName}
 use Rattle.cil_model.specs.declared.instructions.Instruction.{Instruction}
 use Rattle.cil_model.specs.declared.instructions.Instruction.TheVariants.{LoadString}
@@ -16,8 +17,8 @@ use Rattle.cil_model.specs.Declarations.{Declaration, source_name, declared_as, 
 use Rattle.cil_model.specs.Bodies.{lines_of}
 use Rattle.cil_model.specs.Chains.{methods_declared, listed_by}
 use Rattle.cil_model.specs.Mentions.{instructions_of, methods_of_tree, instructions_of_tree, literal_of, each_once, literals_of}
+use Rattle.cil_model.proofs.Lists.{none_is_some}
 use Rattle.cil_model.proofs.SameLaws.{never, both_first, both_second, either, same_text_equal, same_text_itself}
-use Rattle.cil_model.proofs.BelowLaws.{none_is_some, same_some}
 use Rattle.cil_model.proofs.ChainLaws.{found_or_none}
 
 -- ---- lists of which some item passes
@@ -37,12 +38,12 @@ module _ {X : Type 0} (test : X → Bool) where
 
   pub any_at : (xs : List X) (n : ℕ) (x : X) → slice_get xs n ≡ Some x → IsTrue (test x) → IsTrue (list_any test xs)
   any_at [] n x e h = none_is_some x e
-  any_at (y ∷ ys) zero x e h = or_left _ _ (subst (λ z. IsTrue (test z)) (sym (same_some y x e)) h)
+  any_at (y ∷ ys) zero x e h = or_left _ _ (subst (λ z. IsTrue (test z)) (sym (same_Some y x e)) h)
   any_at (y ∷ ys) (suc n) x e h = or_right (test y) _ (any_at ys n x e h)
 
   all_at : (xs : List X) (n : ℕ) (x : X) → slice_get xs n ≡ Some x → IsTrue (list_all test xs) → IsTrue (test x)
   all_at [] n x e h = none_is_some x e
-  all_at (y ∷ ys) zero x e h = subst (λ z. IsTrue (test z)) (same_some y x e) (both_first _ _ h)
+  all_at (y ∷ ys) zero x e h = subst (λ z. IsTrue (test z)) (same_Some y x e) (both_first _ _ h)
   all_at (y ∷ ys) (suc n) x e h = all_at ys n x e (both_second _ _ h)
 
   all_found : (sought : X → Bool) (xs : List X) (x : X) → find sought xs ≡ Some x → IsTrue (list_all test xs) → IsTrue (test x)
@@ -50,7 +51,7 @@ module _ {X : Type 0} (test : X → Bool) where
   all_found sought (y ∷ ys) x e h = by_test (sought y) e (all_found sought ys x)
     where
       by_test : (b : Bool) → (if b then Some y else find sought ys) ≡ Some x → (find sought ys ≡ Some x → IsTrue (list_all test ys) → IsTrue (test x)) → IsTrue (test x)
-      by_test true k later = subst (λ z. IsTrue (test z)) (same_some y x k) (both_first _ _ h)
+      by_test true k later = subst (λ z. IsTrue (test z)) (same_Some y x k) (both_first _ _ h)
       by_test false k later = later k (both_second _ _ h)
 
 any_in_flat : {X Y : Type 0} (test : Y → Bool) (f : X → List Y) (xs : List X) → IsTrue (list_any (λ x. list_any test (f x)) xs) → IsTrue (list_any test (flat_map f xs))
@@ -113,14 +114,9 @@ loads c i = option_map_or (same_text c) (literal_of i) false
 abbrev loads_nothing : Method → Bool
 loads_nothing m = list_all (λ i. is_none (literal_of i)) (instructions_of m)
 
-get_of_map : {X Y : Type 0} (f : X → Y) (xs : List X) (n : ℕ) (x : X) → slice_get xs n ≡ Some x → slice_get (map f xs) n ≡ Some (f x)
-get_of_map f [] n x e = none_is_some x e
-get_of_map f (y ∷ ys) zero x e = ap (option_map f) e
-get_of_map f (y ∷ ys) (suc n) x e = get_of_map f ys n x e
-
 module _ (tree : Tree) (c : List ℕ) (m : Method) (place : ℕ) (line : Line) (at : slice_get (lines_of m) place ≡ Some line) (is : line.instruction ≡ LoadString c) where
   instruction_there : slice_get (instructions_of m) place ≡ Some (LoadString c)
-  instruction_there = get_of_map (λ (l : Line). l.instruction) (lines_of m) place line at ∙ ap Some is
+  instruction_there = slice_get-map (λ (l : Line). l.instruction) (lines_of m) place ∙ ap (option_map (λ (l : Line). l.instruction)) at ∙ ap Some is
 
   method_loads : IsTrue (list_any (loads c) (instructions_of m))
   method_loads = any_at (loads c) (instructions_of m) place (LoadString c) instruction_there (same_text_itself c)

@@ -14,8 +14,8 @@ use Rattle.cil_model.specs.Chains.{is_thread_class}
 use Rattle.cil_model.specs.Slots.{target}
 use Rattle.cil_model.specs.Assignable.{is_reference, type_of_class}
 use Rattle.cil_model.specs.Bodies.{argument_types, falls_through}
+use Rattle.cil_model.proofs.Lists.{none_is_some}
 use Rattle.cil_model.proofs.SameLaws.{never, both_first}
-use Rattle.cil_model.proofs.BelowLaws.{none_is_some}
 use Rattle.reference_machine.specs.Values.{ObjectName, Born, Literal, Value, Int32, Int64, Native, Null, Reference}
 use Rattle.reference_machine.specs.States.{Monitor, Free, Held, HeapObject, Frame, Thread, State, object_at, with_object, class_of, monitor_of, with_monitor, is_live}
 use Rattle.reference_machine.specs.Effects.{Setting, Effect, Blocks, Raises, Sticks, given, new_frame, onward}

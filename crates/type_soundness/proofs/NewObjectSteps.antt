@@ -1,8 +1,9 @@
 -- New objects leave typed states.
-use Rattle.std.proofs.Common.{◌≡◌, ◌≢◌, ◌⊎◌, ℕ, zero, suc, Bool, true, false, not, ◌&&◌, ◌||◌, if◌then◌else◌, IsTrue, List, [], ◌∷◌, find, Option, Some, None, is_some, option_map, option_and_then, slice_get, refl, inl, inr, sym, ap, ◌∙◌, subst}
+use Rattle.std.proofs.Common.{◌≡◌, ◌≢◌, ◌⊎◌, Bool, true, false, not, ◌&&◌, ◌||◌, if◌then◌else◌, IsTrue, List, [], ◌∷◌, find, Option, Some, None, is_some, option_map, option_and_then, slice_get, refl, inl, inr, sym, ap, ◌∙◌, subst}
 use Rattle.std.specs.List.{list_any}
 use Rattle.std.specs.Option.{option_map_or}
-use Rattle.std.proofs.lemmas.Bool.{or_parts, and_from}
+use Rattle.std.proofs.lemmas.Bool.{and_from}
+use Rattle.std.proofs.lemmas.Option.{same_Some}
 use Rattle.cil_model.specs.declared.types.ClassName.{ClassName}
 use Rattle.cil_model.specs.declared.types.DeclaredType.{DeclaredType}
 use Rattle.cil_model.specs.declared.types.Signature.{Signature}
@@ -23,8 +24,8 @@ use Rattle.cil_model.specs.Bodies.{code_of, argument_types, constructor_referenc
 use Rattle.cil_model.specs.FlowRules.{is_concrete, give, take_operands}
 use Rattle.cil_model.specs.Legality.{IsLegal, kinds_fit}
 use Rattle.cil_model.specs.TypeTree.{StackType, Declared}
+use Rattle.cil_model.proofs.Lists.{none_is_some, passes_not}
 use Rattle.cil_model.proofs.SameLaws.{never, both_first, either, is_not, same_class_equal}
-use Rattle.cil_model.proofs.BelowLaws.{none_is_some, same_some}
 use Rattle.reference_machine.specs.Values.{ObjectName, Value, Reference}
 use Rattle.reference_machine.specs.States.{Contents, Frame, State, next_name, with_birth, new_instance}
 use Rattle.reference_machine.specs.Effects.{Setting, Effect, Raises, given, new_frame, onward}
@@ -45,12 +46,6 @@ use Rattle.type_soundness.proofs.CallSteps.{frame_typed, has_code, given_to}
 
 -- ---- classes of which objects are made
 
--- what no item of a list passes, the one at a place does not pass
-none_at : {X : Type 0} (p : X → Bool) (xs : List X) (n : ℕ) (x : X) → list_any p xs ≡ false → slice_get xs n ≡ Some x → p x ≡ false
-none_at p [] n x h e = none_is_some x e
-none_at p (y ∷ ys) zero x h e = subst (λ z. p z ≡ false) (same_some y x e) (or_parts _ _ h).0
-none_at p (y ∷ ys) (suc n) x h e = none_at p ys n x (or_parts _ _ h).1 e
-
 module _ (tree : Tree) where
   -- a class of the source that has objects is declared without `abstract`
   concrete_kind : (c : ClassName) (x : Class) → declaration_of tree c ≡ Some (declared tree x) → IsTrue (is_concrete tree c) → IsTrue (not (is_abstract_kind x.kind))
@@ -68,7 +63,7 @@ module _ (tree : Tree) where
 
   -- it declares no abstract method
   pub concrete_declares_code : IsLegal tree → (c : ClassName) (m : Method) → IsTrue (is_concrete tree c) → IsDeclared tree c m → is_abstract_method m.kind ≡ false
-  concrete_declares_code legal c m concrete declared = none_at (λ (x : Method). is_abstract_method x.kind) (methods_declared tree c) declared.0 m (by_standing (standing tree c) concrete) declared.1
+  concrete_declares_code legal c m concrete declared = passes_not (λ (x : Method). is_abstract_method x.kind) (methods_declared tree c) declared.0 m (by_standing (standing tree c) concrete) declared.1
     where
       by_abstract : (a s t w : Bool) → IsTrue (not a) → IsTrue ((a || (not s && not t)) && w) → s ≡ false
       by_abstract true s t w h k = never h
@@ -171,7 +166,7 @@ module _ (here : Setting) (s : State) (f : Frame) (below : List Frame) where
             let own_arguments : HaveTypes here.tree born (Reference name ∷ arguments) (argument_types m c) =
             arguments_of_instance here.tree legal born (Reference name) arguments (type_of_class c) c m is_found.static object_typed is_found.above others in
             frame_typed here s f below (NewObject c parameters) running refl born born_typed follows c m is_found.declared plain_method code.0 code.1 (Reference name ∷ arguments) own_arguments (Some name)
-            (λ n same. subst (IsConstructing born (new_frame c m code.0 (Reference name ∷ arguments) (Some name))) (same_some name n same) (is_constructing code.0 (Reference name ∷ arguments)))
+            (λ n same. subst (IsConstructing born (new_frame c m code.0 (Reference name ∷ arguments) (Some name))) (same_Some name n same) (is_constructing code.0 (Reference name ∷ arguments)))
             rest types (stack_keeps here.tree s born follows rest types values) (result ∙ sym (ap (λ d. give d types) (newborn_type here.tree s contents)))
 
         -- either, with its operands taken

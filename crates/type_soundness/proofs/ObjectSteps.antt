@@ -1,7 +1,7 @@
 -- Instructions on objects, arrays and static fields keep states typed.
 use Rattle.std.proofs.Common.{◌≡◌, ◌⊎◌, ℕ, zero, suc, ℤ, pos, negsuc, Bool, true, false, IsTrue, ◌&&◌, if◌then◌else◌, List, [], ◌∷◌, length, replicate, Option, Some, None, option_map, option_and_then, slice_get, refl, inl, inr, sym, ap, ◌∙◌, subst}
 use Rattle.std.specs.Option.{option_map_or}
-use Rattle.std.proofs.lemmas.Option.{option_and_then_some}
+use Rattle.std.proofs.lemmas.Option.{option_and_then_some, same_Some}
 use Rattle.cil_model.specs.declared.types.ClassName.{ClassName}
 use Rattle.cil_model.specs.declared.types.DeclaredType.{DeclaredType}
 use Rattle.cil_model.specs.declared.types.Element.{Element}
@@ -21,9 +21,10 @@ use Rattle.cil_model.specs.Bodies.{falls_through}
 use Rattle.cil_model.specs.Stacks.{take_one, take_two, take_three}
 use Rattle.cil_model.specs.TypeTree.{StackType, Declared, NativeInt, Null as NullType, fits}
 use Rattle.cil_model.specs.FlowRules.{allowed, is_int32, is_int64, is_any_reference, is_index, any_type, passes, is_array_of, held, element_on_stack, take_operands}
+use Rattle.cil_model.proofs.Lists.{none_is_some}
 use Rattle.cil_model.proofs.SameLaws.{never, both_first, both_second, either, if_true, same_type_equal, same_type_itself}
 use Rattle.cil_model.specs.Legality.{IsLegal}
-use Rattle.cil_model.proofs.BelowLaws.{none_is_some, same_some, element_is_reference}
+use Rattle.cil_model.proofs.BelowLaws.{element_is_reference}
 use Rattle.cil_model.proofs.CompleteLaws.{test_is_complete}
 use Rattle.reference_machine.specs.Growth.{Follows}
 use Rattle.reference_machine.specs.Values.{ObjectName, Born, Literal, Value, Int32, Int64, Native, Null, Reference, zero_of}
@@ -42,7 +43,7 @@ use Rattle.type_soundness.proofs.DeclaredFields.{HasField, static_field_there, f
 -- what is mapped to a value was there
 mapped_some : {X Y P : Type 0} (g : X → Y) (o : Option X) (y : Y) → option_map g o ≡ Some y → ((x : X) → o ≡ Some x → g x ≡ y → P) → P
 mapped_some g None y e go = none_is_some y e
-mapped_some g (Some x) y e go = go x refl (same_some (g x) y e)
+mapped_some g (Some x) y e go = go x refl (same_Some (g x) y e)
 
 module _ (tree : Tree) where
   -- an array's own elements may stand where elements of another type are wanted: one type, or references that fit
@@ -73,7 +74,7 @@ module _ (tree : Tree) (legal : IsLegal tree) (s : State) where
 
   -- what is assignable to an array's type is an array
   array_there : (n : ObjectName) (own w : DeclaredType) → type_of s n ≡ Some own → IsTrue (is_assignable tree own (array_of w)) → (t : DeclaredType) × (elements : List Value) × (array_at s n ≡ Some (t, elements)) × IsHeldAs tree t w
-  array_there (Literal characters) own w is h = never (subst (λ x. IsTrue (is_assignable tree x (array_of w))) (sym (same_some (plain String) own is)) h)
+  array_there (Literal characters) own w is h = never (subst (λ x. IsTrue (is_assignable tree x (array_of w))) (sym (same_Some (plain String) own is)) h)
   array_there (Born k) own w is h = by_object (slice_get s.objects k) refl is
     where
       by_contents : (c : Contents) → type_of_contents c ≡ own → array_at s (Born k) ≡ elements_of_contents c → (t : DeclaredType) × (elements : List Value) × (array_at s (Born k) ≡ Some (t, elements)) × IsHeldAs tree t w
@@ -82,7 +83,7 @@ module _ (tree : Tree) (legal : IsLegal tree) (s : State) where
 
       by_object : (o : Option HeapObject) → slice_get s.objects k ≡ o → option_map (λ (x : HeapObject). type_of_contents x.contents) o ≡ Some own → (t : DeclaredType) × (elements : List Value) × (array_at s (Born k) ≡ Some (t, elements)) × IsHeldAs tree t w
       by_object None there e = none_is_some own e
-      by_object (Some o) there e = by_contents o.contents (same_some (type_of_contents o.contents) own e) (ap (option_and_then (λ (x : HeapObject). elements_of_contents x.contents)) there)
+      by_object (Some o) there e = by_contents o.contents (same_Some (type_of_contents o.contents) own e) (ap (option_and_then (λ (x : HeapObject). elements_of_contents x.contents)) there)
 
   -- null, or an array whose elements may stand where those that passed the test are wanted
   pub from_array : (P : Value → Type 0) (test : DeclaredType → Bool) (v : Value) (a : StackType) → IsTrue (is_array_of test a) → HasStackType tree s v a → P Null →
@@ -208,7 +209,7 @@ module _ (here : Setting) (s : State) (f : Frame) (below : List Frame) where
     one_fitting go t (v ∷ rest) (a ∷ st) result h e each = by_test (fits here.tree a t) refl e
       where
         by_test : (b : Bool) → fits here.tree a t ≡ b → (if b then Some st else None) ≡ Some result → Fine (go v rest)
-        by_test true is e' = each v rest st (value_fits here.tree running.accepted.legal s v a t is h.0) h.1 (same_some st result e')
+        by_test true is e' = each v rest st (value_fits here.tree running.accepted.legal s v a t is h.0) h.1 (same_Some st result e')
         by_test false is e' = none_is_some result e'
 
     -- two of them
@@ -224,7 +225,7 @@ module _ (here : Setting) (s : State) (f : Frame) (below : List Frame) where
         second (v ∷ rest) (a ∷ ys) k e' is = by_first (fits here.tree a t) refl e'
           where
             by_first : (c : Bool) → fits here.tree a t ≡ c → (if c then Some ys else None) ≡ Some result → Fine (go v w rest)
-            by_first true is' e'' = each v w rest ys (value_fits here.tree running.accepted.legal s v a t is' k.0) (value_fits here.tree running.accepted.legal s w b u is h.0) k.1 (same_some ys result e'')
+            by_first true is' e'' = each v w rest ys (value_fits here.tree running.accepted.legal s v a t is' k.0) (value_fits here.tree running.accepted.legal s w b u is h.0) k.1 (same_Some ys result e'')
             by_first false is' e'' = none_is_some result e''
 
         by_test : (c : Bool) → fits here.tree b u ≡ c → (if c then take_operands here.tree (t ∷ []) st else None) ≡ Some result → Fine (take_two Sticks (w ∷ vs) go)

@@ -3,6 +3,7 @@ use Rattle.std.proofs.Common.{◌≡◌, ◌==◌, ◌&&◌, ℕ, zero, suc, Boo
 use Rattle.std.specs.Prelude.{IsSome}
 use Rattle.std.specs.Option.{option_map_or}
 use Rattle.std.proofs.lemmas.Bool.{eqb-true}
+use Rattle.std.proofs.lemmas.Option.{same_Some}
 use Rattle.cil_model.specs.declared.types.ClassName.{ClassName}
 use Rattle.cil_model.specs.declared.types.DeclaredType.{DeclaredType}
 use Rattle.cil_model.specs.declared.types.Element.{Element}
@@ -19,8 +20,9 @@ use Rattle.cil_model.specs.Fields.{FieldKey, static_fields}
 use Rattle.cil_model.specs.Mentions.{literals_of}
 use Rattle.cil_model.specs.Legality.{is_entry_method}
 use Rattle.cil_model.specs.Typings.{Typing, IsCodeTyping, IsTypingOf, IsTyping, IsAccepted}
+use Rattle.cil_model.proofs.Lists.{none_is_some}
 use Rattle.cil_model.proofs.SameLaws.{never, both_first, both_second, if_true, same_text_itself}
-use Rattle.cil_model.proofs.BelowLaws.{typed as typed_as, none_is_some, same_some}
+use Rattle.cil_model.proofs.BelowLaws.{typed as typed_as}
 use Rattle.cil_model.proofs.Legal.{entry_alone}
 use Rattle.reference_machine.specs.Values.{ObjectName, Value, zero_of}
 use Rattle.reference_machine.specs.States.{Free, Thread, State, entry_at, zeroed}
@@ -116,7 +118,7 @@ module _ (tree : Tree) (limits : Limits) (accepted : IsAccepted tree) where
           (subst (λ ts. HaveTypes tree first [] ts) (sym (no_arguments e.0 e.1 is_entry)) tt) (λ name none. none_is_some name none)
 
       threads : (t : ℕ) (thread : Thread) → slice_get first.threads t ≡ Some thread → thread.ended ≡ None → AreTypedFrames tree first thread.frames
-      threads zero thread there live = subst (λ (x : Thread). AreTypedFrames tree first x.frames) (same_some _ thread there) (frame, tt)
+      threads zero thread there live = subst (λ (x : Thread). AreTypedFrames tree first x.frames) (same_Some _ thread there) (frame, tt)
       threads (suc t) thread there live = none_is_some thread there
 
   module _ (e : ClassName × Method) (alone : entry_points tree ≡ e ∷ []) (is_entry : is_entry_method e.1 ≡ true) where
@@ -139,4 +141,4 @@ module _ (tree : Tree) (limits : Limits) (accepted : IsAccepted tree) where
 
   -- so is any that it is said to have
   pub opening_typed : (s : State) → opening tree limits ≡ Some s → IsTyped tree s
-  opening_typed s e = subst (λ x. IsTyped tree x) (same_some opens.0 s (sym opens.1 ∙ e)) opens.2
+  opening_typed s e = subst (λ x. IsTyped tree x) (same_Some opens.0 s (sym opens.1 ∙ e)) opens.2

@@ -1,5 +1,6 @@
 -- What values are, by what a verifier knows of them, and taking them off a typed stack.
 use Rattle.std.proofs.Common.{◌≡◌, ◌⊎◌, ℕ, zero, suc, ℤ, Bool, true, false, IsTrue, ◌&&◌, List, [], ◌∷◌, Option, Some, None, option_map, slice_get, slice_set, refl, inl, inr, sym, ◌∙◌, subst}
+use Rattle.std.proofs.lemmas.Option.{same_Some}
 use Rattle.cil_model.specs.declared.types.DeclaredType.{DeclaredType}
 use Rattle.cil_model.specs.declared.types.Element.{Element}
 use Rattle.cil_model.specs.declared.types.Element.TheVariants.{Int32 as Int32Element, Int64 as Int64Element, Object, String, Class}
@@ -11,8 +12,9 @@ use Rattle.cil_model.specs.Legality.{IsLegal}
 use Rattle.cil_model.specs.Stacks.{take_one, take_two, take_three}
 use Rattle.cil_model.specs.TypeTree.{StackType, Declared, NativeInt, Null as NullType, fits}
 use Rattle.cil_model.specs.FlowRules.{StackAfter, allowed, is_int32, is_int64, is_integer, is_any_reference, is_index, are_integers}
+use Rattle.cil_model.proofs.Lists.{none_is_some}
 use Rattle.cil_model.proofs.SameLaws.{never, both_first, both_second, either, same_type_equal}
-use Rattle.cil_model.proofs.BelowLaws.{none_is_some, same_some, element_is_reference, typed as typed_as}
+use Rattle.cil_model.proofs.BelowLaws.{element_is_reference, typed as typed_as}
 use Rattle.cil_model.proofs.FitsLaws.{fits_below}
 use Rattle.reference_machine.specs.Values.{ObjectName, Born, Literal, Value, Int32, Int64, Native, Null, Reference, same_kind}
 use Rattle.reference_machine.specs.States.{Contents, Instance, Array, HeapObject, State, type_of_contents, type_of}
@@ -59,7 +61,7 @@ int64_fits tree t h = by_element t.element t.brackets h
 
 -- an object's own type is a reference
 pub own_is_reference : (tree : Tree) (s : State) (n : ObjectName) (own : DeclaredType) → type_of s n ≡ Some own → IsTrue (is_reference own)
-own_is_reference tree s (Literal characters) own e = let P : DeclaredType → Type 0 = λ x. IsTrue (is_reference x) in subst P (same_some (plain String) own e) refl
+own_is_reference tree s (Literal characters) own e = let P : DeclaredType → Type 0 = λ x. IsTrue (is_reference x) in subst P (same_Some (plain String) own e) refl
 own_is_reference tree s (Born n) own e = by_object (slice_get s.objects n) e
   where
     by_contents : (c : Contents) → IsTrue (is_reference (type_of_contents c))
@@ -68,7 +70,7 @@ own_is_reference tree s (Born n) own e = by_object (slice_get s.objects n) e
 
     by_object : (o : Option HeapObject) → option_map (λ (x : HeapObject). type_of_contents x.contents) o ≡ Some own → IsTrue (is_reference own)
     by_object None h = none_is_some own h
-    by_object (Some o) h = let P : DeclaredType → Type 0 = λ x. IsTrue (is_reference x) in subst P (same_some (type_of_contents o.contents) own h) (by_contents o.contents)
+    by_object (Some o) h = let P : DeclaredType → Type 0 = λ x. IsTrue (is_reference x) in subst P (same_Some (type_of_contents o.contents) own h) (by_contents o.contents)
 
 module _ (tree : Tree) (legal : IsLegal tree) (s : State) where
   -- what has an object is a reference
@@ -201,7 +203,7 @@ module _ (tree : Tree) (s : State) where
   -- the value at a place has the type there
   pub value_at : (vs : List Value) (ts : List DeclaredType) → HaveTypes tree s vs ts → (n : ℕ) (t : DeclaredType) → slice_get ts n ≡ Some t → (v : Value) × (slice_get vs n ≡ Some v) × HasType tree s v t
   value_at [] [] h n t e = none_is_some t e
-  value_at (v ∷ vs) (u ∷ us) h zero t e = (v, refl, subst (λ x. HasType tree s v x) (same_some u t e) h.0)
+  value_at (v ∷ vs) (u ∷ us) h zero t e = (v, refl, subst (λ x. HasType tree s v x) (same_Some u t e) h.0)
   value_at (v ∷ vs) (u ∷ us) h (suc n) t e = value_at vs us h.1 n t e
   value_at [] (u ∷ us) h n t e = elim h [ ]
   value_at (v ∷ vs) [] h n t e = elim h [ ]
@@ -209,7 +211,7 @@ module _ (tree : Tree) (s : State) where
   -- with another value of the type there
   pub values_with : (vs : List Value) (ts : List DeclaredType) → HaveTypes tree s vs ts → (n : ℕ) (t : DeclaredType) → slice_get ts n ≡ Some t → (w : Value) → HasType tree s w t → HaveTypes tree s (slice_set vs n w) ts
   values_with [] [] h n t e w k = none_is_some t e
-  values_with (v ∷ vs) (u ∷ us) h zero t e w k = (subst (λ x. HasType tree s w x) (sym (same_some u t e)) k, h.1)
+  values_with (v ∷ vs) (u ∷ us) h zero t e w k = (subst (λ x. HasType tree s w x) (sym (same_Some u t e)) k, h.1)
   values_with (v ∷ vs) (u ∷ us) h (suc n) t e w k = (h.0, values_with vs us h.1 n t e w k)
   values_with [] (u ∷ us) h n t e w k = elim h [ ]
   values_with (v ∷ vs) [] h n t e w k = elim h [ ]
@@ -249,5 +251,5 @@ module _ (tree : Tree) (s : State) where
 
 -- a test that lets a stack through passed, and the stack is the result
 pub was_allowed : (b : Bool) (st result : List StackType) → allowed b st ≡ Some result → IsTrue b × (st ≡ result)
-was_allowed true st result e = (refl, same_some st result e)
+was_allowed true st result e = (refl, same_Some st result e)
 was_allowed false st result e = none_is_some result e

@@ -1,7 +1,7 @@
 -- A frame that is at an instruction: what its typing says there, and what lets it go on.
-use Rattle.std.proofs.Common.{◌≡◌, ℕ, zero, suc, ◌+◌, ◌<◌, Bool, true, false, IsTrue, List, [], ◌∷◌, length, Option, Some, None, option_map, slice_get, Contains, refl, sym, ap, ◌∙◌, subst, arith}
+use Rattle.std.proofs.Common.{◌≡◌, ℕ, ◌+◌, ◌<◌, Bool, true, false, IsTrue, List, [], ◌∷◌, length, Option, Some, None, option_map, slice_get, Contains, refl, sym, ap, ◌∙◌, subst, arith}
 use Rattle.std.specs.Option.{option_map_or}
-use Rattle.std.proofs.lemmas.Option.{slice_get-get_or}
+use Rattle.std.proofs.lemmas.Option.{slice_get-get_or, slice_get_within}
 use Rattle.cil_model.specs.declared.instructions.Instruction.{Instruction}
 use Rattle.cil_model.specs.declared.trees.Tree.{Tree}
 use Rattle.cil_model.specs.declared.trees.Code.{Code}
@@ -10,7 +10,6 @@ use Rattle.cil_model.specs.Bodies.{lines_of, argument_types, falls_through, labe
 use Rattle.cil_model.specs.FlowRules.{flow}
 use Rattle.cil_model.specs.TypeTree.{StackType}
 use Rattle.cil_model.specs.Typings.{Reaches, ReachesLabel, FlowsOn, IsAccepted}
-use Rattle.cil_model.proofs.BelowLaws.{none_is_some}
 use Rattle.reference_machine.specs.Values.{Value}
 use Rattle.reference_machine.specs.States.{Frame, State}
 use Rattle.reference_machine.specs.Effects.{Setting, Effect, Goes, Blocks, Raises, Sticks, given, onward}
@@ -107,11 +106,6 @@ there_is : {X : Type 0} (xs : List X) (n m : ℕ) → m ≡ length xs → n < m 
 there_is [] n m e below = absurd (grind (arith))
 there_is (x ∷ xs) n m e below = (_, slice_get-get_or (x ∷ xs) n x (subst (λ k. n < k) e below))
 
-inside : {X : Type 0} (xs : List X) (n : ℕ) (x : X) → slice_get xs n ≡ Some x → n < length xs
-inside [] n x e = none_is_some x e
-inside (y ∷ ys) zero x e = omega arith
-inside (y ∷ ys) (suc n) x e = let h = inside ys n x e in omega (arith, h)
-
 module _ (here : Setting) (accepted : IsAccepted here.tree) (s : State) (typed : IsTyped here.tree s) (f : Frame) (below : List Frame) (frames : AreTypedFrames here.tree s (f ∷ below)) where
   -- it is at an instruction, which its typing allows
   pub runs_at : (i : Instruction) × (instruction_at f ≡ Some i) × IsRunning here s f below i
@@ -119,7 +113,7 @@ module _ (here : Setting) (accepted : IsAccepted here.tree) (s : State) (typed :
       let frame : IsTypedFrame here.tree s None f = frames.0 in
       let stack : List StackType = frame.reaches.0 in
       let mapped : slice_get frame.typing f.place ≡ Some (Some stack) = frame.reaches.1 in
-      let line : (l : Line) × (slice_get frame.code.lines f.place ≡ Some l) = there_is frame.code.lines f.place (length frame.typing) frame.is_typing.whole (inside frame.typing f.place (Some stack) mapped) in
+      let line : (l : Line) × (slice_get frame.code.lines f.place ≡ Some l) = there_is frame.code.lines f.place (length frame.typing) frame.is_typing.whole (slice_get_within frame.typing f.place (Some stack) mapped) in
       let flowing = frame.is_typing.each f.place line.0 stack line.1 mapped in
       let lines : lines_of f.method ≡ frame.code.lines = ap (λ (c : Option Code). option_map_or (λ (code : Code). code.lines) c []) frame.has_code in (
         line.0.instruction,

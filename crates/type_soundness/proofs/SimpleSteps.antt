@@ -1,6 +1,6 @@
 -- Instructions that touch no object keep states typed.
 use Rattle.std.proofs.Common.{◌≡◌, ◌⊎◌, ℕ, ◌+◌, ℤ, pos, negsuc, Bool, true, false, not, IsTrue, ◌&&◌, ◌||◌, if◌then◌else◌, List, [], ◌∷◌, Option, Some, None, Result, Ok, Err, slice_get, slice_set, Contains, refl, inl, inr, sym, ap, subst, lit<}
-use Rattle.std.proofs.lemmas.Option.{slice_get_within, get_or_from_slice_get}
+use Rattle.std.proofs.lemmas.Option.{slice_get_within, get_or_from_slice_get, same_Some}
 use Rattle.std.specs.Option.{option_map_or}
 use Rattle.std.specs.Int.{w32, w64, cast_unsigned}
 use Rattle.cil_model.specs.declared.types.DeclaredType.{DeclaredType}
@@ -23,8 +23,8 @@ use Rattle.cil_model.specs.Stacks.{take_one}
 use Rattle.cil_model.specs.TypeTree.{StackType, Declared, Null as NullType, i4, i8, fits}
 use Rattle.cil_model.specs.FlowRules.{is_int32, is_integer, is_any_reference, is_index, are_integers, are_comparable, may_compare, may_branch, load, store}
 use Rattle.cil_model.specs.Typings.{Reaches}
+use Rattle.cil_model.proofs.Lists.{none_is_some}
 use Rattle.cil_model.proofs.SameLaws.{both_first, both_second, either, if_true}
-use Rattle.cil_model.proofs.BelowLaws.{none_is_some, same_some}
 use Rattle.reference_machine.specs.Values.{Literal, Value, Int32, Int64, Native, Null, Reference, same_kind}
 use Rattle.reference_machine.specs.Arithmetic.{binary, unary, shift, binary_value, unary_value, shift_value, equal_values, ordered_values, compare_values, branch_values, is_set, not_option, convert_32, convert_64, one_or_zero, result_as}
 use Rattle.reference_machine.specs.States.{Frame, State, same_kind_or_none}
@@ -67,13 +67,13 @@ module _ (here : Setting) (s : State) (f : Frame) (below : List Frame) where
       where
         by_value : (t : DeclaredType) → Declared t ∷ st ≡ running.result → (v : Value) → HasType here.tree s v t → (o : Option Value) → o ≡ Some v → Fine (given o (λ w. next here s f below (w ∷ f.stack)))
         by_value t e' v k None is = none_is_some v is
-        by_value t e' v k (Some w) is = on (w ∷ f.stack) (Declared t ∷ st) (subst (λ x. HasType here.tree s x t) (sym (same_some w v is)) k, h) e'
+        by_value t e' v k (Some w) is = on (w ∷ f.stack) (Declared t ∷ st) (subst (λ x. HasType here.tree s x t) (sym (same_Some w v is)) k, h) e'
 
         by_type : (o : Option DeclaredType) → slice_get ts n ≡ o → load o st ≡ Some running.result → Fine (given (slice_get vs n) (λ v. next here s f below (v ∷ f.stack)))
         by_type None is e' = none_is_some running.result e'
         by_type (Some t) is e' =
             let found = value_at here.tree s vs ts values n t is in
-            by_value t (same_some (Declared t ∷ st) running.result e') found.0 found.2 (slice_get vs n) found.1
+            by_value t (same_Some (Declared t ∷ st) running.result e') found.0 found.2 (slice_get vs n) found.1
 
     -- another value in the place of one; `go` is on with the values after it
     put : (go : List Value → Effect) (vs : List Value) (ts : List DeclaredType) → HaveTypes here.tree s vs ts → (n : ℤ) (t : DeclaredType) → at_place ts n ≡ Some t → (v : Value) → HasType here.tree s v t →
@@ -96,22 +96,22 @@ module _ (here : Setting) (s : State) (f : Frame) (below : List Frame) where
     store_typed go (Some t) (v ∷ rest) (a ∷ st) h e each = by_test (fits here.tree a t) refl e
       where
         by_test : (b : Bool) → fits here.tree a t ≡ b → (if b then Some st else None) ≡ Some running.result → Fine (go v rest)
-        by_test true is e' = each v rest st t refl (value_fits here.tree running.accepted.legal s v a t is h.0) h.1 (same_some st running.result e')
+        by_test true is e' = each v rest st t refl (value_fits here.tree running.accepted.legal s v a t is h.0) h.1 (same_Some st running.result e')
         by_test false is e' = none_is_some running.result e'
 
   -- ---- constants, arguments and locals
 
   pub no_operation_typed : At NoOperation → Fine (execute here s f below NoOperation)
-  no_operation_typed running = on NoOperation running refl f.stack running.stack running.values (same_some _ _ running.flows)
+  no_operation_typed running = on NoOperation running refl f.stack running.stack running.values (same_Some _ _ running.flows)
 
   pub load_int32_typed : (z : ℤ) → At (LoadInt32 z) → Fine (execute here s f below (LoadInt32 z))
-  load_int32_typed z running = on (LoadInt32 z) running refl (Int32 z ∷ f.stack) (i4 ∷ running.stack) (refl, running.values) (same_some _ _ running.flows)
+  load_int32_typed z running = on (LoadInt32 z) running refl (Int32 z ∷ f.stack) (i4 ∷ running.stack) (refl, running.values) (same_Some _ _ running.flows)
 
   pub load_int64_typed : (z : ℤ) → At (LoadInt64 z) → Fine (execute here s f below (LoadInt64 z))
-  load_int64_typed z running = on (LoadInt64 z) running refl (Int64 z ∷ f.stack) (i8 ∷ running.stack) (refl, running.values) (same_some _ _ running.flows)
+  load_int64_typed z running = on (LoadInt64 z) running refl (Int64 z ∷ f.stack) (i8 ∷ running.stack) (refl, running.values) (same_Some _ _ running.flows)
 
   pub load_null_typed : At LoadNull → Fine (execute here s f below LoadNull)
-  load_null_typed running = on LoadNull running refl (Null ∷ f.stack) (NullType ∷ running.stack) (tt, running.values) (same_some _ _ running.flows)
+  load_null_typed running = on LoadNull running refl (Null ∷ f.stack) (NullType ∷ running.stack) (tt, running.values) (same_Some _ _ running.flows)
 
   -- a literal is a string with a monitor
   pub load_string_typed : (characters : List ℕ) → At (LoadString characters) → Fine (execute here s f below (LoadString characters))
@@ -120,7 +120,7 @@ module _ (here : Setting) (s : State) (f : Frame) (below : List Frame) where
       let known = literal_of_program here.tree characters f.method f.place running.line (subst (λ ls. slice_get ls f.place ≡ Some running.line) lines running.at) running.is f.owner running.frame.is_declared.0 running.frame.is_declared.1 in
       on (LoadString characters) running refl (Reference (Literal characters) ∷ f.stack) (Declared (plain String) ∷ running.stack)
       (record { own = plain String; is = refl; fits = refl; monitor = running.typed.literals characters known }, running.values)
-      (same_some _ _ running.flows)
+      (same_Some _ _ running.flows)
 
   pub load_argument_typed : (n : ℤ) → At (LoadArgument n) → Fine (execute here s f below (LoadArgument n))
   load_argument_typed n running = at_value (LoadArgument n) running refl f.arguments (argument_types f.method f.owner) running.frame.arguments n running.stack running.values running.flows
@@ -150,11 +150,11 @@ module _ (here : Setting) (s : State) (f : Frame) (below : List Frame) where
 
   pub duplicate_typed : At Duplicate → Fine (execute here s f below Duplicate)
   duplicate_typed running = one_typed here.tree s _ _ f.stack running.stack running.result running.values running.flows (λ v a rest types h rest_typed e.
-      on Duplicate running refl (v ∷ v ∷ rest) (a ∷ a ∷ types) (h, (h, rest_typed)) (same_some _ _ e))
+      on Duplicate running refl (v ∷ v ∷ rest) (a ∷ a ∷ types) (h, (h, rest_typed)) (same_Some _ _ e))
 
   pub pop_typed : At Pop → Fine (execute here s f below Pop)
   pop_typed running = one_typed here.tree s _ _ f.stack running.stack running.result running.values running.flows (λ v a rest types h rest_typed e.
-      on Pop running refl rest types rest_typed (same_some _ _ e))
+      on Pop running refl rest types rest_typed (same_Some _ _ e))
 
   pub binary_typed : (op : BinaryOperation) → At (Binary op) → Fine (execute here s f below (Binary op))
   binary_typed op running = two_typed here.tree s _ _ f.stack running.stack running.result running.values running.flows (λ v w a b rest types h k rest_typed e.
@@ -254,7 +254,7 @@ module _ (here : Setting) (s : State) (f : Frame) (below : List Frame) where
 
   pub branch_always_typed : (label : List ℕ) → At (Branch label) → Fine (execute here s f below (Branch label))
   branch_always_typed label running =
-      jump_typed here s f below (Branch label) running label (0, lit< tt, refl) f.stack (subst (HaveStackTypes here.tree s f.stack) (same_some running.stack running.result running.flows) running.values)
+      jump_typed here s f below (Branch label) running label (0, lit< tt, refl) f.stack (subst (HaveStackTypes here.tree s f.stack) (same_Some running.stack running.result running.flows) running.values)
 
   -- a test whether a value is set has an answer
   set_answers : (legal : IsLegal here.tree) (turn : Option Bool → Option Bool) → ((o : Bool) → (p : Bool) × (turn (Some o) ≡ Some p)) → (v : Value) (a : StackType) → HasStackType here.tree s v a → IsTrue (is_integer a || is_any_reference a) →

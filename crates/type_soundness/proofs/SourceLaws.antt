@@ -2,6 +2,7 @@
 use Rattle.std.proofs.Common.{◌≡◌, ℕ, zero, suc, Bool, true, false, IsTrue, cond, if◌then◌else◌, List, [], ◌∷◌, ◌++◌, map, filter, flat_map, find, Option, Some, None, option_map, slice_get, refl, sym, ap, ◌∙◌, subst}
 use Rattle.std.specs.List.{list_any}
 use Rattle.std.proofs.lemmas.Bool.{or_parts}
+use Rattle.std.proofs.lemmas.Option.{same_Some}
 use Rattle.cil_model.specs.declared.types.ClassName.{ClassName}
 use Rattle.cil_model.specs.declared.trees.Tree.{Tree}
 use Rattle.cil_model.specs.declared.trees.Class.{Class}
@@ -11,8 +12,8 @@ use Rattle.cil_model.specs.Declarations.{Declaration, source_name, declared_as, 
 use Rattle.cil_model.specs.Bodies.{source_methods}
 use Rattle.cil_model.specs.Chains.{methods_declared, listed_by}
 use Rattle.cil_model.specs.Legality.{IsLegal, has_repeat, class_doubles, doubles_name}
+use Rattle.cil_model.proofs.Lists.{none_is_some}
 use Rattle.cil_model.proofs.SameLaws.{never, same_text_itself}
-use Rattle.cil_model.proofs.BelowLaws.{none_is_some, same_some}
 use Rattle.type_soundness.proofs.Literals.{any_at}
 
 -- ---- lists
@@ -30,7 +31,7 @@ came_from f (x ∷ xs) n y e go = split (f x) (flat_map f xs) n y e (λ k h. go 
 
 mapped_from : {X Y A : Type 0} (f : X → Y) (xs : List X) (n : ℕ) (y : Y) → slice_get (map f xs) n ≡ Some y → ((x : X) → slice_get xs n ≡ Some x → f x ≡ y → A) → A
 mapped_from f [] n y e go = none_is_some y e
-mapped_from f (x ∷ xs) zero y e go = go x refl (same_some (f x) y e)
+mapped_from f (x ∷ xs) zero y e go = go x refl (same_Some (f x) y e)
 mapped_from f (x ∷ xs) (suc n) y e go = mapped_from f xs n y e go
 
 -- an item that passes stands in the whole list
@@ -45,7 +46,7 @@ kept_from {X} test (y ∷ ys) n x e = by_test (test y) refl n e (kept_from test 
     behind z h = (suc h.0, h.1, h.2)
 
     by_test : (b : Bool) → test y ≡ b → (n : ℕ) → slice_get (cond b (y ∷ filter test ys) (filter test ys)) n ≡ Some x → ((k : ℕ) (z : X) → slice_get (filter test ys) k ≡ Some z → Stands ys z) → Stands (y ∷ ys) x
-    by_test true is zero h later = (0, h, subst (λ z. IsTrue (test z)) (same_some y x h) is)
+    by_test true is zero h later = (0, h, subst (λ z. IsTrue (test z)) (same_Some y x h) is)
     by_test true is (suc n) h later = behind x (later n x h)
     by_test false is n h later = behind x (later n x h)
 
@@ -59,7 +60,7 @@ found_itself {X} same itself (y ∷ ys) apart n x e =
     by_test : (b : Bool) → same y x ≡ b → (n : ℕ) → slice_get (y ∷ ys) n ≡ Some x → list_any (same y) ys ≡ false →
         ((k : ℕ) (z : X) → slice_get ys k ≡ Some z → find (λ w. same w z) ys ≡ Some z) → cond b (Some y) (find (λ z. same z x) ys) ≡ Some x
     by_test true is zero h new later = h
-    by_test false is zero h new later = never (sym is ∙ subst (λ z. IsTrue (same y z)) (same_some y x h) (itself y))
+    by_test false is zero h new later = never (sym is ∙ subst (λ z. IsTrue (same y z)) (same_Some y x h) (itself y))
     by_test true is (suc n) h new later = never (sym new ∙ any_at (same y) ys n x h is)
     by_test false is (suc n) h new later = later n x h
 

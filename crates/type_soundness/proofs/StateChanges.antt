@@ -1,6 +1,7 @@
 -- Each change that the machine makes to a state leaves it typed.
-use Rattle.std.proofs.Common.{◌≡◌, ◌≢◌, ◌⊎◌, ℕ, zero, suc, Bool, true, false, if◌then◌else◌, IsTrue, List, [], ◌∷◌, ◌++◌, length, replicate, Option, Some, None, option_map, option_and_then, slice_get, slice_set, unwrap_or, Contains, refl, inl, inr, sym, ap, ◌∙◌, subst}
+use Rattle.std.proofs.Common.{◌≡◌, ◌≢◌, ◌⊎◌, ℕ, zero, suc, Bool, true, false, if◌then◌else◌, IsTrue, List, [], ◌∷◌, ◌++◌, replicate, Option, Some, None, option_map, option_and_then, slice_get, slice_set, unwrap_or, Contains, refl, inl, inr, sym, ap, ◌∙◌, subst}
 use Rattle.std.specs.Prelude.{IsSome}
+use Rattle.std.proofs.lemmas.Option.{same_Some}
 use Rattle.cil_model.specs.declared.types.ClassName.{ClassName}
 use Rattle.cil_model.specs.declared.types.Element.TheVariants.{String}
 use Rattle.cil_model.specs.declared.types.DeclaredType.{DeclaredType}
@@ -12,8 +13,8 @@ use Rattle.cil_model.specs.Assignable.{is_assignable, to_itself}
 use Rattle.cil_model.specs.Fields.{FieldKey, instance_fields, static_fields, same_key}
 use Rattle.cil_model.specs.Legality.{IsLegal}
 use Rattle.cil_model.specs.Mentions.{literals_of}
+use Rattle.cil_model.proofs.Lists.{none_is_some, set_or_was, last_or_was, last_is_there}
 use Rattle.cil_model.proofs.SameLaws.{if_true, if_false}
-use Rattle.cil_model.proofs.BelowLaws.{none_is_some, same_some}
 use Rattle.cil_model.proofs.CompleteLaws.{test_is_complete}
 use Rattle.reference_machine.specs.Values.{ObjectName, Born, Literal, Value, Reference, zero_of, same_kind}
 use Rattle.reference_machine.specs.States.{Monitor, Free, Contents, Instance, Array, HeapObject, Thread, State, entry_at, with_entry, same_kind_or_none, replaced_entry, replaced_at, fields_of_contents, elements_of_contents, with_fields, field_value, with_field, array_at, with_element, object_at, with_object, type_of_contents, type_of, monitor_of, with_monitor, next_name, with_birth, new_instance}
@@ -24,27 +25,6 @@ use Rattle.type_soundness.specs.TypedStates.{HasType, AllHaveType, HaveFieldType
 use Rattle.type_soundness.proofs.Keeping.{monitor_keeps, elements_keep, fields_keep, contents_keep, frames_keep}
 use Rattle.type_soundness.proofs.Operands.{kinds_agree}
 use Rattle.type_soundness.proofs.Openings.{zero_typed, zeroed_typed}
-
--- ---- lists
-
--- what is there after a change of one place is the new one, or was there
-pub set_or_was : {X : Type 0} (xs : List X) (n m : ℕ) (y x : X) → slice_get (slice_set xs n y) m ≡ Some x → (x ≡ y) ⊎ (slice_get xs m ≡ Some x)
-set_or_was [] n m y x e = none_is_some x e
-set_or_was (z ∷ zs) zero zero y x e = inl (sym (same_some y x e))
-set_or_was (z ∷ zs) zero (suc m) y x e = inr e
-set_or_was (z ∷ zs) (suc n) zero y x e = inr e
-set_or_was (z ∷ zs) (suc n) (suc m) y x e = set_or_was zs n m y x e
-
--- what is there with one more at the end is that one, or was there
-pub last_or_was : {X : Type 0} (xs : List X) (m : ℕ) (y x : X) → slice_get (xs ++ y ∷ []) m ≡ Some x → (x ≡ y) ⊎ (slice_get xs m ≡ Some x)
-last_or_was [] zero y x e = inl (sym (same_some y x e))
-last_or_was [] (suc m) y x e = none_is_some x e
-last_or_was (z ∷ zs) zero y x e = inr e
-last_or_was (z ∷ zs) (suc m) y x e = last_or_was zs m y x e
-
-pub last_is_there : {X : Type 0} (xs : List X) (y : X) → slice_get (xs ++ y ∷ []) (length xs) ≡ Some y
-last_is_there [] y = refl
-last_is_there (x ∷ xs) y = last_is_there xs y
 
 -- ---- a state that follows a typed one
 
@@ -207,7 +187,7 @@ module _ (tree : Tree) (legal : IsLegal tree) (s : State) where
 
   pub element_typed : (t : DeclaredType) (vs : List Value) (n : ℕ) (v : Value) → AllHaveType tree s t vs → slice_get vs n ≡ Some v → HasType tree s v t
   element_typed t [] n v h e = none_is_some v e
-  element_typed t (w ∷ vs) zero v h e = subst (λ x. HasType tree s x t) (same_some w v e) h.0
+  element_typed t (w ∷ vs) zero v h e = subst (λ x. HasType tree s x t) (same_Some w v e) h.0
   element_typed t (w ∷ vs) (suc n) v h e = element_typed t vs n v h.1 e
 
   set_typed : (t : DeclaredType) (vs : List Value) (n : ℕ) (v : Value) → AllHaveType tree s t vs → HasType tree s v t → AllHaveType tree s t (slice_set vs n v)
@@ -231,7 +211,7 @@ module _ (tree : Tree) (legal : IsLegal tree) (s : State) where
     where
       by_test : (b : Bool) → same_key e.0 k ≡ b → (if b then Some f.1 else entry_at same_key k fs) ≡ Some t → (entry_at same_key k fs ≡ Some t → (w : Value) × (entry_at same_key k es ≡ Some w) × HasType tree s w t) →
           (w : Value) × (entry_at same_key k (e ∷ es) ≡ Some w) × HasType tree s w t
-      by_test true is here later = (e.1, if_true (same_key e.0 k) (Some e.1) (entry_at same_key k es) is, subst (λ x. HasType tree s e.1 x) (same_some f.1 t here) h.1)
+      by_test true is here later = (e.1, if_true (same_key e.0 k) (Some e.1) (entry_at same_key k es) is, subst (λ x. HasType tree s e.1 x) (same_Some f.1 t here) h.1)
       by_test false is there later = let rest = later there in (rest.0, if_false (same_key e.0 k) (Some e.1) (entry_at same_key k es) is ∙ rest.1, rest.2)
 
   -- fields with another value of a field's type are typed
@@ -245,7 +225,7 @@ module _ (tree : Tree) (legal : IsLegal tree) (s : State) where
       by_test : (b : Bool) → same_key e.0 k ≡ b → (if b then Some f.1 else entry_at same_key k fs) ≡ Some t → (entry_at same_key k fs ≡ Some t → HaveFieldTypes tree s (with_entry same_key k v es) fs) →
           HaveFieldTypes tree s (with_entry same_key k v (e ∷ es)) (f ∷ fs)
       by_test true is here later =
-          subst (λ x. HaveFieldTypes tree s x (f ∷ fs)) (sym (if_true (same_key e.0 k) ((e.0, v) ∷ es) (e ∷ with_entry same_key k v es) is)) (h.0, subst (λ x. HasType tree s v x) (sym (same_some f.1 t here)) value, h.2)
+          subst (λ x. HaveFieldTypes tree s x (f ∷ fs)) (sym (if_true (same_key e.0 k) ((e.0, v) ∷ es) (e ∷ with_entry same_key k v es) is)) (h.0, subst (λ x. HasType tree s v x) (sym (same_Some f.1 t here)) value, h.2)
       by_test false is there later =
           subst (λ x. HaveFieldTypes tree s x (f ∷ fs)) (sym (if_false (same_key e.0 k) ((e.0, v) ∷ es) (e ∷ with_entry same_key k v es) is)) (h.0, h.1, later there)
 
@@ -291,7 +271,7 @@ module _ (tree : Tree) (legal : IsLegal tree) (s : State) where
       where
         by_contents : (c : Contents) → IsTypedContents tree s c → elements_of_contents c ≡ Some (t, elements) → AllHaveType tree s t elements
         by_contents (Instance c fields) h e = none_is_some (t, elements) e
-        by_contents (Array u vs) h e = subst (λ (x : DeclaredType × List Value). AllHaveType tree s x.0 x.1) (same_some (u, vs) (t, elements) e) h
+        by_contents (Array u vs) h e = subst (λ (x : DeclaredType × List Value). AllHaveType tree s x.0 x.1) (same_Some (u, vs) (t, elements) e) h
 
         by_object : (o : Option HeapObject) → object_at s n ≡ o → option_and_then (λ (x : HeapObject). elements_of_contents x.contents) o ≡ Some (t, elements) → AllHaveType tree s t elements
         by_object None is e = none_is_some (t, elements) e

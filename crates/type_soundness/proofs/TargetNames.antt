@@ -3,7 +3,7 @@ use Rattle.std.proofs.Common.{◌≡◌, Bool, true, false, if◌then◌else◌,
 use Rattle.std.specs.Option.{option_map_or}
 use Rattle.std.specs.List.{list_any}
 use Rattle.std.proofs.lemmas.Bool.{or_parts}
-use Rattle.std.proofs.lemmas.Option.{option_and_then_some}
+use Rattle.std.proofs.lemmas.Option.{option_and_then_some, same_Some}
 use Rattle.cil_model.specs.declared.types.ClassName.{ClassName}
 use Rattle.cil_model.specs.declared.types.Signature.{Signature}
 use Rattle.cil_model.specs.declared.instructions.MethodName.{MethodName}
@@ -13,10 +13,9 @@ use Rattle.cil_model.specs.Same.{same_class, same_options, same_signature, same_
 use Rattle.cil_model.specs.Declarations.{run_name}
 use Rattle.cil_model.specs.Chains.{chain_of, methods_declared, method_declared, nearest, is_virtual, is_interface}
 use Rattle.cil_model.specs.Slots.{slot_along, filler_along, class_target, virtual_in, lister_along, interface_target, target}
+use Rattle.cil_model.proofs.Lists.{none_is_some, find_passes}
 use Rattle.cil_model.proofs.SameLaws.{both_first, same_method_name_equal}
-use Rattle.cil_model.proofs.BelowLaws.{none_is_some, same_some}
 use Rattle.reference_machine.specs.BuiltIn.{Action, actions, action_of}
-use Rattle.type_soundness.proofs.DeclaredClasses.{found_itself}
 
 module _ (tree : Tree) (name : MethodName) (signature : Signature) where
   -- what fills a slot has the name by which it was looked for
@@ -30,8 +29,8 @@ module _ (tree : Tree) (name : MethodName) (signature : Signature) where
       by_class None e b h' later = later h'
       by_class (Some x) e false h' later = later h'
       by_class (Some x) e true h' later =
-          let same : x ≡ m = ap (λ (p : ClassName × Method). p.1) (same_some (d, x) (k, m) h') in
-          let passes : IsTrue (same_method_name x.name name && same_signature x.signature signature) = found_itself (λ (y : Method). same_method_name y.name name && same_signature y.signature signature) (methods_declared tree d) x e in
+          let same : x ≡ m = ap (λ (p : ClassName × Method). p.1) (same_Some (d, x) (k, m) h') in
+          let passes : IsTrue (same_method_name x.name name && same_signature x.signature signature) = find_passes (λ (y : Method). same_method_name y.name name && same_signature y.signature signature) (methods_declared tree d) x e in
           subst (λ (y : Method). y.name ≡ name) same (same_method_name_equal x.name name (both_first _ _ passes))
 
   class_target_named : (d c k : ClassName) (m : Method) → class_target tree name signature d c ≡ Some (k, m) → m.name ≡ name
@@ -48,7 +47,7 @@ target_named tree d c m k m' h = by_kind (is_virtual m.kind) (is_interface tree 
     by_kind : (v w : Bool) → (if v then (if w then interface_target tree m.name m.signature d c else class_target tree m.name m.signature d c) else Some (c, m)) ≡ Some (k, m') → m'.name ≡ m.name
     by_kind true true e = interface_target_named tree m.name m.signature d c k m' e
     by_kind true false e = class_target_named tree m.name m.signature d c k m' e
-    by_kind false w e = sym (ap (λ (p : ClassName × Method). p.1.name) (same_some (c, m) (k, m') e))
+    by_kind false w e = sym (ap (λ (p : ClassName × Method). p.1.name) (same_Some (c, m) (k, m') e))
 
 -- ---- no built-in member that acts at once is named Run
 

@@ -1,9 +1,10 @@
 -- In a legal tree a virtual call on an object of a class that has objects finds a method with code.
-use Rattle.std.proofs.Common.{◌≡◌, ◌≢◌, ◌⊎◌, ℕ, zero, suc, Bool, true, false, not, cond, if◌then◌else◌, ◌&&◌, ◌||◌, IsTrue, List, [], ◌∷◌, ◌++◌, length, find, Option, Some, None, is_some, option_and_then, unwrap_or, refl, inl, inr, sym, ap, ◌∙◌, subst, arith}
+use Rattle.std.proofs.Common.{◌≡◌, ◌≢◌, ◌⊎◌, ℕ, zero, suc, Bool, true, false, not, cond, if◌then◌else◌, ◌&&◌, ◌||◌, IsTrue, List, [], ◌∷◌, ◌++◌, length, find, Option, Some, None, is_some, option_and_then, unwrap_or, refl, inl, inr, sym, ap, ◌∙◌, subst}
 use Rattle.std.specs.List.{list_any}
 use Rattle.std.specs.Option.{option_map_or}
 use Rattle.std.proofs.lemmas.Bool.{or_parts, or_left, or_right, and_from}
 use Rattle.std.proofs.lemmas.List.Folds.{list_any-append}
+use Rattle.std.proofs.lemmas.Option.{same_Some}
 use Rattle.cil_model.specs.declared.types.ClassName.{ClassName}
 use Rattle.cil_model.specs.declared.types.DeclaredType.{DeclaredType}
 use Rattle.cil_model.specs.declared.types.Element.TheVariants.{String, Class}
@@ -23,11 +24,11 @@ use Rattle.cil_model.specs.Assignable.{array_of, element_named, element_of_class
 use Rattle.cil_model.specs.Bodies.{code_of, virtual_reference}
 use Rattle.cil_model.specs.FlowRules.{is_concrete}
 use Rattle.cil_model.specs.Legality.{IsLegal, has_repeat, same_method, is_filled_abstract}
-use Rattle.cil_model.proofs.SameLaws.{never, both_first, both_second, either, if_true, if_false, same_options_equal, same_class_equal, same_class_itself, same_signature_equal, same_signature_itself, same_method_name_equal, same_method_name_itself}
-use Rattle.cil_model.proofs.Legal.{no_cycle}
-use Rattle.cil_model.proofs.ChainLaws.{chain_ends}
-use Rattle.cil_model.proofs.BelowLaws.{none_is_some, same_some}
-use Rattle.type_soundness.proofs.DeclaredClasses.{found_itself, found_fails, not_both, interface_has_no_base, methods_differ, listed_is_interface, base_is_class, implements_listed, no_abstract_slot}
+use Rattle.cil_model.proofs.CompleteLaws.{chain_of_base}
+use Rattle.cil_model.proofs.Lists.{none_is_some, find_passes}
+use Rattle.cil_model.proofs.SameLaws.{never, both_first, both_second, either, if_true, if_false, same_options_equal, same_class_equal, same_class_itself, same_signature_equal, same_signature_itself, same_method_name_equal, same_method_name_itself, not_both}
+use Rattle.cil_model.proofs.ChainLaws.{none_chain}
+use Rattle.type_soundness.proofs.DeclaredClasses.{found_fails, interface_has_no_base, methods_differ, listed_is_interface, base_is_class, implements_listed, no_abstract_slot}
 
 -- a virtual call on an object of a class that has objects finds a method with code, of the same signature, of a class of its chain
 abbrev pub TargetsRun : Tree → Type 0
@@ -70,7 +71,7 @@ nearest_at {X} at (d ∷ ds) c x h = by_class (at d) refl h (nearest_at at ds c 
     by_class : (o : Option X) → at d ≡ o → option_map_or (λ y. Some (d, y)) o (nearest at ds) ≡ Some (c, x) →
         (nearest at ds ≡ Some (c, x) → (at c ≡ Some x) × IsTrue (list_any (same_class c) ds)) → (at c ≡ Some x) × IsTrue (list_any (same_class c) (d ∷ ds))
     by_class None e k later = let found = later k in (found.0, or_right _ _ found.1)
-    by_class (Some y) e k later = subst (λ (p : ClassName × X). (at p.0 ≡ Some p.1) × IsTrue (list_any (same_class p.0) (d ∷ ds))) (same_some (d, y) (c, x) k) (e, or_left _ _ (same_class_itself d))
+    by_class (Some y) e k later = subst (λ (p : ClassName × X). (at p.0 ≡ Some p.1) × IsTrue (list_any (same_class p.0) (d ∷ ds))) (same_Some (d, y) (c, x) k) (e, or_left _ _ (same_class_itself d))
 
 -- ---- methods
 
@@ -102,7 +103,7 @@ only_named name signature further (x ∷ xs) m h e = by_tests (is_named name sig
         cond a (Some x) (find (is_named name signature) xs) ≡ Some m
     by_tests true true is k later = k
     by_tests true false is k later =
-        not_both (same_method x m) (found_fails test (same_method x) xs m k (or_parts _ _ h).0) (named_same name signature x m is (both_first _ _ (found_itself test xs m k)))
+        not_both (same_method x m) (found_fails test (same_method x) xs m k (or_parts _ _ h).0) (named_same name signature x m is (both_first _ _ (find_passes test xs m k)))
     by_tests false b is k later = later k
 
 module _ (tree : Tree) where
@@ -162,7 +163,7 @@ module _ (tree : Tree) where
         by_class (Some x) e true same k later =
             let inherited : Option ClassName = slot_along tree name signature ds in
             let fills : slot_filled d inherited x ≡ Some slot = sym (ap (λ o. option_map_or (slot_filled d inherited) o inherited) e) ∙ same_options_equal same_class same_class_equal _ _ same in
-            subst (IsFiller (d ∷ ds)) (same_some (d, x) found k) (e, slot_is_virtual d inherited x slot fills, or_left _ _ (same_class_itself d))
+            subst (IsFiller (d ∷ ds)) (same_Some (d, x) found k) (e, slot_is_virtual d inherited x slot fills, or_left _ _ (same_class_itself d))
 
   -- ---- chains
 
@@ -170,12 +171,8 @@ module _ (tree : Tree) where
   abbrev EndsWith : ClassName → ClassName → Type 0
   EndsWith c q = (before : List ClassName) × (chain_of tree c ≡ before ++ chain_of tree q)
 
-  none_chain : (n : ℕ) → chain_within tree n None ≡ []
-  none_chain zero = refl
-  none_chain (suc n) = refl
-
   none_met : {A : Type 0} (p : ClassName → Bool) (n : ℕ) → IsTrue (list_any p (chain_within tree n None)) → A
-  none_met p n h = never (subst (λ cs. IsTrue (list_any p cs)) (none_chain n) h)
+  none_met p n h = never (subst (λ cs. IsTrue (list_any p cs)) (none_chain tree n) h)
 
   -- what is in the chain of an end is in the whole chain
   in_whole : (p : ClassName → Bool) (c q : ClassName) → EndsWith c q → IsTrue (list_any p (chain_of tree q)) → IsTrue (list_any p (chain_of tree c))
@@ -248,9 +245,6 @@ module _ (tree : Tree) where
       by_type (inr (t, array)) = never (subst (λ x. IsTrue (is_assignable tree x (plain (Class owner)))) array taken)
 
   module _ (legal : IsLegal tree) where
-    pub chain_of_base : (c b : ClassName) → base_of tree c ≡ Some b → chain_of tree c ≡ c ∷ chain_of tree b
-    chain_of_base c b e = sym (chain_ends tree (no_cycle tree legal) c (suc (longest_chain tree)) (omega arith)) ∙ ap (λ o. c ∷ chain_within tree (longest_chain tree) o) e
-
     -- the chain of a class ends with that of each of its classes
     ends_within : (n : ℕ) (c q : ClassName) → IsTrue (list_any (same_class q) (chain_within tree n (Some c))) → EndsWith c q
     ends_within zero c q h = never h
@@ -258,7 +252,7 @@ module _ (tree : Tree) where
       where
         by_base : (o : Option ClassName) → base_of tree c ≡ o → IsTrue (list_any (same_class q) (chain_within tree n o)) → ((b : ClassName) → IsTrue (list_any (same_class q) (chain_within tree n (Some b))) → EndsWith b q) → EndsWith c q
         by_base None e t further = none_met (same_class q) n t
-        by_base (Some b) e t further = let end = further b t in (c ∷ end.0, chain_of_base c b e ∙ ap (λ cs. c ∷ cs) end.1)
+        by_base (Some b) e t further = let end = further b t in (c ∷ end.0, chain_of_base tree legal c b e ∙ ap (λ cs. c ∷ cs) end.1)
 
         by_case : IsTrue (same_class q c) ⊎ IsTrue (list_any (same_class q) (chain_within tree n (base_of tree c))) → ((b : ClassName) → IsTrue (list_any (same_class q) (chain_within tree n (Some b))) → EndsWith b q) → EndsWith c q
         by_case (inl here) further = ([], ap (chain_of tree) (sym (same_class_equal q c here)))
@@ -323,7 +317,7 @@ module _ (tree : Tree) where
           let opens : Method → Bool = λ x. is_virtual x.kind && is_filled_abstract (class_target tree x.name x.signature d f) in
           let none : list_any opens (methods_declared tree f) ≡ false = none_at (λ k. list_any (λ (x : Method). is_virtual x.kind && is_filled_abstract (class_target tree x.name x.signature d k)) (methods_declared tree k)) (chain_of tree d) f (no_abstract_slot tree legal d concrete) among in
           let filled : is_filled_abstract (class_target tree m.name m.signature d f) ≡ false = second_fails (is_virtual m.kind) _ virtual (found_fails (is_named name signature) opens (methods_declared tree f) m here none) in
-          let is : IsTrue (is_named name signature m) = found_itself (is_named name signature) (methods_declared tree f) m here in
+          let is : IsTrue (is_named name signature m) = find_passes (is_named name signature) (methods_declared tree f) m here in
           let same : class_target tree m.name m.signature d f ≡ class_target tree name signature d f = ap (λ n. class_target tree n m.signature d f) (named_name name signature m is) ∙ ap (λ s. class_target tree name s d f) (named_signature name signature m is) in
           sym (ap is_filled_abstract (same ∙ e)) ∙ filled
 
@@ -338,7 +332,7 @@ module _ (tree : Tree) where
             body.0,
             there.1,
             body.1,
-            named_signature name signature found.1 (found_itself (is_named name signature) (methods_declared tree found.0) found.1 filler.0),
+            named_signature name signature found.1 (find_passes (is_named name signature) (methods_declared tree found.0) found.1 filler.0),
             body.2,
             to_class_above d found.0 (is_named name signature) found.1 own filler.2 filler.0 filler.1,
           )
@@ -346,14 +340,14 @@ module _ (tree : Tree) where
     -- what is found under a name has that name
     own_name : (name : MethodName) (signature : Signature) (c : ClassName) (m : Method) → method_declared tree name signature c ≡ Some m → method_declared tree m.name m.signature c ≡ Some m
     own_name name signature c m h =
-        let is : IsTrue (is_named name signature m) = found_itself (is_named name signature) (methods_declared tree c) m h in
+        let is : IsTrue (is_named name signature m) = find_passes (is_named name signature) (methods_declared tree c) m h in
         ap (λ n. method_declared tree n m.signature c) (named_name name signature m is) ∙ ap (λ s. method_declared tree name s c) (named_signature name signature m is) ∙ h
 
     virtual_is : (name : MethodName) (signature : Signature) (c : ClassName) (m : Method) → virtual_in tree name signature c ≡ Some m → (method_declared tree name signature c ≡ Some m) × IsTrue (is_virtual m.kind)
     virtual_is name signature c m h = by_method (method_declared tree name signature c) refl h
       where
         by_kind : (x : Method) (v : Bool) → is_virtual x.kind ≡ v → (if v then Some x else None) ≡ Some m → method_declared tree name signature c ≡ Some x → (method_declared tree name signature c ≡ Some m) × IsTrue (is_virtual m.kind)
-        by_kind x true is k e = subst (λ y. (method_declared tree name signature c ≡ Some y) × IsTrue (is_virtual y.kind)) (same_some x m k) (e, is)
+        by_kind x true is k e = subst (λ y. (method_declared tree name signature c ≡ Some y) × IsTrue (is_virtual y.kind)) (same_Some x m k) (e, is)
         by_kind x false is k e = none_is_some m k
 
         by_method : (o : Option Method) → method_declared tree name signature c ≡ o → option_and_then (λ (x : Method). if is_virtual x.kind then Some x else None) o ≡ Some m → (method_declared tree name signature c ≡ Some m) × IsTrue (is_virtual m.kind)

@@ -9,7 +9,6 @@ use Rattle.cil_model.specs.declared.reports.End.TheVariants.{Done, Budget, Fault
 use Rattle.cil_model.specs.declared.reports.Report.{Report}
 use Rattle.cil_model.specs.declared.reports.Report.TheVariants.{Ran, Blocked, Ended, Absent}
 use Rattle.cil_model.specs.Typings.{IsAccepted}
-use Rattle.cil_model.proofs.BelowLaws.{none_is_some}
 use Rattle.reference_machine.specs.States.{Frame, Thread, State}
 use Rattle.reference_machine.specs.Effects.{Setting, Effect, Goes, Blocks, Raises, Sticks, given}
 use Rattle.reference_machine.specs.Steps.{Outcome, Answers, execute, effect_of, with_thread_at, ended_as, goes_on, settled, step_of, step}
@@ -18,6 +17,7 @@ use Rattle.type_soundness.specs.TypedStates.{AreTypedFrames, IsTyped}
 use Rattle.type_soundness.proofs.Running.{IsTypedEffect, IsRunning, runs_at}
 use Rattle.type_soundness.proofs.Openings.{opens}
 use Rattle.type_soundness.proofs.StateChanges.{typed_thread_at}
+use Rattle.cil_model.proofs.Lists.{none_is_some}
 
 module _ (tree : Tree) where
   -- ---- one step

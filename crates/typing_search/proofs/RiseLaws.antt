@@ -2,14 +2,15 @@
 use Rattle.std.proofs.Common.{◌≡◌, ◌≤◌, ◌<◌, ◌+◌, ◌*◌, ◌^◌, ℕ, zero, suc, ℤ, pos, negsuc, ◌≤ℤ◌, List, [], ◌∷◌, ◌++◌, length, Option, Some, None, option_and_then, slice_get, slice_set, refl, sym, ap, subst, arith}
 use Rattle.std.proofs.lemmas.Int.{ints}
 use Rattle.std.specs.Option.{option_map_or}
+use Rattle.std.proofs.lemmas.Option.{same_Some}
 use Rattle.cil_model.specs.declared.types.DeclaredType.{DeclaredType}
 use Rattle.cil_model.specs.declared.trees.Tree.{Tree}
 use Rattle.cil_model.specs.Chains.{longest_chain}
 use Rattle.cil_model.specs.TypeTree.{StackType, Declared, NativeInt, Null, parent, ancestor, IsBelow}
 use Rattle.cil_model.specs.Legality.{IsLegal}
-use Rattle.cil_model.proofs.BelowLaws.{same_some, none_is_some}
 use Rattle.flow_rules.proofs.Climbing.{too_far}
 use Rattle.typing_search.specs.Rises.{rises_within, most_rises, rises, stack_rises, row_rises, table_rises, most_values}
+use Rattle.cil_model.proofs.Lists.{none_is_some}
 
 module _ (tree : Tree) where
   -- how many parents are counted is of no matter once they have ended
@@ -40,7 +41,7 @@ module _ (tree : Tree) where
       by_number : (m : ℕ) (p : DeclaredType) → ancestor tree r p ≡ None → ancestor tree m p ≡ Some b →
           ((l : ℕ) (q : DeclaredType) → ancestor tree r q ≡ None → ancestor tree (suc l) q ≡ Some b → rises_within tree k b < rises_within tree r q) →
           rises_within tree k b < suc (rises_within tree r p)
-      by_number zero p e' g' further = at_once p e' (same_some p b g')
+      by_number zero p e' g' further = at_once p e' (same_Some p b g')
       by_number (suc m) p e' g' further = let lower : rises_within tree k b < rises_within tree r p = further m p e' g' in omega (arith, lower)
 
       by_parent : (m : ℕ) (o : Option DeclaredType) → option_and_then (ancestor tree r) o ≡ None → option_and_then (ancestor tree m) o ≡ Some b →
@@ -67,7 +68,7 @@ module _ (tree : Tree) where
   ended legal t small = absent (ancestor tree (most_rises tree) t) (λ u e. too_far tree legal (most_rises tree) (longest_chain tree + t.brackets + 2) t u (omega arith) (omega (arith, small)) e)
 
   pub type_falls : IsLegal tree → (a b : DeclaredType) → a.brackets < 2 ^ 32 → b.brackets < 2 ^ 32 → IsBelow tree (Declared a) (Declared b) → (a ≡ b → ⊥) → rises tree (Declared b) < rises tree (Declared a)
-  type_falls legal a b small low (zero, e) differs = absurd (differs (same_some a b e))
+  type_falls legal a b small low (zero, e) differs = absurd (differs (same_Some a b e))
   type_falls legal a b small low (suc n, e) differs = fewer n (most_rises tree) (most_rises tree) a b (ended legal a small) (ended legal b low) e
 
   pub null_falls : (t : DeclaredType) → rises tree (Declared t) < rises tree Null

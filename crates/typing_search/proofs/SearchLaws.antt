@@ -4,11 +4,10 @@ use Rattle.std.specs.Prelude.{Contains, Err}
 use Rattle.std.proofs.lemmas.List.{length-map, take_more, take_all, take-append-drop}
 use Rattle.std.proofs.lemmas.List.Elements.{Contains-append_left}
 use Rattle.std.proofs.lemmas.Bool.{false≢true}
-use Rattle.std.proofs.lemmas.Option.{slice_get-map}
+use Rattle.std.proofs.lemmas.Option.{slice_get-map, same_Some}
 use Rattle.std.proofs.lemmas.Int.{ints}
 use Rattle.cil_model.specs.declared.trees.Tree.{Tree}
 use Rattle.cil_model.specs.Typings.{Typing}
-use Rattle.cil_model.proofs.BelowLaws.{none_is_some, same_some}
 use Rattle.flow_rules.specs.Named.{stack_type, stack_types}
 use Rattle.flow_rules.specs.declared.entries.StackEntry.{StackEntry}
 use Rattle.typing_search.specs.StackMerges.{AreMerged}
@@ -21,6 +20,7 @@ use Rattle.typing_search.specs.declared.merging.StackMerge.{StackMerge}
 use Rattle.typing_search.specs.declared.search.Search.{Search}
 use Rattle.typing_search.proofs.RiseLaws.{table_falls, first_falls}
 use Rattle.typing_search.proofs.TableLaws.{no_ways, next_way, rise_first, rise_merged, rise_same, off_the_end, too_high, apart, no_next_way}
+use Rattle.cil_model.proofs.Lists.{none_is_some, none_is_outside}
 
 map_set : {X Y : Type 0} (f : X → Y) (xs : List X) (n : ℕ) (x : X) → map f (slice_set xs n x) ≡ slice_set (map f xs) n (f x)
 map_set f [] n x = refl
@@ -32,11 +32,6 @@ pos_within n m h = grind (arith, ints, h)
 
 pos_beyond : (n m : ℕ) → m < n → pos n ≤ℤ pos m → ⊥
 pos_beyond n m h k = grind (arith, ints, h, k)
-
-pub past_the_end : {X : Type 0} (xs : List X) (n : ℕ) → slice_get xs n ≡ None → length xs ≤ n
-past_the_end [] n e = omega arith
-past_the_end (x ∷ xs) zero e = none_is_some x (sym e)
-past_the_end (x ∷ xs) (suc n) e = let further : length xs ≤ n = past_the_end xs n e in omega (arith, further)
 
 -- ---- how many places are pending
 
@@ -50,14 +45,14 @@ count_set (false ∷ rest) (suc n) = count_set rest n
 pub count_taken : (pending : List Bool) (n : ℕ) → IsPending pending n → count_pending (slice_set pending n false) < count_pending pending
 count_taken [] n e = none_is_some true e
 count_taken (true ∷ rest) zero e = omega arith
-count_taken (false ∷ rest) zero e = absurd (false≢true (same_some false true e))
+count_taken (false ∷ rest) zero e = absurd (false≢true (same_Some false true e))
 count_taken (true ∷ rest) (suc n) e = let further : count_pending (slice_set rest n false) < count_pending rest = count_taken rest n e in omega (arith, further)
 count_taken (false ∷ rest) (suc n) e = count_taken rest n e
 
 -- a flag that is taken and set again is as it was
 pub taken_back : (pending : List Bool) (n : ℕ) → IsPending pending n → slice_set (slice_set pending n false) n true ≡ pending
 taken_back [] n e = refl
-taken_back (b ∷ rest) zero e = ap (λ v. v ∷ rest) (sym (same_some b true e))
+taken_back (b ∷ rest) zero e = ap (λ v. v ∷ rest) (sym (same_Some b true e))
 taken_back (b ∷ rest) (suc n) e = ap (λ v. b ∷ v) (taken_back rest n e)
 
 module _ (tree : Tree) where
@@ -71,7 +66,7 @@ module _ (tree : Tree) where
     pub rise_off : slice_get old.rows.items place ≡ None → IsRefused tree max_stack after (place ∷ []) old
     rise_off e =
         let same : length (typing_of tree old.rows.items) ≡ length old.rows.items = length-map old.rows.items (option_map (stack_types tree)) in
-        let past : length old.rows.items ≤ place = past_the_end old.rows.items place e in
+        let past : length old.rows.items ≤ place = none_is_outside old.rows.items place e in
         off_the_end tree max_stack (stack_types tree after) (typing_of tree old.rows.items) place (omega (arith, same, past))
 
     pub rise_refused : (T U : Type 0) (e : RaiseError) (known : List StackEntry) (new : Search) → slice_get old.rows.items place ≡ Some (Some known) → IsMergeAt tree known after (Err e) → IsRise {T = U} tree max_stack after (place ∷ []) old new (Err e)

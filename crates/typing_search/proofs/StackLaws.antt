@@ -6,7 +6,8 @@ use Rattle.std.specs.Prelude.{Err}
 use Rattle.cil_model.specs.declared.trees.Tree.{Tree}
 use Rattle.cil_model.specs.TypeTree.{StackType, IsBelow, IsMerge}
 use Rattle.cil_model.specs.Typings.{AreBelow}
-use Rattle.cil_model.proofs.BelowLaws.{none_is_some, reflexive, transitive}
+use Rattle.cil_model.proofs.Lists.{none_is_some}
+use Rattle.cil_model.proofs.BelowLaws.{reflexive, transitive}
 use Rattle.flow_rules.specs.Named.{stack_type, stack_types}
 use Rattle.flow_rules.specs.Merging.{IsMerged}
 use Rattle.flow_rules.specs.declared.entries.StackEntry.{StackEntry}

@@ -2,7 +2,8 @@
 use Rattle.std.proofs.Common.{◌≡◌, ◌≤◌, ◌<◌, ◌+◌, ◌⊎◌, ℕ, zero, suc, ℤ, pos, ◌≤ℤ◌, Bool, true, IsTrue, List, [], ◌∷◌, ◌++◌, length, Option, Some, None, slice_get, slice_set, refl, inl, inr, sym, ap, ◌∙◌, subst, arith}
 use Rattle.std.specs.Prelude.{Contains}
 use Rattle.std.proofs.lemmas.List.Elements.{Contains-push, Contains-push_cases, Contains-append_left}
-use Rattle.std.proofs.lemmas.Option.{slice_get_within}
+use Rattle.std.proofs.lemmas.Option.{slice_get_within, same_Some}
+use Rattle.std.proofs.lemmas.List.{length-set}
 use Rattle.cil_model.specs.declared.types.DeclaredType.{DeclaredType}
 use Rattle.cil_model.specs.declared.trees.Tree.{Tree}
 use Rattle.cil_model.specs.declared.trees.Code.{Code}
@@ -12,18 +13,13 @@ use Rattle.cil_model.specs.TypeTree.{StackType}
 use Rattle.cil_model.specs.FlowRules.{flow}
 use Rattle.cil_model.specs.Typings.{Typing, AreBelow, Reaches, ReachesLabel, FlowsOn, IsCodeTyping}
 use Rattle.cil_model.specs.Legality.{IsLegal}
-use Rattle.cil_model.proofs.BelowLaws.{none_is_some, same_some}
+use Rattle.cil_model.proofs.Lists.{none_is_some, set_is_there}
 use Rattle.cil_model.proofs.FlowLaws.{flow_down}
 use Rattle.typing_search.specs.StackMerges.{AreMerged, AreApart}
 use Rattle.typing_search.specs.Tables.{IsPending, AreLow, IsUnder, ReachesAll, HasRisen, CannotRise, AreWays, IsSettled, IsUnfinished}
 use Rattle.typing_search.proofs.StackLaws.{below_itself, below_through, as_high}
 
 -- ---- lists
-
-set_own : {X : Type 0} (xs : List X) (n : ℕ) (x y : X) → slice_get xs n ≡ Some y → slice_get (slice_set xs n x) n ≡ Some x
-set_own [] n x y e = none_is_some y e
-set_own (z ∷ zs) zero x y e = refl
-set_own (z ∷ zs) (suc n) x y e = set_own zs n x y e
 
 -- a place is the one that was set, or holds what it held
 set_cases : {X : Type 0} (xs : List X) (n : ℕ) (x : X) (k : ℕ) → (k ≡ n) ⊎ (slice_get (slice_set xs n x) k ≡ slice_get xs k)
@@ -36,11 +32,6 @@ set_cases {X} (z ∷ zs) (suc n) x (suc k) = by_case (set_cases zs n x k)
     by_case : (k ≡ n) ⊎ (slice_get (slice_set zs n x) k ≡ slice_get zs k) → (suc k ≡ suc n) ⊎ (slice_get (slice_set zs n x) k ≡ slice_get zs k)
     by_case (inl e) = inl (ap suc e)
     by_case (inr e) = inr e
-
-pub set_length : {X : Type 0} (xs : List X) (n : ℕ) (x : X) → length (slice_set xs n x) ≡ length xs
-set_length [] n x = refl
-set_length (z ∷ zs) zero x = refl
-set_length (z ∷ zs) (suc n) x = ap suc (set_length zs n x)
 
 present : {X : Type 0} (xs : List X) (n : ℕ) → n < length xs → (x : X) × (slice_get xs n ≡ Some x)
 present [] n h = absurd (omega (arith, h))
@@ -62,14 +53,14 @@ one_contained {X} x y h = by_case (Contains-push_cases [] y x h)
 flag_set : (pending : List Bool) (place : ℕ) → place < length pending → IsPending (slice_set pending place true) place
 flag_set pending place inside =
     let held : (b : Bool) × (slice_get pending place ≡ Some b) = present pending place inside in
-    set_own pending place true held.0 held.1
+    set_is_there pending place true held.0 held.1
 
 flag_stays : (pending : List Bool) (way place : ℕ) → IsPending pending place → IsPending (slice_set pending way true) place
 flag_stays pending way place c = by_case (set_cases pending way true place)
   where
     by_case : (place ≡ way) ⊎ (slice_get (slice_set pending way true) place ≡ slice_get pending place) → IsPending (slice_set pending way true) place
     by_case (inr f) = f ∙ c
-    by_case (inl same) = subst (λ v. IsPending (slice_set pending way true) v) (sym same) (set_own pending way true true (ap (slice_get pending) (sym same) ∙ c))
+    by_case (inl same) = subst (λ v. IsPending (slice_set pending way true) v) (sym same) (set_is_there pending way true true (ap (slice_get pending) (sym same) ∙ c))
 
 flag_cases : (pending : List Bool) (way place : ℕ) → IsPending (slice_set pending way true) place → IsPending pending place ⊎ (way ≡ place)
 flag_cases pending way place c = by_case (set_cases pending way true place)
@@ -138,12 +129,12 @@ module _ (tree : Tree) (max_stack : ℤ) (after : List StackType) where
       (AreLow max_stack found → pos (length stack) ≤ℤ max_stack) →
       HasRisen tree max_stack after (way ∷ []) found pending (slice_set found way (Some stack)) (slice_set pending way true)
   rise_to found pending way row stack flags at over above closest lower = record {
-    whole = set_length found way (Some stack);
+    whole = length-set found way (Some stack);
     reached = λ w c. subst (λ v. Reaches tree later after v) (one_contained w way c) (stack, here, above);
     kept = λ place old r. stays place old r (set_cases found way (Some stack) place);
     others = λ place. elsewhere place (set_cases found way (Some stack) place);
     waiting = λ place c. flag_stays pending way place c;
-    flags = set_length pending way true;
+    flags = length-set pending way true;
     least = λ typing under all. λ place held e. below_typing typing under (all way (Contains-push [] way)) place held e (set_cases found way (Some stack) place);
     low = λ l. λ place held e. no_higher l place held e (set_cases found way (Some stack) place);
   }
@@ -152,7 +143,7 @@ module _ (tree : Tree) (max_stack : ℤ) (after : List StackType) where
       later = slice_set found way (Some stack)
 
       here : slice_get (slice_set found way (Some stack)) way ≡ Some (Some stack)
-      here = set_own found way (Some stack) row at
+      here = set_is_there found way (Some stack) row at
 
       flagged : IsPending (slice_set pending way true) way
       flagged =
@@ -162,7 +153,7 @@ module _ (tree : Tree) (max_stack : ℤ) (after : List StackType) where
       stays : (place : ℕ) (old : List StackType) → Reaches tree found old place → (place ≡ way) ⊎ (slice_get (slice_set found way (Some stack)) place ≡ slice_get found place) → Reaches tree (slice_set found way (Some stack)) old place
       stays place old (held, e, under) (inr f) = (held, f ∙ e, under)
       stays place old (held, e, under) (inl same) =
-          let own : row ≡ Some held = same_some row (Some held) (sym at ∙ ap (slice_get found) (sym same) ∙ e) in
+          let own : row ≡ Some held = same_Some row (Some held) (sym at ∙ ap (slice_get found) (sym same) ∙ e) in
           (stack, ap (slice_get (slice_set found way (Some stack))) same ∙ here, below_through tree old held stack under (over held own))
 
       elsewhere : (place : ℕ) → (place ≡ way) ⊎ (slice_get (slice_set found way (Some stack)) place ≡ slice_get found place) →
@@ -171,7 +162,7 @@ module _ (tree : Tree) (max_stack : ℤ) (after : List StackType) where
       elsewhere place (inl same) = inr (subst (λ v. IsPending (slice_set pending way true) v) (sym same) flagged)
 
       its_stack : (place : ℕ) (held : List StackType) → slice_get (slice_set found way (Some stack)) place ≡ Some (Some held) → place ≡ way → stack ≡ held
-      its_stack place held e same = same_some stack held (same_some (Some stack) (Some held) (sym here ∙ ap (slice_get (slice_set found way (Some stack))) (sym same) ∙ e))
+      its_stack place held e same = same_Some stack held (same_Some (Some stack) (Some held) (sym here ∙ ap (slice_get (slice_set found way (Some stack))) (sym same) ∙ e))
 
       below_typing : (typing : Typing) → IsUnder tree found typing → Reaches tree typing after way → (place : ℕ) (held : List StackType) → slice_get (slice_set found way (Some stack)) place ≡ Some (Some held) →
           (place ≡ way) ⊎ (slice_get (slice_set found way (Some stack)) place ≡ slice_get found place) → Reaches tree typing held place
@@ -192,12 +183,12 @@ module _ (tree : Tree) (max_stack : ℤ) (after : List StackType) where
   pub rise_merged : (found : Typing) (pending : List Bool) (way : ℕ) (old stack : List StackType) → length pending ≡ length found → slice_get found way ≡ Some (Some old) → AreMerged tree old after stack →
       HasRisen tree max_stack after (way ∷ []) found pending (slice_set found way (Some stack)) (slice_set pending way true)
   rise_merged found pending way old stack flags at m =
-      rise_to found pending way (Some old) stack flags at (λ held e. subst (λ v. AreBelow tree v stack) (same_some old held e) m.above_first) m.above_second closest
+      rise_to found pending way (Some old) stack flags at (λ held e. subst (λ v. AreBelow tree v stack) (same_Some old held e) m.above_first) m.above_second closest
       (λ l. subst (λ (n : ℕ). pos n ≤ℤ max_stack) (as_high tree old stack m.above_first) (l way old at))
     where
       over_both : (typing : Typing) → Reaches tree typing old way → Reaches tree typing after way → Reaches tree typing stack way
       over_both typing (held, e, under) (other, f, below) =
-          let same : held ≡ other = same_some held other (same_some (Some held) (Some other) (sym e ∙ f)) in
+          let same : held ≡ other = same_Some held other (same_Some (Some held) (Some other) (sym e ∙ f)) in
           (held, e, m.least held under (subst (λ v. AreBelow tree after v) (sym same) below))
 
       closest : (typing : Typing) → IsUnder tree found typing → Reaches tree typing after way → Reaches tree typing stack way
@@ -228,7 +219,7 @@ module _ (tree : Tree) (max_stack : ℤ) (after : List StackType) where
     where
       both : Reaches tree typing old way → Reaches tree typing after way → ⊥
       both (held, e, below) (other, f, beneath) =
-          let same : held ≡ other = same_some held other (same_some (Some held) (Some other) (sym e ∙ f)) in
+          let same : held ≡ other = same_Some held other (same_Some (Some held) (Some other) (sym e ∙ f)) in
           none held below (subst (λ v. AreBelow tree after v) (sym same) beneath)
 
   -- along more ways it can't either
@@ -363,7 +354,7 @@ module _ (tree : Tree) (arguments : List DeclaredType) (return_type : Option Dec
       all_reached : (typing : Typing) → CodeTyping typing → ReachesAll tree typing after ways
       all_reached typing t =
           let r : (upper own : List StackType) × (flow tree arguments code.locals return_type line.instruction stack ≡ Some own) × AreBelow tree own upper × FlowsOn tree code typing place line upper = in_typing typing t in
-          let same : r.1 ≡ after = same_some r.1 after (sym r.2 ∙ result) in
+          let same : r.1 ≡ after = same_Some r.1 after (sym r.2 ∙ result) in
           along typing place line after r.0 ways w (subst (λ v. AreBelow tree v r.0) same r.3) r.4
 
       pub not_visited : CannotRise tree code.max_stack after ways found → (typing : Typing) → CodeTyping typing → ⊥
@@ -385,8 +376,8 @@ module _ (tree : Tree) (arguments : List DeclaredType) (return_type : Option Dec
 
           here : (p : ℕ) → slice_get later p ≡ slice_get found p → place ≡ p → Settled later p
           here p same e l st lines rows =
-              let own_line : line ≡ l = same_some line l (sym at ∙ ap (slice_get code.lines) e ∙ lines) in
-              let own_stack : stack ≡ st = same_some stack st (same_some (Some stack) (Some st) (sym held ∙ ap (slice_get found) e ∙ sym same ∙ rows)) in
+              let own_line : line ≡ l = same_Some line l (sym at ∙ ap (slice_get code.lines) e ∙ lines) in
+              let own_stack : stack ≡ st = same_Some stack st (same_Some (Some stack) (Some st) (sym held ∙ ap (slice_get found) e ∙ sym same ∙ rows)) in
               let P : Line → Type 0 = λ k. (own : List StackType) × (flow tree arguments code.locals return_type k.instruction st ≡ Some own) × FlowsOn tree code later p k own in
               let Q : List StackType → Type 0 = λ s. (own : List StackType) × (flow tree arguments code.locals return_type line.instruction s ≡ Some own) × FlowsOn tree code later p line own in
               let R : ℕ → Type 0 = λ n. (own : List StackType) × (flow tree arguments code.locals return_type line.instruction stack ≡ Some own) × FlowsOn tree code later n line own in

@@ -1,9 +1,9 @@
 -- One visit of a search by numbers, its beginning and its end.
 use Rattle.std.proofs.Common.{◌≡◌, ◌≤◌, ◌<◌, ◌+◌, ℕ, zero, suc, ℤ, pos, negsuc, ◌≤ℤ◌, List, [], ◌∷◌, length, replicate, Option, Some, None, option_map, slice_get, slice_set, Bool, true, false, refl, sym, ap, ◌∙◌, subst, arith}
 use Rattle.std.specs.Prelude.{Result, Ok, Err, OnOk}
-use Rattle.std.proofs.lemmas.List.{length-map}
+use Rattle.std.proofs.lemmas.List.{length-map, length-set}
 use Rattle.std.proofs.lemmas.Int.{ints}
-use Rattle.std.proofs.lemmas.Option.{slice_get-map, slice_get_within}
+use Rattle.std.proofs.lemmas.Option.{slice_get-map, slice_get_within, same_Some}
 use Rattle.cil_model.specs.declared.types.DeclaredType.{DeclaredType}
 use Rattle.cil_model.specs.declared.instructions.Instruction.{Instruction}
 use Rattle.cil_model.specs.declared.trees.Tree.{Tree}
@@ -13,7 +13,6 @@ use Rattle.cil_model.specs.TypeTree.{StackType}
 use Rattle.cil_model.specs.FlowRules.{StackAfter, flow}
 use Rattle.cil_model.specs.Typings.{Typing, IsCodeTyping}
 use Rattle.cil_model.specs.Legality.{IsLegal}
-use Rattle.cil_model.proofs.BelowLaws.{none_is_some, same_some}
 use Rattle.resolved_code.specs.Resolved.{IsOperation}
 use Rattle.resolved_code.specs.declared.operations.Operation.{Operation}
 use Rattle.flow_rules.specs.Named.{type_named, types_named, stack_types}
@@ -31,9 +30,10 @@ use Rattle.typing_search.specs.declared.refusals.TypingError.TheVariants.{Untype
 use Rattle.typing_search.specs.declared.search.RaiseError.{RaiseError}
 use Rattle.typing_search.specs.declared.search.RaiseError.TheVariants as OfRaise
 use Rattle.typing_search.specs.declared.search.Search.{Search}
-use Rattle.typing_search.proofs.TableLaws.{set_length, finished, begun, not_begun, passed_over, no_result, visited, not_visited}
+use Rattle.typing_search.proofs.TableLaws.{finished, begun, not_begun, passed_over, no_result, visited, not_visited}
 use Rattle.typing_search.proofs.WayLaws.{are_ways}
-use Rattle.typing_search.proofs.SearchLaws.{past_the_end, row_at, count_taken, taken_back, still_whole}
+use Rattle.typing_search.proofs.SearchLaws.{row_at, count_taken, taken_back, still_whole}
+use Rattle.cil_model.proofs.Lists.{none_is_some, none_is_outside}
 
 pub work_falls : {T : Type 0} (tree : Tree) (max_stack : ℤ) (after : List StackEntry) (ways : List ℕ) (old new : Search) (r : Result T RaiseError) → IsRise tree max_stack after ways old new r → OnOk r (work_left tree max_stack new ≤ work_left tree max_stack old)
 work_falls tree max_stack after ways old new (Ok done) h = h.1
@@ -54,7 +54,7 @@ module _ (m : MethodTypes) (operations : List Operation) (max_stack : ℤ) (code
     where
       by_row : (o : Option (Option (List StackEntry))) → slice_get rows place ≡ o → option_map (option_map (stack_types m.types.now)) o ≡ Some (Some stack) → ⊥
       by_row None h f = none_is_some (Some stack) f
-      by_row (Some None) h f = none_is_some stack (same_some None (Some stack) f)
+      by_row (Some None) h f = none_is_some stack (same_Some None (Some stack) f)
       by_row (Some (Some known)) h f = none known h
 
   pub visit_unmapped : (rows : List (Option (List StackEntry))) (pending : List Bool) (place : ℕ) → IsOnTheWay m code rows (slice_set pending place true) → ((stack : List StackEntry) → slice_get rows place ≡ Some (Some stack) → ⊥) → IsOnTheWay m code rows pending
@@ -65,7 +65,7 @@ module _ (m : MethodTypes) (operations : List Operation) (max_stack : ℤ) (code
     where
       outside : (stack : List StackType) → slice_get (typing_of m.types.now rows) place ≡ Some (Some stack) → ⊥
       outside stack f =
-          let past : length code.lines ≤ place = past_the_end code.lines place (alike_beyond Alike code.lines operations of.resolved place e) in
+          let past : length code.lines ≤ place = none_is_outside code.lines place (alike_beyond Alike code.lines operations of.resolved place e) in
           let inside : place < length (typing_of m.types.now rows) = slice_get_within (typing_of m.types.now rows) place (Some stack) f in
           let whole : length (typing_of m.types.now rows) ≡ length code.lines = u.whole in
           omega (arith, past, inside, whole)
@@ -118,7 +118,7 @@ module _ (m : MethodTypes) (operations : List Operation) (max_stack : ℤ) (code
 
   none_there : (n place : ℕ) (stack : List StackEntry) → slice_get (replicate n None) place ≡ Some (Some stack) → ⊥
   none_there zero place stack e = none_is_some (Some stack) e
-  none_there (suc n) zero stack e = none_is_some stack (same_some None (Some stack) e)
+  none_there (suc n) zero stack e = none_is_some stack (same_Some None (Some stack) e)
   none_there (suc n) (suc place) stack e = none_there n place stack e
 
   length_none : (n : ℕ) (xs : List (Option (List StackEntry))) → xs ≡ replicate n None → length xs ≡ n
@@ -186,7 +186,7 @@ begun_whole n s rows flags = ap length flags ∙ as_many n ∙ ap length (sym ro
     as_many (suc k) = ap suc (as_many k)
 
 pub taken_whole : (old new : Search) (place : ℕ) → IsWhole old → new.rows.items ≡ old.rows.items → new.is_pending.items ≡ slice_set old.is_pending.items place false → IsWhole new
-taken_whole old new place w rows pending = ap length pending ∙ set_length old.is_pending.items place false ∙ w ∙ ap length (sym rows)
+taken_whole old new place w rows pending = ap length pending ∙ length-set old.is_pending.items place false ∙ w ∙ ap length (sym rows)
 
 pub rise_whole : {T : Type 0} (tree : Tree) (max_stack : ℤ) (after : List StackEntry) (ways : List ℕ) (old new : Search) (r : Result T RaiseError) → IsWhole old → IsRise tree max_stack after ways old new r → OnOk r (IsWhole new)
 rise_whole tree max_stack after ways old new (Ok done) w h = still_whole tree max_stack after ways old new w h
@@ -195,7 +195,7 @@ rise_whole tree max_stack after ways old new (Err e) w h = tt
 -- ---- .maxstack
 
 pub natural_is : (z : ℤ) (n : ℕ) → natural z ≡ Some n → pos n ≡ z
-natural_is (pos k) n e = ap pos (sym (same_some k n e))
+natural_is (pos k) n e = ap pos (sym (same_Some k n e))
 natural_is (negsuc k) n e = none_is_some n e
 
 pub no_natural : (z : ℤ) (n : ℕ) → natural z ≡ None → pos n ≤ℤ z → ⊥

@@ -1,5 +1,6 @@
 -- What the typing of one method by numbers says of the method that is named.
 use Rattle.std.proofs.Common.{◌≡◌, ℕ, List, [], Option, Some, None, option_map, option_and_then, slice_get, Result, Ok, Err, refl, sym, ap, subst, ◌∙◌}
+use Rattle.std.proofs.lemmas.Option.{same_Some}
 use Rattle.cil_model.specs.declared.types.ClassName.{ClassName}
 use Rattle.cil_model.specs.declared.trees.Tree.{Tree}
 use Rattle.cil_model.specs.declared.trees.Code.{Code}
@@ -22,15 +23,7 @@ use Rattle.typing_search.specs.Answers.{typing_of, IsTypingAnswer}
 use Rattle.typing_search.specs.declared.refusals.TypingError.{TypingError}
 use Rattle.typing_search.specs.declared.refusals.TypingError.TheVariants as OfMethod
 use Rattle.verifier.specs.Verdicts.{IsMethodVerdict}
-
-pub none_is_some : {X A : Type 0} {x : X} → None ≡ Some x → A
-none_is_some {X} {A} {x} e = absurd (lost e)
-  where
-    lost : None ≡ Some x → ⊥
-    lost h = cc
-
-pub same_some : {X : Type 0} {x y : X} → Some x ≡ Some y → x ≡ y
-same_some e = cc
+use Rattle.cil_model.proofs.Lists.{none_is_some}
 
 module _ (tree : Tree) (owner : ClassName) (m : Method) where
   -- a method that is known by its number stands in a class of that number
@@ -38,11 +31,11 @@ module _ (tree : Tree) (owner : ClassName) (m : Method) where
   owner_named class place h = by_entry (slice_get (declarations tree) class) refl h
     where
       by_method : (e : ClassName × Declaration) (o : Option Method) → option_map {U = ClassName × Method} (λ x. (e.0, x)) o ≡ Some (owner, m) → e.0 ≡ owner
-      by_method e None k = none_is_some k
-      by_method e (Some x) k = ap (λ (y : ClassName × Method). y.0) (same_some k)
+      by_method e None k = none_is_some _ k
+      by_method e (Some x) k = ap (λ (y : ClassName × Method). y.0) (same_Some _ _ k)
 
       by_entry : (o : Option (ClassName × Declaration)) → slice_get (declarations tree) class ≡ o → option_and_then {U = ClassName × Method} (λ (e : ClassName × Declaration). option_map {U = ClassName × Method} (λ x. (e.0, x)) (slice_get e.1.methods place)) o ≡ Some (owner, m) → class_name tree class ≡ Some owner
-      by_entry None at k = none_is_some k
+      by_entry None at k = none_is_some _ k
       by_entry (Some e) at k = ap (option_map (λ (x : ClassName × Declaration). x.0)) at ∙ ap Some (by_method e (slice_get e.1.methods place) k)
 
   -- it is there by numbers too

@@ -1,6 +1,6 @@
 use Rattle.std.proofs.Common.{◌≡◌, ap, sym, subst, ◌∙◌, option_map, Some, None}
 use Rattle.std.specs.Prelude.{IsSome}
-use Rattle.cil_model.proofs.BelowLaws.{same_some}
+use Rattle.std.proofs.lemmas.Option.{same_Some}
 use Rattle.reference_machine.specs.BuiltIn.{action_of}
 use Rattle.method_table.specs.MethodNumbers.{number_of}
 use Rattle.method_table.specs.Prepared.{action_named, IsTableMethod}
@@ -15,8 +15,8 @@ pub new_plain_object-requires : goal.new_plain_object-requires
 new_plain_object-requires c =
     let made_by : Making c.args.program.now c.args.method c.args.frames.now c.args.heap.now = making c.args.program.now c.args.method c.args.frames.now c.args.heap.now c.requires.there in
     let known : IsTableMethod c.args.program.now made_by.found c.entry-entry.result.now = c.entry-entry.ensures made_by.found made_by.found_is in
-    let class : made_by.class ≡ c.class-class.result = same_some made_by.class c.class-class.result (sym made_by.class_is ∙ c.class-class.ensures) in
-    let slots : made_by.slots ≡ c.slots-slots.result = same_some made_by.slots c.slots-slots.result (sym made_by.slots_is ∙ c.slots-slots.ensures) in
+    let class : made_by.class ≡ c.class-class.result = same_Some made_by.class c.class-class.result (sym made_by.class_is ∙ c.class-class.ensures) in
+    let slots : made_by.slots ≡ c.slots-slots.result = same_Some made_by.slots c.slots-slots.result (sym made_by.slots_is ∙ c.slots-slots.ensures) in
     let whole : new_at c.args.program.now c.args.method c.args.frames.now c.args.heap.now ≡ made c.args.program.now c.class-class.result c.slots-slots.result made_by.found c.args.frames.now c.args.heap.now =
     made_by.whole
     ∙ ap (λ k. made c.args.program.now k made_by.slots made_by.found c.args.frames.now c.args.heap.now) class
@@ -29,8 +29,8 @@ pub returns-in-Some : goal.returns-in-Some
 returns-in-Some c =
     let made_by : Making c.args.program.now c.args.method c.args.frames.now c.args.heap.now = making c.args.program.now c.args.method c.args.frames.now c.args.heap.now c.requires.there in
     let known : IsTableMethod c.args.program.now made_by.found c.entry-entry.result.now = c.entry-entry.ensures made_by.found made_by.found_is in
-    let class : made_by.class ≡ c.class-class.result = same_some made_by.class c.class-class.result (sym made_by.class_is ∙ c.class-class.ensures) in
-    let slots : made_by.slots ≡ c.slots-slots.result = same_some made_by.slots c.slots-slots.result (sym made_by.slots_is ∙ c.slots-slots.ensures) in
+    let class : made_by.class ≡ c.class-class.result = same_Some made_by.class c.class-class.result (sym made_by.class_is ∙ c.class-class.ensures) in
+    let slots : made_by.slots ≡ c.slots-slots.result = same_Some made_by.slots c.slots-slots.result (sym made_by.slots_is ∙ c.slots-slots.ensures) in
     let whole : new_at c.args.program.now c.args.method c.args.frames.now c.args.heap.now ≡ made c.args.program.now c.class-class.result c.slots-slots.result made_by.found c.args.frames.now c.args.heap.now =
     made_by.whole
     ∙ ap (λ k. made c.args.program.now k made_by.slots made_by.found c.args.frames.now c.args.heap.now) class
@@ -43,8 +43,8 @@ pub new_object-requires : goal.new_object-requires
 new_object-requires c =
     let made_by : Making c.args.program.now c.args.method c.args.frames.now c.args.heap.now = making c.args.program.now c.args.method c.args.frames.now c.args.heap.now c.requires.there in
     let known : IsTableMethod c.args.program.now made_by.found c.entry-entry.result.now = c.entry-entry.ensures made_by.found made_by.found_is in
-    let class : made_by.class ≡ c.class-class.result = same_some made_by.class c.class-class.result (sym made_by.class_is ∙ c.class-class.ensures) in
-    let slots : made_by.slots ≡ c.slots-slots.result = same_some made_by.slots c.slots-slots.result (sym made_by.slots_is ∙ c.slots-slots.ensures) in
+    let class : made_by.class ≡ c.class-class.result = same_Some made_by.class c.class-class.result (sym made_by.class_is ∙ c.class-class.ensures) in
+    let slots : made_by.slots ≡ c.slots-slots.result = same_Some made_by.slots c.slots-slots.result (sym made_by.slots_is ∙ c.slots-slots.ensures) in
     let whole : new_at c.args.program.now c.args.method c.args.frames.now c.args.heap.now ≡ made c.args.program.now c.class-class.result c.slots-slots.result made_by.found c.args.frames.now c.args.heap.now =
     made_by.whole
     ∙ ap (λ k. made c.args.program.now k made_by.slots made_by.found c.args.frames.now c.args.heap.now) class
@@ -61,8 +61,8 @@ pub returns-in-None : goal.returns-in-None
 returns-in-None c =
     let made_by : Making c.args.program.now c.args.method c.args.frames.now c.args.heap.now = making c.args.program.now c.args.method c.args.frames.now c.args.heap.now c.requires.there in
     let known : IsTableMethod c.args.program.now made_by.found c.entry-entry.result.now = c.entry-entry.ensures made_by.found made_by.found_is in
-    let class : made_by.class ≡ c.class-class.result = same_some made_by.class c.class-class.result (sym made_by.class_is ∙ c.class-class.ensures) in
-    let slots : made_by.slots ≡ c.slots-slots.result = same_some made_by.slots c.slots-slots.result (sym made_by.slots_is ∙ c.slots-slots.ensures) in
+    let class : made_by.class ≡ c.class-class.result = same_Some made_by.class c.class-class.result (sym made_by.class_is ∙ c.class-class.ensures) in
+    let slots : made_by.slots ≡ c.slots-slots.result = same_Some made_by.slots c.slots-slots.result (sym made_by.slots_is ∙ c.slots-slots.ensures) in
     let whole : new_at c.args.program.now c.args.method c.args.frames.now c.args.heap.now ≡ made c.args.program.now c.class-class.result c.slots-slots.result made_by.found c.args.frames.now c.args.heap.now =
     made_by.whole
     ∙ ap (λ k. made c.args.program.now k made_by.slots made_by.found c.args.frames.now c.args.heap.now) class

@@ -1,7 +1,7 @@
 use Rattle.std.proofs.Common.{◌≡◌, ap, sym, subst, ◌∙◌, true, Some}
 use Rattle.std.specs.Prelude.{IsSome, IfOk, OnErr}
 use Rattle.std.specs.Option.{is_some}
-use Rattle.cil_model.proofs.BelowLaws.{same_some}
+use Rattle.std.proofs.lemmas.Option.{same_Some}
 use Rattle.method_table.specs.Prepared.{IsTableMethod}
 use Rattle.interpreter.specs.Calls.{prints, receiver, virtual_at}
 use Rattle.interpreter.proofs.Receiving.{Receiving, receiving, received, on_null, on_object}
@@ -20,7 +20,7 @@ returns-then-is_null-clause-done c =
     receiving c.args.program.now c.args.thread c.args.method c.args.frames.now c.args.heap.now c.args.console.now.items c.requires.there in
     let known : IsTableMethod c.args.program.now call.found c.entry.result.now = c.entry.ensures call.found call.found_is in
     let named : receiver c.args.frames.now.running.stack c.entry.result.now.arguments ≡ Some call.object = ap (receiver c.args.frames.now.running.stack) known.arguments ∙ call.object_is in
-    let same : call.object ≡ c.receiver-object.result = same_some call.object c.receiver-object.result (sym named ∙ c.receiver-object.ensures) in
+    let same : call.object ≡ c.receiver-object.result = same_Some call.object c.receiver-object.result (sym named ∙ c.receiver-object.ensures) in
     let whole = subst (λ a. virtual_at c.args.program.now c.args.thread c.args.method c.args.frames.now c.args.heap.now c.args.console.now.items ≡ received c.args.program.now c.args.thread c.args.method c.args.frames.now c.args.heap.now c.args.console.now.items a) same call.whole in
     sym (on_null c.args.program.now c.args.thread c.args.method c.args.frames.now c.args.heap.now c.args.console.now.items c.receiver-object.result whole (sym c.is_null.ensures ∙ c.if-is_null.true))
 
@@ -30,7 +30,7 @@ run_chosen-requires-clause-there c =
     receiving c.args.program.now c.args.thread c.args.method c.args.frames.now c.args.heap.now c.args.console.now.items c.requires.there in
     let known : IsTableMethod c.args.program.now call.found c.entry.result.now = c.entry.ensures call.found call.found_is in
     let named : receiver c.args.frames.now.running.stack c.entry.result.now.arguments ≡ Some call.object = ap (receiver c.args.frames.now.running.stack) known.arguments ∙ call.object_is in
-    let same : call.object ≡ c.receiver-object.result = same_some call.object c.receiver-object.result (sym named ∙ c.receiver-object.ensures) in
+    let same : call.object ≡ c.receiver-object.result = same_Some call.object c.receiver-object.result (sym named ∙ c.receiver-object.ensures) in
     let whole = subst (λ a. virtual_at c.args.program.now c.args.thread c.args.method c.args.frames.now c.args.heap.now c.args.console.now.items ≡ received c.args.program.now c.args.thread c.args.method c.args.frames.now c.args.heap.now c.args.console.now.items a) same call.whole in
     subst IsSome (on_object c.args.program.now c.args.thread c.args.method c.args.frames.now c.args.heap.now c.args.console.now.items c.receiver-object.result whole (sym c.is_null.ensures ∙ c.if-is_null.false)) c.requires.there
 
@@ -40,7 +40,7 @@ returns-clause-done c =
     receiving c.args.program.now c.args.thread c.args.method c.args.frames.now c.args.heap.now c.args.console.now.items c.requires.there in
     let known : IsTableMethod c.args.program.now call.found c.entry.result.now = c.entry.ensures call.found call.found_is in
     let named : receiver c.args.frames.now.running.stack c.entry.result.now.arguments ≡ Some call.object = ap (receiver c.args.frames.now.running.stack) known.arguments ∙ call.object_is in
-    let same : call.object ≡ c.receiver-object.result = same_some call.object c.receiver-object.result (sym named ∙ c.receiver-object.ensures) in
+    let same : call.object ≡ c.receiver-object.result = same_Some call.object c.receiver-object.result (sym named ∙ c.receiver-object.ensures) in
     let whole = subst (λ a. virtual_at c.args.program.now c.args.thread c.args.method c.args.frames.now c.args.heap.now c.args.console.now.items ≡ received c.args.program.now c.args.thread c.args.method c.args.frames.now c.args.heap.now c.args.console.now.items a) same call.whole in
     subst (λ t. IfOk c.run_chosen.result (λ outcome. Some (c.run_chosen.new.frames, c.run_chosen.new.heap, c.run_chosen.new.console.items, outcome) ≡ t))
     (sym (on_object c.args.program.now c.args.thread c.args.method c.args.frames.now c.args.heap.now c.args.console.now.items c.receiver-object.result whole (sym c.is_null.ensures ∙ c.if-is_null.false))) c.run_chosen.ensures.done
@@ -51,7 +51,7 @@ returns-clause-prints c =
     receiving c.args.program.now c.args.thread c.args.method c.args.frames.now c.args.heap.now c.args.console.now.items c.requires.there in
     let known : IsTableMethod c.args.program.now call.found c.entry.result.now = c.entry.ensures call.found call.found_is in
     let named : receiver c.args.frames.now.running.stack c.entry.result.now.arguments ≡ Some call.object = ap (receiver c.args.frames.now.running.stack) known.arguments ∙ call.object_is in
-    let same : call.object ≡ c.receiver-object.result = same_some call.object c.receiver-object.result (sym named ∙ c.receiver-object.ensures) in
+    let same : call.object ≡ c.receiver-object.result = same_Some call.object c.receiver-object.result (sym named ∙ c.receiver-object.ensures) in
     let whole = subst (λ a. virtual_at c.args.program.now c.args.thread c.args.method c.args.frames.now c.args.heap.now c.args.console.now.items ≡ received c.args.program.now c.args.thread c.args.method c.args.frames.now c.args.heap.now c.args.console.now.items a) same call.whole in
     subst (λ t. OnErr c.run_chosen.result (prints c.args.console.now.items t ≡ true))
     (sym (on_object c.args.program.now c.args.thread c.args.method c.args.frames.now c.args.heap.now c.args.console.now.items c.receiver-object.result whole (sym c.is_null.ensures ∙ c.if-is_null.false))) c.run_chosen.ensures.prints

@@ -1,4 +1,4 @@
-use Rattle.call_trials.proofs.calls.acts_often.Given as goal
+use Rattle.call_trials.proofs.library_calls.acts_often.Given as goal
 
 abbrev pub ghosts-act_many-M-Opening : goal.ghosts-act_many-M-Opening
 ghosts-act_many-M-Opening g a = record { opening = a.core; workers = 2 }

@@ -46,7 +46,7 @@ pub struct Call {
     pub is_as_expected: bool,
 }
 
-fn call(name: &'static str, is_as_expected: bool) -> Call {
+fn came_to(name: &'static str, is_as_expected: bool) -> Call {
     Call {
         name,
         is_as_expected,
@@ -56,41 +56,41 @@ fn call(name: &'static str, is_as_expected: bool) -> Call {
 /// Makes the calls. One that wants memory counts as one that came to something else.
 pub fn calls(threads: &(impl Threads + Wait + Sync), alloc: Global) -> [Call; 11] {
     [
-        call("a reader that fails", tells_of_readers(alloc)),
-        call(
+        came_to("a reader that fails", tells_of_readers(alloc)),
+        came_to(
             "a source that is too long",
             reads_no_more(alloc).unwrap_or(false),
         ),
-        call(
+        came_to(
             "a schedule as text",
             writes_schedules(alloc).unwrap_or(false),
         ),
-        call(
+        came_to(
             "characters as text",
             writes_characters(alloc).unwrap_or(false),
         ),
-        call("names as keys", are_keys(alloc).unwrap_or(false)),
-        call(
+        came_to("names as keys", are_keys(alloc).unwrap_or(false)),
+        came_to(
             "equal steps as one run",
             has_one_run(threads, alloc).unwrap_or(false),
         ),
-        call(
+        came_to(
             "a worker in each of two threads",
             acts_once(threads, alloc).unwrap_or(false),
         ),
-        call(
+        came_to(
             "two threads that act often",
             acts_often(threads, alloc).unwrap_or(false),
         ),
-        call(
+        came_to(
             "a slot that another seat loads",
             is_loaded_by_another(alloc).unwrap_or(false),
         ),
-        call(
+        came_to(
             "epochs",
             threads_see_every_epoch(threads, alloc).unwrap_or(false),
         ),
-        call("the plain machine", runs_plainly(alloc).unwrap_or(false)),
+        came_to("the plain machine", runs_plainly(alloc).unwrap_or(false)),
     ]
 }
 

@@ -1,4 +1,4 @@
-use Rattle.call_trials.proofs.calls.acts_once.Given as goal
+use Rattle.call_trials.proofs.library_calls.acts_once.Given as goal
 
 abbrev pub ghosts-run_both-M-Opening : goal.ghosts-run_both-M-Opening
 ghosts-run_both-M-Opening g a = record { opening = a.core; workers = 2 }
