@@ -1,8 +1,8 @@
 //! Calls that no command makes: readers that fail, lists that no text writes, and threads that share.
 #![tactic(auto)]
 
-mod calls;
 mod epochs;
+mod library_calls;
 mod workers;
 
-pub use calls::{Call, calls};
+pub use library_calls::{Call, LIMITS, SUM, calls};

@@ -9,3 +9,5 @@ pub mod SlotLaws
 pub mod TargetLaws
 pub mod ResolvedLaws
 pub mod RoleLaws
+pub mod ApartLaws
+pub mod CountLaws

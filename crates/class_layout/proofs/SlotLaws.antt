@@ -19,15 +19,16 @@ use Rattle.cil_model.specs.Same.{same_text, same_flag, same_class}
 use Rattle.cil_model.specs.Declarations.{Declaration, source_name, field_members, fields_unless_interface}
 use Rattle.cil_model.specs.Chains.{base_of, chain_within, fields_declared, listed_by}
 use Rattle.cil_model.specs.Fields.{FieldKey, same_key, keyed_fields, instance_fields, static_fields, hidden_slots, slot_types, instance_slot, static_slot}
-use Rattle.cil_model.specs.Legality.{IsLegal, has_repeat, doubles_name, class_doubles, has_cycle, is_own_base}
+use Rattle.cil_model.specs.Legality.{IsLegal, has_repeat, doubles_name, class_doubles, is_own_base}
+use Rattle.cil_model.proofs.Legal.{no_cycle}
 use Rattle.cil_model.proofs.SameLaws.{same_text_itself, same_class_itself, class_equivalence}
 use Rattle.programs.proofs.Repeats.{has_repeat-map}
-use Rattle.name_tables.specs.Numbers.{declarations, field_at, source_entry}
+use Rattle.name_tables.specs.Numbers.{class_number, declarations, field_at, source_entry}
 use Rattle.name_tables.proofs.NumberLaws.{none_is_some}
 use Rattle.class_layout.specs.Kinds.{own_kinds, slot_kinds, kind_of}
 use Rattle.class_layout.specs.FieldSlots.{number_after, numbered_fields, statics_after, first_slot, field_rows, class_names}
 use Rattle.class_layout.proofs.Places.{passes_not}
-use Rattle.class_layout.proofs.ClassNumbers.{FoundAt, found_at, number_of_place, entries_stand_once, unbroken}
+use Rattle.class_layout.proofs.ClassNumbers.{FoundAt, found_at, not_declared, number_of_place, entries_stand_once, unbroken}
 use Rattle.class_layout.proofs.KindLaws.{filtered, slots_counted}
 
 -- ---- places in lists
@@ -41,7 +42,7 @@ position_past test i (x ∷ xs) ys h =
 
 -- ---- the fields of one class
 
-abbrev same_name : Field → Field → Bool
+abbrev pub same_name : Field → Field → Bool
 same_name a b = same_text a.name b.name
 
 abbrev pub of_flag : Bool → List Field → List Field
@@ -83,7 +84,7 @@ module _ {Y : Type 0} (flag : Bool) (key : Field → Y) (test : Y → Bool) (fur
       by_flag false false rest = rest s (i + 1) ∙ sym (ap (λ t. cond t (Some i) (position_from test (i + 1) (map key (of_flag false gs) ++ further))) other)
 
 -- as many static fields are counted as there are
-statics_counted : (s : ℕ) (fs : List Field) → statics_after s fs ≡ s + length (of_flag true fs)
+pub statics_counted : (s : ℕ) (fs : List Field) → statics_after s fs ≡ s + length (of_flag true fs)
 statics_counted s [] = omega arith
 statics_counted s (f ∷ fs) = by_flag f.is_static (λ t. statics_counted t fs)
   where
@@ -93,13 +94,13 @@ statics_counted s (f ∷ fs) = by_flag f.is_static (λ t. statics_counted t fs)
 
 -- ---- keys
 
-abbrev key_in : ClassName → Field → FieldKey × DeclaredType
+abbrev pub key_in : ClassName → Field → FieldKey × DeclaredType
 key_in c f = (record { declared_in = c; name = f.name }, f.field_type)
 
-abbrev keyed : ClassName → Field → FieldKey × DeclaredType → Bool
+abbrev pub keyed : ClassName → Field → FieldKey × DeclaredType → Bool
 keyed c f y = same_key y.0 (record { declared_in = c; name = f.name })
 
-own_alike : (c : ClassName) (f g : Field) → keyed c f (key_in c g) ≡ same_text g.name f.name
+pub own_alike : (c : ClassName) (f g : Field) → keyed c f (key_in c g) ≡ same_text g.name f.name
 own_alike c f g = ap (λ b. b && same_text g.name f.name) (same_class_itself c)
 
 module _ (tree : Tree) (c : ClassName) (f : Field) where
@@ -107,7 +108,7 @@ module _ (tree : Tree) (c : ClassName) (f : Field) where
   none_of_other x h [] = refl
   none_of_other x h (g ∷ gs) = or_from _ _ (ap (λ b. b && same_text g.name f.name) h) (none_of_other x h gs)
 
-  none_along : (flag : Bool) (cs : List ClassName) → list_any (same_class c) cs ≡ false → list_any (keyed c f) (flat_map (keyed_fields tree flag) (reverse cs)) ≡ false
+  pub none_along : (flag : Bool) (cs : List ClassName) → list_any (same_class c) cs ≡ false → list_any (keyed c f) (flat_map (keyed_fields tree flag) (reverse cs)) ≡ false
   none_along flag [] h = refl
   none_along flag (x ∷ xs) h =
       let apart : same_class x c ≡ false = class_equivalence.symm x c ∙ (or_parts _ _ h).0 in
@@ -118,21 +119,21 @@ module _ (tree : Tree) (c : ClassName) (f : Field) where
 -- ---- instance fields
 
 module _ (tree : Tree) where
-  abbrev above : ClassName → List ClassName
+  abbrev pub above : ClassName → List ClassName
   above c = chain_within tree (suc (suc (length tree.classes))) (base_of tree c)
 
-  abbrev inherited : ClassName → List (FieldKey × DeclaredType)
+  abbrev pub inherited : ClassName → List (FieldKey × DeclaredType)
   inherited c = flat_map (keyed_fields tree false) (reverse (above c))
 
-  own_last : (c : ClassName) → instance_fields tree c ≡ inherited c ++ (keyed_fields tree false c ++ [])
+  pub own_last : (c : ClassName) → instance_fields tree c ≡ inherited c ++ (keyed_fields tree false c ++ [])
   own_last c = ap (flat_map (keyed_fields tree false)) (reverse-append (c ∷ []) (above c)) ∙ flat_map-append (keyed_fields tree false) (reverse (above c)) (c ∷ [])
 
-  own_counted : (c : ClassName) → length (own_kinds tree c) ≡ length (keyed_fields tree false c)
+  pub own_counted : (c : ClassName) → length (own_kinds tree c) ≡ length (keyed_fields tree false c)
   own_counted c =
       ap length (filtered (fields_declared tree c)) ∙ length-map (of_flag false (fields_declared tree c)) (λ (g : Field). kind_of (Some g.field_type)) ∙
       sym (length-map (of_flag false (fields_declared tree c)) (key_in c))
 
-  first_counted : (c : ClassName) → first_slot tree c ≡ length (hidden_slots tree c) + length (inherited c)
+  pub first_counted : (c : ClassName) → first_slot tree c ≡ length (hidden_slots tree c) + length (inherited c)
   first_counted c =
       let all : length (slot_kinds tree c) ≡ length (slot_types tree c) = slots_counted tree c in
       let split : length (slot_types tree c) ≡ length (hidden_slots tree c) + length (map (λ (y : FieldKey × DeclaredType). Some y.1) (instance_fields tree c)) =
@@ -184,15 +185,8 @@ module _ (tree : Tree) where
   of_source [] = refl
   of_source (k ∷ ks) = ap (λ z. keyed_fields tree true (source_name k) ++ z) (of_source ks)
 
-  all_statics : flat_map (keyed_fields tree true) (class_names tree) ≡ static_fields tree
+  pub all_statics : flat_map (keyed_fields tree true) (class_names tree) ≡ static_fields tree
   all_statics = of_source tree.classes
-
-  later : (b : Bool) (n : ℕ) (rest : Option ℕ) → (if b then Some n else rest) ≡ None → rest ≡ None
-  later false n rest h = h
-  later true n rest h = absurd (none_is_some n (sym h))
-
-  no_cycle : IsLegal tree → has_cycle tree ≡ false
-  no_cycle legal = unbroken tree _ 203 _ (later _ 202 _ (later _ 201 _ legal))
 
   no_double : IsLegal tree → list_any class_doubles tree.classes ≡ false
   no_double legal = let h : doubles_name tree ≡ false = unbroken tree _ 201 _ legal in (or_parts _ _ h).1
@@ -236,6 +230,32 @@ module _ (tree : Tree) where
       by_kind Interface = refl
       by_kind (PlainClass is_abstract base interfaces) = among
 
+  -- so is a class that declares a field
+  declared_in_source : (c : ClassName) (p : ℕ) (f : Field) → slice_get (fields_declared tree c) p ≡ Some f → (d : Declaration) × (fields_declared tree c ≡ d.fields) × IsOfSource c d
+  declared_in_source c p f at = by_number (class_number tree c) refl
+    where
+      by_number : (o : Option ℕ) → class_number tree c ≡ o → (d : Declaration) × (fields_declared tree c ≡ d.fields) × IsOfSource c d
+      by_number None is = absurd (none_is_some f (sym (ap (λ o. slice_get (listed_by (λ (x : Declaration). x.fields) o) p) (not_declared tree c is)) ∙ at))
+      by_number (Some n) is =
+          let found : FoundAt tree c n = found_at tree c n is in
+          let declared : fields_declared tree c ≡ found.0.fields = ap (listed_by (λ (x : Declaration). x.fields)) found.1 in
+          (found.0, declared, of_the_source n p c found.0 f found.2 (sym (ap (λ xs. slice_get xs p) declared) ∙ at))
+
+  -- it declares no two fields of one name
+  pub once_declared : IsLegal tree → (c : ClassName) (p : ℕ) (f : Field) → slice_get (fields_declared tree c) p ≡ Some f → has_repeat same_name (fields_declared tree c) ≡ false
+  once_declared legal c p f at =
+      let found = declared_in_source c p f at in
+      ap (has_repeat same_name) (found.1 ∙ ap (λ (y : ClassName × Declaration). y.1.fields) found.2.3) ∙ once_in legal found.2.0 found.2.1 found.2.2
+
+  -- and is not above itself
+  pub none_above : IsLegal tree → (c : ClassName) (p : ℕ) (f : Field) → slice_get (fields_declared tree c) p ≡ Some f → list_any (same_class c) (above c) ≡ false
+  none_above legal c p f at =
+      let found = declared_in_source c p f at in
+      let source = found.2 in
+      let P : ClassName → Type 0 = λ x. is_own_base tree x ≡ false in
+      let apart : is_own_base tree c ≡ false = subst P (sym (ap (λ (y : ClassName × Declaration). y.0) source.3)) (passes_not (λ (k : Class). is_own_base tree (source_name k)) tree.classes source.1 source.0 (no_cycle tree legal) source.2) in
+      shorter (same_class c) (suc (suc (length tree.classes))) (base_of tree c) apart
+
   names_stand_once_too : IsLegal tree → has_repeat same_class (class_names tree) ≡ false
   names_stand_once_too legal = has_repeat-map (λ (e : ClassName × Declaration). e.0) same_class (declarations tree) ∙ entries_stand_once tree legal
 
@@ -248,9 +268,6 @@ module _ (tree : Tree) where
       slice_get (unwrap_or (slice_get (field_rows tree 0 (class_names tree)) n) []) p ≡ slot_of f.is_static (record { declared_in = c; name = f.name })
   in_row legal n p c d f h at = row ∙ by_flag f.is_static refl
     where
-      source : IsOfSource c d
-      source = of_the_source n p c d f h at
-
       declared : fields_declared tree c ≡ d.fields
       declared =
           let found : FoundAt tree c n = found_at tree c n (number_of_place tree legal n (c, d) h) in
@@ -262,24 +279,15 @@ module _ (tree : Tree) where
       at_place : slice_get (fields_declared tree c) p ≡ Some f
       at_place = ap (λ xs. slice_get xs p) declared ∙ at
 
-      once : has_repeat same_name (fields_declared tree c) ≡ false
-      once = ap (has_repeat same_name) (declared ∙ ap (λ (y : ClassName × Declaration). y.1.fields) source.3) ∙ once_in legal source.0 source.1 source.2
-
       named : slice_get (class_names tree) n ≡ Some c
       named = slice_get-map (λ (e : ClassName × Declaration). e.0) (declarations tree) n ∙ ap (option_map (λ (e : ClassName × Declaration). e.0)) h
-
-      lone : list_any (same_class c) (above c) ≡ false
-      lone =
-          let P : ClassName → Type 0 = λ x. is_own_base tree x ≡ false in
-          let apart : is_own_base tree c ≡ false = subst P (sym (ap (λ (y : ClassName × Declaration). y.0) source.3)) (passes_not (λ (k : Class). is_own_base tree (source_name k)) tree.classes source.1 source.0 (no_cycle legal) source.2) in
-          shorter (same_class c) (suc (suc (length tree.classes))) (base_of tree c) apart
 
       row : slice_get (unwrap_or (slice_get (field_rows tree 0 (class_names tree)) n) []) p ≡ slice_get (numbered_fields (static_start 0 (class_names tree) n) (first_slot tree c) (fields_declared tree c)) p
       row = ap (λ o. slice_get (unwrap_or o []) p) (row_found (class_names tree) 0 n c named)
 
       by_flag : (b : Bool) → f.is_static ≡ b → slice_get (numbered_fields (static_start 0 (class_names tree) n) (first_slot tree c) (fields_declared tree c)) p ≡ slot_of b (record { declared_in = c; name = f.name })
-      by_flag false e = instance_placed c f (static_start 0 (class_names tree) n) p lone once at_place e
-      by_flag true e = static_placed c f (first_slot tree c) p once at_place e (class_names tree) 0 n (names_stand_once_too legal) named ∙ ap (position_from (keyed c f) 0) all_statics
+      by_flag false e = instance_placed c f (static_start 0 (class_names tree) n) p (none_above legal c p f at_place) (once_declared legal c p f at_place) at_place e
+      by_flag true e = static_placed c f (first_slot tree c) p (once_declared legal c p f at_place) at_place e (class_names tree) 0 n (names_stand_once_too legal) named ∙ ap (position_from (keyed c f) 0) all_statics
 
   -- the number or slot of the field that a class and a place find
   pub slot_found : IsLegal tree → (n p : ℕ) (c : ClassName) (f : Field) → field_at tree (n, p) ≡ Some (c, f) →

@@ -13,11 +13,15 @@ use Rattle.class_layout.specs.declared.kinds.SlotKind.{SlotKind}
 abbrev pub number_after : Bool → ℕ → ℕ
 number_after is_counted next = if is_counted then next + 1 else next
 
+-- the first free slot behind a field: a static one has none
+abbrev pub slot_after : Bool → ℕ → ℕ
+slot_after is_static next = if is_static then next else next + 1
+
 -- the fields of one class in source order, from the first free number of a static field and the first free slot of an object
 abbrev pub numbered_fields : ℕ → ℕ → List Field → List ℕ
 numbered_fields next_static next_slot [] = []
 numbered_fields next_static next_slot (f ∷ fs) =
-    (if f.is_static then next_static else next_slot) ∷ numbered_fields (number_after f.is_static next_static) (if f.is_static then next_slot else next_slot + 1) fs
+    (if f.is_static then next_static else next_slot) ∷ numbered_fields (number_after f.is_static next_static) (slot_after f.is_static next_slot) fs
 
 -- the first free number behind the static ones among some fields
 abbrev pub statics_after : ℕ → List Field → ℕ
@@ -43,12 +47,17 @@ class_names tree = map (λ (e : ClassName × Declaration). e.0) (declarations tr
 abbrev pub numbered_by_flag : ℕ → ℕ → List Bool → List ℕ
 numbered_by_flag next_static next_slot [] = []
 numbered_by_flag next_static next_slot (b ∷ bs) =
-    (if b then next_static else next_slot) ∷ numbered_by_flag (number_after b next_static) (if b then next_slot else next_slot + 1) bs
+    (if b then next_static else next_slot) ∷ numbered_by_flag (number_after b next_static) (slot_after b next_slot) bs
 
 -- the first free number behind the static ones
 abbrev pub statics_by_flag : ℕ → List Bool → ℕ
 statics_by_flag next [] = next
 statics_by_flag next (b ∷ bs) = statics_by_flag (number_after b next) bs
+
+-- the first free slot behind the instance ones
+abbrev pub slots_by_flag : ℕ → List Bool → ℕ
+slots_by_flag next [] = next
+slots_by_flag next (b ∷ bs) = slots_by_flag (slot_after b next) bs
 
 -- the slot of the first instance field that a class itself declares, from the tables of all kinds and of those of its own fields
 abbrev pub slot_behind : List (List SlotKind) → List (List SlotKind) → ℕ → ℕ

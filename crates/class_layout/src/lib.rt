@@ -5,6 +5,7 @@ mod ancestry;
 mod classes;
 mod fields;
 mod kinds;
+pub mod laws;
 mod layout;
 mod namesakes;
 mod program;

@@ -1,10 +1,10 @@
 // The numbers of static fields and the slots of instance fields (ECMA-335 II.16; the numbers are this profile's).
 
-ghost use Rattle.std.specs.Prelude.{◌≡◌, ◌+◌, IfOk, if◌then◌else◌, map, slice_get};
+ghost use Rattle.std.specs.Prelude.{◌≡◌, ◌+◌, ◌<◌, ◌^◌, [], IfOk, if◌then◌else◌, length, map, slice_get, unwrap_or};
 ghost use Rattle.resolved_code.specs.Resolved.{AreResolved};
 ghost use Rattle.class_layout.specs.ByClass.{by_class};
 ghost use Rattle.class_layout.specs.Kinds.{own_kinds, slot_kinds};
-ghost use Rattle.class_layout.specs.FieldSlots.{number_after, numbered_by_flag, statics_by_flag, slot_behind, field_rows, class_names};
+ghost use Rattle.class_layout.specs.FieldSlots.{number_after, slot_after, numbered_by_flag, statics_by_flag, slots_by_flag, slot_behind, field_rows, class_names};
 
 use crate::classes::Classes;
 use crate::kinds::SlotKind;
@@ -14,19 +14,18 @@ use resolved_code::classes::ResolvedField;
 use std::alloc::Global;
 
 /// The first free number behind a field that is counted, or one that is not.
-fn number_after(is_counted: bool, next: usize) -> Result<usize, NoMemory>
-    ensures { IfOk result (λ n. n ≡ number_after is_counted next) }
+fn number_after(is_counted: bool, next: usize) -> usize
+    requires { number_after is_counted next < 2 ^ 64 }
+    ensures { result ≡ number_after is_counted next }
 {
-    if !is_counted {
-        return Ok(next);
-    }
-    next.checked_add(1).ok_or(NoMemory)
+    if is_counted { next + 1 } else { next }
 }
 
-fn slot_after(is_static: bool, next: usize) -> Result<usize, NoMemory>
-    ensures { IfOk result (λ n. n ≡ (if is_static then next else next + 1)) }
+fn slot_after(is_static: bool, next: usize) -> usize
+    requires { slot_after is_static next < 2 ^ 64 }
+    ensures { result ≡ slot_after is_static next }
 {
-    number_after(!is_static, next)
+    if is_static { next } else { next + 1 }
 }
 
 fn own_number(is_static: bool, next_static: usize, next_slot: usize) -> usize
@@ -42,6 +41,8 @@ fn field_row(
     first_slot: usize,
     fields: &[ResolvedField],
 ) -> Result<Vec<usize>, NoMemory>
+    requires statics { statics_by_flag first_static (map (λ f. f.is_static) fields.now) < 2 ^ 64 }
+    requires slots { slots_by_flag first_slot (map (λ f. f.is_static) fields.now) < 2 ^ 64 }
     ensures { IfOk result (λ v. v.items ≡ numbered_by_flag first_static first_slot (map (λ f. f.is_static) fields.now)) }
 {
     let mut numbers = Vec::new(alloc);
@@ -49,26 +50,28 @@ fn field_row(
     let mut next_slot = first_slot;
     for field in fields {
         numbers.push(own_number(field.is_static, next_static, next_slot))?;
-        next_static = number_after(field.is_static, next_static)?;
-        next_slot = slot_after(field.is_static, next_slot)?;
+        next_static = number_after(field.is_static, next_static);
+        next_slot = slot_after(field.is_static, next_slot);
     }
     Ok(numbers)
 }
 
 /// The first free number behind the static ones among some fields.
-fn statics_after(first: usize, fields: &[ResolvedField]) -> Result<usize, NoMemory>
-    ensures { IfOk result (λ n. n ≡ statics_by_flag first (map (λ f. f.is_static) fields.now)) }
+fn statics_after(first: usize, fields: &[ResolvedField]) -> usize
+    requires { statics_by_flag first (map (λ f. f.is_static) fields.now) < 2 ^ 64 }
+    ensures { result ≡ statics_by_flag first (map (λ f. f.is_static) fields.now) }
 {
     let mut next = first;
     for field in fields {
-        next = number_after(field.is_static, next)?;
+        next = number_after(field.is_static, next);
     }
-    Ok(next)
+    next
 }
 
 /// The slot of the first instance field that a class itself declares: behind those that it inherits.
 fn first_slot(own: &[Vec<SlotKind>], kinds: &[Vec<SlotKind>], class: usize) -> usize
-    ensures { result ≡ slot_behind (map (λ row. row.items) kinds.now) (map (λ row. row.items) own.now) class }
+    ensures behind { result ≡ slot_behind (map (λ row. row.items) kinds.now) (map (λ row. row.items) own.now) class }
+    ensures fits { result + length (unwrap_or (slice_get (map (λ row. row.items) own.now) class) []) < 2 ^ 64 }
 {
     let all = row_at(kinds, class).len();
     all.saturating_sub(row_at(own, class).len())
@@ -92,7 +95,7 @@ pub fn all_fields(
     for class in 0..all.len() {
         let fields = all[class].fields.as_slice();
         rows.push(field_row(alloc, next, first_slot(own, kinds, class), fields)?)?;
-        next = statics_after(next, fields)?;
+        next = statics_after(next, fields);
     }
     Ok(rows)
 }

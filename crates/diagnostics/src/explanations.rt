@@ -3,18 +3,18 @@
 ghost use Rattle.std.specs.Prelude.{◌≡◌, None, IfOk, IsSome, is_none};
 ghost use Rattle.diagnostics.specs.Verdicts.{IsAcceptedSource, is_acceptance};
 
-use crate::messages::Named;
-use crate::readings::explain_reading;
-use crate::rules::{broken, explain_rule};
-use crate::typing_refusals::told_typing;
 use crate::verdicts::{Verdict, verdict_of};
 use cil_model::memory::NoMemory;
 use cil_model::trees::Tree;
 use ilasm_reader::{ReadError, read};
 use metadata::violations::Violation;
 use metadata::{MetaError, Program, resolve};
+use reading_messages::explain_reading;
+use source_map::Named;
 use std::alloc::Global;
+use typing_messages::explain_typing;
 use typing_search::refusals::FailurePoint;
+use violation_messages::{broken, explain_rule};
 
 /// The tree of a source that was read before; None where it has none.
 fn tree_of(alloc: Global, source: &[u8]) -> Result<Option<Tree>, NoMemory> {
@@ -45,29 +45,36 @@ fn illegal(alloc: Global, named: Named, violation: Violation) -> Result<String, 
     }
 }
 
-/// Why the method of a number has no typing. The program is made once more, since a refusal drops it.
+/// Why the method of a number has no typing. The program is made once more, since a refusal drops it. None where it has no such method.
+fn told_typing(
+    alloc: Global,
+    named: Named,
+    method: usize,
+    failure: &FailurePoint,
+) -> Result<Option<String>, NoMemory> {
+    match program_of(alloc, named.text)? {
+        None => Ok(None),
+        Some(program) => explain_typing(alloc, named, &program, method, failure),
+    }
+}
+
+/// Why the method of a number has no typing.
 fn untyped(
     alloc: Global,
     named: Named,
     method: usize,
     failure: &FailurePoint,
 ) -> Result<String, NoMemory> {
-    let Some(program) = program_of(alloc, named.text)? else {
-        return named.message(alloc, "a method has no typing");
-    };
-    let Some(told) = told_typing(alloc, named.text, &program, method, failure)? else {
-        return named.message(alloc, "a method has no typing");
-    };
-    let mut message = named.message_where(alloc, told.offset, told.sentence.as_str())?;
-    message.push_str(told.stacks.as_str())?;
-    message.push('\n')?;
-    Ok(message)
+    match told_typing(alloc, named, method, failure)? {
+        None => named.message(alloc, None, "a method has no typing"),
+        Some(message) => Ok(message),
+    }
 }
 
 /// The text of a refusal.
 fn refusal_text(alloc: Global, named: Named, verdict: &Verdict) -> Result<String, NoMemory> {
     match verdict {
-        Verdict::Accepted => named.message(alloc, "accepted"),
+        Verdict::Accepted => named.message(alloc, None, "accepted"),
         Verdict::Unread(error) => explain_reading(alloc, named, *error),
         Verdict::Illegal(violation) => illegal(alloc, named, *violation),
         Verdict::Untyped { method, failure } => untyped(alloc, named, *method, failure),

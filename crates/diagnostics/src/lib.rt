@@ -2,18 +2,9 @@
 #![tactic(auto)]
 
 mod explanations;
-mod hints;
 mod limits;
-mod messages;
-mod name_breaches;
-mod readings;
-mod rule_breaches;
-mod rules;
-mod schedules;
-pub mod source_map;
-mod typing_refusals;
 mod verdicts;
 
 pub use explanations::explain;
 pub use limits::explain_limits;
-pub use schedules::explain_schedule;
+pub use reading_messages::explain_schedule;

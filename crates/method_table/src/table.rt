@@ -1,6 +1,7 @@
 // The methods of a program, by flat numbers.
 
 ghost use Rattle.std.specs.Prelude.{◌≡◌, ◌+◌, ◌<◌, ◌^◌, IfOk, Some, length, map, option_map, slice_get};
+ghost use Rattle.std.specs.List.{sum_by};
 ghost use Rattle.cil_model.specs.declared.types.ClassName.{ClassName};
 ghost use Rattle.cil_model.specs.declared.trees.Method.{Method};
 ghost use Rattle.cil_model.specs.declared.trees.Tree.{Tree};
@@ -25,32 +26,24 @@ pub struct MethodTable {
     first: Vec<u32>,
 }
 
-/// A count as a flat number. No program has as many methods as there are such numbers.
-fn flat_number(count: usize) -> Result<u32, NoMemory>
-    ensures { IfOk result (λ n. (n ≡ count) × (count < 2 ^ 32)) }
-{
-    match u32::try_from(count) {
-        Ok(number) => Ok(number),
-        Err(_) => Err(NoMemory),
-    }
-}
-
 /// The flat number behind so many methods from one on.
-fn number_behind(first: u32, count: usize) -> Result<u32, NoMemory>
-    ensures { IfOk result (λ n. n ≡ first + count) }
+fn number_behind(first: u32, count: usize) -> u32
+    requires { first + count < 2 ^ 32 }
+    ensures { result ≡ first + count }
 {
-    first.checked_add(flat_number(count)?).ok_or(NoMemory)
+    first + count as u32
 }
 
 /// The flat number of each class's first method. Fails for want of memory alone.
 fn first_numbers(alloc: Global, classes: &[ResolvedClass]) -> Result<Vec<u32>, NoMemory>
+    requires { sum_by (λ r. length r.methods) classes.now < 2 ^ 32 }
     ensures { IfOk result (λ v. v.items ≡ running_counts 0 (map (λ r. length r.methods) classes.now)) }
 {
     let mut first = Vec::with_capacity(alloc, classes.len())?;
     let mut next = 0;
     for class in classes {
         first.push(next)?;
-        next = number_behind(next, class.methods.as_slice().len())?;
+        next = number_behind(next, class.methods.as_slice().len());
     }
     Ok(first)
 }
@@ -96,8 +89,8 @@ impl MethodTable {
     pub fn new(alloc: Global, program: &Program) -> Result<Self, NoMemory>
         ensures { IfOk result (λ table. IsMethodTable program.now table) }
     {
+        let _legal = program.tree();
         let methods = all_methods(alloc, program.classes())?;
-        let _count = flat_number(methods.len())?;
         let first = first_numbers(alloc, program.classes())?;
         Ok(MethodTable { methods, first })
     }

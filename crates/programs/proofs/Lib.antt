@@ -4,3 +4,4 @@ pub mod EntryNumbers
 pub mod NumberedMethods
 pub mod SlotLaws
 pub mod MemberLaws
+pub mod Limits

@@ -7,3 +7,4 @@ pub mod FoundLaws
 pub mod OtherInstructions
 pub mod WholeLaws
 pub mod Made
+pub mod DeclaredNumbers

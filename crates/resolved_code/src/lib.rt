@@ -5,6 +5,7 @@ pub mod classes;
 mod identities;
 mod instructions;
 mod labels;
+pub mod laws;
 pub mod literals;
 mod members;
 mod numbering;

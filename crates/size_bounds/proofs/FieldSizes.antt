@@ -16,10 +16,10 @@ use Rattle.cil_model.specs.Fields.{FieldKey, same_key, instance_fields, static_f
 use Rattle.cil_model.specs.Legality.{IsLegal, is_small_class}
 use Rattle.cil_model.proofs.Lists.{none_is_some}
 use Rattle.cil_model.proofs.SameLaws.{both_first}
-use Rattle.name_tables.specs.Numbers.{declarations, source_entry}
-use Rattle.resolved_code.specs.Numbered.{class_name}
+use Rattle.programs.specs.name_tables.Numbers.{declarations, source_entry}
+use Rattle.programs.specs.resolved_code.Numbered.{class_name}
 use Rattle.size_bounds.proofs.Lists.{item_passes, all_weaker, found_within}
-use Rattle.size_bounds.proofs.Limits.{source_classes_few, static_fields_few, source_classes_small}
+use Rattle.programs.proofs.Limits.{source_classes_few, static_fields_few, source_classes_small}
 
 module _ (tree : Tree) (legal : IsLegal tree) where
   -- the entry of a class with this number

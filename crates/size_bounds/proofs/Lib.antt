@@ -4,6 +4,5 @@ pub mod InstructionSteps
 pub mod CountedSteps
 pub mod CountedOpenings
 pub mod Lists
-pub mod Limits
 pub mod MethodSizes
 pub mod FieldSizes

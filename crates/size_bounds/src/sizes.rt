@@ -14,7 +14,7 @@ ghost use Rattle.cil_model.specs.Chains.{methods_declared};
 ghost use Rattle.cil_model.specs.Fields.{FieldKey, instance_slot, slot_types, static_fields, static_slot};
 ghost use Rattle.cil_model.specs.Legality.{IsLegal};
 ghost use Rattle.cil_model.specs.Mentions.{literals_of};
-ghost use Rattle.resolved_code.specs.Numbered.{class_name};
+ghost use Rattle.programs.specs.resolved_code.Numbered.{class_name};
 
 /// A method that a class declares, a built-in one too, has few arguments, and its code few instructions and locals and a low stack.
 pub fn methods_are_small()

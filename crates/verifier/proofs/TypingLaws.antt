@@ -1,5 +1,5 @@
 -- The typings of all methods, one after another.
-use Rattle.std.proofs.Common.{◌≡◌, ◌<◌, ◌⊎◌, ◌+◌, ℕ, List, [], ◌∷◌, ◌++◌, map, length, get_or, Option, Some, None, option_map, slice_get, Ok, Err, refl, sym, ap, subst, ◌∙◌, zero, suc, inl, inr}
+use Rattle.std.proofs.Common.{◌≡◌, ◌<◌, ◌≤◌, ◌⊎◌, ◌+◌, ℕ, List, [], ◌∷◌, ◌++◌, map, length, get_or, Option, Some, None, option_map, slice_get, Ok, Err, refl, sym, ap, subst, ◌∙◌, zero, suc, inl, inr, arith}
 use Rattle.std.proofs.lemmas.Option.{slice_get-map, slice_get_read, slice_get-get_or, slice_get_within, get_or_from_slice_get, same_Some}
 use Rattle.std.specs.Prelude.{IfSome}
 use Rattle.std.proofs.lemmas.List.{length-map, length-append}
@@ -19,7 +19,7 @@ use Rattle.verifier.specs.declared.refusals.VerifyError.{VerifyError}
 use Rattle.verifier.specs.declared.refusals.VerifyError.TheVariants.{NoTyping, OutOfMemory}
 use Rattle.verifier.specs.Members.{methods_at}
 use Rattle.verifier.specs.Verdicts.{AreTypings, AreOfMethods, AreVerdicts, IsMethodVerdict, IsRefusalOf}
-use Rattle.cil_model.proofs.Lists.{none_is_some}
+use Rattle.cil_model.proofs.Lists.{none_is_outside, none_is_some}
 
 -- the method of a number, as the source has it
 pub method_there : (tree : Tree) (members : List MemberNumber) (n : ℕ) (member : MemberNumber) → methods_at tree members ≡ map Some (source_methods tree) → n < length members → member ≡ get_or members n member →
@@ -100,6 +100,16 @@ absent_at shown tree typings n found e are absent = by_method (slice_get (source
     by_method : (o : Option (ClassName × Method)) → slice_get (source_methods tree) n ≡ o → slice_get (source_methods tree) n ≡ None
     by_method None h = h
     by_method (Some x) h = none_is_some _ (missing ∙ slice_get-get_or typings n [] (subst (λ (z : ℕ). n < z) (sym are.whole) (slice_get_within (source_methods tree) n x h)))
+
+-- where there is no method of the number none is found
+pub none_beyond : {B : Type 0} (shown : B → List (Option (List StackEntry))) (tree : Tree) (typings : List (List (Option (List StackEntry)))) (n : ℕ) (found : Option B) →
+    option_map shown found ≡ slice_get typings n → AreTypings tree typings → slice_get (source_methods tree) n ≡ None → found ≡ None
+none_beyond shown tree typings n None e are beyond = refl
+none_beyond shown tree typings n (Some b) e are beyond =
+    let within : n < length typings = slice_get_within typings n (shown b) (sym e) in
+    let outside : length (source_methods tree) ≤ n = none_is_outside (source_methods tree) n beyond in
+    let whole : length typings ≡ length (source_methods tree) = are.whole in
+    absurd (omega (arith, within, outside, whole))
 
 -- ---- one method after another
 

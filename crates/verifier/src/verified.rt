@@ -57,10 +57,11 @@ impl Verified {
     }
 
     /// The typing of a method by its number among those of the source, from 0 in source order: the stack before each instruction, the
-    /// top first; none at an instruction that control never reaches. None only where no method has the number.
+    /// top first; none at an instruction that control never reaches. None exactly where no method has the number.
     pub fn typing(&self, method: usize) -> Option<&Typing>
         ensures found { (owner : ClassName) (m : Method) → slice_get (source_methods self.now) method ≡ Some (owner, m) → IfSome result (λ typing. IsTyping self.now owner m (typing_of self.now typing.now)) }
         ensures absent { result ≡ None → slice_get (source_methods self.now) method ≡ None }
+        ensures beyond { slice_get (source_methods self.now) method ≡ None → result ≡ None }
     {
         typing_at(self.typings.as_slice(), method)
     }

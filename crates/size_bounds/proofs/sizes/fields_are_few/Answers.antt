@@ -1,4 +1,4 @@
-use Rattle.size_bounds.proofs.Limits.{static_fields_few}
+use Rattle.programs.proofs.Limits.{static_fields_few}
 use Rattle.size_bounds.proofs.FieldSizes.{slots_few, instance_slot_small, static_slot_small}
 use Rattle.size_bounds.proofs.sizes.fields_are_few.Goals as goal
 

@@ -1,0 +1,270 @@
+//! The calls, each with what is expected of it.
+
+use crate::epochs::threads_see_every_epoch;
+use crate::workers::{act_many, run_both};
+use cil_model::events::Event;
+use cil_model::limits::Limits;
+use cil_model::memory::NoMemory;
+use cil_model::reports::{End, Report};
+use cil_model::texts::Text;
+use cil_model::types::ClassName;
+use cil_plain::PlainMachine;
+use ilasm_reader::{ReadError, read};
+use instruction_text::CharactersText;
+use name_tables::built_in::BuiltInClass;
+use name_tables::lookups::NameTables;
+use orders::{read_source, read_text};
+use schedule_text::write_schedule;
+use source_runs::{Failure, Machine, Outcome, accept, run_events};
+use std::alloc::Global;
+use std::collections::HashMap;
+use std::io;
+use std::io::{ErrorKind, Read};
+use std::marker::Brand;
+use std::sync::Wait;
+use std::thread::Threads;
+use word_flip::Flip;
+use worker_counts::Blank;
+
+/// Adds 2 and 3, and prints the sum.
+pub static SUM: &str =
+    ".assembly extern mscorlib {} .class public auto ansi P extends [mscorlib]System.Object {
+    .method public static void Main() cil managed { .entrypoint .maxstack 2
+    ldc.i4 2 ldc.i4.3 add call void [mscorlib]System.Console::WriteLine(int32) ret } }";
+
+/// Limits in which the sum runs to its end.
+pub const LIMITS: Limits = Limits {
+    words: 64,
+    budget: 10,
+    depth: 1,
+};
+
+/// A call that is tried, and whether it came to what is expected.
+#[derive(Clone, Copy)]
+pub struct Call {
+    pub name: &'static str,
+    pub is_as_expected: bool,
+}
+
+fn came_to(name: &'static str, is_as_expected: bool) -> Call {
+    Call {
+        name,
+        is_as_expected,
+    }
+}
+
+/// Makes the calls. One that wants memory counts as one that came to something else.
+pub fn calls(threads: &(impl Threads + Wait + Sync), alloc: Global) -> [Call; 11] {
+    [
+        came_to("a reader that fails", tells_of_readers(alloc)),
+        came_to(
+            "a source that is too long",
+            reads_no_more(alloc).unwrap_or(false),
+        ),
+        came_to(
+            "a schedule as text",
+            writes_schedules(alloc).unwrap_or(false),
+        ),
+        came_to(
+            "characters as text",
+            writes_characters(alloc).unwrap_or(false),
+        ),
+        came_to("names as keys", are_keys(alloc).unwrap_or(false)),
+        came_to(
+            "equal steps as one run",
+            has_one_run(threads, alloc).unwrap_or(false),
+        ),
+        came_to(
+            "a worker in each of two threads",
+            acts_once(threads, alloc).unwrap_or(false),
+        ),
+        came_to(
+            "two threads that act often",
+            acts_often(threads, alloc).unwrap_or(false),
+        ),
+        came_to(
+            "a slot that another seat loads",
+            is_loaded_by_another(alloc).unwrap_or(false),
+        ),
+        came_to(
+            "epochs",
+            threads_see_every_epoch(threads, alloc).unwrap_or(false),
+        ),
+        came_to("the plain machine", runs_plainly(alloc).unwrap_or(false)),
+    ]
+}
+
+/// A reader that gives some bytes, and then fails.
+#[derive(Drop)]
+struct Broken {
+    left: usize,
+    kind: ErrorKind,
+}
+
+impl Read for Broken {
+    fn read(&mut self, buf: &mut [u8]) -> io::Result<usize> {
+        if self.left == 0 {
+            return Err(io::Error::from(self.kind));
+        }
+        self.left -= 1;
+        match buf.first_mut() {
+            Some(first) => {
+                *first = b's';
+                Ok(1)
+            }
+            None => Ok(0),
+        }
+    }
+}
+
+/// Whether a reader's error is told: `Memory` for want of memory, and `Device` for any other.
+fn tells_of_readers(alloc: Global) -> bool {
+    [
+        (ErrorKind::IsADirectory, Failure::Device),
+        (ErrorKind::Other, Failure::Device),
+        (ErrorKind::OutOfMemory, Failure::Memory),
+    ]
+    .iter()
+    .all(|(kind, wanted)| is_told(alloc, *kind, *wanted))
+}
+
+/// Whether an error of this kind is told so, at the first byte and behind some.
+fn is_told(alloc: Global, kind: ErrorKind, wanted: Failure) -> bool {
+    let source = read_source(alloc, Broken { left: 0, kind });
+    let text = read_text(alloc, Broken { left: 5, kind });
+    source.err().map(Failure::from) == Some(wanted) && text.err().map(Failure::from) == Some(wanted)
+}
+
+/// Whether no more of a source is read than shows that it is too long, and all of a shorter one.
+fn reads_no_more(alloc: Global) -> io::Result<bool> {
+    let short = read_source(alloc, b"s0*5\n".as_slice())?;
+    let long = vec![in alloc; b' '; 1_050_000]?;
+    let read = read_source(alloc, long.as_slice())?.len();
+    Ok(short.as_slice() == b"s0*5\n".as_slice() && read == 1_048_577)
+}
+
+/// Whether events are written, each longest run of equal ones as one item, and not those of a thread that there can't be.
+fn writes_schedules(alloc: Global) -> Result<bool, NoMemory> {
+    let (step, ack) = (Event::Step(15), Event::Ack(0));
+    let text = write_schedule(alloc, &[step, step, Event::Gc, ack, step]).ok();
+    let refused = write_schedule(alloc, &[Event::Gc, Event::Step(16)]).err();
+    Ok(
+        text.is_some_and(|text| text.as_str() == "s15*2 g a0 s15")
+            && refused.map(|error| error.number()) == Some(502),
+    )
+}
+
+/// Whether characters that no source can hold are written by their octal numbers, and want of memory in words.
+fn writes_characters(alloc: Global) -> Result<bool, NoMemory> {
+    let text = Text::new(String::from_str(alloc, "a\t\"b\"\n\\ \u{7f}\u{0}é")?);
+    let shown = format!(in alloc;
+        "{} {NoMemory}, {}",
+        CharactersText(&text),
+        ReadError::OutOfMemory
+    )?;
+    Ok(shown.as_str() == "a\\t\\\"b\\\"\\n\\\\ \\177\\000\\303\\251 out of memory, out of memory")
+}
+
+/// The name of a class of a source.
+fn name(alloc: Global, characters: &str) -> Result<ClassName, NoMemory> {
+    Ok(ClassName {
+        assembly: None,
+        name: Text::new(String::from_str(alloc, characters)?),
+    })
+}
+
+/// Whether the name of a class is found among the keys of a map, and another is not.
+fn are_keys(alloc: Global) -> Result<bool, NoMemory> {
+    let mut numbers = HashMap::new(alloc);
+    let is_added = numbers.insert(name(alloc, "Dog")?, 7).is_ok();
+    let dog = numbers.get(&name(alloc, "Dog")?).copied();
+    let cat = numbers.get(&name(alloc, "Cat")?).copied();
+    Ok(is_added && dog == Some(7) && cat.is_none())
+}
+
+/// Whether the history of a million equal steps has one run.
+fn has_one_run(waits: &impl Wait, alloc: Global) -> Result<bool, Failure> {
+    let events = vec![in alloc; Event::Step(255); 1_000_000]?;
+    let outcome = run_events(waits, alloc, SUM.as_bytes(), LIMITS, events.as_slice())?;
+    let runs = outcome.history.runs();
+    Ok(runs.len() == 1 && times(&outcome) == 1_000_000)
+}
+
+/// How many entries the history has.
+fn times(outcome: &Outcome) -> u64 {
+    let mut times = 0u64;
+    for run in outcome.history.runs() {
+        times = times.saturating_add(run.times);
+    }
+    times
+}
+
+/// The machine of the sum.
+fn machine(alloc: Global) -> Result<Machine, Failure> {
+    let verified = accept(alloc, SUM.as_bytes())?;
+    Ok(Machine::new(alloc, verified, LIMITS)?)
+}
+
+/// Whether two threads that act once each leave two entries.
+fn acts_once(threads: &(impl Threads + Wait + Sync), alloc: Global) -> Result<bool, Failure> {
+    let blank = Blank::new(alloc)?;
+    let core = machine(alloc)?;
+    let end = run_both::<Brand, _>(threads, alloc, blank, core, Event::Step(0), Event::Gc)?;
+    Ok(end.is_some_and(|(_, _, outcome)| times(&outcome) == 2 && !outcome.stopped))
+}
+
+/// Whether two threads that act often leave an entry for each event, and what the sum prints.
+fn acts_often(threads: &(impl Threads + Wait + Sync), alloc: Global) -> Result<bool, Failure> {
+    let blank = Blank::new(alloc)?;
+    let core = machine(alloc)?;
+    let events = (Event::Step(0), Event::Ack(0));
+    let end = act_many::<Brand, _>(threads, alloc, blank, core, events, 20_000)?;
+    Ok(end.is_some_and(|outcome| is_done(&outcome)))
+}
+
+fn is_done(outcome: &Outcome) -> bool {
+    times(outcome) == 40_000 && outcome.console() == b"5\n".as_slice() && outcome.stopped
+}
+
+/// Whether a seat loads what another one stored, and nothing from a slot that nobody stored to.
+fn is_loaded_by_another(alloc: Global) -> Result<bool, NoMemory> {
+    let (flip, _copier, mut writers) = Flip::new(alloc, 2, 1, &[0, 0], 2)?;
+    let Some(second) = writers.pop() else {
+        return Ok(false);
+    };
+    let Some(first) = writers.pop() else {
+        return Ok(false);
+    };
+    let _first = flip.store(first, 1, 0, Some(1));
+    let (loaded, second) = flip.load(second, 1, 0);
+    let (nothing, _second) = flip.load(second, 0, 0);
+    Ok(loaded == Some(1) && nothing.is_none())
+}
+
+/// Whether the plain machine runs the sum, and shows where it stands.
+fn runs_plainly(alloc: Global) -> Result<bool, Failure> {
+    let tree = read(alloc, SUM.as_bytes())?;
+    let built_ins = BuiltInClass::all(alloc)?;
+    let names = NameTables::new(alloc, &tree, built_ins.as_slice())?;
+    Ok(is_run_plainly(alloc, &names)?)
+}
+
+fn is_run_plainly(alloc: Global, names: &NameTables) -> Result<bool, NoMemory> {
+    match PlainMachine::new(alloc, &*names, LIMITS)? {
+        None => Ok(false),
+        Some(machine) => is_plain_run(alloc, machine),
+    }
+}
+
+fn is_plain_run(alloc: Global, mut machine: PlainMachine<'_>) -> Result<bool, NoMemory> {
+    let shown = format!(in alloc; "{machine}")?;
+    let mut last = None;
+    for _ in 0..5 {
+        last = machine.step(0, false)?;
+    }
+    Ok(
+        shown.as_str() == "thread 0: 10 steps left, 0: LoadInt32(2) []\n"
+            && last == Some(Report::Ended(End::Done))
+            && machine.console() == b"5\n".as_slice(),
+    )
+}

@@ -1,0 +1,17 @@
+//! Where the parts of a source stand, and how a message shows a place of a text to a person.
+#![tactic(auto)]
+
+mod excerpts;
+mod lexemes;
+mod lines;
+mod marks;
+mod members;
+mod messages;
+mod outlines;
+mod places;
+
+pub use lexemes::token_at;
+pub use members::{MethodPlace, method_of_number, nth_field, nth_method};
+pub use messages::Named;
+pub use outlines::offset_of;
+pub use places::{ClassPart, LinePart, MemberPart, Place};

@@ -1,0 +1,65 @@
+//! Fields and methods of a class, by their places.
+
+use cil_model::trees::{Class, Field, Member, Method};
+
+/// The method that has this place among those of a class, and its number among the members.
+pub fn nth_method(class: &Class, place: usize) -> Option<(usize, &Method)> {
+    let mut left = place;
+    for (member, item) in class.members.as_slice().iter().enumerate() {
+        let Member::Method(method) = item else {
+            continue;
+        };
+        if left == 0 {
+            return Some((member, method));
+        }
+        left -= 1;
+    }
+    None
+}
+
+/// The field that has this place among those of a class, and its number among the members.
+pub fn nth_field(class: &Class, place: usize) -> Option<(usize, &Field)> {
+    let mut left = place;
+    for (member, item) in class.members.as_slice().iter().enumerate() {
+        let Member::Field(field) = item else {
+            continue;
+        };
+        if left == 0 {
+            return Some((member, field));
+        }
+        left -= 1;
+    }
+    None
+}
+
+/// How many methods a class has.
+fn count_methods(class: &Class) -> usize {
+    let members = class.members.as_slice().iter();
+    members
+        .filter(|member| matches!(member, Member::Method(_)))
+        .count()
+}
+
+/// A method of a source: its class, its number among the members of that class, and its place among the methods.
+#[derive(Clone, Copy)]
+pub struct MethodPlace {
+    pub class: usize,
+    pub member: usize,
+    pub place: usize,
+}
+
+/// The method of a number, counted through the classes of a whole source.
+pub fn method_of_number(classes: &[Class], number: usize) -> Option<MethodPlace> {
+    let mut place = number;
+    for (class, declared) in classes.iter().enumerate() {
+        if let Some((member, _)) = nth_method(declared, place) {
+            return Some(MethodPlace {
+                class,
+                member,
+                place,
+            });
+        }
+        place = place.saturating_sub(count_methods(declared));
+    }
+    None
+}

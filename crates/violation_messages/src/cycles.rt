@@ -1,0 +1,54 @@
+//! Classes that stand in the chain of their own base (number 203).
+
+use crate::sites::Sites;
+use name_tables::keys::ClassKey;
+use name_tables::lookups::NameTables;
+use name_texts::ClassText;
+use source_map::{ClassPart, Place};
+use std::fmt;
+
+/// The most bases that are named.
+const MOST_NAMED: usize = 8;
+
+/// A class that is met again among its bases, which stand behind it in a chain of numbers among all classes.
+#[derive(Clone, Copy)]
+pub struct OwnBase<'a> {
+    pub class: ClassKey<'a>,
+    pub chain: &'a [usize],
+    pub names: &'a [ClassKey<'a>],
+}
+
+/// Its bases are named in their order, until it is met again; no more than the first eight of them.
+impl fmt::Display for OwnBase<'_> {
+    fn fmt<W: fmt::Write>(&self, f: &mut fmt::Formatter<W>) -> fmt::Result {
+        let class = ClassText(self.class);
+        write!(f, "the bases of `{class}` lead back to it: `{class}`")?;
+        for number in self.chain.iter().skip(1).take(MOST_NAMED) {
+            let Some(base) = self.names.get(*number) else {
+                continue;
+            };
+            let text = ClassText(*base);
+            write!(f, " extends `{text}`")?;
+            if *base == self.class {
+                return Ok(());
+            }
+        }
+        write!(f, " and so on")
+    }
+}
+
+/// A class that is its own base. None where the tree has no such class.
+pub(crate) fn own_base<'a>(
+    names: &'a NameTables<'a>,
+    class: usize,
+) -> Option<(OwnBase<'a>, Sites)> {
+    let declared = names.classes.tree.classes.as_slice().get(class)?;
+    let key = ClassKey::of_source(declared);
+    let own_base = OwnBase {
+        class: key,
+        chain: names.chain(key),
+        names: names.classes.names(),
+    };
+    let part = ClassPart::Base;
+    Some((own_base, Sites::at(Place::InClass { class, part })))
+}

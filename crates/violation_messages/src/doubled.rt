@@ -1,0 +1,181 @@
+//! Names that stand twice (number 201).
+
+use crate::sites::{MemberSpot, Sites, class_name, key_of, located_method};
+use cil_model::texts::Text;
+use cil_model::trees::{ClassKind, Method, Tree};
+use metadata::violations;
+use metadata::violations::{DoubledInClass, Repeat, SourceMember};
+use name_tables::bodies::lines_of;
+use name_tables::keys::{ClassKey, MethodKey};
+use name_texts::{ClassText, MethodText};
+use source_map::{ClassPart, LinePart, Place, nth_field, nth_method};
+use std::fmt;
+
+/// A name that stands twice where it must stand once.
+#[derive(Clone, Copy)]
+pub enum Doubled<'a> {
+    Extern(&'a Text),
+    Class(&'a Text),
+    /// In the list of a class.
+    Interface {
+        class: &'a Text,
+        interface: ClassKey<'a>,
+    },
+    Field {
+        class: &'a Text,
+        field: &'a Text,
+    },
+    /// With its signature.
+    Method {
+        class: &'a Text,
+        method: MethodKey<'a>,
+    },
+    /// In a method.
+    Label(&'a Text),
+}
+
+impl fmt::Display for Doubled<'_> {
+    fn fmt<W: fmt::Write>(&self, f: &mut fmt::Formatter<W>) -> fmt::Result {
+        match self {
+            Doubled::Extern(name) => {
+                let name = name.as_str();
+                write!(f, "the extern `{name}` stands twice")
+            }
+            Doubled::Class(name) => {
+                let name = name.as_str();
+                write!(f, "two classes have the name `{name}`")
+            }
+            Doubled::Interface { class, interface } => {
+                let class = class.as_str();
+                let interface = ClassText(*interface);
+                write!(f, "the class `{class}` lists `{interface}` twice")
+            }
+            Doubled::Field { class, field } => {
+                let class = class.as_str();
+                let field = field.as_str();
+                write!(f, "the class `{class}` has two fields `{field}`")
+            }
+            Doubled::Method { class, method } => {
+                let class = class.as_str();
+                let method = MethodText(*method);
+                write!(f, "the class `{class}` has two methods `{method}`")
+            }
+            Doubled::Label(name) => {
+                let name = name.as_str();
+                write!(f, "the label `{name}` stands twice in the method")
+            }
+        }
+    }
+}
+
+/// A name that stands twice, and where.
+type Found<'a> = (Doubled<'a>, Sites);
+
+/// A name that stands twice, at the second of its places.
+fn found(doubled: Doubled<'_>, again: Place, first: Place) -> Found<'_> {
+    (doubled, Sites::beside(again, Some(first)))
+}
+
+fn doubled_extern(tree: &Tree, repeat: Repeat) -> Option<Found<'_>> {
+    let doubled = Doubled::Extern(tree.externs.as_slice().get(repeat.again)?);
+    let first = Place::Extern(repeat.first);
+    Some(found(doubled, Place::Extern(repeat.again), first))
+}
+
+fn doubled_class(tree: &Tree, repeat: Repeat) -> Option<Found<'_>> {
+    let again = tree.classes.as_slice().get(repeat.again)?;
+    let doubled = Doubled::Class(&again.name);
+    Some(found(doubled, class_name(repeat.again), class_name(repeat.first)))
+}
+
+/// A member of a class that stands twice, by its two numbers among the members.
+fn found_in(doubled: Doubled<'_>, class: usize, again: usize, first: usize) -> Found<'_> {
+    let again = MemberSpot {
+        class,
+        member: again,
+    };
+    let first = MemberSpot {
+        class,
+        member: first,
+    };
+    found(doubled, again.name(), first.name())
+}
+
+fn doubled_field(tree: &Tree, class: usize, repeat: Repeat) -> Option<Found<'_>> {
+    let declared = tree.classes.as_slice().get(class)?;
+    let (again, field) = nth_field(declared, repeat.again)?;
+    let (first, _) = nth_field(declared, repeat.first)?;
+    let doubled = Doubled::Field {
+        class: &declared.name,
+        field: &field.name,
+    };
+    Some(found_in(doubled, class, again, first))
+}
+
+fn doubled_method(tree: &Tree, class: usize, repeat: Repeat) -> Option<Found<'_>> {
+    let declared = tree.classes.as_slice().get(class)?;
+    let (again, method) = nth_method(declared, repeat.again)?;
+    let (first, _) = nth_method(declared, repeat.first)?;
+    let doubled = Doubled::Method {
+        class: &declared.name,
+        method: key_of(method),
+    };
+    Some(found_in(doubled, class, again, first))
+}
+
+fn interface_name(class: usize, entry: usize) -> Place {
+    let part = ClassPart::Interface(entry);
+    Place::InClass { class, part }
+}
+
+fn doubled_interface(tree: &Tree, class: usize, repeat: Repeat) -> Option<Found<'_>> {
+    let declared = tree.classes.as_slice().get(class)?;
+    let ClassKind::Class { interfaces, .. } = &declared.kind else {
+        return None;
+    };
+    let doubled = Doubled::Interface {
+        class: &declared.name,
+        interface: ClassKey::of(interfaces.as_slice().get(repeat.again)?),
+    };
+    let again = interface_name(class, repeat.again);
+    let first = interface_name(class, repeat.first);
+    Some(found(doubled, again, first))
+}
+
+/// A label by its place among all labels of a method.
+fn label_at(spot: MemberSpot, method: &Method, place: usize) -> Option<(&Text, Place)> {
+    let mut left = place;
+    for (number, line) in lines_of(method).iter().enumerate() {
+        let labels = line.labels.as_slice();
+        if let Some(label) = labels.get(left) {
+            let behind = labels.len().saturating_sub(left);
+            return Some((label, spot.line(number, LinePart::Label(behind))));
+        }
+        left = left.saturating_sub(labels.len());
+    }
+    None
+}
+
+fn doubled_label(tree: &Tree, method: SourceMember, repeat: Repeat) -> Option<Found<'_>> {
+    let (spot, declared) = located_method(tree, method)?;
+    let (label, again) = label_at(spot, declared, repeat.again)?;
+    let (_, first) = label_at(spot, declared, repeat.first)?;
+    Some(found(Doubled::Label(label), again, first))
+}
+
+/// A name that stands twice where it must stand once (number 201), and its two places. None where the tree has no such places.
+pub fn doubled_name(tree: &Tree, doubled: violations::Doubled) -> Option<(Doubled<'_>, Sites)> {
+    match doubled {
+        violations::Doubled::Externs(externs) => doubled_extern(tree, externs),
+        violations::Doubled::Classes(classes) => doubled_class(tree, classes),
+        violations::Doubled::InClass { class, doubled } => match doubled {
+            DoubledInClass::Fields(fields) => doubled_field(tree, class, fields),
+            DoubledInClass::Methods(methods) => doubled_method(tree, class, methods),
+            DoubledInClass::Interfaces(entries) => doubled_interface(tree, class, entries),
+            DoubledInClass::Labels { method, labels } => {
+                let place = method;
+                doubled_label(tree, SourceMember { class, place }, labels)
+            }
+        },
+    }
+}

@@ -1,0 +1,16 @@
+//! Why a tree is no legal program (numbers 201 to 207), to a person: what breaks a rule on names and limits, and where it stands.
+#![tactic(auto)]
+
+mod breaches;
+mod cycles;
+mod doubled;
+mod entry;
+mod implemented;
+mod kinds;
+mod limits;
+mod references;
+mod rules;
+mod sites;
+mod unknown;
+
+pub use rules::{broken, explain_rule};

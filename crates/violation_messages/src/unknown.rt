@@ -1,0 +1,385 @@
+//! Names that stand for nothing of the kind needed (number 202).
+
+use crate::references::{MemberKey, class_of, class_place, line_at, member_of, type_at};
+use crate::sites::{Sites, key_of};
+use cil_model::instructions::Instruction;
+use cil_model::texts::Text;
+use cil_model::trees::{Class, ClassKind, Field, Method, Tree};
+use metadata::mentions::labels_of;
+use metadata::violations;
+use metadata::violations::{ClassFault, HeadingName, SourceMember};
+use name_tables::keys::{ClassKey, FieldKey, MethodKey};
+use name_tables::kinds::is_static;
+use name_tables::lookups::NameTables;
+use name_texts::{ClassText, MethodText, TypeText};
+use source_map::{ClassPart, LinePart, Place};
+use std::fmt;
+
+/// What a class is named as.
+#[derive(Clone, Copy)]
+pub enum Role {
+    /// Behind `extends`.
+    Base,
+    /// Behind `implements`.
+    Interface,
+    /// Behind `class` in a type.
+    Type,
+    /// Before `::`.
+    Owner,
+}
+
+/// A name that stands for nothing of the kind needed.
+#[derive(Clone, Copy)]
+pub enum Unknown<'a> {
+    /// An extern that is no library.
+    Extern(&'a Text),
+    Class {
+        class: ClassKey<'a>,
+        role: Role,
+        fault: ClassFault,
+    },
+    /// A label that no instruction of the method has.
+    Label(&'a Text),
+    /// A field that no class of its owner's chain has, and the nearest that has its name.
+    Field {
+        owner: ClassKey<'a>,
+        field: FieldKey<'a>,
+        near: Option<&'a Field>,
+    },
+    /// A method that no class of its owner's chain has, and the nearest that has its name.
+    Method {
+        owner: ClassKey<'a>,
+        method: MethodKey<'a>,
+        is_static: bool,
+        near: Option<&'a Method>,
+    },
+}
+
+/// A name that stands for nothing of the kind needed, and where.
+type Found<'a> = (Unknown<'a>, Sites);
+
+/// `static` or `instance`
+fn kind_word(is_static: bool) -> &'static str {
+    if is_static { "static" } else { "instance" }
+}
+
+impl fmt::Display for Unknown<'_> {
+    fn fmt<W: fmt::Write>(&self, f: &mut fmt::Formatter<W>) -> fmt::Result {
+        match self {
+            Unknown::Extern(name) => {
+                let name = name.as_str();
+                write!(
+                    f,
+                    "`{name}` is no library: an extern is `mscorlib` or `cilvm`"
+                )
+            }
+            Unknown::Class { class, role, fault } => tell_class(f, *class, *role, *fault),
+            Unknown::Label(name) => {
+                let name = name.as_str();
+                write!(f, "no instruction of the method has the label `{name}`")
+            }
+            Unknown::Field { owner, field, near } => {
+                let owner = ClassText(*owner);
+                let kind = kind_word(field.is_static);
+                let declared = TypeText(field.field_type);
+                let name = field.name.as_str();
+                write!(
+                    f,
+                    "`{owner}` has and inherits no {kind} field `{declared} {name}`"
+                )?;
+                tell_near_field(f, *near)
+            }
+            Unknown::Method {
+                owner,
+                method,
+                is_static,
+                near,
+            } => {
+                tell_absent_method(f, *owner, *method, *is_static)?;
+                tell_near_method(f, *near)
+            }
+        }
+    }
+}
+
+fn tell_absent_method<W: fmt::Write>(
+    f: &mut fmt::Formatter<W>,
+    owner: ClassKey,
+    method: MethodKey,
+    is_static: bool,
+) -> fmt::Result {
+    let owner = ClassText(owner);
+    let is_constructor = method.name.is_none();
+    let method = MethodText(method);
+    if is_constructor && !is_static {
+        return write!(f, "`{owner}` has no constructor `{method}`");
+    }
+    let kind = kind_word(is_static);
+    write!(f, "`{owner}` has and inherits no {kind} method `{method}`")
+}
+
+/// Why a class may not be named so.
+fn tell_class<W: fmt::Write>(
+    f: &mut fmt::Formatter<W>,
+    class: ClassKey,
+    role: Role,
+    fault: ClassFault,
+) -> fmt::Result {
+    let name = ClassText(class);
+    match (fault, role) {
+        (ClassFault::NoExtern, _) => {
+            write!(f, "no `.assembly extern` declares the assembly of `{name}`")
+        }
+        (ClassFault::Absent, _) if class.assembly.is_some() => {
+            write!(f, "there is no built-in class `{name}`")
+        }
+        (ClassFault::Absent, _) => {
+            let kind = match role {
+                Role::Interface => "interface",
+                Role::Base => "class",
+                Role::Type | Role::Owner => "class or interface",
+            };
+            write!(f, "the source has no {kind} `{name}`")?;
+            tell_assembly(f, class.name.as_str())
+        }
+        (ClassFault::IsInterface, _) => {
+            write!(f, "`{name}` is an interface, and a class extends a class")
+        }
+        (ClassFault::IsClass, _) => {
+            write!(f, "`{name}` is a class, and a class implements interfaces")
+        }
+        (ClassFault::IsBuiltIn, Role::Base) => {
+            write!(f, "no class may extend the built-in class `{name}`")
+        }
+        (ClassFault::IsBuiltIn, _) => match class.name.as_str() {
+            "System.Object" => write!(f, "the type of `{name}` is `object`, without `class`"),
+            "System.String" => write!(f, "the type of `{name}` is `string`, without `class`"),
+            _ => write!(f, "no type may name the built-in class `{name}`"),
+        },
+    }
+}
+
+/// The built-in class that a name without an assembly may mean.
+fn tell_assembly<W: fmt::Write>(f: &mut fmt::Formatter<W>, name: &str) -> fmt::Result {
+    match name {
+        "System.Object" | "System.String" | "System.Console" | "System.Threading.Monitor" => {
+            write!(f, ", but `[mscorlib]{name}` is built in")
+        }
+        "Cilvm.Thread" => write!(f, ", but `[cilvm]{name}` is built in"),
+        _ => Ok(()),
+    }
+}
+
+fn tell_near_field<W: fmt::Write>(f: &mut fmt::Formatter<W>, near: Option<&Field>) -> fmt::Result {
+    let Some(field) = near else {
+        return Ok(());
+    };
+    let kind = kind_word(field.is_static);
+    let declared = TypeText(&field.field_type);
+    let name = field.name.as_str();
+    write!(f, ", but the {kind} field `{declared} {name}`")
+}
+
+fn tell_near_method<W: fmt::Write>(
+    f: &mut fmt::Formatter<W>,
+    near: Option<&Method>,
+) -> fmt::Result {
+    let Some(method) = near else {
+        return Ok(());
+    };
+    let kind = kind_word(is_static(&method.kind));
+    let key = key_of(method);
+    let method = MethodText(key);
+    if key.name.is_none() {
+        return write!(f, ", but `{method}`");
+    }
+    write!(f, ", but the {kind} method `{method}`")
+}
+
+// ---- classes
+
+/// A class that the first line of a class names.
+fn named_in_heading(class: &Class, name: HeadingName) -> Option<(ClassKey<'_>, Role)> {
+    let ClassKind::Class {
+        base,
+        interfaces,
+        ..
+    } = &class.kind
+    else {
+        return None;
+    };
+    match name {
+        HeadingName::Base => Some((ClassKey::of(base), Role::Base)),
+        HeadingName::Interface(entry) => {
+            let interface = interfaces.as_slice().get(entry)?;
+            Some((ClassKey::of(interface), Role::Interface))
+        }
+    }
+}
+
+fn unknown_in_heading(
+    tree: &Tree,
+    number: usize,
+    name: HeadingName,
+    fault: ClassFault,
+) -> Option<Found<'_>> {
+    let (class, role) = named_in_heading(tree.classes.as_slice().get(number)?, name)?;
+    let part = match name {
+        HeadingName::Base => ClassPart::Base,
+        HeadingName::Interface(entry) => ClassPart::Interface(entry),
+    };
+    let place = Place::InClass {
+        class: number,
+        part,
+    };
+    Some((Unknown::Class { class, role, fault }, Sites::at(place)))
+}
+
+// ---- instructions
+
+/// The nearest field of this name, from a class on through its bases.
+fn near_field<'a>(names: &NameTables<'a>, owner: ClassKey, name: &Text) -> Option<&'a Field> {
+    for class in names.chain(owner) {
+        let Some(declared) = names.classes.class(*class) else {
+            continue;
+        };
+        for field in declared.fields.as_slice() {
+            if field.name.is_same(name) {
+                return Some(*field);
+            }
+        }
+    }
+    None
+}
+
+/// Whether a method has this name; no name is a constructor's.
+fn has_name(method: &Method, name: Option<&Text>) -> bool {
+    match (key_of(method).name, name) {
+        (None, None) => true,
+        (Some(own), Some(other)) => own.is_same(other),
+        _ => false,
+    }
+}
+
+fn method_named<'a>(methods: &[&'a Method], name: Option<&Text>) -> Option<&'a Method> {
+    for method in methods {
+        if has_name(method, name) {
+            return Some(*method);
+        }
+    }
+    None
+}
+
+/// The nearest method of this name, from a class on through its bases; of a constructor the first of its class.
+fn near_method<'a>(
+    names: &NameTables<'a>,
+    owner: ClassKey,
+    name: Option<&Text>,
+) -> Option<&'a Method> {
+    let most = if name.is_some() { usize::MAX } else { 1 };
+    for class in names.chain(owner).iter().take(most) {
+        let Some(declared) = names.classes.class(*class) else {
+            continue;
+        };
+        if let Some(method) = method_named(declared.methods.as_slice(), name) {
+            return Some(method);
+        }
+    }
+    None
+}
+
+/// A member that is not there.
+fn absent_member<'a>(
+    names: &NameTables<'a>,
+    owner: ClassKey<'a>,
+    member: MemberKey<'a>,
+) -> Unknown<'a> {
+    match member {
+        MemberKey::Field(field) => Unknown::Field {
+            owner,
+            field,
+            near: near_field(names, owner, field.name),
+        },
+        MemberKey::Method { method, is_static } => Unknown::Method {
+            owner,
+            method,
+            is_static,
+            near: near_method(names, owner, method.name),
+        },
+    }
+}
+
+fn unknown_owner(
+    tree: &Tree,
+    method: SourceMember,
+    line: usize,
+    fault: ClassFault,
+) -> Option<Found<'_>> {
+    let (spot, instruction) = line_at(tree, method, line)?;
+    let (owner, _) = member_of(instruction)?;
+    let unknown = Unknown::Class {
+        class: ClassKey::of(owner),
+        role: Role::Owner,
+        fault,
+    };
+    Some((unknown, Sites::at(spot.line(line, LinePart::Owner))))
+}
+
+fn unknown_member<'a>(
+    names: &NameTables<'a>,
+    method: SourceMember,
+    line: usize,
+) -> Option<Found<'a>> {
+    let (spot, instruction) = line_at(names.classes.tree, method, line)?;
+    let (owner, member) = member_of(instruction)?;
+    let unknown = absent_member(names, ClassKey::of(owner), member);
+    Some((unknown, Sites::at(spot.line(line, LinePart::Member))))
+}
+
+fn unknown_label(
+    tree: &Tree,
+    method: SourceMember,
+    line: usize,
+    target: usize,
+) -> Option<Found<'_>> {
+    let (spot, instruction) = line_at(tree, method, line)?;
+    let label = labels_of(instruction).get(target)?;
+    let place = spot.line(line, LinePart::Target(target));
+    Some((Unknown::Label(label), Sites::at(place)))
+}
+
+// ---- the whole tree
+
+/// A name that stands for nothing of the kind needed (number 202), and its place. None where the tree has no such place.
+pub fn unknown_name<'a>(
+    names: &NameTables<'a>,
+    unknown: violations::Unknown,
+) -> Option<(Unknown<'a>, Sites)> {
+    let tree = names.classes.tree;
+    match unknown {
+        violations::Unknown::Extern(number) => {
+            let name = tree.externs.as_slice().get(number)?;
+            Some((Unknown::Extern(name), Sites::at(Place::Extern(number))))
+        }
+        violations::Unknown::Heading { class, name, fault } => {
+            unknown_in_heading(tree, class, name, fault)
+        }
+        violations::Unknown::Type { site, fault } => {
+            let role = Role::Type;
+            let class = class_of(type_at(tree, site)?)?;
+            let place = class_place(tree, site)?;
+            Some((Unknown::Class { class, role, fault }, Sites::at(place)))
+        }
+        violations::Unknown::Owner {
+            method,
+            line,
+            fault,
+        } => unknown_owner(tree, method, line, fault),
+        violations::Unknown::Member { method, line } => unknown_member(names, method, line),
+        violations::Unknown::Label {
+            method,
+            line,
+            target,
+        } => unknown_label(tree, method, line, target),
+    }
+}
