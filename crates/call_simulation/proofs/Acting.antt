@@ -27,11 +27,12 @@ use Rattle.simulation.specs.interpreter.declared.outcomes.Outcome.TheVariants.{C
 use Rattle.simulation.specs.Agreement.{Agree}
 use Rattle.simulation.specs.StandsFor.{Names, IsValue, int32, int64, native, null_reference, reference}
 use Rattle.simulation.proofs.Statements.{CellsMayChange, LiteralsMayChange}
-use Rattle.simulation.proofs.Instructions.{IsSetting, AsksFor, DoesAlike, no_refusal}
+use Rattle.simulation.proofs.Instructions.{IsSetting, AsksFor, DoesAlike}
 use Rattle.simulation.proofs.Going.{own_frame, next_alike, onward_alike, onward_is}
 use Rattle.call_simulation.proofs.Locking.{enters_alike, exits_alike}
 use Rattle.call_simulation.proofs.OneOperand.{one_taken, single_operand}
 use Rattle.call_simulation.proofs.Printing.{line_alike, memory_printed}
+use Rattle.simulation.proofs.cil_model.SameLaws.{never}
 
 module _ (cells_may_change : CellsMayChange) (literals_may_change : LiteralsMayChange)
     (here : Setting) (name : Names) (m : Frames) (o : Objects) (statics : List Value) (printed : List ℕ) (s : State) (f : StateFrame) (below : List StateFrame) (i : Instruction) (operation : Operation)
@@ -55,7 +56,7 @@ module _ (cells_may_change : CellsMayChange) (literals_may_change : LiteralsMayC
     constructs t = record {
       answer = (popped rest, o, statics, printed, Comes GoesOn);
       is = ap (λ x. of_calls o statics printed (top_of x m (λ w n. beside_console printed (beside o (onward n))))) top ∙ ap (λ x. of_calls o statics printed (beside_console printed (beside o x))) (onward_popped rest);
-      refuses = λ _ h. no_refusal h;
+      refuses = λ _ h. never h;
       alike = λ r. next_alike here name m o statics printed s f below i operation at rest rest' others;
     }
 
@@ -72,7 +73,7 @@ module _ (cells_may_change : CellsMayChange) (literals_may_change : LiteralsMayC
               ap (λ x. of_calls o statics printed (option_map (λ (y : Frames × List ℕ × Effect). (y.0, o, y.1, Comes y.2)) (given x (λ l. printed_line l printed (with_stack m rest)))))
               (line_alike here.tree name o s at.memory.heap v u stands line is) ∙
               ap (λ x. of_calls o statics printed (option_map (λ (y : Frames × List ℕ × Effect). (y.0, o, y.1, Comes y.2)) (option_map (λ (y : Frames × Effect). (y.0, printed ++ line, y.1)) x))) (onward_popped rest);
-          refuses = λ _ h. no_refusal h;
+          refuses = λ _ h. never h;
           alike = λ r.
               onward_alike here name m o statics printed s f below i operation at name (λ a n e. e) o statics (printed ++ line) (record s { printed = s.printed ++ line }) refl
               (memory_printed here.tree name o statics printed s at.memory line) rest rest' others;
@@ -87,10 +88,10 @@ module _ (cells_may_change : CellsMayChange) (literals_may_change : LiteralsMayC
     asks_is what a is = ap (λ x. of_calls o statics printed (option_map (λ b. (m, o, printed, what b)) (top_reference x))) (top ∙ ap (λ x. x ∷ rest) is)
 
     starts_of : (a : Addr) → v ≡ Ref a → Alike (act_turn here.tree here.thread Start m o printed) (act here s f below Start (u ∷ []) rest')
-    starts_of a is = record { answer = (m, o, statics, printed, Starts a); is = asks_is Starts a is; refuses = λ _ h. no_refusal h; alike = λ r. asked Start a (Starts a) is }
+    starts_of a is = record { answer = (m, o, statics, printed, Starts a); is = asks_is Starts a is; refuses = λ _ h. never h; alike = λ r. asked Start a (Starts a) is }
 
     joins_of : (a : Addr) → v ≡ Ref a → Alike (act_turn here.tree here.thread Join m o printed) (act here s f below Join (u ∷ []) rest')
-    joins_of a is = record { answer = (m, o, statics, printed, Joins a); is = asks_is Joins a is; refuses = λ _ h. no_refusal h; alike = λ r. asked Join a (Joins a) is }
+    joins_of a is = record { answer = (m, o, statics, printed, Joins a); is = asks_is Joins a is; refuses = λ _ h. never h; alike = λ r. asked Join a (Joins a) is }
 
     starts : Acts Start
     starts = by_value v u refl stands

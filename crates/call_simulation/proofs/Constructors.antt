@@ -3,6 +3,7 @@ use Rattle.std.proofs.Common.{◌≡◌, ◌≤◌, ◌^◌, ℕ, suc, true, if�
 use Rattle.std.specs.Prelude.{not, ◌&&◌, nat_lt}
 use Rattle.std.specs.Option.{option_map_or}
 use Rattle.std.proofs.lemmas.Option.{same_Some}
+use Rattle.std.proofs.lemmas.Bool.{lt-ltb}
 use Rattle.simulation.specs.cil_model.declared.types.ClassName.{ClassName}
 use Rattle.simulation.specs.cil_model.declared.types.DeclaredType.{DeclaredType}
 use Rattle.simulation.specs.cil_model.declared.types.Signature.{Signature}
@@ -32,7 +33,6 @@ use Rattle.simulation.specs.method_table.Prepared.{local_kinds}
 use Rattle.simulation.proofs.method_table.NumberLaws.{declared_is_numbered}
 use Rattle.simulation.specs.interpreter.Calls.{class_in, slots_at}
 use Rattle.simulation.proofs.Zeros.{locals_low}
-use Rattle.simulation.proofs.Going.{below_test}
 use Rattle.simulation.proofs.cil_model.Lists.{none_is_some}
 
 -- a method with its class
@@ -81,12 +81,12 @@ module _ (tree : Tree) (legal : IsLegal tree) (c : ClassName) (parameters : List
   class_named = class_of_number tree number.class number.place c constructor numbered_own
 
   pub class_is_in : class_in number ≡ Some number.class
-  class_is_in = ap (λ b. if b then Some number.class else None) (below_test number.class (2 ^ 16) (class_number_small tree legal number.class c class_named))
+  class_is_in = ap (λ b. if b then Some number.class else None) (lt-ltb number.class (2 ^ 16) (class_number_small tree legal number.class c class_named))
 
   pub slots_are_at : slots_at tree number ≡ Some (length (slot_types tree c))
   slots_are_at =
       ap (λ o. option_and_then (λ (k : ClassName). if nat_lt (length (slot_types tree k)) (2 ^ 32) then Some (length (slot_types tree k)) else None) o) class_named ∙
-      ap (λ b. if b then Some (length (slot_types tree c)) else None) (below_test (length (slot_types tree c)) (2 ^ 32) (slots_few tree legal number.class c class_named))
+      ap (λ b. if b then Some (length (slot_types tree c)) else None) (lt-ltb (length (slot_types tree c)) (2 ^ 32) (slots_few tree legal number.class c class_named))
 
   -- ---- arguments
 

@@ -31,10 +31,11 @@ use Rattle.simulation.proofs.size_bounds.MethodSizes.{arguments_few, locals_few}
 use Rattle.simulation.specs.MachineContents.{frame_room}
 use Rattle.simulation.specs.StandsFor.{Names, IsValue, IsFrame, AreFrames}
 use Rattle.simulation.proofs.AgreeLaws.{agree_length, agree_take, agree_drop, agree_reverse}
-use Rattle.simulation.proofs.Instructions.{IsSetting, GoesAlike, DoesAlike, no_refusal}
+use Rattle.simulation.proofs.Instructions.{IsSetting, GoesAlike, DoesAlike}
 use Rattle.simulation.proofs.Going.{own_frame, place_is_small}
 use Rattle.call_simulation.proofs.Numbering.{IsNumbered}
 use Rattle.simulation.proofs.Zeros.{locals_stand, local_count}
+use Rattle.simulation.proofs.cil_model.SameLaws.{never}
 
 -- ---- as many frames as there may be
 
@@ -164,7 +165,7 @@ module _ (here : Setting) (name : Names) (m : Frames) (o : Objects) (statics : L
             record {
               answer = (entered_frames enough shallow code coded t.1.0, o, statics, printed, Comes GoesOn);
               is = turn_is ∙ ap (λ x. of_calls o statics printed (beside_console printed (beside o x))) (called_is enough shallow code coded t.1.0);
-              refuses = λ _ h. no_refusal h;
+              refuses = λ _ h. never h;
               alike = λ r. goes_into enough shallow code coded t.1.0;
             }
 
@@ -173,7 +174,7 @@ module _ (here : Setting) (name : Names) (m : Frames) (o : Objects) (statics : L
             record {
               answer = (m, o, statics, printed, Comes (Raises StackOverflow));
               is = turn_is ∙ ap (λ b. of_calls o statics printed (beside_console printed (beside o (if b then Some (m, Raises StackOverflow) else behind m (entered (called_as found numbered.number) None))))) (full_alike ∙ deep);
-              refuses = λ _ h. no_refusal h;
+              refuses = λ _ h. never h;
               alike = λ r. (refl, (refl, refl, refl));
             }
         by_depth false shallow t = by_code shallow (code_of found.1.kind) refl t

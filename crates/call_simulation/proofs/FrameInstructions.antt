@@ -3,6 +3,7 @@ use Rattle.std.proofs.Common.{◌≡◌, ◌<◌, ◌+◌, ℕ, ℤ, not, List, 
 use Rattle.std.specs.Prelude.{if◌then◌else◌}
 use Rattle.std.specs.Int.{w32, cast_unsigned}
 use Rattle.std.proofs.lemmas.Option.{slice_get-map}
+use Rattle.std.proofs.lemmas.Bool.{lt-ltb}
 use Rattle.simulation.specs.cil_model.declared.instructions.Instruction.{Instruction}
 use Rattle.simulation.specs.cil_model.declared.instructions.Instruction.TheVariants as Named
 use Rattle.simulation.specs.cil_model.declared.instructions.BinaryOperation.{BinaryOperation}
@@ -31,7 +32,7 @@ use Rattle.simulation.specs.Agreement.{Agree}
 use Rattle.simulation.specs.StandsFor.{Names, IsValue, int32, int64, null_reference, reference}
 use Rattle.simulation.proofs.AgreeLaws.{agree_set}
 use Rattle.simulation.proofs.Instructions.{IsSetting, DoesAlike}
-use Rattle.simulation.proofs.Going.{below_test, own_frame}
+use Rattle.simulation.proofs.Going.{own_frame}
 use Rattle.simulation.proofs.Operands.{fine, one_operand}
 use Rattle.call_simulation.proofs.Meeting.{IsResult, Same, Opposite, meets_opposite}
 use Rattle.call_simulation.proofs.ValueResults.{comparison_meets, branch_test_meets, is_set_meets, binary_meets, unary_meets, shift_meets, narrow_meets, wide_meets, one_or_zero_alike}
@@ -67,7 +68,7 @@ module _ (here : Setting) (name : Names) (m : Frames) (o : Objects) (statics : L
       let named : name (literal number).number ≡ Some (Literal characters) = at.memory.heap.each_literal number characters is in
       let small : FIRST_LITERAL + number < ADDRESSES = at.memory.heap.small (literal number).number (Literal characters) named in
       let few : number < FIRST_LITERAL = omega (arith, small) in
-      subst (λ b. Alike here name m o statics printed s f below _ _ at (if b then leaves (Ref (literal number)) m else None) (next here s f below (Reference (Literal characters) ∷ f.stack))) (sym (below_test number FIRST_LITERAL few))
+      subst (λ b. Alike here name m o statics printed s f below _ _ at (if b then leaves (Ref (literal number)) m else None) (next here s f below (Reference (Literal characters) ∷ f.stack))) (sym (lt-ltb number FIRST_LITERAL few))
       (pushes_does here name m o statics printed s f below _ _ at _ _ (reference (literal number) (Literal characters) named))
 
   -- ---- arguments and locals

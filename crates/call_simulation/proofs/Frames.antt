@@ -1,7 +1,7 @@
 -- The frame of a constructor, and the one of the method that makes the object.
 use Rattle.std.proofs.Common.{◌≡◌, ◌≤◌, ◌<◌, ◌+◌, ◌-◌, ℕ, suc, true, false, nat_le, if◌then◌else◌, ◌&&◌, List, ◌∷◌, ◌++◌, length, take, drop, reverse, Some, None, refl, sym, ap, ◌∙◌, subst, arith}
 use Rattle.std.specs.Prelude.{nat_lt, ◌==◌}
-use Rattle.std.proofs.lemmas.Bool.{and_from}
+use Rattle.std.proofs.lemmas.Bool.{and_from, leb-true, lt-ltb, le-leb}
 use Rattle.std.proofs.lemmas.Bool.Decides.{nat_tests}
 use Rattle.simulation.specs.cil_model.declared.types.ClassName.{ClassName}
 use Rattle.simulation.specs.cil_model.declared.types.DeclaredType.{DeclaredType}
@@ -36,19 +36,12 @@ use Rattle.simulation.proofs.Going.{own_frame, place_is_small, room_left}
 use Rattle.simulation.proofs.Statements.{IsBirth}
 use Rattle.call_simulation.proofs.Lists.{drop_inserted, reverse_inserted, length_inserted}
 use Rattle.simulation.proofs.Zeros.{locals_stand}
-use Rattle.simulation.proofs.Going.{below_test}
 use Rattle.call_simulation.proofs.Constructors.{constructor, arguments_count, few_arguments, few_locals, is_numbered}
 
 -- ---- tests on numbers
 
 above_none : (n k : ℕ) → n ≡ suc k → nat_lt 0 n ≡ true
 above_none n k h = grind (arith, nat_tests)
-
-within_test : (n most : ℕ) → n ≤ most → nat_le n most ≡ true
-within_test n most h = grind (arith, nat_tests)
-
-within_from_test : (n most : ℕ) → nat_le n most ≡ true → n ≤ most
-within_from_test n most h = grind (arith, nat_tests)
 
 -- as many as there may be, or fewer
 full_is_deep : (n depth : ℕ) → n + 1 ≤ depth → (n + 1 == depth) ≡ nat_le depth (suc n)
@@ -97,7 +90,7 @@ module _ (here : Setting) (name : Names) (m : Frames) (o : Objects) (statics : L
     operands_there : length parameters ≤ length m.running.stack
     operands_there =
         let same : length m.running.stack ≡ length f.stack = agree_length (IsValue name) m.running.stack f.stack own.stack in
-        omega (arith, same, within_from_test (length parameters) (length f.stack) enough)
+        omega (arith, same, leb-true (length parameters) (length f.stack) enough)
 
     -- the caller behind the instruction
     abbrev caller : Frames
@@ -110,17 +103,17 @@ module _ (here : Setting) (name : Names) (m : Frames) (o : Objects) (statics : L
     object_fits : nat_lt 0 count && (nat_lt (size m.running) m.room && nat_le (length parameters) (length m.running.stack)) ≡ true
     object_fits =
         let left : size m.running < frame_room = room_left here.tree legal s None f at.running.frame name m.running own in
-        let room : nat_lt (size m.running) m.room ≡ true = below_test (size m.running) m.room (subst (λ r. size m.running < r) (sym at.frames.room) left) in
-        and_from _ _ (above_none count (length parameters) counted) (and_from _ _ room (within_test (length parameters) (length m.running.stack) operands_there))
+        let room : nat_lt (size m.running) m.room ≡ true = lt-ltb (size m.running) m.room (subst (λ r. size m.running < r) (sym at.frames.room) left) in
+        and_from _ _ (above_none count (length parameters) counted) (and_from _ _ room (le-leb (length parameters) (length m.running.stack) operands_there))
 
     frame_fits : nat_lt (length m.below + 1) m.depth && nat_le count (length inserted) && nat_le (count + length (local_kinds built)) m.room ≡ true
     frame_fits =
         let longer : length inserted ≡ suc (length m.running.stack) = length_inserted (length parameters) (Ref a) m.running.stack operands_there in
-        let shallow : nat_lt (length m.below + 1) m.depth ≡ true = below_test (length m.below + 1) m.depth (not_full (length m.below) m.depth few_below deep) in
-        let there : nat_le count (length inserted) ≡ true = within_test count (length inserted) (omega (arith, counted, longer, operands_there)) in
+        let shallow : nat_lt (length m.below + 1) m.depth ≡ true = lt-ltb (length m.below + 1) m.depth (not_full (length m.below) m.depth few_below deep) in
+        let there : nat_le count (length inserted) ≡ true = le-leb count (length inserted) (omega (arith, counted, longer, operands_there)) in
         let low : count + length (local_kinds built) ≤ m.room =
         subst (λ r. count + length (local_kinds built) ≤ r) (sym at.frames.room) (omega (arith, few_arguments here.tree legal c parameters number is, few_locals here.tree legal c parameters number is)) in
-        and_from _ _ (and_from _ _ shallow there) (within_test (count + length (local_kinds built)) m.room low)
+        and_from _ _ (and_from _ _ shallow there) (le-leb (count + length (local_kinds built)) m.room low)
 
     -- the constructor's frame is entered
     pub constructs_is : construct_turn (called_as (c, built) (is_numbered here.tree legal c parameters number is).0) a m ≡ Some (frames_in, GoesOn)

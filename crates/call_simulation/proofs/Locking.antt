@@ -33,10 +33,11 @@ use Rattle.simulation.specs.interpreter.declared.outcomes.Outcome.TheVariants.{C
 use Rattle.simulation.specs.Agreement.{Agree}
 use Rattle.simulation.specs.StandsFor.{Names, IsValue, int32, int64, native, null_reference, reference, IsMonitor}
 use Rattle.simulation.proofs.Statements.{CellsMayChange, LiteralsMayChange}
-use Rattle.simulation.proofs.Instructions.{IsSetting, DoesAlike, no_refusal, refused_fault}
+use Rattle.simulation.proofs.Instructions.{IsSetting, DoesAlike, refused_fault}
 use Rattle.simulation.proofs.Going.{onward_alike, onward_is}
 use Rattle.call_simulation.proofs.Monitors.{IsMonitorAt, IsChanged, monitor_there}
 use Rattle.simulation.proofs.Memories.{named_is_not_null}
+use Rattle.simulation.proofs.cil_model.SameLaws.{never}
 
 -- so few entries can be counted
 few_entries : (count left budget : ℕ) → count + left ≤ budget → budget ≤ MOST_BUDGET → nat_lt count (2 ^ 32 - 1) ≡ true
@@ -70,7 +71,7 @@ module _ (cells_may_change : CellsMayChange) (literals_may_change : LiteralsMayC
   carrying x = beside_console printed (carried m (with_stack m rest) x)
 
   blocks_alike : (turn : CallTurn) → turn ≡ carrying (o, Blocks) → Alike turn StateBlocks
-  blocks_alike turn is = record { answer = (m, o, statics, printed, Comes Blocks); is = ap (of_calls o statics printed) is; refuses = λ _ h. no_refusal h; alike = λ r. (refl, refl, (refl, refl, refl)) }
+  blocks_alike turn is = record { answer = (m, o, statics, printed, Comes Blocks); is = ap (of_calls o statics printed) is; refuses = λ _ h. never h; alike = λ r. (refl, refl, (refl, refl, refl)) }
 
   raises_alike : (turn : CallTurn) (x : Fault) → turn ≡ carrying (o, Raises x) → Alike turn (StateRaises x)
   raises_alike turn x is = record { answer = (m, o, statics, printed, Comes (Raises x)); is = ap (of_calls o statics printed) is; refuses = λ _ h. inr (refused_fault x h); alike = λ r. (refl, (refl, refl, refl)) }
@@ -84,7 +85,7 @@ module _ (cells_may_change : CellsMayChange) (literals_may_change : LiteralsMayC
         record {
           answer = (with_place (with_stack m rest) (m.running.place + 1), with_monitor o a new, statics, printed, Comes GoesOn);
           is = ap (of_calls o statics printed) is ∙ ap (λ x. of_calls o statics printed (beside_console printed (beside (with_monitor o a new) x))) (onward_is here name m o statics printed s f below i operation at rest);
-          refuses = λ _ h. no_refusal h;
+          refuses = λ _ h. never h;
           alike = λ r. onward_alike here name m o statics printed s f below i operation at name (λ b k e. e) (with_monitor o a new) statics printed (with_state_monitor s n changed) after.others after.memory rest rest' others;
         }
 

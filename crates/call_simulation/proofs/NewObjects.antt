@@ -37,7 +37,7 @@ use Rattle.simulation.specs.interpreter.Calls.{beside_console, called_as, slots_
 use Rattle.simulation.specs.StandsFor.{Names, reference}
 use Rattle.simulation.specs.Turns.{Answer}
 use Rattle.simulation.proofs.Extending.{values_extend}
-use Rattle.simulation.proofs.Instructions.{IsSetting, GoesAlike, DoesAlike, no_refusal}
+use Rattle.simulation.proofs.Instructions.{IsSetting, GoesAlike, DoesAlike}
 use Rattle.simulation.proofs.Going.{own_frame, leaves_is, onward_alike}
 use Rattle.simulation.proofs.Operands.{fine}
 use Rattle.simulation.proofs.Statements.{BirthsStand, IsBirth}
@@ -48,6 +48,7 @@ use Rattle.call_simulation.proofs.Zeros.{new_instance_stands}
 use Rattle.std.proofs.lemmas.List.{length-replicate}
 use Rattle.simulation.specs.object_memory.Cells.{free_words}
 use Rattle.simulation.proofs.Rooms.{contents_size}
+use Rattle.simulation.proofs.cil_model.SameLaws.{never}
 
 -- what doesn't stick passed its test
 not_stuck : (here : Setting) (b : Bool) (e : StateEffect) → IsTypedEffect here.tree (if b then e else Sticks) → b ≡ true
@@ -127,7 +128,7 @@ module _ (births_stand : BirthsStand) (here : Setting) (name : Names) (m : Frame
 
   -- a fault that isn't one of memory
   too_deep : Alike (Some (m, o, Raises StackOverflow)) (StateRaises StackOverflow)
-  too_deep = record { answer = (m, o, statics, printed, Comes (Raises StackOverflow)); is = refl; refuses = λ _ h. no_refusal h; alike = λ r. (refl, (refl, refl, refl)) }
+  too_deep = record { answer = (m, o, statics, printed, Comes (Raises StackOverflow)); is = refl; refuses = λ _ h. never h; alike = λ r. (refl, (refl, refl, refl)) }
 
   -- the reference machine goes on from a birth with frames of its thread
   abbrev Enters : StateEffect → Type 0
@@ -169,7 +170,7 @@ module _ (births_stand : BirthsStand) (here : Setting) (name : Names) (m : Frame
       record {
         answer = answer;
         is = ap (λ turn. as_turn (beside born turn)) (leaves_is here name m o statics printed s f below (Named.NewObject c parameters) (Resolved.NewObject number) at (Ref a) m.running.stack (omega arith));
-        refuses = λ _ h. no_refusal h;
+        refuses = λ _ h. never h;
         alike = λ r. subst (λ e'. GoesAlike here name m o statics printed s f below answer e') (sym (birth_goes here s f below contents pushed r))
             (onward_alike here name m o statics printed s f below (Named.NewObject c parameters) (Resolved.NewObject number) at birth.names birth.extends born statics printed (with_state_birth s contents) refl
             (memory_after here name o statics printed s at.memory contents born a birth) (Ref a ∷ m.running.stack) (Reference (next_name s) ∷ f.stack)
@@ -191,7 +192,7 @@ module _ (births_stand : BirthsStand) (here : Setting) (name : Names) (m : Frame
         record {
           answer = answer;
           is = ap (λ turn. as_turn (beside born turn)) (constructs_is here name m o statics printed s f below c parameters number is at enough deep a);
-          refuses = λ _ h. no_refusal h;
+          refuses = λ _ h. never h;
           alike = λ r. subst (λ e'. GoesAlike here name m o statics printed s f below answer e') (sym (birth_goes here s f below contents entered_by r))
               (by_code (code_of built.kind) refl (subst (IsTypedEffect here.tree) (birth_goes here s f below contents entered_by r) typed_birth));
         }

@@ -29,17 +29,12 @@ use Rattle.simulation.specs.interpreter.declared.outcomes.Outcome.TheVariants.{C
 use Rattle.simulation.specs.Agreement.{Agree}
 use Rattle.simulation.specs.MachineContents.{frame_room}
 use Rattle.simulation.specs.StandsFor.{Names, IsValue, reference, IsObject, IsFrame}
-use Rattle.simulation.proofs.Instructions.{IsSetting, GoesAlike, DoesAlike, no_refusal}
+use Rattle.simulation.proofs.Instructions.{IsSetting, GoesAlike, DoesAlike}
 use Rattle.simulation.proofs.Going.{own_frame, room_left}
 use Rattle.simulation.proofs.Operands.{fine, one_operand}
+use Rattle.simulation.proofs.cil_model.SameLaws.{if_false, never, if_true}
 
 -- ---- what a frame is given
-
-if_true : {X : Type 0} (b : Bool) (x y : X) → b ≡ true → (if b then x else y) ≡ x
-if_true {X} b x y is = ap (λ c. if c then x else y) is
-
-if_false : {X : Type 0} (b : Bool) (x y : X) → b ≡ false → (if b then x else y) ≡ y
-if_false {X} b x y is = ap (λ c. if c then x else y) is
 
 some_below : (gs : List Frame) (n : ℕ) → n ≡ suc (length gs) → (n == 0) ≡ false
 some_below gs n is = grind (arith, nat_tests, is)
@@ -113,19 +108,19 @@ module _ (here : Setting) (name : Names) (m : Frames) (o : Objects) (statics : L
       by_below [] [] is h waiting v u k = record {
         answer = (with_running m r, o, statics, printed, Comes Returns);
         is = ap lifted (gives_done v (with_running m r) is);
-        refuses = λ _ h. no_refusal h;
+        refuses = λ _ h. never h;
         alike = λ x. (refl, (refl, refl, refl));
       }
       by_below (g ∷ gs) (g' ∷ gs') is h waiting None None k = record {
         answer = (record m { running = g; below = gs }, o, statics, printed, Comes GoesOn);
         is = ap lifted (gives_none (with_running m r) g gs is);
-        refuses = λ _ h. no_refusal h;
+        refuses = λ _ h. never h;
         alike = λ x. returns_to g gs g' gs' is h.0 h.1 g.stack g'.stack h.0.stack;
       }
       by_below (g ∷ gs) (g' ∷ gs') is h waiting (Some v) (Some u) k = record {
         answer = (record m { running = record g { stack = v ∷ g.stack }; below = gs }, o, statics, printed, Comes GoesOn);
         is = ap lifted (gives_some v (with_running m r) g gs is (has_room g g' gs' h.0 waiting));
-        refuses = λ _ h. no_refusal h;
+        refuses = λ _ h. never h;
         alike = λ x. returns_to g gs g' gs' is h.0 h.1 (v ∷ g.stack) (u ∷ g'.stack) (k, h.0.stack);
       }
       by_below (g ∷ gs) (g' ∷ gs') is h waiting None (Some u) k = elim k [ ]

@@ -3,6 +3,7 @@ use Rattle.std.proofs.Common.{◌≡◌, ◌≤◌, ◌<◌, ◌+◌, ℕ, ℤ, 
 use Rattle.std.specs.Prelude.{if◌then◌else◌, nat_lt}
 use Rattle.std.specs.Option.{option_map_or}
 use Rattle.std.proofs.lemmas.Option.{slice_get_within, same_Some}
+use Rattle.std.proofs.lemmas.Bool.{lt-ltb}
 use Rattle.simulation.specs.cil_model.declared.instructions.Instruction.{Instruction}
 use Rattle.simulation.specs.cil_model.declared.limits.TheConstants.{MOST_INSTRUCTIONS}
 use Rattle.simulation.specs.cil_model.declared.reports.Fault.{Fault}
@@ -28,10 +29,11 @@ use Rattle.simulation.proofs.size_bounds.Lists.{found_within}
 use Rattle.simulation.specs.Agreement.{Agree}
 use Rattle.simulation.specs.StandsFor.{Names, IsValue, IsFrame, AreFrames}
 use Rattle.simulation.proofs.AgreeLaws.{agree_length}
-use Rattle.simulation.proofs.Instructions.{IsSetting, DoesAlike, no_refusal, refused_fault}
-use Rattle.simulation.proofs.Going.{below_test, own_frame, place_is_small, onward_is, leaves_is, moved_frames, next_alike, jump_alike}
+use Rattle.simulation.proofs.Instructions.{IsSetting, DoesAlike, refused_fault}
+use Rattle.simulation.proofs.Going.{own_frame, place_is_small, onward_is, leaves_is, moved_frames, next_alike, jump_alike}
 use Rattle.simulation.proofs.Operands.{one_operand, two_operands}
 use Rattle.call_simulation.proofs.Meeting.{Meets, IsResult, meets_at}
+use Rattle.simulation.proofs.cil_model.SameLaws.{never}
 use Rattle.simulation.proofs.cil_model.Lists.{none_is_some}
 
 module _ (here : Setting) (name : Names) (m : Frames) (o : Objects) (statics : List Value) (printed : List ℕ) (s : State) (f : StateFrame) (below : List StateFrame) (i : Instruction) (operation : Operation)
@@ -61,7 +63,7 @@ module _ (here : Setting) (name : Names) (m : Frames) (o : Objects) (statics : L
       record {
         answer = (moved (m.running.place + 1), o, statics, printed, Comes GoesOn);
         is = ap (λ b. of_frames o statics printed (if b then Some (moved (m.running.place + 1), GoesOn) else None)) (place_is_small here name m o statics printed s f below i operation at);
-        refuses = λ _ h. no_refusal h;
+        refuses = λ _ h. never h;
         alike = λ r. record {
           running = after (record f { arguments = arguments'; locals = locals' }) stack';
           waiting = below;
@@ -82,7 +84,7 @@ module _ (here : Setting) (name : Names) (m : Frames) (o : Objects) (statics : L
       record {
         answer = (with_place (with_stack m rest) (m.running.place + 1), o, statics, printed, Comes GoesOn);
         is = ap (of_frames o statics printed) (onward_is here name m o statics printed s f below i operation at rest);
-        refuses = λ _ h. no_refusal h;
+        refuses = λ _ h. never h;
         alike = λ r. next_alike here name m o statics printed s f below i operation at rest rest' k;
       }
 
@@ -92,7 +94,7 @@ module _ (here : Setting) (name : Names) (m : Frames) (o : Objects) (statics : L
       record {
         answer = (with_place (with_stack m (v ∷ rest)) (m.running.place + 1), o, statics, printed, Comes GoesOn);
         is = ap (of_frames o statics printed) (leaves_is here name m o statics printed s f below i operation at v rest shorter);
-        refuses = λ _ h. no_refusal h;
+        refuses = λ _ h. never h;
         alike = λ r. next_alike here name m o statics printed s f below i operation at (v ∷ rest) (u ∷ rest') (h, k);
       }
 
@@ -118,7 +120,7 @@ module _ (here : Setting) (name : Names) (m : Frames) (o : Objects) (statics : L
         let lines : lines_of f.method ≡ typed.code.lines = ap (λ (c : Option Code). option_map_or (λ (code : Code). code.lines) c []) typed.has_code in
         let inside : place < 0 + length typed.code.lines = subst (λ (ls : List Line). place < 0 + length ls) lines (found_within _ 0 (lines_of f.method) place is) in
         let few : length typed.code.lines ≤ MOST_INSTRUCTIONS = instructions_few here.tree at.running.accepted.legal f.owner typed.is_declared.0 f.method typed.is_declared.1 typed.code typed.has_code in
-        below_test place MOST_INSTRUCTIONS (omega (arith, inside, few))
+        lt-ltb place MOST_INSTRUCTIONS (omega (arith, inside, few))
 
     pub jump_does : (rest : List Value) (rest' : List StateValue) → Stands rest rest' → Alike (jump place (with_stack m rest)) (jump_to here s f below label rest')
     jump_does rest rest' k =
@@ -126,7 +128,7 @@ module _ (here : Setting) (name : Names) (m : Frames) (o : Objects) (statics : L
         (record {
           answer = (with_place (with_stack m rest) place, o, statics, printed, Comes GoesOn);
           is = ap (λ b. of_frames o statics printed (if b then Some (with_place (with_stack m rest) place, GoesOn) else None)) label_is_small;
-          refuses = λ _ h. no_refusal h;
+          refuses = λ _ h. never h;
           alike = λ r. jump_alike here name m o statics printed s f below i operation at place rest rest' k;
         })
 
@@ -217,5 +219,5 @@ module _ (here : Setting) (name : Names) (m : Frames) (o : Objects) (statics : L
           inside = subst (λ k. n < k) (sym (agree_length (IsValue name) vs us h)) (slice_get_within us n old is)
 
           by_kind : (same : Bool) → Typed (given_value (if same then Some (slice_set us n u) else None) go) → Alike (stored store vs (pos n)) (given_value (if same then Some (slice_set us n u) else None) go)
-          by_kind true t' = subst (λ b. Alike (if b then onward (store n) else None) (go (slice_set us n u))) (sym (below_test n (length vs) inside)) (each n)
+          by_kind true t' = subst (λ b. Alike (if b then onward (store n) else None) (go (slice_set us n u))) (sym (lt-ltb n (length vs) inside)) (each n)
           by_kind false t' = elim t' [ ]

@@ -1,5 +1,5 @@
 -- What two ways to a label may leave on the stack: merges of two types (III.1.8.1.3), stacks slot by slot, and bodies with such a label.
-use Rattle.std.proofs.Common.{◌≡◌, ◌⊎◌, ℕ, zero, suc, pos, ◌≤ℤ◌, false, true, IsTrue, List, [], ◌∷◌, length, Option, Some, None, option_and_then, slice_get, Contains, refl, inl, inr, sym, ap, ◌∙◌, subst, arith, codes, lit<}
+use Rattle.std.proofs.Common.{◌≡◌, ◌⊎◌, ℕ, zero, suc, pos, ◌≤ℤ◌, false, IsTrue, List, [], ◌∷◌, length, Option, Some, None, option_and_then, slice_get, Contains, refl, inl, inr, sym, ap, ◌∙◌, subst, arith, codes, lit<}
 use Rattle.std.specs.Int.Signed.{le_z_yes}
 use Rattle.std.proofs.lemmas.Option.{same_Some}
 use Rattle.std.proofs.lemmas.List.Elements.{Contains-push_cases}

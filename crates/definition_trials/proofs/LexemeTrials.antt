@@ -4,13 +4,15 @@ use Rattle.std.specs.Prelude.{neg_ℤ, drop}
 use Rattle.std.specs.List.{list_all}
 use Rattle.std.specs.Int.{w64}
 use Rattle.std.proofs.Math.Facts.{sfits_lit}
-use Rattle.std.proofs.lemmas.Bool.{eqb-false}
+use Rattle.std.proofs.lemmas.Bool.{both_ways, eqb-false}
 use Rattle.std.proofs.lemmas.List.{append-nil}
-use Rattle.cil_model.specs.declared.tokens.Symbol.TheVariants.{Colon, DoubleColon}
+use Rattle.cil_model.specs.declared.tokens.Symbol.{Symbol}
+use Rattle.cil_model.specs.declared.tokens.Symbol.TheVariants.{OpenBrace, CloseBrace, OpenParenthesis, CloseParenthesis, OpenBracket, CloseBracket, Comma, Colon, DoubleColon}
+use Rattle.cil_model.specs.declared.tokens.Token.{Token}
 use Rattle.cil_model.specs.declared.tokens.Token.TheVariants.{Reserved, Name, Integer, Quoted, Symbol as SymbolToken}
-use Rattle.cil_model.specs.Words.{is_digit, is_word_byte}
-use Rattle.cil_model.specs.Lexemes.{stops, value_from, is_plain, goes_before, lexeme, AreTokens}
-use Rattle.cil_model.proofs.SameLaws.{never, both_first, both_second}
+use Rattle.cil_model.specs.Words.{is_digit, is_word_byte, is_reserved, is_name}
+use Rattle.cil_model.specs.Lexemes.{stops, value_from, is_plain, bytes_of, goes_before, lexeme, AreTokens}
+use Rattle.cil_model.proofs.SameLaws.{never, both_first, both_second, is_not}
 use Rattle.cil_model.proofs.Lists.{no_item}
 
 not_empty : (c : ℕ) (cs : List ℕ) → c ∷ cs ≡ [] → ⊥
@@ -126,6 +128,47 @@ half_of_a_name rest ((e, all, ends), is) = let P : List ℕ → Type 0 = λ bs. 
 -- a name does not end with a dot
 dot_behind : (rest : List ℕ) → lexeme (Name (codes "A.")) (codes "A. ") rest → ⊥
 dot_behind rest (r, is) = never is
+
+-- the word that begins a text is one
+only_word : (w v rest more : List ℕ) → w ++ rest ≡ v ++ more → IsTrue (list_all is_word_byte w) → IsTrue (list_all is_word_byte v) → IsTrue (stops is_word_byte rest) → IsTrue (stops is_word_byte more) → w ≡ v
+only_word [] [] rest more e h k ends ends' = refl
+only_word [] (d ∷ v) rest more e h k ends ends' = absurd (both_ways (is_word_byte d) (is_not (is_word_byte d) (subst (λ bs. IsTrue (stops is_word_byte bs)) e ends)) (both_first _ _ k))
+only_word (c ∷ w) [] rest more e h k ends ends' = absurd (both_ways (is_word_byte c) (is_not (is_word_byte c) (subst (λ bs. IsTrue (stops is_word_byte bs)) (sym e) ends')) (both_first _ _ h))
+only_word (c ∷ w) (d ∷ v) rest more e h k ends ends' =
+    let first : c ≡ d = head_same c d (w ++ rest) (v ++ more) e in
+    ap (λ x. x ∷ w) first ∙ ap (λ x. d ∷ x) (only_word w v rest more (ap (drop 1) e) (both_second _ _ h) (both_second _ _ k) ends ends')
+
+-- two directives written together are one word, which is neither reserved nor a name
+abbrev together : List ℕ
+together = codes ".entrypoint.maxstack"
+
+its_word : (w rest : List ℕ) → codes ".entrypoint.maxstack 1" ≡ w ++ rest → IsTrue (list_all is_word_byte w) → IsTrue (stops is_word_byte rest) → w ≡ together
+its_word w rest e all ends = sym (only_word together w (codes " 1") rest e refl all refl ends)
+
+directives_together : (t : Token) (rest : List ℕ) → lexeme t (codes ".entrypoint.maxstack 1") rest → ⊥
+directives_together (Reserved w) rest ((e, all, ends), is) = never (subst (λ x. IsTrue (is_reserved x)) (its_word w rest e all ends) is)
+directives_together (Name w) rest ((e, all, ends), is) = never (subst (λ x. IsTrue (is_name x)) (its_word w rest e all ends) is)
+directives_together (Integer z) rest (true, digits, some, all, is, fits, (mid, minus, r)) = head_apart 46 45 (codes "entrypoint.maxstack 1") mid refl minus
+directives_together (Integer z) rest (false, [], some, all, is, fits, (mid, start, r)) = some refl
+directives_together (Integer z) rest (false, d ∷ ds, some, all, is, fits, (mid, start, r)) =
+    let same : 46 ≡ d = head_same 46 d (codes "entrypoint.maxstack 1") (ds ++ rest) (start ∙ r.0) in
+    never (subst (λ c. IsTrue (is_digit c)) (sym same) (both_first _ _ all))
+directives_together (Quoted characters) rest (mid, opening, more) = head_apart 46 34 (codes "entrypoint.maxstack 1") mid refl opening
+directives_together (SymbolToken s) rest (e, goes) = by_symbol s e
+  where
+    differs : (b : ℕ) (bs : List ℕ) → (46 == b) ≡ false → codes ".entrypoint.maxstack 1" ≡ b ∷ bs → ⊥
+    differs b bs apart e' = head_apart 46 b (codes "entrypoint.maxstack 1") bs apart e'
+
+    by_symbol : (s : Symbol) → codes ".entrypoint.maxstack 1" ≡ bytes_of s ++ rest → ⊥
+    by_symbol OpenBrace e' = differs 123 rest refl e'
+    by_symbol CloseBrace e' = differs 125 rest refl e'
+    by_symbol OpenParenthesis e' = differs 40 rest refl e'
+    by_symbol CloseParenthesis e' = differs 41 rest refl e'
+    by_symbol OpenBracket e' = differs 91 rest refl e'
+    by_symbol CloseBracket e' = differs 93 rest refl e'
+    by_symbol Comma e' = differs 44 rest refl e'
+    by_symbol Colon e' = differs 58 rest refl e'
+    by_symbol DoubleColon e' = differs 58 (58 ∷ rest) refl e'
 
 -- ---- string literals, by their bytes: 34 is the quotation mark, 92 the backslash
 

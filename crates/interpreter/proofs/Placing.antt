@@ -22,11 +22,6 @@ alike_some R (Some x) (Some y) a alike e = let same : x ≡ a = cc in (y, refl, 
 alike_some R (Some x) None a alike e = elim alike [ ]
 alike_some R None y a alike e = none_is_some a e
 
-pub inside : {X : Type 0} (xs : List X) (n : ℕ) (x : X) → slice_get xs n ≡ Some x → n < length xs
-inside [] n x e = none_is_some x e
-inside (y ∷ ys) zero x e = omega arith
-inside (y ∷ ys) (suc n) x e = let h = inside ys n x e in omega (arith, h)
-
 module _ (tree : Tree) (m : Frames) where
   -- the method and the line
   pub record Lined : Type 0 where

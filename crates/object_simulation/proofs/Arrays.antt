@@ -10,7 +10,7 @@ use Rattle.simulation.specs.cil_model.Same.{same_type}
 use Rattle.simulation.specs.cil_model.Declarations.{plain}
 use Rattle.simulation.specs.cil_model.Assignable.{is_reference, is_reference_element}
 use Rattle.simulation.proofs.cil_model.Lists.{none_is_some}
-use Rattle.simulation.proofs.cil_model.SameLaws.{same_type_equal}
+use Rattle.simulation.proofs.cil_model.SameLaws.{same_type_equal, never}
 use Rattle.simulation.specs.reference_machine.Values.{ObjectName, Born, Value as StateValue, same_kind}
 use Rattle.simulation.specs.reference_machine.States.{Array as IsArray, HeapObject, Frame as StateFrame, State, same_kind_or_none, replaced_at, elements_of_contents, array_at, with_object, with_element}
 use Rattle.simulation.specs.reference_machine.Effects.{Setting, given as state_given, onward as onward_frame}
@@ -36,7 +36,7 @@ use Rattle.simulation.specs.StandsFor.{Names, IsValue, IsWord, IsOfContents, IsC
 use Rattle.simulation.proofs.AgreeLaws.{agree_get, agree_set}
 use Rattle.simulation.proofs.Instructions.{IsSetting, DoesAlike}
 use Rattle.simulation.proofs.Operands.{fine, two_operands, three_operands}
-use Rattle.object_simulation.proofs.Words.{lost, word_value, kind_fits}
+use Rattle.object_simulation.proofs.Words.{word_value, kind_fits}
 use Rattle.object_simulation.proofs.Things.{IsArrayThere}
 use Rattle.object_simulation.proofs.Parts.{given_alike, loaded_alike, replaced_alike, element_alike}
 
@@ -69,8 +69,8 @@ of_integer t e same = ap kind_of_type (same_type_equal (plain e) t same)
 -- the kind of a reference
 reference_kind : (e : Element) (n : ℕ) → IsTrue (is_reference_element e n) → Kind.Ref ≡ kind_at e n
 reference_kind e (suc n) h = refl
-reference_kind Int32Element zero h = lost h
-reference_kind Int64Element zero h = lost h
+reference_kind Int32Element zero h = never h
+reference_kind Int64Element zero h = never h
 reference_kind Object zero h = refl
 reference_kind String zero h = refl
 reference_kind (Class c) zero h = refl

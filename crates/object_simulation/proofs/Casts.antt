@@ -26,10 +26,11 @@ use Rattle.simulation.specs.interpreter.declared.outcomes.Outcome.TheVariants.{C
 use Rattle.simulation.specs.interpreter.Instructions.{MachineTurn, of_objects, operation_turn}
 use Rattle.simulation.specs.Agreement.{Agree}
 use Rattle.simulation.specs.StandsFor.{Names, IsValue, null_reference}
-use Rattle.simulation.proofs.Instructions.{IsSetting, DoesAlike, no_refusal}
+use Rattle.simulation.proofs.Instructions.{IsSetting, DoesAlike}
 use Rattle.simulation.proofs.Going.{leaves_is, next_alike}
 use Rattle.simulation.proofs.Operands.{fine, one_operand}
 use Rattle.object_simulation.proofs.ObjectTypes.{may_stand_as_is}
+use Rattle.simulation.proofs.cil_model.SameLaws.{never}
 
 module _ (here : Setting) (name : Names) (m : Frames) (o : Objects) (statics : List Value) (printed : List ℕ) (s : State) (f : StateFrame) (below : List StateFrame) where
   abbrev Alike : MachineTurn → StateEffect → Type 0
@@ -43,7 +44,7 @@ module _ (here : Setting) (name : Names) (m : Frames) (o : Objects) (statics : L
         record {
           answer = (with_place (with_stack m (v ∷ rest)) (m.running.place + 1), o, statics, printed, Comes GoesOn);
           is = ap (λ t. of_objects o statics printed (beside o t)) (leaves_is here name m o statics printed s f below i operation at v rest shorter);
-          refuses = λ _ h. no_refusal h;
+          refuses = λ _ h. never h;
           alike = λ r. next_alike here name m o statics printed s f below i operation at (v ∷ rest) (u ∷ rest') (h, k);
         }
 
@@ -70,7 +71,7 @@ module _ (here : Setting) (name : Names) (m : Frames) (o : Objects) (statics : L
       DoesAlike here name m o statics printed s f below (operation_turn here.tree here.thread (Resolved.CastClass n) m o statics printed) (execute here s f below (Named.CastClass t))
   cast_class_alike t n numbered at =
       cast_alike (Named.CastClass t) (Resolved.CastClass n) at t n numbered (λ k p. Some (k, p, Raises InvalidCast)) (λ rest. StateRaises InvalidCast)
-      (λ rest rest' k shorter. record { answer = (with_stack m rest, o, statics, printed, Comes (Raises InvalidCast)); is = refl; refuses = λ _ h. no_refusal h; alike = λ r. (refl, (refl, refl, refl)) })
+      (λ rest rest' k shorter. record { answer = (with_stack m rest, o, statics, printed, Comes (Raises InvalidCast)); is = refl; refuses = λ _ h. never h; alike = λ r. (refl, (refl, refl, refl)) })
       (fine here name m o statics printed s f below (Named.CastClass t) (Resolved.CastClass n) at)
 
   -- isinst (III.4.6)

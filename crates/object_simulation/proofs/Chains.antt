@@ -17,9 +17,8 @@ use Rattle.simulation.specs.cil_model.Fields.{FieldKey, same_key, keyed_fields, 
 use Rattle.simulation.specs.cil_model.Legality.{IsLegal}
 use Rattle.simulation.proofs.cil_model.CompleteLaws.{chain_of_base}
 use Rattle.simulation.proofs.cil_model.Lists.{none_is_some}
-use Rattle.simulation.proofs.cil_model.SameLaws.{either, if_false, same_class_equal, same_class_itself, same_text_itself, class_equivalence}
+use Rattle.simulation.proofs.cil_model.SameLaws.{either, if_false, same_class_equal, same_class_itself, same_text_itself, class_equivalence, never}
 use Rattle.simulation.specs.reference_machine.States.{entry_at}
-use Rattle.object_simulation.proofs.Words.{lost}
 use Rattle.simulation.proofs.type_soundness.DeclaredFields.{entry_behind}
 
 -- ---- lists
@@ -45,7 +44,7 @@ has_key k y = same_key y.0 k
 
 -- an entry among the first ones is that of all
 pub entry_of_first : (k : FieldKey) (fs gs : List (FieldKey × DeclaredType)) → IsTrue (list_any (has_key k) fs) → entry_at same_key k (fs ++ gs) ≡ entry_at same_key k fs
-entry_of_first k [] gs h = lost h
+entry_of_first k [] gs h = never h
 entry_of_first k (f ∷ fs) gs h = by_test (same_key f.0 k) h (entry_of_first k fs gs)
   where
     by_test : (b : Bool) → IsTrue (b || list_any (has_key k) fs) → (IsTrue (list_any (has_key k) fs) → entry_at same_key k (fs ++ gs) ≡ entry_at same_key k fs) → (if b then Some f.1 else entry_at same_key k (fs ++ gs)) ≡ (if b then Some f.1 else entry_at same_key k fs)
@@ -66,7 +65,7 @@ own_key d flag p g (f ∷ fs) found flagged = by_test (p f) found (λ rest. own_
     here same true is =
         or_left (has_key (record { declared_in = d; name = g.name }) (keyed d f)) _
         (ap (λ b. b && same_text f.name g.name) (same_class_itself d) ∙ subst (λ (x : Field). IsTrue (same_text x.name g.name)) (sym same) (same_text_itself g.name))
-    here same false is = lost (sym is ∙ subst (λ (x : Field). IsTrue (same_flag x.is_static flag)) (sym same) flagged)
+    here same false is = never (sym is ∙ subst (λ (x : Field). IsTrue (same_flag x.is_static flag)) (sym same) flagged)
 
     by_test : (b : Bool) → cond b (Some f) (find p fs) ≡ Some g → (find p fs ≡ Some g → IsTrue (list_any (has_key (record { declared_in = d; name = g.name })) (map (keyed d) (filter (λ (x : Field). same_flag x.is_static flag) fs)))) →
         IsTrue (list_any (has_key (record { declared_in = d; name = g.name })) (map (keyed d) (cond (same_flag f.is_static flag) (f ∷ filter (λ (x : Field). same_flag x.is_static flag) fs) (filter (λ (x : Field). same_flag x.is_static flag) fs))))
@@ -77,7 +76,7 @@ module _ (tree : Tree) where
   -- a field of one class of many is a field of them
   in_many : {X : Type 0} (name_of : X → ClassName) (flag : Bool) (k : FieldKey) → IsTrue (list_any (has_key k) (keyed_fields tree flag k.declared_in)) → (xs : List X) → IsTrue (list_any (λ x. same_class k.declared_in (name_of x)) xs) →
       IsTrue (list_any (has_key k) (flat_map (λ x. keyed_fields tree flag (name_of x)) xs))
-  in_many name_of flag k own [] h = lost h
+  in_many name_of flag k own [] h = never h
   in_many {X} name_of flag k own (x ∷ xs) h =
       list_any-append (has_key k) (keyed_fields tree flag (name_of x)) (flat_map (λ y. keyed_fields tree flag (name_of y)) xs) ∙ by_case (either (same_class k.declared_in (name_of x)) _ h) (in_many name_of flag k own xs)
     where
@@ -110,12 +109,12 @@ module _ (tree : Tree) where
 
   -- nothing is above what has no base
   none_in : (n : ℕ) (d : ClassName) → IsTrue (list_any (same_class d) (chain_within tree n None)) → ⊥
-  none_in zero d h = lost h
-  none_in (suc n) d h = lost h
+  none_in zero d h = never h
+  none_in (suc n) d h = never h
 
   -- System.Object's chain is itself
   only_object : (n : ℕ) (d : ClassName) → IsTrue (list_any (same_class d) (chain_within tree n (Some object_name))) → d ≡ object_name
-  only_object zero d h = lost h
+  only_object zero d h = never h
   only_object (suc n) d h = by_case (either (same_class d object_name) (list_any (same_class d) (chain_within tree n None)) h)
     where
       by_case : IsTrue (same_class d object_name) ⊎ IsTrue (list_any (same_class d) (chain_within tree n None)) → d ≡ object_name
@@ -129,7 +128,7 @@ module _ (tree : Tree) where
   module _ (legal : IsLegal tree) where
     -- the chain of a class ends with that of each class in it
     ends_with : (n : ℕ) (c d : ClassName) → IsTrue (list_any (same_class d) (chain_within tree n (Some c))) → (front : List ClassName) × (chain_of tree c ≡ front ++ chain_of tree d)
-    ends_with zero c d h = lost h
+    ends_with zero c d h = never h
     ends_with (suc n) c d h = by_case (either (same_class d c) (list_any (same_class d) (chain_within tree n (base_of tree c))) h) (λ b. ends_with n b d)
       where
         by_base : (b : Option ClassName) → base_of tree c ≡ b → IsTrue (list_any (same_class d) (chain_within tree n b)) →
@@ -144,7 +143,7 @@ module _ (tree : Tree) where
 
     -- a class of a thread class's chain is one too, unless it is System.Object
     thread_below : (n : ℕ) (c d : ClassName) → IsTrue (list_any (same_class d) (chain_within tree n (Some c))) → (d ≡ object_name → ⊥) → IsTrue (is_thread_class tree c) → IsTrue (is_thread_class tree d)
-    thread_below zero c d h no_object thread = lost h
+    thread_below zero c d h no_object thread = never h
     thread_below (suc n) c d h no_object thread = by_case (either (same_class d c) (list_any (same_class d) (chain_within tree n (base_of tree c))) h) (λ b there. thread_below n b d there no_object)
       where
         of_base : (b : ClassName) → base_of tree c ≡ Some b → IsTrue (list_any (same_class d) (chain_within tree n (Some b))) → IsTrue (same_class thread_name c) ⊎ IsTrue (list_any (same_class thread_name) (chain_of tree b)) →
@@ -184,6 +183,6 @@ module _ (tree : Tree) where
           by_both : (a b : Bool) → is_thread_class tree c ≡ a → is_thread_class tree d ≡ b → a ≡ b
           by_both true true is is' = refl
           by_both false false is is' = refl
-          by_both true false is is' = lost (sym is' ∙ thread_below (longest_chain tree) c d inside no_object is)
+          by_both true false is is' = never (sym is' ∙ thread_below (longest_chain tree) c d inside no_object is)
           by_both false true is is' =
-              lost (sym is ∙ (ap (list_any (same_class thread_name)) front.1 ∙ list_any-append (same_class thread_name) front.0 (chain_of tree d) ∙ or_right (list_any (same_class thread_name) front.0) (list_any (same_class thread_name) (chain_of tree d)) is'))
+              never (sym is ∙ (ap (list_any (same_class thread_name)) front.1 ∙ list_any-append (same_class thread_name) front.0 (chain_of tree d) ∙ or_right (list_any (same_class thread_name) front.0) (list_any (same_class thread_name) (chain_of tree d)) is'))

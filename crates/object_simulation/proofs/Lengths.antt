@@ -49,7 +49,7 @@ use Rattle.simulation.specs.StandsFor.{Names, IsValue, native, int32, int64, nul
 use Rattle.simulation.proofs.AgreeLaws.{agree_length, agree_weaken}
 use Rattle.simulation.proofs.Extending.{value_extends, values_extend}
 use Rattle.simulation.proofs.Going.{leaves_is, onward_alike}
-use Rattle.simulation.proofs.Instructions.{IsSetting, GoesAlike, DoesAlike, no_refusal}
+use Rattle.simulation.proofs.Instructions.{IsSetting, GoesAlike, DoesAlike}
 use Rattle.simulation.proofs.Operands.{fine, one_operand}
 use Rattle.simulation.proofs.Statements.{IsBirth}
 use Rattle.object_simulation.proofs.Births.{refused_birth, births_stand}
@@ -57,6 +57,7 @@ use Rattle.object_simulation.proofs.Things.{IsArrayThere, array_there}
 use Rattle.object_simulation.proofs.Parts.{alike_turn, given_alike, raised_alike, left_alike, object_alike, same_index}
 use Rattle.std.proofs.lemmas.List.{length-replicate}
 use Rattle.simulation.proofs.Rooms.{contents_size, refused_room}
+use Rattle.simulation.proofs.cil_model.SameLaws.{never}
 use Rattle.simulation.proofs.cil_model.Lists.{none_is_some}
 
 -- ---- how long an array is
@@ -188,7 +189,7 @@ module _ (here : Setting) (name : Names) (m : Frames) (o : Objects) (statics : L
     born_alike element element_is count o' (Some a) born rest rest' k shorter = record {
       answer = (with_place (with_stack m (Ref a ∷ rest)) (m.running.place + 1), o', statics, printed, Comes GoesOn);
       is = ap (λ turn. of_objects o statics printed (beside o' turn)) (leaves_is here name m o statics printed s f below (Named.NewArray t) (Resolved.NewArray n) at (Ref a) rest shorter);
-      refuses = λ _ h. no_refusal h;
+      refuses = λ _ h. never h;
       alike = λ r.
           subst (λ e. GoesAlike here name m o statics printed s f below (with_place (with_stack m (Ref a ∷ rest)) (m.running.place + 1), o', statics, printed, Comes GoesOn) e)
           (sym (ap (λ b. if b then StateRaises OutOfMemory else onward_frame f below (with_state_birth s (IsArray t (replicate count (zero_of t)))) (Reference (next_name s) ∷ rest')) r))

@@ -5,6 +5,7 @@ use Rattle.std.proofs.Math.ListN.{length-set}
 use Rattle.std.specs.Option.{option_map_or}
 use Rattle.std.proofs.lemmas.Bool.Decides.{nat_tests}
 use Rattle.std.proofs.lemmas.Option.{slice_get_within, slice_get_cases}
+use Rattle.std.proofs.lemmas.Bool.{lt-ltb, le-ltb}
 use Rattle.simulation.specs.cil_model.declared.instructions.Instruction.{Instruction}
 use Rattle.simulation.specs.cil_model.declared.reports.Fault.{Fault}
 use Rattle.simulation.specs.cil_model.declared.reports.Fault.TheVariants.{NullReference, IndexOutOfRange}
@@ -31,11 +32,12 @@ use Rattle.simulation.specs.interpreter.Instructions.{MachineTurn, of_objects}
 use Rattle.simulation.specs.Agreement.{Agree}
 use Rattle.simulation.specs.StandsFor.{Names, IsValue, int32, int64, native, null_reference, reference, IsWord, IsCell, IsMemory}
 use Rattle.simulation.proofs.AgreeLaws.{agree_length}
-use Rattle.simulation.proofs.Instructions.{IsSetting, DoesAlike, no_refusal, refused_fault}
+use Rattle.simulation.proofs.Instructions.{IsSetting, DoesAlike, refused_fault}
 use Rattle.simulation.proofs.Going.{leaves_is, onward_is, next_alike, onward_alike}
 use Rattle.object_simulation.proofs.Changes.{cells_may_change}
 use Rattle.simulation.proofs.Memories.{named_is_not_null}
 use Rattle.object_simulation.proofs.Things.{IsArrayThere, array_there}
+use Rattle.simulation.proofs.cil_model.SameLaws.{never}
 use Rattle.simulation.proofs.cil_model.Lists.{none_is_some, none_is_outside}
 
 module _ (here : Setting) (name : Names) (m : Frames) (o : Objects) (statics : List Value) (printed : List ℕ) (s : State) (f : StateFrame) (below : List StateFrame) (i : Instruction) (operation : Operation)
@@ -79,7 +81,7 @@ module _ (here : Setting) (name : Names) (m : Frames) (o : Objects) (statics : L
   left_alike v u is rest rest' k shorter = record {
     answer = (with_place (with_stack m (v ∷ rest)) (m.running.place + 1), o, statics, printed, Comes GoesOn);
     is = ap (λ t. objects_turn (beside o t)) (leaves_is here name m o statics printed s f below i operation at v rest shorter);
-    refuses = λ _ h. no_refusal h;
+    refuses = λ _ h. never h;
     alike = λ r. next_alike here name m o statics printed s f below i operation at (v ∷ rest) (u ∷ rest') (is, k);
   }
 
@@ -89,7 +91,7 @@ module _ (here : Setting) (name : Names) (m : Frames) (o : Objects) (statics : L
   stored_alike o' s' others memory rest rest' k = record {
     answer = (with_place (with_stack m rest) (m.running.place + 1), o', statics, printed, Comes GoesOn);
     is = ap (λ t. objects_turn (beside o' t)) (onward_is here name m o statics printed s f below i operation at rest);
-    refuses = λ _ h. no_refusal h;
+    refuses = λ _ h. never h;
     alike = λ r. onward_alike here name m o statics printed s f below i operation at name (λ b n is. is) o' statics printed s' others memory rest rest' k;
   }
 
@@ -148,13 +150,6 @@ module _ (here : Setting) (name : Names) (m : Frames) (o : Objects) (statics : L
 
   -- ---- elements
 
-  -- tests of a place
-  is_inside : (n count : ℕ) → n < count → nat_lt n count ≡ true
-  is_inside n count h = grind (arith, nat_tests)
-
-  is_outside : (n count : ℕ) → count ≤ n → nat_lt n count ≡ false
-  is_outside n count h = grind (arith, nat_tests)
-
   -- the turn by whether a place is inside
   abbrev turn_by : ℕ → Frames → (ℕ → ObjectTurn) → Bool → MachineTurn
   turn_by n k go b = objects_turn (in_range (if b then Some n else None) k o go)
@@ -169,10 +164,10 @@ module _ (here : Setting) (name : Names) (m : Frames) (o : Objects) (statics : L
       by_value : (x : Option StateValue) → slice_get elements n ≡ x → Fine (option_map_or (go' n) x (StateRaises IndexOutOfRange)) → Alike (turn_by n k go (nat_lt n (length slots))) (option_map_or (go' n) x (StateRaises IndexOutOfRange))
       by_value None is t' =
           let far : length elements ≤ n = none_is_outside elements n is in
-          alike_turn (turn_by n k go (nat_lt n (length slots))) (turn_by n k go false) (StateRaises IndexOutOfRange) (ap (turn_by n k go) (is_outside n (length slots) (omega (arith, far, same)))) (raised_alike k IndexOutOfRange)
+          alike_turn (turn_by n k go (nat_lt n (length slots))) (turn_by n k go false) (StateRaises IndexOutOfRange) (ap (turn_by n k go) (le-ltb n (length slots) (omega (arith, far, same)))) (raised_alike k IndexOutOfRange)
       by_value (Some old) is t' =
           let near : n < length elements = slice_get_within elements n old is in
-          alike_turn (turn_by n k go (nat_lt n (length slots))) (turn_by n k go true) (go' n old) (ap (turn_by n k go) (is_inside n (length slots) (omega (arith, near, same)))) (each n old is t')
+          alike_turn (turn_by n k go (nat_lt n (length slots))) (turn_by n k go true) (go' n old) (ap (turn_by n k go) (lt-ltb n (length slots) (omega (arith, near, same)))) (each n old is t')
 
   -- the parts of an element's turn
   abbrev slots_turn : Frames → (Addr → ℕ → ObjectTurn) → Addr → ℤ → List ℕ → ObjectTurn

@@ -6,18 +6,17 @@ use Rattle.simulation.specs.cil_model.declared.types.DeclaredType.{DeclaredType}
 use Rattle.simulation.specs.cil_model.declared.trees.Tree.{Tree}
 use Rattle.simulation.specs.cil_model.Fields.{FieldKey, same_key}
 use Rattle.simulation.proofs.cil_model.Lists.{none_is_some}
-use Rattle.simulation.proofs.cil_model.SameLaws.{if_true, if_false}
+use Rattle.simulation.proofs.cil_model.SameLaws.{if_true, if_false, never}
 use Rattle.simulation.specs.reference_machine.Values.{Value as StateValue, same_kind}
 use Rattle.simulation.specs.reference_machine.States.{State, entry_at, with_entry, same_kind_or_none, replaced_entry}
 use Rattle.simulation.specs.type_soundness.TypedStates.{HaveFieldTypes}
-use Rattle.object_simulation.proofs.Words.{lost}
 use Rattle.object_simulation.proofs.Chains.{has_key}
 
 -- ---- positions
 
 -- a key that fields have has a position among them
 pub position_there : (k : FieldKey) (fs : List (FieldKey × DeclaredType)) → IsTrue (list_any (has_key k) fs) → (p : ℕ) × ((i : ℕ) → position_from (has_key k) i fs ≡ Some (i + p))
-position_there k [] h = lost h
+position_there k [] h = never h
 position_there k (f ∷ fs) h = by_test (has_key k f) refl h (position_there k fs)
   where
     by_test : (b : Bool) → has_key k f ≡ b → IsTrue (b || list_any (has_key k) fs) → (IsTrue (list_any (has_key k) fs) → (p : ℕ) × ((i : ℕ) → position_from (has_key k) i fs ≡ Some (i + p))) → (p : ℕ) × ((i : ℕ) → position_from (has_key k) i (f ∷ fs) ≡ Some (i + p))
@@ -39,7 +38,7 @@ pub record IsPlaced (k : FieldKey) (fs : List (FieldKey × DeclaredType)) (es : 
 
 -- each key of the first ones has such an entry
 pub placed : (tree : Tree) (s : State) (k : FieldKey) (fs more : List (FieldKey × DeclaredType)) (es : List (FieldKey × StateValue)) → HaveFieldTypes tree s es (fs ++ more) → IsTrue (list_any (has_key k) fs) → IsPlaced k fs es
-placed tree s k [] more es h is = lost is
+placed tree s k [] more es h is = never is
 placed tree s k (f ∷ fs) more [] h is = elim h [ ]
 placed tree s k (f ∷ fs) more (e ∷ es) h is = by_test (has_key k f) refl is (placed tree s k fs more es h.2)
   where

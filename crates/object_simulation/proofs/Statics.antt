@@ -15,7 +15,7 @@ use Rattle.simulation.specs.cil_model.Same.{same_class, same_text, same_type, sa
 use Rattle.simulation.specs.cil_model.Chains.{chain_of, fields_declared, find_field}
 use Rattle.simulation.specs.cil_model.Fields.{FieldKey, same_key, static_fields, static_slot}
 use Rattle.simulation.proofs.cil_model.Lists.{find_passes}
-use Rattle.simulation.proofs.cil_model.SameLaws.{both_second, same_flag_equal}
+use Rattle.simulation.proofs.cil_model.SameLaws.{both_second, same_flag_equal, never}
 use Rattle.simulation.specs.name_tables.declared.lookups.MemberNumber.{MemberNumber}
 use Rattle.simulation.specs.reference_machine.Values.{Value as StateValue}
 use Rattle.simulation.specs.reference_machine.States.{Frame as StateFrame, State, entry_at, replaced_entry}
@@ -42,7 +42,7 @@ use Rattle.simulation.specs.Agreement.{Agree}
 use Rattle.simulation.specs.StandsFor.{Names, IsValue, IsMemory}
 use Rattle.simulation.proofs.AgreeLaws.{agree_get, agree_set}
 use Rattle.simulation.proofs.Going.{own_frame, leaves_is, onward_is, next_alike, onward_alike}
-use Rattle.simulation.proofs.Instructions.{IsSetting, DoesAlike, no_refusal}
+use Rattle.simulation.proofs.Instructions.{IsSetting, DoesAlike}
 use Rattle.simulation.proofs.Operands.{fine, one_operand}
 use Rattle.simulation.proofs.Memories.{heap_beside}
 use Rattle.object_simulation.proofs.Parts.{alike_turn, given_alike, known_alike}
@@ -107,7 +107,7 @@ module _ (here : Setting) (name : Names) (m : Frames) (o : Objects) (statics : L
       answer = (with_place (with_stack m (v ∷ m.running.stack)) (m.running.place + 1), o, statics, printed, Comes GoesOn);
       is = ap (λ x. of_statics o statics printed (option_map (λ (t : Frames × Effect). (t.0, statics, t.1)) (given x (λ w. leaves w m)))) there ∙
           ap (λ x. of_statics o statics printed (option_map (λ (t : Frames × Effect). (t.0, statics, t.1)) x)) (leaves_is here name m o statics printed s f below (Named.LoadStaticField r) (Resolved.LoadStaticField field) at v m.running.stack (omega arith));
-      refuses = λ _ h. no_refusal h;
+      refuses = λ _ h. never h;
       alike = λ refused. next_alike here name m o statics printed s f below (Named.LoadStaticField r) (Resolved.LoadStaticField field) at (v ∷ m.running.stack) (u ∷ f.stack) (stands, (own_frame here name m o statics printed s f below (Named.LoadStaticField r) (Resolved.LoadStaticField field) at).stack);
     }
 
@@ -141,7 +141,7 @@ module _ (here : Setting) (name : Names) (m : Frames) (o : Objects) (statics : L
       answer = (with_place (with_stack m rest) (m.running.place + 1), o, slice_set statics n v, printed, Comes GoesOn);
       is = ap (λ b. of_statics o statics printed (if b then option_map (λ (t : Frames × Effect). (t.0, slice_set statics n v, t.1)) (onward (with_stack m rest)) else None)) (inside n near) ∙
           ap (λ x. of_statics o statics printed (option_map (λ (t : Frames × Effect). (t.0, slice_set statics n v, t.1)) x)) (onward_is here name m o statics printed s f below (Named.StoreStaticField r) (Resolved.StoreStaticField field) at rest);
-      refuses = λ _ h. no_refusal h;
+      refuses = λ _ h. never h;
       alike = λ refused. onward_alike here name m o statics printed s f below (Named.StoreStaticField r) (Resolved.StoreStaticField field) at name (λ b n' e. e) o (slice_set statics n v) printed (record s { statics = entries }) refl memory rest rest' k;
     }
       where

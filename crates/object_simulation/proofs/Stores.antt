@@ -35,12 +35,13 @@ use Rattle.simulation.specs.interpreter.Instructions.{of_objects, operation_turn
 use Rattle.simulation.specs.Agreement.{Agree}
 use Rattle.simulation.specs.StandsFor.{Names, IsValue, int32, int64, native, null_reference, reference, IsWord, IsOfContents, IsCell, IsHeap, IsMemory}
 use Rattle.simulation.proofs.AgreeLaws.{agree_get, agree_beyond, agree_set}
-use Rattle.simulation.proofs.Instructions.{IsSetting, DoesAlike, no_refusal, refused_fault}
+use Rattle.simulation.proofs.Instructions.{IsSetting, DoesAlike, refused_fault}
 use Rattle.simulation.proofs.Going.{onward_is, onward_alike}
 use Rattle.simulation.proofs.Operands.{fine, three_operands}
 use Rattle.simulation.proofs.Statements.{CellsMayChange}
 use Rattle.object_simulation.proofs.ObjectTypes.{may_stand_as_is, IsArrayAt, array_there}
 use Rattle.simulation.proofs.Memories.{named_is_not_null}
+use Rattle.simulation.proofs.cil_model.SameLaws.{never}
 use Rattle.simulation.proofs.cil_model.Lists.{none_is_some}
 
 -- an index is one on both
@@ -139,7 +140,7 @@ module _ (cells_may_change : CellsMayChange) where
             by_kind true typed' = record {
               answer = (with_place (with_stack m rest) (m.running.place + 1), with_slot o a place (value_word v), statics, printed, Comes GoesOn);
               is = ap (of_objects o statics printed) changed_turn;
-              refuses = λ _ h. no_refusal h;
+              refuses = λ _ h. never h;
               alike = λ r. onward_alike here name m o statics printed s f below Named.StoreElementReference Resolved.StoreElementReference at name (λ b k named'. named') (with_slot o a place (value_word v)) statics printed
                   (with_object s (Born n) changed) refl changed_memory rest rest' agree;
             }

@@ -2,6 +2,7 @@
 use Rattle.std.proofs.Common.{◌≡◌, ◌≤◌, ◌++◌, ℕ, zero, suc, ◌==◌, Bool, true, false, if◌then◌else◌, nat_le, List, [], ◌∷◌, length, take, drop, reverse, Option, Some, None, option_and_then, slice_get, refl, sym, ap, ◌∙◌, subst, arith}
 use Rattle.std.proofs.lemmas.Bool.Decides.{nat_tests}
 use Rattle.std.proofs.lemmas.List.{reverse-append, length-reverse}
+use Rattle.std.proofs.lemmas.Bool.{leb-true}
 use Rattle.simulation.specs.cil_model.declared.instructions.Instruction.TheVariants as Named
 use Rattle.simulation.specs.cil_model.declared.reports.Fault.TheVariants.{NullReference}
 use Rattle.simulation.specs.cil_model.declared.trees.Method.{Method}
@@ -31,13 +32,14 @@ use Rattle.simulation.specs.interpreter.Instructions.{of_calls, operation_turn}
 use Rattle.simulation.specs.Agreement.{Agree}
 use Rattle.simulation.specs.StandsFor.{Names, IsValue, int32, int64, native, null_reference, reference}
 use Rattle.simulation.proofs.AgreeLaws.{agree_get}
-use Rattle.simulation.proofs.Instructions.{IsSetting, DoesAlike, no_refusal}
+use Rattle.simulation.proofs.Instructions.{IsSetting, DoesAlike}
 use Rattle.simulation.proofs.Going.{own_frame}
 use Rattle.simulation.proofs.Operands.{fine}
 use Rattle.simulation.proofs.Statements.{MethodsRunAlike}
 use Rattle.object_simulation.proofs.ObjectClasses.{method_by, chosen_is}
 use Rattle.simulation.proofs.Memories.{named_is_not_null}
 use Rattle.object_simulation.proofs.ChosenMethods.{IsChosen, is_chosen, chosen_has_number}
+use Rattle.simulation.proofs.cil_model.SameLaws.{never}
 
 -- ---- the operand pushed first
 
@@ -52,9 +54,6 @@ last_taken {X} (suc n) (v ∷ w ∷ vs) y ys few e =
     by_rest : (l : List X) → reverse (take (suc n) (w ∷ vs)) ≡ l → l ++ v ∷ [] ≡ y ∷ ys → ((z : X) (zs : List X) → reverse (take (suc n) (w ∷ vs)) ≡ z ∷ zs → slice_get (w ∷ vs) n ≡ Some z) → slice_get (w ∷ vs) n ≡ Some y
     by_rest [] is e' later = let h : suc (length (take n vs)) ≡ 0 = sym (length-reverse (take (suc n) (w ∷ vs))) ∙ ap length is in absurd (omega (arith, h))
     by_rest (z ∷ zs) is e' later = later z zs is ∙ ap (λ l. slice_get l 0) e'
-
-as_many : (m n : ℕ) → nat_le m n ≡ true → m ≤ n
-as_many m n h = grind (arith, nat_tests, h)
 
 -- ---- the call
 
@@ -116,7 +115,7 @@ module _ (methods_run_alike : MethodsRunAlike) where
       this_alike few this arguments taken v (int32 z fits) typed = elim typed [ ]
       this_alike few this arguments taken v (int64 z fits) typed = elim typed [ ]
       this_alike few this arguments taken v (native z fits) typed = elim typed [ ]
-      this_alike few this arguments taken v null_reference typed = record { answer = (m, o, statics, printed, Comes (Raises NullReference)); is = refl; refuses = λ _ h. no_refusal h; alike = λ r. (refl, (refl, refl, refl)) }
+      this_alike few this arguments taken v null_reference typed = record { answer = (m, o, statics, printed, Comes (Raises NullReference)); is = refl; refuses = λ _ h. never h; alike = λ r. (refl, (refl, refl, refl)) }
       this_alike few this arguments taken v (reference a n named) typed =
           subst (λ turn. Alike turn (run_virtual here s f below own (Reference n ∷ arguments) rest)) (sym (turn_on_is a n named)) (chosen_alike few (Reference n) arguments taken a n named (method_by here.tree own (class_of s n)) refl typed)
 
@@ -131,7 +130,7 @@ module _ (methods_run_alike : MethodsRunAlike) where
           by_operands few [] taken typed' = elim typed' [ ]
           by_operands few (this ∷ arguments) taken typed' =
               let stacks : Agree (IsValue name) m.running.stack f.stack = (own_frame here name m o statics printed s f below (Named.CallVirtual c label signature) (Resolved.CallVirtual owner method) at).stack in
-              let first : slice_get f.stack (length signature.parameters) ≡ Some this = last_taken (length signature.parameters) f.stack this arguments (as_many count (length f.stack) few) taken in
+              let first : slice_get f.stack (length signature.parameters) ≡ Some this = last_taken (length signature.parameters) f.stack this arguments (leb-true count (length f.stack) few) taken in
               let object = agree_get (IsValue name) m.running.stack f.stack stacks (length signature.parameters) this first in
               subst (λ x. Alike (given (receiver_in x) turn_on) (run_virtual here s f below own (this ∷ arguments) rest)) (sym object.1) (this_alike few this arguments taken object.0 object.2 typed')
 

@@ -22,6 +22,7 @@ use Rattle.simulation.specs.object_memory.declared.values.ValueKind.TheVariants 
 use Rattle.simulation.specs.object_memory.Values.{value_word, value_in}
 use Rattle.simulation.specs.method_table.Prepared.{kind_at, kind_of_type}
 use Rattle.simulation.specs.StandsFor.{Names, IsValue, int32, int64, native, null_reference, reference, IsWord}
+use Rattle.simulation.proofs.cil_model.SameLaws.{never}
 
 -- the kind of a value of the reference machine
 abbrev pub kind_of_state : StateValue → ValueKind
@@ -59,34 +60,27 @@ module _ (name : Names) (small : (a : ℕ) (n : ObjectName) → name a ≡ Some 
 
 -- ---- kinds of types
 
--- nothing passes a test that fails
-pub lost : {A : Type 0} → IsTrue false → A
-lost {A} e = absurd (clash e)
-  where
-    clash : IsTrue false → ⊥
-    clash h = cc
-
 -- values of each kind of type
 of_references : (u : StateValue) → IsTrue (same_kind Null u) → Kind.Ref ≡ kind_of_state u
 of_references Null h = refl
 of_references (Reference n) h = refl
-of_references (Int32Value z) h = lost h
-of_references (Int64Value z) h = lost h
-of_references (NativeValue z) h = lost h
+of_references (Int32Value z) h = never h
+of_references (Int64Value z) h = never h
+of_references (NativeValue z) h = never h
 
 of_int32 : (u : StateValue) → IsTrue (same_kind (Int32Value (pos 0)) u) → Kind.Int32 ≡ kind_of_state u
 of_int32 (Int32Value z) h = refl
-of_int32 Null h = lost h
-of_int32 (Reference n) h = lost h
-of_int32 (Int64Value z) h = lost h
-of_int32 (NativeValue z) h = lost h
+of_int32 Null h = never h
+of_int32 (Reference n) h = never h
+of_int32 (Int64Value z) h = never h
+of_int32 (NativeValue z) h = never h
 
 of_int64 : (u : StateValue) → IsTrue (same_kind (Int64Value (pos 0)) u) → Kind.Int64 ≡ kind_of_state u
 of_int64 (Int64Value z) h = refl
-of_int64 Null h = lost h
-of_int64 (Reference n) h = lost h
-of_int64 (Int32Value z) h = lost h
-of_int64 (NativeValue z) h = lost h
+of_int64 Null h = never h
+of_int64 (Reference n) h = never h
+of_int64 (Int32Value z) h = never h
+of_int64 (NativeValue z) h = never h
 
 -- all types, by their parts
 kind_by : (e : Element) (n : ℕ) (u : StateValue) → IsTrue (same_kind (if is_reference_element e n then Null else integer_zero e) u) → kind_at e n ≡ kind_of_state u

@@ -1,8 +1,6 @@
 -- Repeats in a list, told by keys.
-use Rattle.std.proofs.Common.{◌≡◌, Bool, true, false, ◌||◌, List, [], ◌∷◌, map, refl, IfOk, Result, Ok, Err, ap, ◌∙◌}
-use Rattle.std.specs.List.{list_any}
+use Rattle.std.proofs.Common.{◌≡◌, Bool, true, false, ◌||◌, IfOk, Result, Ok, Err, ap}
 pub use Rattle.cil_model.proofs.Lists.{list_any-map, has_repeat-map}
-use Rattle.cil_model.specs.Legality.{has_repeat}
 
 -- what the first of two tests decides, or the second
 pub first_decides : (a b : Bool) → true ≡ a → true ≡ a || b

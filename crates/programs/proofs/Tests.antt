@@ -1,10 +1,9 @@
 -- Tests of whole lists.
 use Rattle.std.proofs.Common.{◌≡◌, ◌<◌, ◌+◌, ℕ, suc, length, drop, get_or, arith, Bool, true, false, not, ◌&&◌, ◌||◌, List, [], ◌∷◌, Option, Some, None, is_some, option_map, refl, sym, ap, ◌∙◌}
-use Rattle.std.specs.Prelude.{flat_map, filter_map}
-use Rattle.std.specs.List.{list_any, list_all, cons_option}
-use Rattle.std.specs.Option.{option_map_or}
+use Rattle.std.specs.Prelude.{flat_map}
+use Rattle.std.specs.List.{list_any, list_all}
 use Rattle.std.proofs.Math.Seq.{drop-cons}
-use Rattle.std.proofs.lemmas.List.Folds.{list_all-append, list_any-append}
+use Rattle.std.proofs.lemmas.List.Folds.{list_any-append}
 
 pub and_false : (b : Bool) → b && false ≡ false
 and_false true = refl

@@ -26,19 +26,19 @@ use Rattle.cil_model.specs.declared.trees.MethodKind.TheVariants as NamedKind
 use Rattle.cil_model.specs.declared.trees.Code.{Code}
 use Rattle.cil_model.specs.declared.trees.Line.{Line}
 use Rattle.cil_model.specs.Same.{same_text}
-use Rattle.cil_model.specs.Declarations.{Declaration, built_ins, declaration_of, built_in_class, source_class, declared_as, field_members, method_members, fields_unless_interface, base_named, interfaces_named, is_interface_kind}
+use Rattle.cil_model.specs.Declarations.{Declaration, built_ins, declaration_of, source_class, declared_as, field_members, method_members, fields_unless_interface, base_named, interfaces_named, is_interface_kind}
 use Rattle.cil_model.specs.Bodies.{code_of, lines_of, labels_of, place_of, virtual_reference, constructor_reference}
 use Rattle.cil_model.specs.Chains.{find_field, find_method, longest_chain, classes_searched}
-use Rattle.cil_model.specs.Mentions.{bases_named, literal_of, literals_of, types_of_instruction, types_of_method, types_of_signature, types_of_tree, instructions_of, instructions_of_tree, methods_of_tree, class_of_element, class_types_of_tree, class_names_of_tree, owners_of_instruction, codes_of}
-use Rattle.cil_model.specs.Legality.{IsLegal, is_known_extern, is_resolved, class_finds, is_possible_base, is_possible_type, is_source_interface, passes_source, finds_labels, finds_member, lacks_name}
+use Rattle.cil_model.specs.Mentions.{bases_named, literal_of, literals_of, types_of_instruction, types_of_method, types_of_signature, types_of_tree, instructions_of, instructions_of_tree, methods_of_tree, class_of_element, class_types_of_tree, class_names_of_tree, owners_of_instruction}
+use Rattle.cil_model.specs.Legality.{IsLegal, is_known_extern, is_resolved, class_finds, is_possible_base, is_possible_type, is_source_interface, passes_source, finds_labels, finds_member}
 use Rattle.cil_model.proofs.Lists.{list_all-flat_map, list_all-filter_map}
-use Rattle.cil_model.proofs.SameLaws.{both_first, both_second, text_equivalence, same_text_itself, never}
+use Rattle.cil_model.proofs.SameLaws.{both_first, both_second, never}
 use Rattle.cil_model.proofs.Legal.{names_found}
 use Rattle.name_tables.specs.Sameness.{same_field, same_called, called_of}
 use Rattle.name_tables.specs.Numbers.{class_number, place_in, nearest_number, field_number, method_number, field_at, method_at, declarations, source_entry}
 use Rattle.name_tables.proofs.FirstPlaces.{is_some-position_from}
 use Rattle.name_tables.proofs.NumberLaws.{declared_at_none, field_is_numbered, method_is_numbered, numbers_of_unknown}
-use Rattle.resolved_code.specs.Rules.{all_some, if_named, element_rule, type_rule, types_rule, member_of, with_owner, operation_rule, operations_rule, body_rule, kind_rule, resolved_method_rule, resolved_field_rule, with_members, class_rule, classes_rule}
+use Rattle.resolved_code.specs.Rules.{all_some, if_named, element_rule, type_rule, types_rule, member_of, with_owner, operation_rule, operations_rule, body_rule, kind_rule, resolved_method_rule, resolved_field_rule, class_rule, classes_rule}
 use Rattle.resolved_code.proofs.LiteralNumbers.{all_among_once}
 
 -- ---- tests

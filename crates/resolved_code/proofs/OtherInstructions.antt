@@ -1,5 +1,5 @@
 -- Instructions of the other kinds.
-use Rattle.std.proofs.Common.{◌≡◌, ℕ, Bool, List, Option, None, refl}
+use Rattle.std.proofs.Common.{◌≡◌, ℕ, Bool, List, None, refl}
 use Rattle.cil_model.specs.declared.types.ClassName.{ClassName}
 use Rattle.cil_model.specs.declared.types.DeclaredType.{DeclaredType}
 use Rattle.cil_model.specs.declared.types.Signature.{Signature}

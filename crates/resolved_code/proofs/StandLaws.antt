@@ -1,11 +1,10 @@
 -- What is looked up stands for what was named.
-use Rattle.std.proofs.Common.{◌≡◌, ℕ, Bool, true, false, cond, find, List, [], ◌∷◌, map, option_map, option_and_then, Option, Some, None, slice_get, refl, sym, ap, subst, ◌∙◌}
+use Rattle.std.proofs.Common.{◌≡◌, ℕ, Bool, true, false, find, List, [], ◌∷◌, map, option_map, option_and_then, Option, Some, None, slice_get, refl, sym, ap, subst, ◌∙◌}
 use Rattle.std.specs.List.{position_from}
 use Rattle.cil_model.specs.declared.types.ClassName.{ClassName}
 use Rattle.cil_model.specs.declared.types.Element.{Element}
 use Rattle.cil_model.specs.declared.types.Element.TheVariants.{Int32 as Int32Element, Int64 as Int64Element, Object as ObjectElement, String as StringElement, Class as ClassElement}
 use Rattle.cil_model.specs.declared.types.DeclaredType.{DeclaredType}
-use Rattle.cil_model.specs.declared.types.Signature.{Signature}
 use Rattle.cil_model.specs.declared.instructions.FieldReference.{FieldReference}
 use Rattle.cil_model.specs.declared.instructions.MethodReference.{MethodReference}
 use Rattle.cil_model.specs.declared.instructions.Instruction.{Instruction}
@@ -19,7 +18,7 @@ use Rattle.cil_model.specs.declared.trees.Code.{Code}
 use Rattle.cil_model.specs.declared.trees.Line.{Line}
 use Rattle.cil_model.specs.Same.{same_text}
 use Rattle.cil_model.specs.Declarations.{Declaration, declaration_of}
-use Rattle.cil_model.specs.Bodies.{place_of, virtual_reference, constructor_reference}
+use Rattle.cil_model.specs.Bodies.{virtual_reference, constructor_reference}
 use Rattle.cil_model.specs.Chains.{find_field, find_method}
 use Rattle.cil_model.specs.Mentions.{literals_of}
 use Rattle.cil_model.proofs.Lists.{none_is_some, find_passes}
@@ -42,7 +41,7 @@ use Rattle.resolved_code.specs.Numbered.{class_name, element_at, type_at, AreTyp
 use Rattle.name_tables.specs.Sameness.{identity_of}
 use Rattle.resolved_code.specs.Identities.{identity_number}
 use Rattle.resolved_code.specs.Resolved.{AllAlike, IsField, IsMethod, IsOperation, IsResolvedField, IsBody, IsResolvedKind, IsResolvedMethod, IsResolvedClass, AreResolved}
-use Rattle.resolved_code.specs.Rules.{all_some, if_named, element_rule, type_rule, types_rule, member_of, field_rule, method_rule, with_owner, branch_rule, type_operand_rule, field_operand_rule, call_rule, plain_rule, operation_rule, operations_rule, body_rule, kind_rule, resolved_method_rule, resolved_field_rule, with_members, class_rule, classes_rule}
+use Rattle.resolved_code.specs.Rules.{all_some, if_named, element_rule, type_rule, types_rule, member_of, field_rule, method_rule, with_owner, operation_rule, operations_rule, body_rule, kind_rule, resolved_method_rule, resolved_field_rule, class_rule, classes_rule}
 
 -- ---- what was found, taken apart
 

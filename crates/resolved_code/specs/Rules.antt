@@ -6,7 +6,6 @@ use Rattle.cil_model.specs.declared.types.ClassName.{ClassName}
 use Rattle.cil_model.specs.declared.types.Element.{Element}
 use Rattle.cil_model.specs.declared.types.Element.TheVariants.{Int32 as Int32Element, Int64 as Int64Element, Object as ObjectElement, String as StringElement, Class as ClassElement}
 use Rattle.cil_model.specs.declared.types.DeclaredType.{DeclaredType}
-use Rattle.cil_model.specs.declared.types.Signature.{Signature}
 use Rattle.cil_model.specs.declared.instructions.FieldReference.{FieldReference}
 use Rattle.cil_model.specs.declared.instructions.MethodReference.{MethodReference}
 use Rattle.cil_model.specs.declared.instructions.Instruction.{Instruction}

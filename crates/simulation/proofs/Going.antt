@@ -4,6 +4,7 @@ use Rattle.std.specs.Prelude.{nat_lt, if◌then◌else◌}
 use Rattle.std.proofs.lemmas.Bool.Decides.{nat_tests}
 use Rattle.std.proofs.lemmas.Int.{ints}
 use Rattle.std.proofs.lemmas.Option.{slice_get_within}
+use Rattle.std.proofs.lemmas.Bool.{lt-ltb}
 use Rattle.interpreter.specs.cil_model.declared.instructions.Instruction.{Instruction}
 use Rattle.interpreter.specs.cil_model.declared.limits.TheConstants.{MOST_ARGUMENTS, MOST_LOCALS, MOST_STACK, MOST_INSTRUCTIONS}
 use Rattle.interpreter.specs.cil_model.declared.trees.Tree.{Tree}
@@ -84,10 +85,6 @@ module _ (tree : Tree) (legal : IsLegal tree) (s : State) (given : Option Declar
       let three : length m.stack ≡ length f.stack = agree_length (IsValue name) m.stack f.stack h.stack in
       omega (arith, one, two, three, arguments_are_few, locals_are_few, stack_is_low)
 
--- a number that is below passes the test
-pub below_test : (m n : ℕ) → m < n → nat_lt m n ≡ true
-below_test m n h = grind (arith, nat_tests)
-
 module _ (here : Setting) (name : Names) (m : Frames) (o : Objects) (statics : List Value) (printed : List ℕ) (s : State) (f : StateFrame) (below : List StateFrame) (i : Instruction) (operation : Operation)
     (at : IsSetting here name m o statics printed s f below i operation) where
   pub own_frame : IsFrame here.tree name m.running f
@@ -96,14 +93,14 @@ module _ (here : Setting) (name : Names) (m : Frames) (o : Objects) (statics : L
   has_room : (rest : List Value) → length rest ≤ length m.running.stack → nat_lt (length m.running.arguments + (length m.running.locals + length rest)) m.room ≡ true
   has_room rest shorter =
       let left : size m.running < frame_room = room_left here.tree at.running.accepted.legal s None f at.running.frame name m.running own_frame in
-      below_test _ m.room (subst (λ r. length m.running.arguments + (length m.running.locals + length rest) < r) (sym at.frames.room) (omega (arith, left, shorter)))
+      lt-ltb _ m.room (subst (λ r. length m.running.arguments + (length m.running.locals + length rest) < r) (sym at.frames.room) (omega (arith, left, shorter)))
 
   -- a frame is at an instruction, and those are few
   pub place_is_small : nat_lt m.running.place MOST_INSTRUCTIONS ≡ true
   place_is_small =
       let inside : f.place < length at.running.frame.code.lines = slice_get_within at.running.frame.code.lines f.place at.running.line at.running.at in
       let few : length at.running.frame.code.lines ≤ MOST_INSTRUCTIONS = instructions_few here.tree at.running.accepted.legal f.owner at.running.frame.is_declared.0 f.method at.running.frame.is_declared.1 at.running.frame.code at.running.frame.has_code in
-      below_test _ _ (subst (λ p. p < MOST_INSTRUCTIONS) (sym own_frame.place) (omega (arith, inside, few)))
+      lt-ltb _ _ (subst (λ p. p < MOST_INSTRUCTIONS) (sym own_frame.place) (omega (arith, inside, few)))
 
   -- on to the instruction behind
   pub onward_is : (stack : List Value) → onward (with_stack m stack) ≡ Some (with_place (with_stack m stack) (m.running.place + 1), GoesOn)

@@ -28,6 +28,7 @@ use Rattle.interpreter.specs.declared.outcomes.Outcome.TheVariants.{Comes, Start
 use Rattle.interpreter.specs.Instructions.{HasSmallConstant, MachineTurn, operation_turn}
 use Rattle.simulation.specs.StandsFor.{Names, Extends, IsValue, AreFrames, IsMemory}
 use Rattle.simulation.specs.Turns.{Answer}
+use Rattle.interpreter.proofs.cil_model.SameLaws.{never}
 
 -- ---- one instruction
 
@@ -59,28 +60,21 @@ is_refused_outcome (Comes e) = is_refused_effect e
 is_refused_outcome (Starts a) = false
 is_refused_outcome (Joins a) = false
 
--- what is no refusal
-pub no_refusal : {A : Type 0} → false ≡ true → A
-no_refusal {A} h = absurd (lost h)
-  where
-    lost : false ≡ true → ⊥
-    lost k = cc
-
 -- a fault that is
 pub refused_fault : (x : Fault) → is_refused_fault x ≡ true → StateRaises x ≡ StateRaises OutOfMemory
-refused_fault NullReference h = no_refusal h
-refused_fault IndexOutOfRange h = no_refusal h
-refused_fault ArrayTypeMismatch h = no_refusal h
-refused_fault InvalidCast h = no_refusal h
-refused_fault DivideByZero h = no_refusal h
-refused_fault Arithmetic h = no_refusal h
-refused_fault Overflow h = no_refusal h
+refused_fault NullReference h = never h
+refused_fault IndexOutOfRange h = never h
+refused_fault ArrayTypeMismatch h = never h
+refused_fault InvalidCast h = never h
+refused_fault DivideByZero h = never h
+refused_fault Arithmetic h = never h
+refused_fault Overflow h = never h
 refused_fault OutOfMemory h = refl
-refused_fault TooManyThreads h = no_refusal h
-refused_fault StackOverflow h = no_refusal h
-refused_fault ArgumentNull h = no_refusal h
-refused_fault SynchronizationLock h = no_refusal h
-refused_fault ThreadState h = no_refusal h
+refused_fault TooManyThreads h = never h
+refused_fault StackOverflow h = never h
+refused_fault ArgumentNull h = never h
+refused_fault SynchronizationLock h = never h
+refused_fault ThreadState h = never h
 
 module _ (here : Setting) (name : Names) (m : Frames) (o : Objects) (statics : List Value) (printed : List ℕ) (s : State) (f : Frame) (below : List Frame) where
   -- the thread goes on with the same frames, in the same memory, in which nothing lost its name

@@ -25,12 +25,13 @@ use Rattle.object_simulation.specs.simulation.interpreter.Instructions.{IsDone}
 use Rattle.object_simulation.specs.simulation.MachineContents.{Content}
 use Rattle.object_simulation.specs.simulation.StandsFor.{Represents}
 use Rattle.object_simulation.specs.simulation.Turns.{Answer, IsStandingTurn, IsThreadTurn, IsTurn}
-use Rattle.object_simulation.proofs.simulation.Instructions.{ExceedsRoom as ExceedsFree, InstructionsAreAlike, is_refused_outcome, no_refusal}
+use Rattle.object_simulation.proofs.simulation.Instructions.{ExceedsRoom as ExceedsFree, InstructionsAreAlike, is_refused_outcome}
 use Rattle.object_simulation.proofs.simulation.Statements.{CellsMayChange}
 use Rattle.step_simulation.proofs.Finished.{finished_refusal, same_program}
 use Rattle.step_simulation.proofs.Settings.{setting_of, is_alive, is_running, does_alike}
 use Rattle.step_simulation.proofs.Settling.{done, step_is}
 use Rattle.step_simulation.proofs.Steps.{step_follows}
+use Rattle.object_simulation.proofs.simulation.cil_model.SameLaws.{never}
 
 -- ---- a test of room
 
@@ -41,7 +42,7 @@ is_beyond : (words left : ℕ) → (if nat_le words left then false else true) �
 is_beyond words left h = by_test (nat_le words left) refl h
   where
     by_test : (b : Bool) → nat_le words left ≡ b → (if b then false else true) ≡ true → left < words
-    by_test true test e = no_refusal e
+    by_test true test e = never e
     by_test false test e = grind (arith, nat_tests)
 
 -- ---- where a step is refused, the object exceeds the room
@@ -70,7 +71,7 @@ module _ (each : InstructionsAreAlike) (c : Content) (s : State) (r : Represents
     where
       by_effect : Exceeds (done c s r t left m there false) ⊎ (done c s r t left m there false ≡ StateRaises OutOfMemory) → Exceeds (done c s r t left m there false)
       by_effect (inl e) = e
-      by_effect (inr e) = no_refusal (memory_is_refused (setting_of c t false) s (is_alive c s r t left m there).running (is_alive c s r t left m there).below (is_running c s r t left m there false).0 e)
+      by_effect (inr e) = never (memory_is_refused (setting_of c t false) s (is_alive c s r t left m there).running (is_alive c s r t left m there).below (is_running c s r t left m there false).0 e)
 
   -- so its step leaves the object, were it not refused
   step_exceeds : Exceeds (done c s r t left m there false) → ExceedsRoom c.tree c.limits s t
@@ -117,7 +118,7 @@ module _ (each : InstructionsAreAlike) (cells_may_change : CellsMayChange) (c : 
   refused_exceeds refused = by_thread (slice_get c.threads t) refl turn
     where
       absent : after ≡ (c, Absent) → ExceedsRoom c.tree c.limits s t
-      absent e = no_refusal (sym (ap (λ (x : Content × Report). is_refusal x.1) e) ∙ refused)
+      absent e = never (sym (ap (λ (x : Content × Report). is_refusal x.1) e) ∙ refused)
 
       by_standing : (left : ℕ) (standing : Standing) → slice_get c.threads t ≡ Some (record { standing = standing; steps_left = left }) → IsStandingTurn c t left standing after → ExceedsRoom c.tree c.limits s t
       by_standing left (Live m) there (a, d, is) =

@@ -1,5 +1,5 @@
 use Rattle.std.proofs.Common.{◌≡◌, ap, sym, subst, ◌∙◌, option_map, Some, Bor, get_or}
-use Rattle.std.proofs.lemmas.Option.{get_or_from_slice_get}
+use Rattle.std.proofs.lemmas.Option.{get_or_from_slice_get, slice_get_within}
 use Rattle.std.specs.Prelude.{slice_get}
 use Rattle.cil_model.specs.declared.types.ClassName.{ClassName}
 use Rattle.cil_model.specs.declared.trees.Method.{Method}
@@ -11,7 +11,7 @@ use Rattle.method_table.specs.Prepared.{IsTableMethod}
 use Rattle.interpreter.specs.Instructions.{IsAt}
 use Rattle.interpreter.proofs.Running.{alike_both}
 use Rattle.interpreter.proofs.Choosing.{mapped_is}
-use Rattle.interpreter.proofs.Placing.{Lined, lined, Placed, placed, inside}
+use Rattle.interpreter.proofs.Placing.{Lined, lined, Placed, placed}
 use Rattle.interpreter.proofs.places.operation_at.Goals as goal
 
 pub unreachable-requires-in_default-body_of : goal.unreachable-requires-in_default-body_of
@@ -44,7 +44,7 @@ bounds-as_slice-place c =
     let same : place.body ≡ c.in-Some-body_of.body.now = cc in
     let at : slice_get c.in-Some-body_of.body.now.operations c.args.frames.now.running.place ≡ Some place.operation = subst (λ (b : Body). slice_get b.operations c.args.frames.now.running.place ≡ Some place.operation) same place.at in
     let here_at : slice_get c.as_slice.result.now c.place.result ≡ Some place.operation = ap (λ ops. slice_get ops c.place.result) c.as_slice.ensures ∙ ap (slice_get c.in-Some-body_of.body.now.operations) c.place.ensures ∙ at in
-    inside c.as_slice.result.now c.place.result place.operation here_at
+    slice_get_within c.as_slice.result.now c.place.result place.operation here_at
 
 pub returns : goal.returns
 returns c =

@@ -1,4 +1,4 @@
-use Rattle.std.proofs.Common.{◌≡◌, Some, sym, ap, ◌∙◌, arith}
+use Rattle.std.proofs.Common.{Some, sym, ap, ◌∙◌, arith}
 use Rattle.cil_model.specs.Bodies.{place_of}
 use Rattle.resolved_code.proofs.Lists.{all_some_more, all_some_absent}
 use Rattle.resolved_code.proofs.instructions.target_places.Goals as goal

@@ -1,4 +1,4 @@
-use Rattle.std.proofs.Common.{◌≡◌, Some, sym, ap, ◌∙◌, arith}
+use Rattle.std.proofs.Common.{Some, sym, ap, ◌∙◌, arith}
 use Rattle.name_tables.specs.Numbers.{class_number}
 use Rattle.resolved_code.proofs.Lists.{all_some_more, all_some_absent}
 use Rattle.resolved_code.proofs.numbering.class_numbers.Goals as goal

@@ -1,4 +1,4 @@
-use Rattle.std.proofs.Common.{◌≡◌, Some, map, sym, ap, ◌∙◌}
+use Rattle.std.proofs.Common.{map, sym, ap, ◌∙◌}
 use Rattle.name_tables.specs.Entries.{declaration_in}
 use Rattle.resolved_code.specs.Rules.{all_some, resolved_field_rule, resolved_method_rule}
 use Rattle.resolved_code.proofs.Made.{class_made}

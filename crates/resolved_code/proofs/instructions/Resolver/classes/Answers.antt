@@ -1,4 +1,4 @@
-use Rattle.std.proofs.Common.{◌≡◌, Some, sym, ap, ◌∙◌, arith}
+use Rattle.std.proofs.Common.{Some, sym, ap, ◌∙◌, arith}
 use Rattle.name_tables.specs.Entries.{declaration_in}
 use Rattle.resolved_code.specs.Rules.{class_rule}
 use Rattle.resolved_code.proofs.Lists.{all_some_more, all_some_absent}

@@ -1,4 +1,4 @@
-use Rattle.std.proofs.Common.{◌≡◌, Some, sym, ap, ◌∙◌, arith}
+use Rattle.std.proofs.Common.{Some, sym, ap, ◌∙◌, arith}
 use Rattle.resolved_code.specs.Rules.{resolved_method_rule}
 use Rattle.resolved_code.proofs.Lists.{all_some_more_seen, all_some_absent_seen}
 use Rattle.resolved_code.proofs.instructions.Resolver.methods.Goals as goal

@@ -1,4 +1,4 @@
-use Rattle.std.proofs.Common.{◌≡◌, Some, sym, ap, ◌∙◌, arith}
+use Rattle.std.proofs.Common.{Some, sym, ap, ◌∙◌, arith}
 use Rattle.resolved_code.specs.Rules.{operation_rule}
 use Rattle.resolved_code.proofs.Lists.{all_some_more, all_some_absent}
 use Rattle.resolved_code.proofs.instructions.Resolver.operations.Goals as goal
