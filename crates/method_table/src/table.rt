@@ -89,6 +89,7 @@ impl MethodTable {
     pub fn new(alloc: Global, program: &Program) -> Result<Self, NoMemory>
         ensures { IfOk result (λ table. IsMethodTable program.now table) }
     {
+        // The tree is legal, so it has fewer methods than there are flat numbers.
         let _legal = program.tree();
         let methods = all_methods(alloc, program.classes())?;
         let first = first_numbers(alloc, program.classes())?;
