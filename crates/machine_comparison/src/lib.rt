@@ -5,9 +5,9 @@
 #![tactic(auto)]
 
 mod machines;
-mod programs;
+mod made_up_runs;
 mod schedules;
 
 pub use machines::difference;
-pub use programs::try_programs;
+pub use made_up_runs::try_programs;
 pub use schedules::try_schedules;
