@@ -13,10 +13,8 @@ use Rattle.cil_model.specs.declared.reports.Report.{Report}
 use Rattle.source_runs.specs.Failures.{IsOfWriting, is_refusal}
 use Rattle.source_runs.specs.declared.failure.Failure.{Failure}
 use Rattle.event_trace.specs.Traces.{IsTraced}
-use Rattle.event_trace.specs.declared.errors.TraceError.{TraceError}
-use Rattle.event_trace.specs.declared.errors.TraceError.TheVariants.{Memory as WantsMemory, Device as CantWrite}
 use Rattle.source_runs.specs.Runs.{IsReady, IsRunBy}
-use Rattle.driver.specs.Outcomes.{HasRun, HasTraced, failure_of_tracing, IsExplanation, IsRunInPart, IsShown, IsTracedThenInPart}
+use Rattle.driver.specs.Outcomes.{HasRun, HasTraced, IsExplanation, IsRunInPart, IsShown, IsTracedThenInPart}
 use Rattle.driver.specs.Threads.{ends_of, lines_from}
 use Rattle.outputs.specs.Beginnings.{AppendsBeginning}
 use Rattle.source_runs.proofs.RunLemmas.{some_budget}
@@ -109,8 +107,3 @@ has_traced source limits text events begins after reports out between out' err e
 pub no_refusal : (failure : Failure) → IsOfWriting failure → is_refusal failure ≡ true → ⊥
 no_refusal failure (inl memory) refused = let e : false ≡ true = sym (ap is_refusal memory) ∙ refused in absurd (cc e)
 no_refusal failure (inr device) refused = let e : false ≡ true = sym (ap is_refusal device) ∙ refused in absurd (cc e)
-
--- a trace that ends early is one that can't be written, or wants memory
-pub tracing_writes : (error : TraceError) (failure : Failure) → failure ≡ failure_of_tracing error → IsOfWriting failure
-tracing_writes WantsMemory failure same = inl same
-tracing_writes CantWrite failure same = inr same

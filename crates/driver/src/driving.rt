@@ -1,22 +1,25 @@
 //! Does what an order asks for.
 
-ghost use Rattle.std.specs.Prelude.{◌≡◌, ◌⊎◌, ◌*◌, ◌++◌, ◌∷◌, [], ℕ, codes, IfErr, IfOk, OnErr, true};
+ghost use Rattle.std.specs.Prelude.{◌≡◌, ◌⊎◌, ◌*◌, ◌++◌, ◌∷◌, [], ℕ, codes, IfErr, IfOk, List, OnErr, OnOk, true};
+ghost use Rattle.cil_model.specs.declared.reports.Report.{Report};
+ghost use Rattle.event_trace.specs.Traces.{IsTraced, IsTracedInPart};
 ghost use Rattle.flip_trial.specs.Trial.{place_count};
 ghost use Rattle.outputs.specs.Beginnings.{AppendsBeginning};
 ghost use Rattle.source_runs.specs.Failures.{IsOfWriting, is_refusal};
-ghost use Rattle.driver.specs.Outcomes.{HasNotRun, HasRun, HasTraced, IsChecked, IsDone, IsNotChecked};
+ghost use Rattle.driver.specs.Outcomes.{HasNotRun, HasRun, HasTraced, IsChecked, IsDone, IsNotChecked, failure_of_tracing};
 ghost use Rattle.source_runs.specs.Runs.{IsLetIn};
 ghost use Rattle.driver.specs.Outcomes.{IsNotDone, IsDoneInPart, IsOutcome, IsOutcomeOrCut};
 ghost use Rattle.driver.specs.Outcomes.{IsRunInPart, IsTellingCut, IsTraceInPart, IsTracedThenInPart, IsTried, trial_text};
 
 use crate::explaining::tell_failure;
 use crate::showing::{say_accepted, show, show_trial};
+use cil_model::events::Event;
 use cil_model::limits::Limits;
 use event_trace::{TraceError, trace};
 use flip_trial::Sizes;
 use orders::Order;
 use outputs::NotWritten;
-use source_runs::{Failure, accept, open, run_source};
+use source_runs::{Failure, Machine, accept, open, run_source};
 use std::alloc::Global;
 use std::io::Write;
 use std::sync::Wait;
@@ -174,15 +177,32 @@ fn show_trace<W: Write, E: Write>(
         ⊎ IsTracedThenInPart source.now limits text.now (W.contents out.old) (W.contents out.new) (E.contents err.old) (E.contents err.new))) }
 {
     let (mut machine, events) = open(alloc, source, limits, text)?;
-    match trace(alloc, &mut machine, events.as_slice(), out) {
-        Ok(()) => show(alloc, &machine, out, err),
+    write_trace(alloc, &mut machine, events.as_slice(), out)?;
+    show(alloc, &machine, out, err)
+}
+
+/// Gives a machine its events, and writes a line of each.
+fn write_trace<W: Write>(
+    alloc: Global,
+    machine: &mut Machine,
+    events: &[Event],
+    out: &mut W,
+) -> Result<(), Failure>
+    ensures traced { OnOk result ((reports : List Report) × IsTraced machine.old events.now machine.new reports (W.contents out.old) (W.contents out.new)) }
+    ensures same { (machine.new.tree ≡ machine.old.tree) × (machine.new.limits ≡ machine.old.limits) }
+    ensures stopped { OnErr result (IsTracedInPart machine.old events.now machine.new (W.contents out.old) (W.contents out.new)) }
+    ensures failed { IfErr result IsOfWriting }
+{
+    match trace(alloc, machine, events, out) {
+        Ok(()) => Ok(()),
         Err(error) => Err(failure_of(error)),
     }
 }
 
 /// What the error of a trace becomes.
 fn failure_of(error: TraceError) -> Failure
-    ensures { result ≡ failure_of_tracing error }
+    ensures same { result ≡ failure_of_tracing error }
+    ensures writing { IsOfWriting result }
 {
     match error {
         TraceError::Memory => Failure::Memory,

@@ -1,8 +1,9 @@
 use Rattle.std.proofs.Common.{inl, inr, subst, sym}
 use Rattle.event_trace.specs.Traces.{IsTraced}
 use Rattle.driver.specs.Outcomes.{HasNotRun}
+use Rattle.source_runs.specs.Failures.{IsOfWriting}
 use Rattle.source_runs.proofs.RunLemmas.{handed_on, if_err, if_ok, on_err_of}
-use Rattle.driver.proofs.OutcomeLemmas.{has_traced, no_refusal, traced_in_part, tracing_writes}
+use Rattle.driver.proofs.OutcomeLemmas.{has_traced, no_refusal, traced_in_part}
 use Rattle.driver.proofs.driving.show_trace.Goals as goal
 
 pub returns-in_err-machine-clause-failed : goal.returns-in_err-machine-clause-failed
@@ -10,28 +11,28 @@ returns-in_err-machine-clause-failed g c =
     handed_on c.from_residual.result c.from_residual.ensures.1 (λ failure same.
     subst (HasNotRun c.args.source.now c.args.limits c.args.text.now) (sym same) (inl c.in_err-machine.ensures.refused))
 
-pub returns-in_err-trace-clause-failed : goal.returns-in_err-trace-clause-failed
-returns-in_err-trace-clause-failed g c =
+pub returns-in_err-write_trace-clause-failed : goal.returns-in_err-write_trace-clause-failed
+returns-in_err-write_trace-clause-failed g c =
     let ready = c.in_ok-machine.ensures.opened in
-    handed_on c.from_residual-in_err-trace.result c.from_residual-in_err-trace.ensures.1 (λ failure same.
-    inr ((ready.tree, ready.is_accepted), tracing_writes c.in_err-trace.field-0.0 failure same))
+    handed_on c.from_residual-in_err-write_trace.result c.from_residual-in_err-write_trace.ensures.1 (λ failure same.
+    inr ((ready.tree, ready.is_accepted), subst IsOfWriting (sym same) c.in_err-write_trace.ensures.failed))
 
-pub returns-in_err-trace-clause-untouched : goal.returns-in_err-trace-clause-untouched
-returns-in_err-trace-clause-untouched g c =
-    handed_on c.from_residual-in_err-trace.result c.from_residual-in_err-trace.ensures.1 (λ failure same refused.
-    absurd (no_refusal failure (tracing_writes c.in_err-trace.field-0.0 failure same) refused))
+pub returns-in_err-write_trace-clause-untouched : goal.returns-in_err-write_trace-clause-untouched
+returns-in_err-write_trace-clause-untouched g c =
+    handed_on c.from_residual-in_err-write_trace.result c.from_residual-in_err-write_trace.ensures.1 (λ failure same refused.
+    absurd (no_refusal failure (subst IsOfWriting (sym same) c.in_err-write_trace.ensures.failed) refused))
 
 pub returns-clause-done : goal.returns-clause-done
 returns-clause-done g c =
     let machine = c.in_ok-machine.machine in
-    let after = c.trace.new.machine in
+    let after = c.write_trace.new.machine in
     let begun = g.W.Write.contents c.args.out.now in
-    let between = g.W.Write.contents c.trace.new.out in
-    let traced = c.in_ok-trace.ensures.traced in
+    let between = g.W.Write.contents c.write_trace.new.out in
+    let traced = c.in_ok-write_trace.ensures.traced in
     if_ok c.show.result c.show.ensures.shown (λ status shown.
     has_traced c.args.source.now c.args.limits c.args.text.now c.in_ok-machine.events.items machine after traced.0 begun between (g.W.Write.contents c.show.new.out)
     (g.E.Write.contents c.args.err.now) (g.E.Write.contents c.show.new.err) status c.in_ok-machine.ensures.opened
-    (subst (λ es. IsTraced machine es after traced.0 begun between) c.as_slice.ensures.value traced.1) c.in_ok-trace.ensures.same.1 shown)
+    (subst (λ es. IsTraced machine es after traced.0 begun between) c.as_slice.ensures.value traced.1) c.in_ok-write_trace.ensures.same.1 shown)
 
 pub returns-clause-failed : goal.returns-clause-failed
 returns-clause-failed g c =
@@ -44,11 +45,11 @@ returns-clause-untouched g c = if_err c.show.result c.show.ensures.failed (λ fa
 pub returns-clause-in_part : goal.returns-clause-in_part
 returns-clause-in_part g c =
     let machine = c.in_ok-machine.machine in
-    let after = c.trace.new.machine in
+    let after = c.write_trace.new.machine in
     let begun = g.W.Write.contents c.args.out.now in
-    let between = g.W.Write.contents c.trace.new.out in
-    let traced = c.in_ok-trace.ensures.traced in
+    let between = g.W.Write.contents c.write_trace.new.out in
+    let traced = c.in_ok-write_trace.ensures.traced in
     on_err_of c.show.result c.show.ensures.begun (λ shown.
     inr (inr (traced_in_part c.args.source.now c.args.limits c.args.text.now c.in_ok-machine.events.items machine after traced.0 begun between (g.W.Write.contents c.show.new.out)
     (g.E.Write.contents c.args.err.now) (g.E.Write.contents c.show.new.err) c.in_ok-machine.ensures.opened
-    (subst (λ es. IsTraced machine es after traced.0 begun between) c.as_slice.ensures.value traced.1) c.in_ok-trace.ensures.same.1 shown)))
+    (subst (λ es. IsTraced machine es after traced.0 begun between) c.as_slice.ensures.value traced.1) c.in_ok-write_trace.ensures.same.1 shown)))
