@@ -1,8 +1,8 @@
-use Rattle.std.proofs.Common.{inl, inr, subst, sym}
-use Rattle.event_trace.specs.Traces.{IsTraced}
-use Rattle.driver.specs.Outcomes.{HasNotRun}
+use Rattle.std.proofs.Common.{inl, inr, refl, subst, sym}
+use Rattle.event_trace.specs.Traces.{IsTraced, IsTracedInPart}
+use Rattle.driver.specs.Outcomes.{HasNotRun, IsTraceInPart}
 use Rattle.source_runs.specs.Failures.{IsOfWriting}
-use Rattle.source_runs.proofs.RunLemmas.{handed_on, if_err, if_ok, on_err_of}
+use Rattle.source_runs.proofs.RunLemmas.{handed_on, if_err, if_ok, on_err, on_err_of}
 use Rattle.driver.proofs.OutcomeLemmas.{has_traced, no_refusal, traced_in_part}
 use Rattle.driver.proofs.driving.show_trace.Goals as goal
 
@@ -21,6 +21,16 @@ pub returns-in_err-write_trace-clause-untouched : goal.returns-in_err-write_trac
 returns-in_err-write_trace-clause-untouched g c =
     handed_on c.from_residual-in_err-write_trace.result c.from_residual-in_err-write_trace.ensures.1 (λ failure same refused.
     absurd (no_refusal failure (subst IsOfWriting (sym same) c.in_err-write_trace.ensures.failed) refused))
+
+pub returns-in_err-write_trace-clause-in_part : goal.returns-in_err-write_trace-clause-in_part
+returns-in_err-write_trace-clause-in_part g c =
+    let machine = c.in_ok-machine.machine in
+    let after = c.write_trace.new.machine in
+    let begun = g.W.Write.contents c.args.out.now in
+    let between = g.W.Write.contents c.write_trace.new.out in
+    let traced = subst (λ es. IsTracedInPart machine es after begun between) c.as_slice.ensures.value c.in_err-write_trace.ensures.stopped in
+    let cut : IsTraceInPart c.args.source.now c.args.limits c.args.text.now begun between = record { events = c.in_ok-machine.events.items; begins = machine; ready = c.in_ok-machine.ensures.opened; after = after; traced = traced } in
+    on_err c.from_residual-in_err-write_trace.result (inr (inl (cut, refl)))
 
 pub returns-clause-done : goal.returns-clause-done
 returns-clause-done g c =
