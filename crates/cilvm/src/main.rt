@@ -1,7 +1,7 @@
 //! The program `cilvm`.
 #![tactic(auto)]
 
-use command_line::LineFault;
+use command_line::{LineFault, Unread};
 use driver::Failure;
 use orders::{Order, read_source, read_text};
 use std::fs::File;
@@ -32,8 +32,12 @@ fn program(rt: &HostRuntime, threads: &(impl Threads + Wait)) -> Result<u8, Fail
     };
     let words: Vec<&str> = given.iter().map(|word| word.as_str()).collect(alloc)?;
     match command_line::order(alloc, words.as_slice()) {
-        Ok(order) => carry_out(rt, threads, &order),
+        Ok(order) => Ok(carry_out(rt, threads, &order)),
         Err(LineFault::Help(text)) => {
+            print!(rt; "{text}")?;
+            Ok(0)
+        }
+        Err(LineFault::Version(text)) => {
             print!(rt; "{text}")?;
             Ok(0)
         }
@@ -45,25 +49,22 @@ fn program(rt: &HostRuntime, threads: &(impl Threads + Wait)) -> Result<u8, Fail
     }
 }
 
-fn carry_out(
-    rt: &HostRuntime,
-    threads: &(impl Threads + Wait),
-    order: &Order<'_>,
-) -> Result<u8, Failure> {
+/// Carries out an order on its files, and answers the status.
+fn carry_out(rt: &HostRuntime, threads: &(impl Threads + Wait), order: &Order<'_>) -> u8 {
+    let source = match source_of(rt, order) {
+        Ok(source) => source,
+        Err(unread) => return tell_unread(rt, &unread),
+    };
+    let schedule = match schedule_of(rt, order) {
+        Ok(schedule) => schedule,
+        Err(unread) => return tell_unread(rt, &unread),
+    };
     let alloc = rt.alloc();
-    let source = match order.file() {
-        Some(file) => read_source(alloc, File::open(rt, file)?)?,
-        None => Vec::new(alloc),
-    };
-    let schedule = match order.schedule_file() {
-        Some(file) => read_text(alloc, File::open(rt, file)?)?,
-        None => Vec::new(alloc),
-    };
     let errors = rt.stderr();
     let mut out = io::writer(rt);
     let mut err = io::writer(&errors);
     let mut record = Vec::new(alloc);
-    let status = driver::drive(
+    driver::drive(
         threads,
         alloc,
         order,
@@ -72,6 +73,40 @@ fn carry_out(
         &mut out,
         &mut err,
         &mut record,
-    );
-    Ok(status)
+    )
+}
+
+/// The bytes of the file that holds the source; none where no file does.
+fn source_of<'a>(rt: &HostRuntime, order: &Order<'a>) -> Result<Vec<u8>, Unread<'a>> {
+    let alloc = rt.alloc();
+    let Some(file) = order.file() else {
+        return Ok(Vec::new(alloc));
+    };
+    match File::open(rt, file) {
+        Ok(opened) => read_source(alloc, opened).map_err(|error| Unread { file, error }),
+        Err(error) => Err(Unread { file, error }),
+    }
+}
+
+/// The bytes of the file that holds the schedule; none where no file does.
+fn schedule_of<'a>(rt: &HostRuntime, order: &Order<'a>) -> Result<Vec<u8>, Unread<'a>> {
+    let alloc = rt.alloc();
+    let Some(file) = order.schedule_file() else {
+        return Ok(Vec::new(alloc));
+    };
+    match File::open(rt, file) {
+        Ok(opened) => read_text(alloc, opened).map_err(|error| Unread { file, error }),
+        Err(error) => Err(Unread { file, error }),
+    }
+}
+
+/// Tells that a file is not read, and why, and answers the status. Where the second line is not to be had or not written, the first stands
+/// alone.
+fn tell_unread(rt: &HostRuntime, unread: &Unread<'_>) -> u8 {
+    let errors = rt.stderr();
+    let status = driver::report(Failure::from(unread.error), &mut io::writer(&errors));
+    if let Ok(text) = unread.told(rt.alloc()) {
+        let _written = eprint!(rt; "{text}");
+    }
+    status
 }

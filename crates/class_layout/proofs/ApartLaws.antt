@@ -20,7 +20,7 @@ use Rattle.cil_model.proofs.SameLaws.{same_text_itself, same_class_equal}
 use Rattle.cil_model.proofs.Legal.{no_cycle}
 use Rattle.cil_model.proofs.ChainLaws.{chain_ends}
 use Rattle.name_tables.proofs.NumberLaws.{none_is_some}
-use Rattle.class_layout.proofs.Places.{passes_not}
+use Rattle.cil_model.proofs.Lists.{passes_not}
 use Rattle.class_layout.proofs.SlotLaws.{position_past, same_name, of_flag, key_in, keyed, own_alike, none_along, above, inherited, own_last, once_declared, none_above}
 
 -- ---- lists

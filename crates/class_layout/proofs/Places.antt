@@ -1,12 +1,10 @@
 -- Places in lists.
-use Rattle.std.proofs.Common.{◌≡◌, ◌<◌, ◌+◌, ℕ, zero, suc, Bool, false, cond, IsTrue, List, [], ◌∷◌, ◌++◌, length, map, get_or, take, slice_get, Option, Some, None, option_map, refl, sym, ap, ◌∙◌, append_assoc}
+use Rattle.std.proofs.Common.{◌≡◌, ◌<◌, ◌+◌, ℕ, suc, List, [], ◌∷◌, ◌++◌, length, map, get_or, take, slice_get, Option, Some, None, refl, sym, ap, ◌∙◌, append_assoc}
 use Rattle.std.specs.Prelude.{filter_map, flat_map}
-use Rattle.std.specs.List.{list_any, position_from, cons_option}
+use Rattle.std.specs.List.{cons_option}
 use Rattle.std.proofs.lemmas.List.{take_more, append-nil}
 use Rattle.std.proofs.lemmas.Grind.{flat_map-append}
-use Rattle.std.proofs.lemmas.Bool.{or_parts}
-use Rattle.cil_model.specs.Legality.{has_repeat}
-use Rattle.name_tables.proofs.NumberLaws.{none_is_some, position_from-suc}
+use Rattle.name_tables.proofs.NumberLaws.{none_is_some}
 use Rattle.name_tables.proofs.Lists.{map-take_more, filter_map-take_more}
 
 -- two lists with the same element at each place
@@ -19,25 +17,6 @@ same_elements {X} (x ∷ xs) (y ∷ ys) h =
     let e : x ≡ y = cc in
     let rest : xs ≡ ys = same_elements xs ys (λ j. h (suc j)) in
     ap (λ z. z ∷ xs) e ∙ ap (λ zs. y ∷ zs) rest
-
--- an item of a list in which no item passes does not pass
-pub passes_not : {X : Type 0} (test : X → Bool) (xs : List X) (n : ℕ) (x : X) → list_any test xs ≡ false → slice_get xs n ≡ Some x → test x ≡ false
-passes_not test [] n x h e = absurd (none_is_some x e)
-passes_not {X} test (y ∷ ys) zero x h e =
-    let s : y ≡ x = cc in
-    ap test (sym s) ∙ (or_parts (test y) (list_any test ys) h).0
-passes_not test (y ∷ ys) (suc n) x h e = passes_not test ys n x (or_parts (test y) (list_any test ys) h).1 e
-
--- where no item stands twice, each is found at its own place
-pub first_place : {X : Type 0} (same : X → X → Bool) → ((x : X) → IsTrue (same x x)) → ((x y : X) → same x y ≡ same y x) → (xs : List X) (n : ℕ) (x : X) →
-    has_repeat same xs ≡ false → slice_get xs n ≡ Some x → position_from (same x) 0 xs ≡ Some n
-first_place same itself symm [] n x h e = absurd (none_is_some x e)
-first_place {X} same itself symm (y ∷ ys) zero x h e =
-    let s : y ≡ x = cc in
-    ap (λ (z : X). cond (same x z) (Some 0) (position_from (same x) 1 ys)) s ∙ ap (λ b. cond b (Some 0) (position_from (same x) 1 ys)) (itself x)
-first_place same itself symm (y ∷ ys) (suc n) x h e =
-    let apart : same x y ≡ false = symm x y ∙ passes_not (same y) ys n x (or_parts _ _ h).0 e in
-    ap (λ b. cond b (Some 0) (position_from (same x) 1 ys)) apart ∙ position_from-suc (same x) 0 ys ∙ ap (option_map suc) (first_place same itself symm ys n x (or_parts _ _ h).1 e)
 
 -- a loop that filters, where nothing or one more is pushed
 pub filter_skips : {X Y : Type 0} (h : X → Option Y) (xs : List X) (i : ℕ) (x : X) (ys : List Y) → i < length xs → x ≡ get_or xs i x → ys ≡ filter_map h (take i xs) → h x ≡ None → ys ≡ filter_map h (take (i + 1) xs)

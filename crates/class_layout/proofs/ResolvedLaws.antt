@@ -30,7 +30,7 @@ use Rattle.class_layout.specs.declared.kinds.SlotKind.{SlotKind}
 use Rattle.class_layout.specs.Kinds.{kind_at, kind_of, instance_kind, own_kinds, slot_kinds}
 use Rattle.class_layout.specs.NumberedKinds.{numbered_kind_at, kind_of_numbered, numbered_kind}
 use Rattle.class_layout.proofs.AncestorLaws.{answer_at}
-use Rattle.class_layout.proofs.ClassNumbers.{FoundAt, found_at, number_of_place}
+use Rattle.resolved_code.proofs.ClassNumbers.{FoundAt, found_at, number_of_place}
 use Rattle.class_layout.proofs.Places.{push_takes}
 
 -- ---- numbered fields, by whether each is static

@@ -27,8 +27,9 @@ use Rattle.name_tables.specs.Numbers.{class_number, declarations, field_at, sour
 use Rattle.name_tables.proofs.NumberLaws.{none_is_some}
 use Rattle.class_layout.specs.Kinds.{own_kinds, slot_kinds, kind_of}
 use Rattle.class_layout.specs.FieldSlots.{number_after, numbered_fields, statics_after, first_slot, field_rows, class_names}
-use Rattle.class_layout.proofs.Places.{passes_not}
-use Rattle.class_layout.proofs.ClassNumbers.{FoundAt, found_at, not_declared, number_of_place, entries_stand_once, unbroken}
+use Rattle.cil_model.proofs.Legal.{unbroken}
+use Rattle.cil_model.proofs.Lists.{passes_not}
+use Rattle.resolved_code.proofs.ClassNumbers.{FoundAt, found_at, not_declared, number_of_place, entries_stand_once}
 use Rattle.class_layout.proofs.KindLaws.{filtered, slots_counted}
 
 -- ---- places in lists
@@ -189,7 +190,7 @@ module _ (tree : Tree) where
   all_statics = of_source tree.classes
 
   no_double : IsLegal tree → list_any class_doubles tree.classes ≡ false
-  no_double legal = let h : doubles_name tree ≡ false = unbroken tree _ 201 _ legal in (or_parts _ _ h).1
+  no_double legal = let h : doubles_name tree ≡ false = (unbroken (doubles_name tree) 201 _ legal).0 in (or_parts _ _ h).1
 
   shorter : (test : ClassName → Bool) (n : ℕ) (o : Option ClassName) → list_any test (chain_within tree (suc n) o) ≡ false → list_any test (chain_within tree n o) ≡ false
   shorter test zero o h = refl

@@ -1,19 +1,16 @@
 -- What the tables of a layout hold.
 use Rattle.std.specs.Prelude.{◌≡◌, map}
 use Rattle.cil_model.specs.declared.trees.Tree.{Tree}
-use Rattle.cil_model.specs.Chains.{is_interface}
 use Rattle.cil_model.specs.Legality.{IsLegal}
-use Rattle.class_layout.specs.ByClass.{by_class, base_number, assignable_row}
+use Rattle.class_layout.specs.ByClass.{by_class, assignable_row}
 use Rattle.class_layout.specs.Kinds.{slot_kinds}
 use Rattle.class_layout.specs.FieldSlots.{field_rows, class_names}
 use Rattle.class_layout.specs.Targets.{target_rows, targets_of}
 use Rattle.class_layout.specs.declared.ancestry.Ancestry.{Ancestry}
 use Rattle.class_layout.specs.declared.layout.Layout.{Layout}
 
--- the tables of bases, of interfaces and of assignability
+-- the table of assignability
 pub record IsAncestry (tree : Tree) (table : Ancestry) : Type 0 where
-  pub bases : table.bases.items ≡ by_class tree (base_number tree)
-  pub interfaces : table.interfaces.items ≡ by_class tree (is_interface tree)
   pub rows : map (λ row. row.items) table.rows.items ≡ by_class tree (assignable_row tree)
 
 -- a layout of a legal tree

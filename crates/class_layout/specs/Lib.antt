@@ -1,5 +1,4 @@
 pub mod ByClass
-pub mod Tested
 pub mod Kinds
 pub mod NumberedKinds
 pub mod FieldSlots

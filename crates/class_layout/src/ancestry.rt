@@ -1,47 +1,26 @@
-// Bases, interfaces and assignability of classes, by their numbers (ECMA-335 I.8.7).
+// Which types may stand for which, by the numbers of their classes (ECMA-335 I.8.7).
 
 ghost use Rattle.std.specs.Prelude.{◌≡◌, ◌<◌, ◌==◌, ℕ, IfOk, Some, map, length, flat_map, slice_get};
 ghost use Rattle.std.specs.List.{list_any};
 ghost use Rattle.cil_model.specs.declared.types.ClassName.{ClassName};
-ghost use Rattle.cil_model.specs.Chains.{is_interface};
+ghost use Rattle.cil_model.specs.declared.types.DeclaredType.{DeclaredType};
+ghost use Rattle.cil_model.specs.Assignable.{is_assignable};
 ghost use Rattle.cil_model.specs.Declarations.{Declaration};
 ghost use Rattle.name_tables.specs.Numbers.{declarations};
-ghost use Rattle.resolved_code.specs.Numbered.{class_name};
-ghost use Rattle.resolved_code.specs.Resolved.{AreResolved};
-ghost use Rattle.class_layout.specs.ByClass.{by_class, base_number, assignable_row, with_interfaces, marked_at};
+ghost use Rattle.resolved_code.specs.Numbered.{type_at};
+ghost use Rattle.class_layout.specs.ByClass.{by_class, assignable_row, with_interfaces, marked_at};
 
 use crate::classes::Classes;
-use crate::rows::{entry_at, flag_at, row_at};
+use crate::rows::{flag_at, row_at};
 use cil_model::memory::NoMemory;
-use resolved_code::classes::ResolvedClass;
+use resolved_code::type_tests::TypeTest;
+use resolved_code::types::NumberedType;
 use std::alloc::Global;
 
-/// The base of each class, whether it is an interface, and whether it is assignable to each class.
+/// For each class, whether it may stand for each class.
 #[derive(Debug, Drop)]
 pub struct Ancestry {
-    pub bases: Vec<Option<usize>>,
-    pub interfaces: Vec<bool>,
     pub rows: Vec<Vec<bool>>,
-}
-
-fn bases(alloc: Global, classes: &[ResolvedClass]) -> Result<Vec<Option<usize>>, NoMemory>
-    ensures { IfOk result (λ v. v.items ≡ map (λ r. r.base) classes.now) }
-{
-    let mut bases = Vec::new(alloc);
-    for class in classes {
-        bases.push(class.base)?;
-    }
-    Ok(bases)
-}
-
-fn interfaces(alloc: Global, classes: &[ResolvedClass]) -> Result<Vec<bool>, NoMemory>
-    ensures { IfOk result (λ v. v.items ≡ map (λ r. r.is_interface) classes.now) }
-{
-    let mut interfaces = Vec::new(alloc);
-    for class in classes {
-        interfaces.push(class.is_interface)?;
-    }
-    Ok(interfaces)
 }
 
 /// The classes of a chain, each with the interfaces that it lists.
@@ -93,33 +72,27 @@ impl Ancestry {
 
     /// Fails for want of memory alone.
     pub fn new(alloc: Global, classes: &Classes) -> Result<Self, NoMemory>
-        requires { AreResolved classes.now.program.now classes.now.all.now }
         ensures { IfOk result (λ table. IsAncestry classes.now.program.now table) }
     {
         Ok(Ancestry {
-            bases: bases(alloc, classes.all)?,
-            interfaces: interfaces(alloc, classes.all)?,
             rows: rows(alloc, classes)?,
         })
     }
 
-    /// The base of a class.
-    pub fn base(&self, class: usize) -> Option<usize>
-        ensures { (tree : Tree) → IsAncestry tree self.now → (c : ClassName) → class_name tree class ≡ Some c → result ≡ base_number tree c }
-    {
-        entry_at(self.bases.as_slice(), class)
-    }
-
-    pub fn is_interface(&self, class: usize) -> bool
-        ensures { (tree : Tree) → IsAncestry tree self.now → (c : ClassName) → class_name tree class ≡ Some c → result ≡ is_interface tree c }
-    {
-        flag_at(self.interfaces.as_slice(), class)
-    }
-
     /// Whether a class may stand for another.
-    pub fn is_assignable(&self, from: usize, to: usize) -> bool
+    fn is_class_assignable(&self, from: usize, to: usize) -> bool
         ensures { result ≡ marked_at (map (λ row. row.items) self.now.rows.items) from to }
     {
         flag_at(row_at(self.rows.as_slice(), from), to)
+    }
+
+    /// Whether a value of the first type may stand where the second is wanted.
+    pub fn is_assignable(&self, from: NumberedType, to: NumberedType) -> bool
+        ensures { (tree : Tree) → IsAncestry tree self.now → (a b : DeclaredType) → type_at tree from ≡ Some a → type_at tree to ≡ Some b → result ≡ is_assignable tree a b }
+    {
+        match from.test_for(to) {
+            TypeTest::Answered(answer) => answer,
+            TypeTest::OfClasses { from, to } => self.is_class_assignable(from, to),
+        }
     }
 }

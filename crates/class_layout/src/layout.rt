@@ -5,7 +5,6 @@ ghost use Rattle.cil_model.specs.declared.trees.Tree.{Tree};
 ghost use Rattle.cil_model.specs.declared.types.ClassName.{ClassName};
 ghost use Rattle.cil_model.specs.declared.types.DeclaredType.{DeclaredType};
 ghost use Rattle.cil_model.specs.Assignable.{is_assignable};
-ghost use Rattle.cil_model.specs.Chains.{is_interface};
 ghost use Rattle.cil_model.specs.Fields.{slot_types, is_reference_slot, instance_slot, static_slot};
 ghost use Rattle.cil_model.specs.declared.trees.Field.{Field};
 ghost use Rattle.cil_model.specs.declared.trees.Method.{Method};
@@ -13,7 +12,6 @@ ghost use Rattle.cil_model.specs.Slots.{target};
 ghost use Rattle.name_tables.specs.Numbers.{field_at, method_at};
 ghost use Rattle.resolved_code.specs.Numbered.{class_name, type_at};
 ghost use Rattle.resolved_code.specs.Resolved.{AreResolved};
-ghost use Rattle.class_layout.specs.ByClass.{base_number};
 
 use crate::ancestry::Ancestry;
 use crate::classes::Classes;
@@ -22,7 +20,6 @@ use crate::kinds::SlotKind;
 use crate::rows::row_at;
 use crate::slots::{all_fields, number_at};
 use crate::targets::{Targets, all_targets, target_at};
-use crate::tested::is_tested;
 use cil_model::memory::NoMemory;
 use name_tables::lookups::MemberNumber;
 use resolved_code::types::NumberedType;
@@ -58,26 +55,12 @@ impl Layout {
         })
     }
 
-    /// The number of the base of a class (ECMA-335 II.10.1); none where it has none. The number has to be that of a class.
-    pub fn base(&self, class: usize) -> Option<usize>
-        ensures { (tree : Tree) → IsLayout tree self.now → (c : ClassName) → class_name tree class ≡ Some c → result ≡ base_number tree c }
-    {
-        self.ancestry.base(class)
-    }
-
-    /// Whether a class is an interface (ECMA-335 II.12). The number has to be that of a class.
-    pub fn is_interface(&self, class: usize) -> bool
-        ensures { (tree : Tree) → IsLayout tree self.now → (c : ClassName) → class_name tree class ≡ Some c → result ≡ is_interface tree c }
-    {
-        self.ancestry.is_interface(class)
-    }
-
     /// Whether a value of the first type may stand where the second is wanted (ECMA-335 I.8.7). An array may stand for one of as many
     /// brackets where its element may stand for the other's, and for `object` with fewer.
     pub fn assignable(&self, from: NumberedType, to: NumberedType) -> bool
         ensures { (tree : Tree) → IsLayout tree self.now → (a b : DeclaredType) → type_at tree from ≡ Some a → type_at tree to ≡ Some b → result ≡ is_assignable tree a b }
     {
-        is_tested(&self.ancestry, from, to)
+        self.ancestry.is_assignable(from, to)
     }
 
     /// How many slots an object of a class has: the hidden field of a `Cilvm.Thread`, and its instance fields with those of its bases.

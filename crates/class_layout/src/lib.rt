@@ -13,7 +13,6 @@ mod roles;
 mod rows;
 mod slots;
 mod targets;
-mod tested;
 
 pub use kinds::SlotKind;
 pub use layout::Layout;

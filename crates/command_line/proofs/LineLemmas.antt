@@ -10,10 +10,10 @@ use Rattle.clap.specs.declared.error.kind.ErrorKind.{ErrorKind}
 use Rattle.clap.specs.declared.builder.value_parser.ValueParser.TheVariants as vp
 use Rattle.clap.specs.Words.{IsAmong}
 use Rattle.clap.specs.declared.error.Error.{Error}
-use Rattle.clap.specs.declared.error.kind.ErrorKind.TheVariants.{ValueValidation}
+use Rattle.clap.specs.declared.error.kind.ErrorKind.TheVariants.{DisplayVersion, ValueValidation}
 use Rattle.command_line.specs.CommandLine.{run, FaultIs, Refuses, cilvm_app, faults_of, number_in, wanted_by, wanted_in}
 use Rattle.command_line.specs.declared.line.LineFault.{LineFault}
-use Rattle.command_line.specs.declared.line.LineFault.TheVariants.{Help, Bad, Memory}
+use Rattle.command_line.specs.declared.line.LineFault.TheVariants.{Help, Version, Bad, Memory}
 
 pub number_in-some : (least most n : ℕ) (text : Text) → most < 2 ^ 32 → IsNumeral 10 (without_leading_plus text)
     → digits_value 10 (without_leading_plus text) ≡ n → least ≤ n → n ≤ most → Some n ≡ number_in least most text
@@ -65,8 +65,10 @@ pub refuses : (words : List Text) (e : Error) (fault : LineFault) → HasKind (f
     → Refuses words fault
 refuses words e (Help text) (inl memory) is = absurd (cc (sym is ∙ memory))
 refuses words e (Help text) (inr among) is = subst (λ (k : ErrorKind). IsAmong k (faults_of words)) is among
-refuses words e (Bad text) (inl memory) is = absurd (is.1 memory)
-refuses words e (Bad text) (inr among) is = inl (kind_of e, among, is.0)
+refuses words e (Version text) (inl memory) is = absurd (cc (sym is ∙ memory))
+refuses words e (Version text) (inr among) is = subst (λ (k : ErrorKind). IsAmong k (faults_of words)) is among
+refuses words e (Bad text) (inl memory) is = absurd (is.2 memory)
+refuses words e (Bad text) (inr among) is = inl (kind_of e, among, is.0, is.1)
 refuses words e Memory kind is = tt
 
 -- the definitions at words that are written out
@@ -83,3 +85,11 @@ words_63 : faults_of (codes "cilvm" ∷ codes "run" ∷ codes "p.il" ∷ codes "
     ≡ ValueValidation ∷ []
 unfolding clap_on_literals
 words_63 = refl
+
+asks_version : faults_of (codes "cilvm" ∷ codes "--version" ∷ []) ≡ DisplayVersion ∷ []
+unfolding clap_on_literals
+asks_version = refl
+
+asks_version_by_letter : faults_of (codes "cilvm" ∷ codes "-V" ∷ []) ≡ DisplayVersion ∷ []
+unfolding clap_on_literals
+asks_version_by_letter = refl

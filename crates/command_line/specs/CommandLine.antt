@@ -11,7 +11,7 @@ use Rattle.clap.specs.Words.{new_rule, subcommand_of, with_rule, with_subcommand
 use Rattle.clap.specs.declared.builder.action.ArgAction.TheVariants.{SetTrue}
 use Rattle.clap.specs.declared.builder.value_parser.ValueParser.TheVariants as vp
 use Rattle.clap.specs.declared.error.kind.ErrorKind.{ErrorKind}
-use Rattle.clap.specs.declared.error.kind.ErrorKind.TheVariants.{DisplayHelp, OutOfMemory}
+use Rattle.clap.specs.declared.error.kind.ErrorKind.TheVariants.{DisplayHelp, DisplayVersion, OutOfMemory}
 use Rattle.cil_model.specs.Ranges.{are_in_range}
 use Rattle.cil_model.specs.declared.limits.Limits.{Limits}
 use Rattle.cil_model.specs.declared.limits.TheConstants.{LEAST_WORDS, MOST_WORDS}
@@ -19,7 +19,7 @@ use Rattle.cil_model.specs.declared.limits.TheConstants.{MOST_BUDGET, MOST_DEPTH
 use Rattle.orders.specs.declared.order.Order.{Order}
 use Rattle.orders.specs.declared.order.Order.TheVariants.{Check, Run, Replay, Trace, Flip}
 use Rattle.command_line.specs.declared.line.LineFault.{LineFault}
-use Rattle.command_line.specs.declared.line.LineFault.TheVariants.{Help, Bad, Memory}
+use Rattle.command_line.specs.declared.line.LineFault.TheVariants.{Help, Version, Bad, Memory}
 
 -- ---- the arguments
 
@@ -70,7 +70,7 @@ abbrev pub replay_app : App
 replay_app = with_limits (with_explain (with_files (codes "replay")))
 
 abbrev pub trace_app : App
-trace_app = with_limits (with_files (codes "trace"))
+trace_app = with_limits (with_explain (with_files (codes "trace")))
 
 -- all four numbers have to be given
 abbrev pub flip_app : App
@@ -82,9 +82,13 @@ abbrev pub with_required_subcommand : App → App
 with_required_subcommand a =
     record a { top = record a.top { subcommand_required = true; arg_required_else_help = true } }
 
+-- `--version` and `-V`
+abbrev pub with_version : App → App
+with_version a = record a { top = record a.top { has_version = true } }
+
 abbrev pub cilvm_app : App
 cilvm_app = with_subcommand (with_subcommand (with_subcommand (with_subcommand (with_subcommand
-    (with_required_subcommand (new_app (codes "cilvm"))) check_app.top) run_app.top) replay_app.top)
+    (with_version (with_required_subcommand (new_app (codes "cilvm")))) check_app.top) run_app.top) replay_app.top)
     trace_app.top) flip_app.top
 
 -- ---- what the words ask for
@@ -94,14 +98,14 @@ pub data Wanted : Type 0 where
   check : Text → Bool → Wanted
   run : Text → Text → Limits → Bool → Wanted
   replay : Text → Text → Limits → Bool → Wanted
-  trace : Text → Text → Limits → Wanted
+  trace : Text → Text → Limits → Bool → Wanted
   flip : ℕ → ℕ → ℕ → ℕ → Wanted
 
 abbrev pub wanted_of : Order → Wanted
 wanted_of (Check file explain) = check file.now explain
 wanted_of (Run file schedule limits explain) = run file.now schedule.now limits explain
 wanted_of (Replay file schedule limits explain) = replay file.now schedule.now limits explain
-wanted_of (Trace file schedule limits) = trace file.now schedule.now limits
+wanted_of (Trace file schedule limits explain) = trace file.now schedule.now limits explain
 wanted_of (Flip sizes) = flip sizes.seats sizes.objects sizes.slots sizes.rounds
 
 -- the number that the text writes in decimal digits, where it lies in the range
@@ -144,7 +148,7 @@ abbrev pub replay_in : List Row → Option Wanted
 replay_in rows = option_map (λ (s : Text × Text × Limits). replay s.0 s.1 s.2 (flag_at (codes "explain") rows)) (scheduled_in rows)
 
 abbrev pub trace_in : List Row → Option Wanted
-trace_in rows = option_map (λ (s : Text × Text × Limits). trace s.0 s.1 s.2) (scheduled_in rows)
+trace_in rows = option_map (λ (s : Text × Text × Limits). trace s.0 s.1 s.2 (flag_at (codes "explain") rows)) (scheduled_in rows)
 
 abbrev pub flip_in : List Row → Option Wanted
 flip_in rows = option_and_then (λ seats. option_and_then (λ objects. option_and_then (λ slots.
@@ -168,24 +172,26 @@ wanted_in = option_and_then (λ p. named_in p.0 p.1)
 abbrev pub wanted_by : List Text → Option Wanted
 wanted_by words = wanted_in (subcommand_of cilvm_app words)
 
--- what clap has against the words, a wish for help among it
+-- what clap has against the words, a wish for help or for the version among it
 abbrev pub faults_of : List Text → Kinds
 faults_of words = fault_of cilvm_app words
 
 -- a mistake is among what clap has against the words
 abbrev pub HasMistake : List Text → Type 0
-HasMistake words = (k : ErrorKind) × IsAmong k (faults_of words) × (k ≢ DisplayHelp)
+HasMistake words = (k : ErrorKind) × IsAmong k (faults_of words) × (k ≢ DisplayHelp) × (k ≢ DisplayVersion)
 
 -- ---- the answer
 
 -- the fault that an error of clap becomes, unless memory runs out
 abbrev pub FaultIs : ErrorKind → LineFault → Type 0
 FaultIs k (Help text) = k ≡ DisplayHelp
-FaultIs k (Bad text) = (k ≢ DisplayHelp) × (k ≢ OutOfMemory)
+FaultIs k (Version text) = k ≡ DisplayVersion
+FaultIs k (Bad text) = (k ≢ DisplayHelp) × (k ≢ DisplayVersion) × (k ≢ OutOfMemory)
 FaultIs k Memory = ⊤
 
 abbrev pub Refuses : List Text → LineFault → Type 0
 Refuses words (Help text) = IsAmong DisplayHelp (faults_of words)
+Refuses words (Version text) = IsAmong DisplayVersion (faults_of words)
 Refuses words (Bad text) = HasMistake words ⊎ (wanted_by words ≡ None)
 Refuses words Memory = ⊤
 
@@ -199,5 +205,5 @@ abbrev pub IsInRange : Order → Type 0
 IsInRange (Check file explain) = ⊤
 IsInRange (Run file schedule limits explain) = are_in_range limits ≡ true
 IsInRange (Replay file schedule limits explain) = are_in_range limits ≡ true
-IsInRange (Trace file schedule limits) = are_in_range limits ≡ true
+IsInRange (Trace file schedule limits explain) = are_in_range limits ≡ true
 IsInRange (Flip sizes) = ⊤

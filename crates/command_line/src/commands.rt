@@ -5,11 +5,19 @@ ghost use Rattle.clap.specs.Words.{app_of, new_app, rule_of};
 ghost use Rattle.clap.specs.declared.builder.command.Command.TheViews.{out-Command};
 ghost use Rattle.command_line.specs.CommandLine.{check_app, cilvm_app, file_rule, flag_rule, number_rule};
 ghost use Rattle.command_line.specs.CommandLine.{flip_app, needed, replay_app, run_app, text_rule, trace_app, with_default};
-ghost use Rattle.command_line.specs.CommandLine.{with_explain, with_files, with_limits, with_required_subcommand};
+ghost use Rattle.command_line.specs.CommandLine.{with_explain, with_files, with_limits, with_required_subcommand, with_version};
 
+use crate::version::VERSION;
 use cil_model::limits::{LEAST_WORDS, MOST_BUDGET, MOST_DEPTH, MOST_WORDS};
 use clap::{Arg, ArgAction, Command, value_parser};
 use std::alloc::{AllocError, Global};
+
+/// What the explanation of a source is.
+const EXPLAIN_REFUSAL: &str = "After a refusal, shows its place and its rule";
+
+/// What the explanation of a run is.
+const EXPLAIN_RUN: &str =
+    "After a refusal, shows its place and its rule; after a run, what its live threads wait for";
 
 fn file_argument<'a>(alloc: Global, id: &'a str, name: &'a str, help: &'a str) -> Arg<'a>
     ensures rule { rule_of result ≡ file_rule id.entry.now }
@@ -67,8 +75,12 @@ fn limit_option<'a>(
     number_option(alloc, id, least, most, help).default_value(default)
 }
 
-/// The option that has a refusal explained.
-fn with_explain<'a>(alloc: Global, command: Command<'a>) -> Result<Command<'a>, AllocError>
+/// The option that has a refusal explained, and what threads wait for where a run ends with live ones.
+fn with_explain<'a>(
+    alloc: Global,
+    command: Command<'a>,
+    help: &'a str,
+) -> Result<Command<'a>, AllocError>
     requires { (out-Command command).has_globals ≡ false }
     ensures app { IfOk result (λ c. app_of c ≡ with_explain (app_of command.entry)) }
     ensures local { IfOk result (λ c. (out-Command c).has_globals ≡ false) }
@@ -76,7 +88,7 @@ fn with_explain<'a>(alloc: Global, command: Command<'a>) -> Result<Command<'a>, 
     let explain = Arg::new(alloc, "explain")
         .long("explain")
         .action(ArgAction::SetTrue)
-        .help("After a refusal, shows its place and its rule");
+        .help(help);
     command.arg(explain)
 }
 
@@ -130,7 +142,7 @@ fn check_command<'a>(alloc: Global) -> Result<Command<'a>, AllocError>
         .about("Says whether a source is accepted")
         .after_help("Example:\n  cilvm check examples/add.il")
         .arg(file_argument(alloc, "file", "FILE", "The source, in ilasm text"))?;
-    with_explain(alloc, command)
+    with_explain(alloc, command, EXPLAIN_REFUSAL)
 }
 
 fn run_command<'a>(alloc: Global) -> Result<Command<'a>, AllocError>
@@ -149,7 +161,7 @@ fn run_command<'a>(alloc: Global) -> Result<Command<'a>, AllocError>
             "EVENTS",
             "The events in their order, as 's0*5 g a0'",
         ))?;
-    let command = with_explain(alloc, command)?;
+    let command = with_explain(alloc, command, EXPLAIN_RUN)?;
     with_limits(alloc, command)
 }
 
@@ -162,7 +174,7 @@ fn replay_command<'a>(alloc: Global) -> Result<Command<'a>, AllocError>
         .after_help(
             "The file has the events in the form that 'cilvm run --help' tells, on as many lines as you like.\n\nExample, which prints 5:\n  cilvm replay examples/add.il examples/add.schedule",
         );
-    let command = with_explain(alloc, command)?;
+    let command = with_explain(alloc, command, EXPLAIN_RUN)?;
     with_limits(alloc, command)
 }
 
@@ -173,8 +185,9 @@ fn trace_command<'a>(alloc: Global) -> Result<Command<'a>, AllocError>
     let command = with_files(alloc, "trace")?
         .about("Replays a schedule, and prints a line of each event")
         .after_help(
-            "A line has these columns, with tabs between them: the event's number, the event, what was reported of it, the instruction that the thread was at, the thread's frames and the height of its stack after the event, and the words in use after it. What the program prints and how its threads stand follow as 'cilvm replay' prints them.\n\nExample:\n  cilvm trace examples/add.il examples/add.schedule",
+            "A line has these columns, with tabs between them: the event's number, the event, what was reported of it, the instruction that the thread was at, the thread's frames and the height of its stack after the event, and the words in use after it. An empty line ends the trace. What the program prints and how its threads stand follow as 'cilvm replay' prints them.\n\nExample:\n  cilvm trace examples/add.il examples/add.schedule",
         );
+    let command = with_explain(alloc, command, EXPLAIN_RUN)?;
     with_limits(alloc, command)
 }
 
@@ -206,9 +219,10 @@ fn flip_command<'a>(alloc: Global) -> Result<Command<'a>, AllocError>
 }
 
 fn program<'a>(alloc: Global) -> Command<'a>
-    ensures { app_of result ≡ with_required_subcommand (new_app (codes "cilvm")) }
+    ensures { app_of result ≡ with_version (with_required_subcommand (new_app (codes "cilvm"))) }
 {
     Command::new(alloc, "cilvm")
+        .version(VERSION)
         .about("Checks CIL programs, and runs their threads by a schedule of steps")
         .after_help(
             "'cilvm COMMAND --help' says what a command takes.\n\nExample, which prints 5:\n  cilvm run examples/add.il --schedule 's0*5'",

@@ -20,6 +20,8 @@ use std::alloc::{AllocError, Global};
 pub enum LineFault {
     /// Help was asked for: the text for the standard output.
     Help(String),
+    /// The version was asked for: the text for the standard output.
+    Version(String),
     /// The words have a mistake: the text for the standard error.
     Bad(String),
     /// Memory ran out.
@@ -59,10 +61,24 @@ fn line_fault(alloc: Global, error: &Error) -> LineFault
     if kind == ErrorKind::OutOfMemory {
         return LineFault::Memory;
     }
-    match error.to_string(alloc) {
+    match told(alloc, error) {
         Ok(text) if kind == ErrorKind::DisplayHelp => LineFault::Help(text),
+        Ok(text) if kind == ErrorKind::DisplayVersion => LineFault::Version(text),
         Ok(text) => LineFault::Bad(text),
         Err(_) => LineFault::Memory,
+    }
+}
+
+/// What clap tells of an error, but for its tip how to pass an option that there is not as a value: no one means that. Fails for want of
+/// memory alone.
+fn told(alloc: Global, error: &Error) -> Result<String, AllocError> {
+    let text = error.to_string(alloc)?;
+    let Some((mistake, tip)) = text.as_str().split_once("\n\n  tip: to pass '") else {
+        return Ok(text);
+    };
+    match tip.split_once("\n\nUsage: ") {
+        Some((_, usage)) => format!(in alloc; "{mistake}\n\nUsage: {usage}"),
+        None => Ok(text),
     }
 }
 
@@ -123,10 +139,12 @@ fn wanted_trace<'a>(found: &ArgMatches<'a>) -> Option<Order<'a>>
     ensures range { IfSome result IsInRange }
 {
     let (file, schedule, limits) = scheduled(found)?;
+    let explain = flag(found, "explain");
     Some(Order::Trace {
         file,
         schedule,
         limits,
+        explain,
     })
 }
 

@@ -1,7 +1,6 @@
 -- The lines of threads, one after another.
 use Rattle.std.proofs.Common.{◌≡◌, ◌+◌, ◌<◌, ℕ, List, ◌∷◌, [], ◌++◌, length, take, get_or, Option, None, Some, arith, sym, ◌∙◌, ap, zero, suc, append_assoc}
 use Rattle.std.proofs.lemmas.List.{append-nil}
-use Rattle.std.specs.Io.KnownBytes.{Appends}
 use Rattle.cil_model.specs.declared.reports.End.{End}
 use Rattle.driver.specs.Threads.{line_of, lines_from}
 
@@ -15,10 +14,3 @@ lines_more thread zero n (end ∷ ends) d is below =
 lines_more thread (suc k) n (end ∷ ends) d is below =
     ap (λ lines. line_of thread end ++ lines) (lines_more (thread + 1) k n ends d (omega (arith, is)) (omega (arith, below)))
     ∙ sym (append_assoc (line_of thread end) (lines_from (thread + 1) (take k ends)) (line_of n (get_or ends k d)))
-
--- bytes behind bytes
-pub appends_more : (a b c : Option (List ℕ)) (bs cs : List ℕ) → Appends a b bs → Appends b c cs → Appends a c (bs ++ cs)
-appends_more None b c bs cs p q = tt
-appends_more (Some x) None c bs cs p q = absurd p
-appends_more (Some x) (Some y) None bs cs p q = absurd q
-appends_more (Some x) (Some y) (Some z) bs cs p q = q ∙ ap (λ l. l ++ cs) p ∙ append_assoc x bs cs

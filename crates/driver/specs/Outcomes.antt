@@ -1,13 +1,16 @@
 -- What comes of an order: what is printed, and the status that the program ends with (this profile).
 use Rattle.std.specs.Io.KnownBytes.{Appends}
 use Rattle.std.specs.Fmt.{decimal}
-use Rattle.std.specs.Prelude.{◌≡◌, ◌⊎◌, ◌*◌, ◌++◌, ◌∷◌, [], ℕ, Bool, true, false, List, Option, codes, if◌then◌else◌}
+use Rattle.std.specs.Prelude.{◌≡◌, ◌⊎◌, ◌*◌, ◌++◌, ◌∷◌, [], ℕ, Bool, true, false, List, Option, codes, map, if◌then◌else◌}
 use Rattle.flip_trial.specs.Trial.{place_count}
 use Rattle.flip_trial.specs.declared.sizes.Sizes.{Sizes}
-use Rattle.event_trace.specs.Traces.{IsTraced, IsTracedInPart}
-use Rattle.event_trace.specs.declared.errors.TraceError.{TraceError}
-use Rattle.event_trace.specs.declared.errors.TraceError.TheVariants.{Memory as WantsMemory, Device as CantWrite}
+use Rattle.deadlocks.specs.Deadlocks.{IsDeadlockOf}
+use Rattle.deadlocks.specs.Texts.{threads_text}
+use Rattle.deadlocks.specs.event_trace.Traces.{IsTraced, IsTracedInPart}
+use Rattle.deadlocks.specs.event_trace.declared.errors.TraceError.{TraceError}
+use Rattle.deadlocks.specs.event_trace.declared.errors.TraceError.TheVariants.{Memory as WantsMemory, Device as CantWrite}
 use Rattle.source_runs.specs.simulation.StandsFor.{Represents}
+use Rattle.source_runs.specs.simulation.threads_monitors.Threads.{end_of}
 use Rattle.cil_model.specs.declared.events.Event.{Event}
 use Rattle.cil_model.specs.declared.limits.Limits.{Limits}
 use Rattle.source_runs.specs.reference_machine.States.{State}
@@ -25,11 +28,30 @@ use Rattle.orders.specs.declared.order.Order.{Order}
 use Rattle.orders.specs.declared.order.Order.TheVariants.{Check, Run, Replay, Trace, Flip}
 use Rattle.source_runs.specs.Runs.{IsLetIn, IsNotAccepted, IsNotRunBy, ComesTo, IsOpened, IsReady}
 
--- what is shown on the two outputs of bytes that were printed and of how the threads stand, and the status
-pub record IsShown (printed : List ℕ) (ends : List (Option End)) (out out' err err' : Option (List ℕ)) (status : ℕ) : Type 0 where
+-- the lines of each live thread of a machine, and of those that are deadlocked
+abbrev pub AreThreadsExplained : Content → List ℕ → Type 0
+AreThreadsExplained c text = (deadlocked : List Bool) × IsDeadlockOf c deadlocked × (text ≡ threads_text c deadlocked)
+
+-- what explains how the threads of a machine stand, where that is asked for, unless memory is wanted; else nothing
+abbrev pub IsThreadText : Bool → Content → List ℕ → Type 0
+IsThreadText false c text = text ≡ []
+IsThreadText true c text = (text ≡ []) ⊎ AreThreadsExplained c text
+
+-- what is shown on the two outputs of bytes that were printed, of how the threads stand, and of what explains that; and the status
+pub record IsShown (printed : List ℕ) (ends : List (Option End)) (text : List ℕ) (out out' err err' : Option (List ℕ)) (status : ℕ) : Type 0 where
   pub output : Appends out out' printed
-  pub errors : Appends err err' (lines_from 0 ends)
+  pub errors : Appends err err' (lines_from 0 ends ++ text)
   pub status_is : status ≡ status_of ends
+
+-- what a machine has printed and how its threads stand is shown
+abbrev pub IsMachineShown : Bool → Content → Option (List ℕ) → Option (List ℕ) → Option (List ℕ) → Option (List ℕ) → ℕ → Type 0
+IsMachineShown explain c out out' err err' status =
+    (text : List ℕ) × IsThreadText explain c text × IsShown c.printed (map end_of c.threads) text out out' err err' status
+
+-- a beginning of that is shown
+abbrev pub IsMachineShownInPart : Bool → Content → Option (List ℕ) → Option (List ℕ) → Option (List ℕ) → Option (List ℕ) → Type 0
+IsMachineShownInPart explain c out out' err err' =
+    (text : List ℕ) × IsThreadText explain c text × AppendsBeginning out out' c.printed × AppendsBeginning err err' (lines_from 0 (map end_of c.threads) ++ text)
 
 -- ---- a trial of the flip
 
@@ -54,13 +76,18 @@ abbrev pub IsNotChecked : List ℕ → Failure → Type 0
 IsNotChecked source failure =
     IsNotAccepted source failure ⊎ (IsLetIn source × IsOfWriting failure)
 
--- a run is done: what the state that it comes to has printed, and how its threads stand, is shown
-pub record HasRun (source : List ℕ) (limits : Limits) (text : List ℕ) (out out' err err' : Option (List ℕ)) (status : ℕ) : Type 0 where
+-- A run is done: what the state that it comes to has printed, and how its threads stand, is shown, with what explains the threads of a
+-- machine that represents the state.
+pub record HasRun (source : List ℕ) (limits : Limits) (text : List ℕ) (explain : Bool) (out out' err err' : Option (List ℕ)) (status : ℕ) : Type 0 where
   pub events : List Event
   pub reports : List Report
   pub state : State
   pub comes_to : ComesTo source limits text events reports state
-  pub shown : IsShown state.printed (ends_of state) out out' err err' status
+  pub after : Content
+  pub represents : Represents after state
+  pub explanation : List ℕ
+  pub explains : IsThreadText explain after explanation
+  pub shown : IsShown state.printed (ends_of state) explanation out out' err err' status
 
 -- why a run is not done
 abbrev pub HasNotRun : List ℕ → Limits → List ℕ → Failure → Type 0
@@ -72,9 +99,9 @@ failure_of_tracing WantsMemory = Memory
 failure_of_tracing CantWrite = Device
 
 -- A run is traced. A machine that holds what the program begins with makes the turns of the events, with the reports of the run, and a
--- line of each is shown. It represents then the state that the run comes to, and what that has printed, and how its threads stand, is
--- shown as if it were not traced.
-pub record HasTraced (source : List ℕ) (limits : Limits) (text : List ℕ) (out out' err err' : Option (List ℕ)) (status : ℕ) : Type 0 where
+-- line of each is shown, and an empty line. It represents then the state that the run comes to, and what that has printed, and how its
+-- threads stand, is shown as if it were not traced.
+pub record HasTraced (source : List ℕ) (limits : Limits) (text : List ℕ) (explain : Bool) (out out' err err' : Option (List ℕ)) (status : ℕ) : Type 0 where
   pub events : List Event
   pub reports : List Report
   pub state : State
@@ -85,18 +112,20 @@ pub record HasTraced (source : List ℕ) (limits : Limits) (text : List ℕ) (ou
   pub between : Option (List ℕ)
   pub traced : IsTraced begins events after reports out between
   pub represents : Represents after state
-  pub shown : IsShown state.printed (ends_of state) between out' err err' status
+  pub explanation : List ℕ
+  pub explains : IsThreadText explain after explanation
+  pub shown : IsShown state.printed (ends_of state) explanation between out' err err' status
 
 -- an order is carried out: a run takes its schedule from the command line, a replay from the file
 abbrev pub IsDone : Order → List ℕ → List ℕ → Option (List ℕ) → Option (List ℕ) → Option (List ℕ) → Option (List ℕ) → ℕ → Type 0
 IsDone (Check file explain) source schedule out out' err err' status =
     IsChecked source out out' status × (err' ≡ err)
 IsDone (Run file text limits explain) source schedule out out' err err' status =
-    HasRun source limits text.now out out' err err' status
+    HasRun source limits text.now explain out out' err err' status
 IsDone (Replay file name limits explain) source schedule out out' err err' status =
-    HasRun source limits schedule out out' err err' status
-IsDone (Trace file name limits) source schedule out out' err err' status =
-    HasTraced source limits schedule out out' err err' status
+    HasRun source limits schedule explain out out' err err' status
+IsDone (Trace file name limits explain) source schedule out out' err err' status =
+    HasTraced source limits schedule explain out out' err err' status
 IsDone (Flip sizes) source schedule out out' err err' status =
     IsTried sizes out out' status × (err' ≡ err)
 
@@ -107,20 +136,24 @@ IsNotDone (Run file text limits explain) source schedule failure =
     HasNotRun source limits text.now failure
 IsNotDone (Replay file name limits explain) source schedule failure =
     HasNotRun source limits schedule failure
-IsNotDone (Trace file name limits) source schedule failure =
+IsNotDone (Trace file name limits explain) source schedule failure =
     HasNotRun source limits schedule failure
 IsNotDone (Flip sizes) source schedule failure = IsOfWriting failure
 
 -- ---- an order that is not carried out
 
--- a run is shown in part: a beginning of what its state has printed, and of how its threads stand
-pub record IsRunInPart (source : List ℕ) (limits : Limits) (text : List ℕ) (out out' err err' : Option (List ℕ)) : Type 0 where
+-- a run is shown in part: a beginning of what its state has printed, and of how its threads stand and what explains that
+pub record IsRunInPart (source : List ℕ) (limits : Limits) (text : List ℕ) (explain : Bool) (out out' err err' : Option (List ℕ)) : Type 0 where
   pub events : List Event
   pub reports : List Report
   pub state : State
   pub comes_to : ComesTo source limits text events reports state
+  pub after : Content
+  pub represents : Represents after state
+  pub explanation : List ℕ
+  pub explains : IsThreadText explain after explanation
   pub output : AppendsBeginning out out' state.printed
-  pub errors : AppendsBeginning err err' (lines_from 0 (ends_of state))
+  pub errors : AppendsBeginning err err' (lines_from 0 (ends_of state) ++ explanation)
 
 -- a run is traced in part: a beginning of the lines of its first events is shown
 pub record IsTraceInPart (source : List ℕ) (limits : Limits) (text : List ℕ) (out out' : Option (List ℕ)) : Type 0 where
@@ -131,7 +164,7 @@ pub record IsTraceInPart (source : List ℕ) (limits : Limits) (text : List ℕ)
   pub traced : IsTracedInPart begins events after out out'
 
 -- a run is traced to its end, and shown in part
-pub record IsTracedThenInPart (source : List ℕ) (limits : Limits) (text : List ℕ) (out out' err err' : Option (List ℕ)) : Type 0 where
+pub record IsTracedThenInPart (source : List ℕ) (limits : Limits) (text : List ℕ) (explain : Bool) (out out' err err' : Option (List ℕ)) : Type 0 where
   pub events : List Event
   pub begins : Content
   pub ready : IsReady source limits text events begins
@@ -139,18 +172,18 @@ pub record IsTracedThenInPart (source : List ℕ) (limits : Limits) (text : List
   pub reports : List Report
   pub between : Option (List ℕ)
   pub traced : IsTraced begins events after reports out between
-  pub shown : IsRunInPart source limits text between out' err err'
+  pub shown : IsRunInPart source limits text explain between out' err err'
 
 -- a beginning of what the order shows where it is carried out
 abbrev pub IsDoneInPart : Order → List ℕ → List ℕ → Option (List ℕ) → Option (List ℕ) → Option (List ℕ) → Option (List ℕ) → Type 0
 IsDoneInPart (Check file explain) source schedule out out' err err' =
     IsLetIn source × AppendsBeginning out out' (codes "accepted" ++ 10 ∷ []) × (err' ≡ err)
 IsDoneInPart (Run file text limits explain) source schedule out out' err err' =
-    IsRunInPart source limits text.now out out' err err'
+    IsRunInPart source limits text.now explain out out' err err'
 IsDoneInPart (Replay file name limits explain) source schedule out out' err err' =
-    IsRunInPart source limits schedule out out' err err'
-IsDoneInPart (Trace file name limits) source schedule out out' err err' =
-    (IsTraceInPart source limits schedule out out' × (err' ≡ err)) ⊎ IsTracedThenInPart source limits schedule out out' err err'
+    IsRunInPart source limits schedule explain out out' err err'
+IsDoneInPart (Trace file name limits explain) source schedule out out' err err' =
+    (IsTraceInPart source limits schedule out out' × (err' ≡ err)) ⊎ IsTracedThenInPart source limits schedule explain out out' err err'
 IsDoneInPart (Flip sizes) source schedule out out' err err' =
     ((retired : ℕ) × AppendsBeginning out out' (trial_text (sizes.rounds * place_count sizes) retired)) × (err' ≡ err)
 

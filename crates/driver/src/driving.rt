@@ -2,7 +2,7 @@
 
 ghost use Rattle.std.specs.Prelude.{◌≡◌, ◌⊎◌, ◌*◌, ◌++◌, ◌∷◌, [], ℕ, codes, IfErr, IfOk, List, OnErr, OnOk, true};
 ghost use Rattle.cil_model.specs.declared.reports.Report.{Report};
-ghost use Rattle.event_trace.specs.Traces.{IsTraced, IsTracedInPart};
+ghost use Rattle.deadlocks.specs.event_trace.Traces.{IsTraced, IsTracedInPart};
 ghost use Rattle.flip_trial.specs.Trial.{place_count};
 ghost use Rattle.outputs.specs.Beginnings.{AppendsBeginning};
 ghost use Rattle.source_runs.specs.Failures.{IsOfWriting, is_refusal};
@@ -15,7 +15,7 @@ use crate::explaining::tell_failure;
 use crate::showing::{say_accepted, show, show_trial};
 use cil_model::events::Event;
 use cil_model::limits::Limits;
-use event_trace::{TraceError, trace};
+use deadlocks::{TraceError, trace};
 use flip_trial::Sizes;
 use orders::Order;
 use outputs::NotWritten;
@@ -29,8 +29,9 @@ use std::thread::Threads;
 /// from `schedule`, which the others pass over. Faults are looked for in this order: the source, the limits,
 /// the schedule, the run.
 ///
-/// What a run prints goes to `out` and how its threads stand to `err`, once the run has ended; a trace has
-/// printed a line of each event to `out` before. A refusal prints `error` and its number to `err`, and what
+/// What a run prints goes to `out` and how its threads stand to `err`, once the run has ended; where the order
+/// asks for that, what its live threads wait for stands behind, unless memory is wanted for it. A trace has
+/// printed a line of each event and an empty line to `out` before. A refusal prints `error` and its number to `err`, and what
 /// explains it where the order asks for that; want of memory prints `memory`, a failed write `device`. Where
 /// that can't be written either, the status is 5, and a beginning of it is written. No command has a record
 /// yet, so `record` stays as it was.
@@ -97,10 +98,28 @@ fn perform<W: Write, E: Write>(
         Order::Run {
             schedule: text,
             limits,
+            explain,
             ..
-        } => show_run(rt, alloc, source, limits, text.as_bytes(), out, err),
-        Order::Replay { limits, .. } => show_run(rt, alloc, source, limits, schedule, out, err),
-        Order::Trace { limits, .. } => show_trace(alloc, source, limits, schedule, out, err),
+        } => show_run(
+            rt,
+            alloc,
+            source,
+            limits,
+            text.as_bytes(),
+            explain,
+            out,
+            err,
+        ),
+        Order::Replay {
+            limits,
+            explain,
+            ..
+        } => show_run(rt, alloc, source, limits, schedule, explain, out, err),
+        Order::Trace {
+            limits,
+            explain,
+            ..
+        } => show_trace(alloc, source, limits, schedule, explain, out, err),
         Order::Flip(sizes) => try_flip(rt, alloc, sizes, out),
     }
 }
@@ -143,45 +162,47 @@ fn show_run<W: Write, E: Write>(
     source: &[u8],
     limits: Limits,
     text: &[u8],
+    explain: bool,
     out: &mut W,
     err: &mut E,
 ) -> Result<u8, Failure>
-    ensures done { IfOk result (HasRun source.now limits text.now (W.contents out.old)
+    ensures done { IfOk result (HasRun source.now limits text.now explain (W.contents out.old)
         (W.contents out.new) (E.contents err.old) (E.contents err.new)) }
     ensures failed { IfErr result (HasNotRun source.now limits text.now) }
     ensures untouched { IfErr result (λ failure. is_refusal failure ≡ true
         → (W.contents out.new ≡ W.contents out.old) × (E.contents err.new ≡ E.contents err.old)) }
     ensures in_part { OnErr result (((W.contents out.new ≡ W.contents out.old) × (E.contents err.new ≡ E.contents err.old))
-        ⊎ IsRunInPart source.now limits text.now (W.contents out.old) (W.contents out.new) (E.contents err.old) (E.contents err.new)) }
+        ⊎ IsRunInPart source.now limits text.now explain (W.contents out.old) (W.contents out.new) (E.contents err.old) (E.contents err.new)) }
 {
     let outcome = run_source(rt, alloc, source, limits, text)?;
-    show(alloc, &outcome.machine, out, err)
+    show(alloc, explain, &outcome.machine, out, err)
 }
 
-/// Runs a source by the events of a text, prints a line of each, then what the run leaves, and answers its status.
+/// Runs a source by the events of a text, prints a line of each and an empty line, then what the run leaves, and answers its status.
 fn show_trace<W: Write, E: Write>(
     alloc: Global,
     source: &[u8],
     limits: Limits,
     text: &[u8],
+    explain: bool,
     out: &mut W,
     err: &mut E,
 ) -> Result<u8, Failure>
-    ensures done { IfOk result (HasTraced source.now limits text.now (W.contents out.old)
+    ensures done { IfOk result (HasTraced source.now limits text.now explain (W.contents out.old)
         (W.contents out.new) (E.contents err.old) (E.contents err.new)) }
     ensures failed { IfErr result (HasNotRun source.now limits text.now) }
     ensures untouched { IfErr result (λ failure. is_refusal failure ≡ true
         → (W.contents out.new ≡ W.contents out.old) × (E.contents err.new ≡ E.contents err.old)) }
     ensures in_part { OnErr result (((W.contents out.new ≡ W.contents out.old) × (E.contents err.new ≡ E.contents err.old))
         ⊎ ((IsTraceInPart source.now limits text.now (W.contents out.old) (W.contents out.new) × (E.contents err.new ≡ E.contents err.old))
-        ⊎ IsTracedThenInPart source.now limits text.now (W.contents out.old) (W.contents out.new) (E.contents err.old) (E.contents err.new))) }
+        ⊎ IsTracedThenInPart source.now limits text.now explain (W.contents out.old) (W.contents out.new) (E.contents err.old) (E.contents err.new))) }
 {
     let (mut machine, events) = open(alloc, source, limits, text)?;
     write_trace(alloc, &mut machine, events.as_slice(), out)?;
-    show(alloc, &machine, out, err)
+    show(alloc, explain, &machine, out, err)
 }
 
-/// Gives a machine its events, and writes a line of each.
+/// Gives a machine its events, and writes a line of each and an empty line.
 fn write_trace<W: Write>(
     alloc: Global,
     machine: &mut Machine,

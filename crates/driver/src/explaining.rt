@@ -105,8 +105,13 @@ fn explanation(
             schedule: name,
             limits,
             ..
+        }
+        | Order::Trace {
+            schedule: name,
+            limits,
+            ..
         } => explain_run(alloc, limits, name, schedule)?,
-        _ => None,
+        Order::Check { .. } | Order::Flip(_) => None,
     };
     Ok(text.unwrap_or(String::new(alloc)))
 }

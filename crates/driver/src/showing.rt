@@ -1,15 +1,15 @@
 //! What is printed of an order that is carried out.
 
-ghost use Rattle.std.specs.Prelude.{◌≡◌, ◌++◌, ◌∷◌, [], codes, map, IfErr, IfOk, OnErr, OnOk};
+ghost use Rattle.std.specs.Prelude.{◌≡◌, ◌++◌, ◌∷◌, [], ℕ, codes, IfErr, IfOk, List, OnErr, OnOk};
 ghost use Rattle.std.specs.List.{list_all, list_any};
 ghost use Rattle.std.specs.Io.KnownBytes.{Appends};
-ghost use Rattle.source_runs.specs.simulation.threads_monitors.Threads.{end_of};
 ghost use Rattle.outputs.specs.Beginnings.{AppendsBeginning};
 ghost use Rattle.source_runs.specs.Failures.{IsOfWriting};
-ghost use Rattle.driver.specs.Outcomes.{IsShown, trial_text};
+ghost use Rattle.driver.specs.Outcomes.{IsMachineShown, IsMachineShownInPart, IsThreadText, trial_text};
 ghost use Rattle.driver.specs.Threads.{is_done, is_live, line_of, lines_from, status_of};
 
 use cil_model::reports::End;
+use deadlocks::explain_threads;
 use flip_trial::Outcome;
 use outputs::{NotWritten, write_whole};
 use source_runs::{Failure, Machine};
@@ -47,33 +47,51 @@ fn write_trial(outcome: Outcome, text: &mut Vec<u8>) -> io::Result<()>
     writeln!(text, "kept {}\nretired {}", outcome.kept, outcome.retired)
 }
 
-/// Prints what a run leaves, and answers its status. The lines of its threads are made before anything is written.
+/// Prints what a run leaves, and answers its status. The lines of its threads, and behind them what explains how they stand, are made
+/// before anything is written.
 pub(crate) fn show<W: Write, E: Write>(
     alloc: Global,
+    explain: bool,
     machine: &Machine,
     out: &mut W,
     err: &mut E,
 ) -> Result<u8, Failure>
-    ensures shown { IfOk result (IsShown machine.now.printed (map end_of machine.now.threads) (W.contents out.old) (W.contents out.new)
-        (E.contents err.old) (E.contents err.new)) }
-    ensures begun { OnErr result (AppendsBeginning (W.contents out.old) (W.contents out.new) machine.now.printed
-        × AppendsBeginning (E.contents err.old) (E.contents err.new) (lines_from 0 (map end_of machine.now.threads))) }
+    ensures shown { IfOk result (IsMachineShown explain machine.now (W.contents out.old) (W.contents out.new) (E.contents err.old) (E.contents err.new)) }
+    ensures begun { OnErr result (IsMachineShownInPart explain machine.now (W.contents out.old) (W.contents out.new) (E.contents err.old) (E.contents err.new)) }
     ensures failed { IfErr result IsOfWriting }
 {
     let ends = machine.ends(alloc)?;
-    let lines = lines_of(alloc, ends.as_slice())?;
+    let lines = lines_of(alloc, explain, machine, ends.as_slice())?;
     write_whole(out, machine.console())?;
     write_whole(err, lines.as_slice())?;
     Ok(status_of(ends.as_slice()))
 }
 
-/// The lines of the threads of a run.
-fn lines_of(alloc: Global, ends: &[Option<End>]) -> io::Result<Vec<u8>>
-    ensures { IfOk result (λ lines. lines.items ≡ lines_from 0 ends.now) }
+/// The lines of the threads of a run, and behind them what explains how they stand.
+fn lines_of(
+    alloc: Global,
+    explain: bool,
+    machine: &Machine,
+    ends: &[Option<End>],
+) -> io::Result<Vec<u8>>
+    ensures { IfOk result (λ lines. (text : List ℕ) × IsThreadText explain machine.now text × (lines.items ≡ lines_from 0 ends.now ++ text)) }
 {
     let mut lines = Vec::new(alloc);
     show_ends(ends, &mut lines)?;
+    add_explanation(alloc, explain, machine, &mut lines);
     Ok(lines)
+}
+
+/// Appends what explains how the threads of a run stand, where that is asked for. Appends nothing where memory is wanted.
+fn add_explanation(alloc: Global, explain: bool, machine: &Machine, lines: &mut Vec<u8>)
+    ensures { (text : List ℕ) × IsThreadText explain machine.now text × (lines.new.items ≡ lines.old.items ++ text) }
+{
+    if !explain {
+        return;
+    }
+    if let Ok(text) = explain_threads(alloc, machine) {
+        lines.extend_from_slice(text.as_bytes()).unwrap_or(());
+    }
 }
 
 /// Writes a line for each thread, in the order of their numbers.

@@ -13,7 +13,7 @@ use Rattle.cil_model.specs.declared.reports.Fault.TheVariants as fault
 use Rattle.cil_model.specs.declared.reports.Report.{Report}
 use Rattle.cil_model.specs.declared.reports.Report.TheVariants.{Ran, Blocked, Ended, Absent, Acked, NothingPosted, Worked, Waiting, CycleDone}
 use Rattle.cil_model.specs.ExceptionNames.{name_of as fault_text}
-use Rattle.object_memory.specs.Cells.{used_words}
+use Rattle.object_memory.specs.Objects.{used_space}
 use Rattle.interleaving_core.specs.declared.positions.Position.{Position}
 use Rattle.schedule_text.specs.Items.{name_of as event_text}
 use Rattle.instruction_text.specs.Characters.{IsPrintable}
@@ -99,7 +99,7 @@ pub line_columns : LinesHaveColumns
 line_columns n e r before after =
     let at = option_and_then (found_at before.tree) (position_for before e) in
     let sizes = sizes_of (position_for after e) in
-    let words = used_words after.objects.block.cells in
+    let words = used_space after.objects in
     let columns =
     at_front (printable_decimal n) (at_front (printable_event e) (at_front (printable_report r) (at_front (printable_instruction_column at)
     (at_front sizes.frames_printable (at_front sizes.height_printable (at_front (printable_decimal words) no_columns)))))) in (

@@ -1,3 +1,5 @@
+pub use Rattle.interleaving_core.proofs as interleaving_core
 pub mod PlaceLaws
 pub mod TraceLaws
 pub mod ColumnLaws
+pub mod EndLaws

@@ -1,29 +1,57 @@
 -- Traces, event by event.
-use Rattle.std.proofs.Common.{◌≡◌, ◌+◌, ◌<◌, ◌≤◌, ◌⊎◌, ℕ, suc, List, [], ◌∷◌, ◌++◌, length, take, get_or, Option, Some, None, inl, inr, refl, sym, ap, subst, ◌∙◌, arith, append-nil, append_assoc}
-use Rattle.std.proofs.lemmas.List.{length-take-le, take_more}
+use Rattle.std.proofs.Common.{◌≡◌, ◌+◌, ◌<◌, ◌⊎◌, ℕ, suc, List, [], ◌∷◌, ◌++◌, length, take, get_or, Option, inl, inr, refl, sym, ap, subst, ◌∙◌, arith, append-nil, append_assoc}
+use Rattle.std.proofs.KnownBytes.{Appends-nil, Appends-trans}
+use Rattle.std.proofs.lemmas.List.{length-take-le, take_all, take_more}
 use Rattle.std.specs.Io.KnownBytes.{Appends}
 use Rattle.cil_model.specs.declared.events.Event.{Event}
 use Rattle.cil_model.specs.declared.reports.Report.{Report}
 use Rattle.interleaving_core.specs.simulation.MachineContents.{Content}
 use Rattle.interleaving_core.specs.simulation.Runs.{AreTurns}
 use Rattle.interleaving_core.specs.simulation.Turns.{IsTurn}
-use Rattle.interleaving_core.proofs.Following.{SameProgram, turns_follow, turns_length, turns_more, turns_program}
+use Rattle.interleaving_core.proofs.Following.{SameProgram, turns_follow, turns_length, turns_program}
 use Rattle.event_trace.specs.Columns.{line_of}
-use Rattle.event_trace.specs.Traces.{AreTraced, IsTraced, IsTracedInPart}
+use Rattle.event_trace.specs.Pieces.{TakesAllBut}
+use Rattle.event_trace.specs.Traces.{AreTraced, IsEventCut, IsTraced, IsTracedInPart}
 use Rattle.outputs.specs.Beginnings.{AppendsBeginning}
-use Rattle.outputs.proofs.BeginningLaws.{begins_nothing, begins_second, begins_whole}
+use Rattle.outputs.proofs.BeginningLaws.{begins_first, begins_nothing, begins_second}
 
 -- ---- bytes behind bytes
 
-appends_nothing : (out : Option (List ℕ)) → Appends out out []
-appends_nothing None = tt
-appends_nothing (Some bs) = sym (append-nil bs)
+-- bytes behind those that are pending
+takes_more : (a b c : Option (List ℕ)) (text line pending more : List ℕ) → TakesAllBut pending a b text → TakesAllBut more b c (pending ++ line) → TakesAllBut more a c (text ++ line)
+takes_more a b c text line pending more h k =
+    let (first, split, appended) = h in
+    let (second, split', appended') = k in (
+      first ++ second,
+      ap (λ l. l ++ line) split ∙ append_assoc first pending line ∙ ap (λ l. first ++ l) split' ∙ sym (append_assoc first second more),
+      Appends-trans a b c first second appended appended',
+    )
 
-appends_more : (a b c : Option (List ℕ)) (bs cs : List ℕ) → Appends a b bs → Appends b c cs → Appends a c (bs ++ cs)
-appends_more None b c bs cs p q = tt
-appends_more (Some x) None c bs cs p q = absurd p
-appends_more (Some x) (Some y) None bs cs p q = absurd q
-appends_more (Some x) (Some y) (Some z) bs cs p q = q ∙ ap (λ l. l ++ cs) p ∙ append_assoc x bs cs
+-- what is pending is written, and more behind it
+takes_rest : (a b c : Option (List ℕ)) (text pending more : List ℕ) → TakesAllBut pending a b text → Appends b c (pending ++ more) → Appends a c (text ++ more)
+takes_rest a b c text pending more h k =
+    let (taken, split, appended) = h in
+    subst (Appends a c) (sym (append_assoc taken pending more) ∙ ap (λ l. l ++ more) (sym split)) (Appends-trans a b c taken (pending ++ more) appended k)
+
+-- a beginning of that is written
+begins_rest : (a b c : Option (List ℕ)) (text pending more : List ℕ) → TakesAllBut pending a b text → AppendsBeginning b c (pending ++ more) → AppendsBeginning a c (text ++ more)
+begins_rest a b c text pending more h k =
+    let (taken, split, appended) = h in
+    subst (AppendsBeginning a c) (sym (append_assoc taken pending more) ∙ ap (λ l. l ++ more) (sym split)) (begins_second a b c taken (pending ++ more) appended k)
+
+-- a beginning of what is pending is written
+begins_pending : (a b c : Option (List ℕ)) (text pending : List ℕ) → TakesAllBut pending a b text → AppendsBeginning b c pending → AppendsBeginning a c text
+begins_pending a b c text pending h k =
+    let (taken, split, appended) = h in
+    subst (AppendsBeginning a c) (sym split) (begins_second a b c taken pending appended k)
+
+-- nothing is written
+pub takes_none : (a : Option (List ℕ)) (pending : List ℕ) → TakesAllBut pending a a pending
+takes_none a pending = ([], refl, Appends-nil a)
+
+-- all is written
+pub takes_all : (a b : Option (List ℕ)) (pending none : List ℕ) → none ≡ [] → Appends a b pending → TakesAllBut none a b pending
+takes_all a b pending none empty h = (pending, sym (append-nil pending) ∙ ap (λ l. pending ++ l) (sym empty), h)
 
 -- ---- one event more
 
@@ -63,15 +91,15 @@ traced_turns n c d (e ∷ es) [] text h = absurd h
 
 -- ---- the events so far
 
--- the events are done, and their lines are written
-pub record TracedSoFar (c : Content) (es : List Event) (d : Content) (out out' : Option (List ℕ)) : Type 0 where
+-- the events are done, and their lines are written but for what is pending
+pub record TracedSoFar (c : Content) (es : List Event) (d : Content) (pending : List ℕ) (out out' : Option (List ℕ)) : Type 0 where
   pub reports : List Report
   pub text : List ℕ
   pub traced : AreTraced 1 c es d reports text
-  pub appended : Appends out out' text
+  pub held : TakesAllBut pending out out' text
 
-pub trace_begun : (c : Content) (out : Option (List ℕ)) → TracedSoFar c [] c out out
-trace_begun c out = record { reports = []; text = []; traced = (refl, refl, refl); appended = appends_nothing out }
+pub trace_begun : (c : Content) (pending : List ℕ) (out : Option (List ℕ)) → pending ≡ [] → TracedSoFar c [] c pending out out
+trace_begun c pending out empty = record { reports = []; text = []; traced = (refl, refl, refl); held = ([], sym empty, Appends-nil out) }
 
 -- the lines with one more
 line_more : (c d after : Content) (es : List Event) (i : ℕ) (x : Event) (r : Report) (reports : List Report) (text : List ℕ) → i < length es → AreTraced 1 c (take i es) d reports text → IsTurn d (get_or es i x) (after, r) →
@@ -83,36 +111,60 @@ line_more c d after es i x r reports text below traced turn =
     subst (λ l. AreTraced 1 c l after (reports ++ r ∷ []) (text ++ line_of (i + 1) e r d after)) (sym (take_more es i x below))
     (subst (λ m. AreTraced 1 c (take i es ++ e ∷ []) after (reports ++ r ∷ []) (text ++ line_of m e r d after)) number (traced_more 1 c d after (take i es) reports text e r traced turn))
 
-pub trace_step : (c d after : Content) (es : List Event) (i : ℕ) (x : Event) (r : Report) (out so_far new : Option (List ℕ)) → i < length es → TracedSoFar c (take i es) d out so_far →
-    IsTurn d (get_or es i x) (after, r) → Appends so_far new (line_of (i + 1) (get_or es i x) r d after) → TracedSoFar c (take (i + 1) es) after out new
-trace_step c d after es i x r out so_far new below h turn wrote =
+pub trace_step : (c d after : Content) (es : List Event) (i : ℕ) (x : Event) (r : Report) (pending more : List ℕ) (out so_far new : Option (List ℕ)) → i < length es → TracedSoFar c (take i es) d pending out so_far →
+    IsTurn d (get_or es i x) (after, r) → TakesAllBut more so_far new (pending ++ line_of (i + 1) (get_or es i x) r d after) → TracedSoFar c (take (i + 1) es) after more out new
+trace_step c d after es i x r pending more out so_far new below h turn wrote =
     let line = line_of (i + 1) (get_or es i x) r d after in
     record {
       reports = h.reports ++ r ∷ [];
       text = h.text ++ line;
       traced = line_more c d after es i x r h.reports h.text below h.traced turn;
-      appended = appends_more out so_far new h.text line h.appended wrote;
+      held = takes_more out so_far new h.text line pending more h.held wrote;
     }
 
--- all events are done
-pub all_traced : (c d : Content) (es : List Event) (out new : Option (List ℕ)) → TracedSoFar c es d out new → (reports : List Report) × IsTraced c es d reports out new
-all_traced c d es out new h =
+-- ---- all events are done
+
+pub all_traced : (c d : Content) (es : List Event) (pending : List ℕ) (out so_far new : Option (List ℕ)) → TracedSoFar c es d pending out so_far → Appends so_far new (pending ++ 10 ∷ []) →
+    (reports : List Report) × IsTraced c es d reports out new
+all_traced c d es pending out so_far new h ended =
     let turns = traced_turns 1 c d es h.reports h.text h.traced in (
       h.reports,
-      record { text = h.text; lines = h.traced; appended = h.appended; turns = turns; each = turns_length c d es h.reports turns; follows = turns_follow c d es h.reports turns },
+      record {
+        text = h.text;
+        lines = h.traced;
+        appended = takes_rest out so_far new h.text pending (10 ∷ []) h.held ended;
+        turns = turns;
+        each = turns_length c d es h.reports turns;
+        follows = turns_follow c d es h.reports turns;
+      },
     )
 
-pub same_so_far : (c d : Content) (es : List Event) (out new : Option (List ℕ)) → TracedSoFar c es d out new → SameProgram c d
-same_so_far c d es out new h = turns_program c d es h.reports (traced_turns 1 c d es h.reports h.text h.traced)
+-- a beginning of what was pending, and of the empty line behind it, is written
+pub end_cut : (c d : Content) (es : List Event) (pending : List ℕ) (out so_far new : Option (List ℕ)) → TracedSoFar c es d pending out so_far → AppendsBeginning so_far new (pending ++ 10 ∷ []) → IsTracedInPart c es d out new
+end_cut c d es pending out so_far new h begun =
+    let lines : AreTraced 1 c (take (length es) es) d h.reports h.text = subst (λ l. AreTraced 1 c l d h.reports h.text) (sym (take_all (length es) es (omega arith))) h.traced in
+    record {
+      count = length es;
+      within = omega arith;
+      reports = h.reports;
+      turns = traced_turns 1 c d (take (length es) es) h.reports h.text lines;
+      text = h.text;
+      lines = lines;
+      begun = inr (refl, begins_rest out so_far new h.text pending (10 ∷ []) h.held begun);
+    }
 
--- no event is done
+pub same_so_far : (c d : Content) (es : List Event) (pending : List ℕ) (out new : Option (List ℕ)) → TracedSoFar c es d pending out new → SameProgram c d
+same_so_far c d es pending out new h = turns_program c d es h.reports (traced_turns 1 c d es h.reports h.text h.traced)
+
+-- ---- not all events are done
+
 pub nothing_traced : (c : Content) (es : List Event) (out : Option (List ℕ)) → IsTracedInPart c es c out out
-nothing_traced c es out = record { count = 0; within = omega arith; reports = []; turns = (refl, refl); text = []; lines = (refl, refl, refl); begun = begins_nothing out [] }
+nothing_traced c es out = record { count = 0; within = omega arith; reports = []; turns = (refl, refl); text = []; lines = (refl, refl, refl); begun = inl (begins_nothing out []) }
 
--- the next event isn't done, or a beginning of its line is written
-pub stopped_at : (c d after : Content) (es : List Event) (i : ℕ) (x : Event) (out so_far new : Option (List ℕ)) → i < length es → TracedSoFar c (take i es) d out so_far →
-    ((after ≡ d) × (new ≡ so_far)) ⊎ ((r : Report) × IsTurn d (get_or es i x) (after, r) × AppendsBeginning so_far new (line_of (i + 1) (get_or es i x) r d after)) → IsTracedInPart c es after out new
-stopped_at c d after es i x out so_far new below h (inl kept) =
+-- the next event isn't done, or its line is not wholly written
+pub stopped_at : (c d after : Content) (es : List Event) (i : ℕ) (x : Event) (pending : List ℕ) (out so_far new : Option (List ℕ)) → i < length es → TracedSoFar c (take i es) d pending out so_far →
+    IsEventCut (i + 1) (get_or es i x) d after pending so_far new → IsTracedInPart c es after out new
+stopped_at c d after es i x pending out so_far new below h (inl kept) =
     let lines = subst (λ y. AreTraced 1 c (take i es) y h.reports h.text) (sym kept.0) h.traced in
     record {
       count = i;
@@ -121,9 +173,9 @@ stopped_at c d after es i x out so_far new below h (inl kept) =
       turns = traced_turns 1 c after (take i es) h.reports h.text lines;
       text = h.text;
       lines = lines;
-      begun = subst (λ o. AppendsBeginning out o h.text) (sym kept.1) (begins_whole out so_far h.text h.appended);
+      begun = inl (begins_pending out so_far new h.text pending h.held kept.1);
     }
-stopped_at c d after es i x out so_far new below h (inr done) =
+stopped_at c d after es i x pending out so_far new below h (inr done) =
     let r = done.0 in
     let line = line_of (i + 1) (get_or es i x) r d after in
     let lines = line_more c d after es i x r h.reports h.text below h.traced done.1 in
@@ -134,5 +186,10 @@ stopped_at c d after es i x out so_far new below h (inr done) =
       turns = traced_turns 1 c after (take (i + 1) es) (h.reports ++ r ∷ []) (h.text ++ line) lines;
       text = h.text ++ line;
       lines = lines;
-      begun = begins_second out so_far new h.text line h.appended done.2;
+      begun = inl (begins_rest out so_far new h.text pending line h.held done.2);
     }
+
+-- memory is wanted for an event, or for its line, and a beginning of what was pending is written
+pub event_cut : (n : ℕ) (e : Event) (c after : Content) (pending : List ℕ) (out new : Option (List ℕ)) → (after ≡ c) ⊎ ((r : Report) × IsTurn c e (after, r)) → AppendsBeginning out new pending → IsEventCut n e c after pending out new
+event_cut n e c after pending out new (inl same) k = inl (same, k)
+event_cut n e c after pending out new (inr done) k = inr (done.0, done.1, begins_first out new pending (line_of n e done.0 c after) k)

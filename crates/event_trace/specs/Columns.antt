@@ -11,7 +11,7 @@ use Rattle.cil_model.specs.declared.trees.Method.{Method}
 use Rattle.cil_model.specs.declared.trees.Tree.{Tree}
 use Rattle.cil_model.specs.Bodies.{lines_of}
 use Rattle.cil_model.specs.ExceptionNames.{name_of as fault_text}
-use Rattle.object_memory.specs.Cells.{used_words}
+use Rattle.object_memory.specs.Objects.{used_space}
 use Rattle.method_table.specs.AllMethods.{all_methods}
 use Rattle.interleaving_core.specs.simulation.MachineContents.{Content}
 use Rattle.interleaving_core.specs.Positions.{position_at}
@@ -80,4 +80,4 @@ columns_text n e r before after words =
 -- the line of an event from one content to the next
 abbrev pub line_of : ℕ → Event → Report → Content → Content → List ℕ
 line_of n e r before after =
-    columns_text n e r (option_and_then (found_at before.tree) (position_for before e)) (position_for after e) (used_words after.objects.block.cells)
+    columns_text n e r (option_and_then (found_at before.tree) (position_for before e)) (position_for after e) (used_space after.objects)

@@ -1,11 +1,12 @@
--- What holds of each line.
-use Rattle.std.specs.Prelude.{◌≡◌, ◌++◌, ℕ, All, List, [], ◌∷◌, length}
+-- What holds of each line, and where a trace ends.
+use Rattle.std.specs.Prelude.{◌≡◌, ◌==◌, ◌++◌, ℕ, Bool, true, false, All, List, [], ◌∷◌, length, if◌then◌else◌}
 use Rattle.std.specs.List.{join_with_byte}
 use Rattle.cil_model.specs.declared.events.Event.{Event}
 use Rattle.cil_model.specs.declared.reports.Report.{Report}
 use Rattle.interleaving_core.specs.simulation.MachineContents.{Content}
 use Rattle.instruction_text.specs.Characters.{IsPrintable}
 use Rattle.event_trace.specs.Columns.{line_of}
+use Rattle.event_trace.specs.Traces.{AreTraced}
 
 -- a line of these columns: a tab stands between two, and nowhere else, and a line feed behind all
 pub record IsLineOf (columns : List (List ℕ)) (line : List ℕ) : Type 0 where
@@ -15,3 +16,15 @@ pub record IsLineOf (columns : List (List ℕ)) (line : List ℕ) : Type 0 where
 -- each line has seven columns of printable ASCII
 abbrev pub LinesHaveColumns : Type 0
 LinesHaveColumns = (n : ℕ) (e : Event) (r : Report) (before after : Content) → (columns : List (List ℕ)) × (length columns ≡ 7) × IsLineOf columns (line_of n e r before after)
+
+-- what stands before the first empty line, of bytes that begin a line or go on with one
+abbrev pub before_empty_line : Bool → List ℕ → List ℕ
+before_empty_line begins [] = []
+before_empty_line begins (x ∷ bytes) =
+    if x == 10 then (if begins then [] else x ∷ before_empty_line true bytes)
+    else x ∷ before_empty_line false bytes
+
+-- the lines of events stand before the first empty line, whatever stands behind it
+abbrev pub LinesStandBefore : Type 0
+LinesStandBefore = (n : ℕ) (old new : Content) (events : List Event) (reports : List Report) (text printed : List ℕ) → AreTraced n old events new reports text →
+    before_empty_line true (text ++ 10 ∷ printed) ≡ text

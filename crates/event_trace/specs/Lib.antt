@@ -1,6 +1,7 @@
-pub mod Errors
+pub use Rattle.interleaving_core.specs as interleaving_core
 pub mod Places
 pub mod Columns
 pub mod Lines
+pub mod Pieces
 pub mod Traces
 pub mod Laws

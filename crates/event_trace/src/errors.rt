@@ -1,14 +1,10 @@
 //! Why a trace was not written to its end.
 
 ghost use Rattle.std.specs.Prelude.{◌≡◌};
-ghost use Rattle.event_trace.specs.Errors.{IsErrorOfWriting};
 ghost use Rattle.event_trace.specs.declared.errors.TraceError.TheVariants.{Memory};
 
 use cil_model::memory::NoMemory;
 use outputs::NotWritten;
-use std::alloc::AllocFailed;
-use std::io;
-use std::io::ErrorKind;
 use thiserror::Error;
 
 /// Why a trace was not written to its end.
@@ -30,30 +26,10 @@ impl From<NoMemory> for TraceError {
     }
 }
 
-impl<T: Drop> From<AllocFailed<T>> for TraceError {
-    ghost from_gives = { λ _ error. error ≡ Memory };
-
-    fn from(_error: AllocFailed<T>) -> TraceError {
-        TraceError::Memory
-    }
-}
-
+/// Want of memory may come by a writer too.
 impl From<NotWritten> for TraceError {
     fn from(error: NotWritten) -> TraceError {
         if error.wants_memory() {
-            TraceError::Memory
-        } else {
-            TraceError::Device
-        }
-    }
-}
-
-/// Want of memory may come by a writer too.
-impl From<io::Error> for TraceError {
-    ghost from_gives = { IsErrorOfWriting };
-
-    fn from(error: io::Error) -> TraceError {
-        if error.kind() == ErrorKind::OutOfMemory {
             TraceError::Memory
         } else {
             TraceError::Device

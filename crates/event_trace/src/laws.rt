@@ -1,9 +1,14 @@
-//! Laws of the definitions. The function has an empty body; its contract is the law.
+//! Laws of the definitions. Each function has an empty body; its contract is the law.
 
-ghost use Rattle.event_trace.specs.Laws.{LinesHaveColumns};
+ghost use Rattle.event_trace.specs.Laws.{LinesHaveColumns, LinesStandBefore};
 
 /// The line of an event is seven columns of printable ASCII, with a tab between two and a line feed behind them, whatever the event, the
 /// report and the contents of the machine.
 pub fn lines_have_columns()
     ensures { LinesHaveColumns }
+{}
+
+/// The first empty line ends a trace: what stands before it is the lines of the events, whatever the program printed behind.
+pub fn lines_stand_before_the_empty_line()
+    ensures { LinesStandBefore }
 {}

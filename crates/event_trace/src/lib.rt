@@ -7,7 +7,12 @@ pub mod laws;
 mod lines;
 mod method_places;
 mod owned_methods;
+mod pieces;
 mod tracing;
 
 pub use errors::TraceError;
-pub use tracing::trace;
+pub use interleaving_core::{Machine, Wait};
+pub use lines::InstructionColumn;
+pub use method_places::MethodPlaces;
+pub use owned_methods::{InstructionPlace, Owner};
+pub use tracing::{instruction_at, trace};

@@ -44,7 +44,7 @@ impl<'a> fmt::Display for TraceLine<'a> {
 
 /// An instruction with its place, or a hyphen where there is none.
 #[derive(Clone, Copy)]
-struct InstructionColumn<'a>(Option<InstructionPlace<'a>>);
+pub struct InstructionColumn<'a>(pub Option<InstructionPlace<'a>>);
 
 impl<'a> fmt::Display for InstructionColumn<'a> {
     ghost use Rattle.std.specs.Prelude.{Some, option_map};

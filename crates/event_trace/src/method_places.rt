@@ -20,7 +20,7 @@ use std::alloc::Global;
 
 /// Where a method is declared.
 #[derive(Clone, Copy, Debug)]
-pub(crate) enum MethodPlace {
+pub enum MethodPlace {
     /// In a built-in class, by its place among them, at a place among its methods.
     BuiltIn { class: usize, method: usize },
     /// In a class of the source, by its place there, at a place among its members.
@@ -29,7 +29,7 @@ pub(crate) enum MethodPlace {
 
 /// Where each method of a program is declared, by its number among the methods of all classes. It keeps nothing of the tree.
 #[derive(Drop)]
-pub(crate) struct MethodPlaces {
+pub struct MethodPlaces {
     built_ins: Sequence<BuiltInClass>,
     places: Vec<MethodPlace>,
 }
@@ -38,7 +38,7 @@ impl MethodPlaces {
     ghost use Rattle.event_trace.specs.Places.{ArePlacesOf};
 
     /// The places of the methods of a tree. Fails for want of memory alone.
-    pub(crate) fn new(alloc: Global, tree: &Tree) -> Result<Self, NoMemory>
+    pub fn new(alloc: Global, tree: &Tree) -> Result<Self, NoMemory>
         ensures { IfOk result (ArePlacesOf tree.now) }
     {
         let built_ins = BuiltInClass::all(alloc)?;
@@ -50,7 +50,7 @@ impl MethodPlaces {
 
     /// The method with this number, in the tree that the places were made of. None where no method has it. Takes constant time, and no
     /// memory.
-    pub(crate) fn method<'a>(&'a self, tree: &'a Tree, number: u32) -> Option<OwnedMethod<'a>>
+    pub fn method<'a>(&'a self, tree: &'a Tree, number: u32) -> Option<OwnedMethod<'a>>
         requires { ArePlacesOf tree.now self.now }
         ensures { option_map owned result ≡ slice_get (all_methods tree.now) number }
     {

@@ -12,7 +12,7 @@ use std::fmt;
 
 /// The class that declares a method: a built-in one, by its name, or one of the source.
 #[derive(Clone, Copy)]
-pub(crate) enum Owner<'a> {
+pub enum Owner<'a> {
     BuiltIn(&'a ClassName),
     Source(&'a Class),
 }
@@ -35,16 +35,16 @@ impl<'a> fmt::Display for Owner<'a> {
 
 /// A method with the class that declares it.
 #[derive(Clone, Copy)]
-pub(crate) struct OwnedMethod<'a> {
-    pub(crate) owner: Owner<'a>,
-    pub(crate) method: &'a Method,
+pub struct OwnedMethod<'a> {
+    pub owner: Owner<'a>,
+    pub method: &'a Method,
 }
 
 /// An instruction of a method, by its place in the method's code.
 #[derive(Clone, Copy)]
-pub(crate) struct InstructionPlace<'a> {
-    pub(crate) found: OwnedMethod<'a>,
-    pub(crate) place: u32,
+pub struct InstructionPlace<'a> {
+    pub found: OwnedMethod<'a>,
+    pub place: u32,
 }
 
 /// `Class::Method+N  instruction`.

@@ -1,35 +1,37 @@
 //! Runs a machine by a list of events, and writes a line of each.
 
-ghost use Rattle.std.specs.Prelude.{◌≡◌, ◌⊎◌, IfOk, OnErr, OnOk, List, option_and_then, option_map};
-ghost use Rattle.std.specs.Io.KnownBytes.{Appends};
+ghost use Rattle.std.specs.Prelude.{◌≡◌, ◌⊎◌, ◌++◌, OnErr, OnOk, List, option_and_then, option_map};
 ghost use Rattle.cil_model.specs.declared.reports.Report.{Report as AnyReport};
 ghost use Rattle.interleaving_core.specs.simulation.Turns.{IsTurn};
 ghost use Rattle.event_trace.specs.Columns.{found_at, line_of, position_for};
 ghost use Rattle.event_trace.specs.Lines.{seen};
+ghost use Rattle.event_trace.specs.Pieces.{TakesAllBut};
 ghost use Rattle.event_trace.specs.Places.{ArePlacesOf};
-ghost use Rattle.event_trace.specs.Traces.{IsTraced, IsTracedInPart};
-ghost use Rattle.outputs.specs.Beginnings.{AppendsBeginning};
+ghost use Rattle.event_trace.specs.Traces.{IsEventCut, IsTraced, IsTracedInPart};
 
 use crate::errors::TraceError;
 use crate::lines::TraceLine;
 use crate::method_places::MethodPlaces;
 use crate::owned_methods::InstructionPlace;
+use crate::pieces::{write_end, write_piece};
 use cil_model::events::Event;
+use cil_model::memory::NoMemory;
 use interleaving_core::{Machine, Position};
 use outputs::write_whole;
 use std::alloc::Global;
 use std::io::Write;
 
-/// Does the events in order, as `Machine::run` does, and writes a line of each as soon as it is done.
+/// Does the events in order, as `Machine::run` does, and writes a line of each, and an empty line behind the last.
 ///
 /// A line has seven columns, with a tab between two: the number of the event, from 1; the event as a schedule writes it; its report; the
 /// instruction that its thread was at before it; how many frames the thread has after it; how many values are on the stack of the one
 /// that runs then; and the words that objects take then. Where there is no such thread, a column is a hyphen. Each byte of a column is
 /// printable ASCII.
 ///
-/// It takes memory for a list of where each method is declared, for one line at a time, and no more than the machine itself for events. It
-/// stops at the first want of memory and at the first write that fails. So many events are done then, and a beginning of their lines is
-/// written.
+/// Lines are put together and written in pieces of 32 KiB or more, what is left of them at the end. It takes memory for a list of where
+/// each method is declared, for a piece and one line, and no more than the machine itself for events. It stops at the first want of memory,
+/// where it writes what it has put together, and at the first write that fails. So many events are done then, and a beginning of their
+/// lines is written, and no empty line unless all of them are done.
 pub fn trace<W: Write>(
     alloc: Global,
     machine: &mut Machine,
@@ -41,28 +43,66 @@ pub fn trace<W: Write>(
     ensures stopped { OnErr result (IsTracedInPart machine.old events.now machine.new (W.contents out.old) (W.contents out.new)) }
 {
     let methods = MethodPlaces::new(alloc, machine.tree())?;
+    let mut pending = Vec::new(alloc);
     for (index, event) in events.iter().enumerate() {
-        trace_event(alloc, machine, &methods, index + 1, *event, out)?;
+        trace_event(
+            alloc,
+            machine,
+            &methods,
+            index + 1,
+            *event,
+            &mut pending,
+            out,
+        )?;
     }
+    write_end(pending.as_slice(), out)?;
     Ok(())
 }
 
-/// Does one event, and writes the line of its number.
+/// Does one event, and puts the line of its number behind those that are pending, which are written once they fill a piece. Where memory
+/// is wanted they are written too.
 fn trace_event<W: Write>(
     alloc: Global,
     machine: &mut Machine,
     methods: &MethodPlaces,
     number: usize,
     event: Event,
+    pending: &mut Vec<u8>,
     out: &mut W,
 ) -> Result<(), TraceError>
     requires { ArePlacesOf machine.old.tree methods.now }
     ensures traced { OnOk result ((report : AnyReport) × IsTurn machine.old event (machine.new, report)
-        × Appends (W.contents out.old) (W.contents out.new) (line_of number event report machine.old machine.new)) }
+        × TakesAllBut pending.new.items (W.contents out.old) (W.contents out.new) (pending.old.items ++ line_of number event report machine.old machine.new)) }
     ensures same { (machine.new.tree ≡ machine.old.tree) × (machine.new.limits ≡ machine.old.limits) }
-    ensures stopped { OnErr result (((machine.new ≡ machine.old) × (W.contents out.new ≡ W.contents out.old)) ⊎ ((report : AnyReport)
-        × IsTurn machine.old event (machine.new, report)
-        × AppendsBeginning (W.contents out.old) (W.contents out.new) (line_of number event report machine.old machine.new))) }
+    ensures stopped { OnErr result (IsEventCut number event machine.old machine.new pending.old.items (W.contents out.old) (W.contents out.new)) }
+{
+    match add_event(alloc, machine, methods, number, event, pending) {
+        Ok(()) => {
+            write_piece(pending, out)?;
+            Ok(())
+        }
+        Err(error) => {
+            write_whole(out, pending.as_slice())?;
+            Err(TraceError::from(error))
+        }
+    }
+}
+
+/// Does one event, and puts the line of its number behind those that are pending.
+fn add_event(
+    alloc: Global,
+    machine: &mut Machine,
+    methods: &MethodPlaces,
+    number: usize,
+    event: Event,
+    pending: &mut Vec<u8>,
+) -> Result<(), NoMemory>
+    requires { ArePlacesOf machine.old.tree methods.now }
+    ensures traced { OnOk result ((report : AnyReport) × IsTurn machine.old event (machine.new, report)
+        × (pending.new.items ≡ pending.old.items ++ line_of number event report machine.old machine.new)) }
+    ensures same { (machine.new.tree ≡ machine.old.tree) × (machine.new.limits ≡ machine.old.limits) }
+    ensures stopped { OnErr result ((machine.new ≡ machine.old) ⊎ ((report : AnyReport) × IsTurn machine.old event (machine.new, report))) }
+    ensures kept { OnErr result (pending.new.items ≡ pending.old.items) }
 {
     let before = position_for(machine, event);
     let report = machine.step(alloc, event)?;
@@ -74,14 +114,13 @@ fn trace_event<W: Write>(
         after: position_for(machine, event),
         words: machine.used().0,
     };
-    let mut text = Vec::new(alloc);
-    write!(text, "{line}")?;
-    write_whole(out, text.as_slice())?;
+    let text = format!(in alloc; "{line}")?;
+    pending.extend_from_slice(text.as_bytes())?;
     Ok(())
 }
 
-/// The instruction at a position of the program that a machine runs.
-fn instruction_at<'a>(
+/// The instruction at a position of the program that a machine runs. None where no method has the number, and of no position.
+pub fn instruction_at<'a>(
     machine: &'a Machine,
     methods: &'a MethodPlaces,
     position: Option<Position>,

@@ -1,30 +1,27 @@
 -- Classes by their numbers in a legal tree.
-use Rattle.std.proofs.Common.{◌≡◌, ◌≤◌, ◌<◌, ◌+◌, ℕ, zero, suc, Bool, true, false, cond, ◌||◌, is_some, List, [], ◌∷◌, map, length, Option, Some, None, option_map, option_and_then, slice_get, refl, sym, ap, subst, ◌∙◌, arith}
+use Rattle.std.proofs.Common.{◌≡◌, ◌≤◌, ◌<◌, ◌+◌, ℕ, zero, suc, true, is_some, List, [], ◌∷◌, map, length, Option, Some, None, option_map, option_and_then, slice_get, refl, sym, ap, subst, ◌∙◌, arith}
 use Rattle.std.proofs.lemmas.List.{length-map}
 use Rattle.std.specs.Prelude.{IfSome}
-use Rattle.std.specs.List.{position_from, list_any}
 use Rattle.std.specs.Option.{option_map_or}
 use Rattle.std.proofs.lemmas.Option.{same_Some}
-use Rattle.std.proofs.lemmas.Bool.{or_parts}
 use Rattle.cil_model.specs.declared.types.ClassName.{ClassName}
 use Rattle.cil_model.specs.declared.types.Element.{Element}
 use Rattle.cil_model.specs.declared.types.Element.TheVariants as Named
 use Rattle.cil_model.specs.declared.types.DeclaredType.{DeclaredType}
 use Rattle.cil_model.specs.declared.trees.Tree.{Tree}
 use Rattle.cil_model.specs.declared.trees.Class.{Class as SourceClass}
-use Rattle.cil_model.specs.Same.{same_class, same_text}
-use Rattle.cil_model.specs.Declarations.{source_name, Declaration, declaration_of, mscorlib, cilvm, object_name, string_name, console_name, monitor_name, thread_name}
+use Rattle.cil_model.specs.Declarations.{source_name, Declaration, declaration_of, object_name, console_name, monitor_name, thread_name}
 use Rattle.cil_model.specs.Chains.{base_of}
 use Rattle.cil_model.specs.Assignable.{element_of_class}
 use Rattle.cil_model.specs.TypeTree.{parent_element}
-use Rattle.cil_model.specs.Legality.{IsLegal, has_repeat, class_doubles, doubles_name}
-use Rattle.cil_model.proofs.Legal.{unbroken}
-use Rattle.cil_model.proofs.Lists.{none_is_some, passes_not, has_repeat-map}
-use Rattle.cil_model.proofs.SameLaws.{same_class_itself, class_equivalence}
+use Rattle.cil_model.specs.Legality.{IsLegal}
+use Rattle.cil_model.proofs.Lists.{none_is_some}
 use Rattle.name_tables.specs.Numbers.{declarations, class_number, source_entry}
 use Rattle.name_tables.proofs.NumberLaws.{IsNumbered, numbered}
+use Rattle.resolved_code.proofs.ClassNumbers.{number_of_place}
 use Rattle.resolved_code.specs.Numbered.{class_name}
-use Rattle.resolved_code.specs.Resolved.{AllAlike, AreResolved, IsResolvedClass}
+use Rattle.resolved_code.specs.Resolved.{AreResolved, IsResolvedClass}
+use Rattle.resolved_code.proofs.AlikeLaws.{AlikeTo, alike_to, alike_beyond, alike_length}
 use Rattle.resolved_code.specs.declared.classes.ResolvedClass.{ResolvedClass}
 use Rattle.resolved_code.specs.declared.types.NumberedElement.{NumberedElement}
 use Rattle.resolved_code.specs.declared.types.NumberedElement.TheVariants.{Int32, Int64, Object, String, Class}
@@ -36,73 +33,11 @@ pub if_some_then : {T : Type 0} (o : Option T) (P Q : T → Type 0) → ((v : T)
 if_some_then None P Q f h = h
 if_some_then (Some v) P Q f h = f v h
 
--- ---- lists that are alike
-
-module _ {X Y : Type 0} (R : X → Y → Type 0) where
-  pub alike_at : (xs : List X) (ys : List Y) → AllAlike R xs ys → (n : ℕ) (y : Y) → slice_get ys n ≡ Some y → (x : X) × (slice_get xs n ≡ Some x) × R x y
-  alike_at [] [] a n y e = none_is_some y e
-  alike_at (x ∷ xs) (z ∷ ys) a zero y e = let same : z ≡ y = cc in (x, refl, subst (R x) same a.0)
-  alike_at (x ∷ xs) (z ∷ ys) a (suc n) y e = alike_at xs ys a.1 n y e
-  alike_at [] (z ∷ ys) a n y e = absurd a
-  alike_at (x ∷ xs) [] a n y e = absurd a
-
-  pub alike_beyond : (xs : List X) (ys : List Y) → AllAlike R xs ys → (n : ℕ) → slice_get ys n ≡ None → slice_get xs n ≡ None
-  alike_beyond [] [] a n e = refl
-  alike_beyond (x ∷ xs) (z ∷ ys) a zero e = none_is_some z (sym e)
-  alike_beyond (x ∷ xs) (z ∷ ys) a (suc n) e = alike_beyond xs ys a.1 n e
-  alike_beyond [] (z ∷ ys) a n e = absurd a
-  alike_beyond (x ∷ xs) [] a n e = absurd a
-
-  pub alike_length : (xs : List X) (ys : List Y) → AllAlike R xs ys → length xs ≡ length ys
-  alike_length [] [] a = refl
-  alike_length (x ∷ xs) (z ∷ ys) a = ap suc (alike_length xs ys a.1)
-  alike_length [] (z ∷ ys) a = absurd a
-  alike_length (x ∷ xs) [] a = absurd a
-
--- ---- names are not doubled
-
-module _ {X : Type 0} (same : X → X → Bool) (itself : (x : X) → same x x ≡ true) (symmetric : (x y : X) → same x y ≡ same y x) where
-  -- an item among those that are not doubled is found at its own place
-  pub own_place : (xs : List X) → has_repeat same xs ≡ false → (i n : ℕ) (x : X) → slice_get xs n ≡ Some x → position_from (same x) i xs ≡ Some (i + n)
-  own_place [] h i n x e = none_is_some x e
-  own_place (y ∷ ys) h i zero x e =
-      let equal : y ≡ x = cc in
-      let passes : same x y ≡ true = subst (λ (z : X). same x z ≡ true) (sym equal) (itself x) in
-      let here : i ≡ i + 0 = omega arith in
-      ap (λ b. cond b (Some i) (position_from (same x) (i + 1) ys)) passes ∙ ap Some here
-  own_place (y ∷ ys) h i (suc n) x e =
-      let parts : (list_any (same y) ys ≡ false) × (has_repeat same ys ≡ false) = or_parts (list_any (same y) ys) (has_repeat same ys) h in
-      let differs : same x y ≡ false = symmetric x y ∙ passes_not (same y) ys n x parts.0 e in
-      let here : i + 1 + n ≡ i + suc n = omega arith in
-      ap (λ b. cond b (Some i) (position_from (same x) (i + 1) ys)) differs ∙ own_place ys parts.1 (i + 1) n x e ∙ ap Some here
-
 class_in : Element → ClassName
 class_in (Named.Class c) = c
 class_in _ = object_name
 
-all_five : {a b c d e r : Bool} → a ≡ false → b ≡ false → c ≡ false → d ≡ false → e ≡ false → r ≡ false → a || (b || (c || (d || (e || r)))) ≡ false
-all_five ha hb hc hd he hr = λ i. ha i || (hb i || (hc i || (hd i || (he i || hr i))))
-
 module _ (tree : Tree) where
-  abbrev same_entry : ClassName × Declaration → ClassName × Declaration → Bool
-  same_entry a b = same_class a.0 b.0
-
-  -- no class of the source has an assembly
-  plain_alone : (a n : List ℕ) (cs : List SourceClass) → list_any (λ (e : ClassName × Declaration). same_class (record { assembly = Some a; name = n }) e.0) (map source_entry cs) ≡ false
-  plain_alone a n [] = refl
-  plain_alone a n (c ∷ cs) = plain_alone a n cs
-
-  source_repeats : IsLegal tree → has_repeat same_entry (map source_entry tree.classes) ≡ false
-  source_repeats legal =
-      let doubled : doubles_name tree ≡ false = (unbroken (doubles_name tree) 201 _ legal).0 in
-      let classes : has_repeat (λ (a b : SourceClass). same_text a.name b.name) tree.classes ≡ false = (or_parts (has_repeat same_text tree.externs) _ (or_parts (has_repeat same_text tree.externs || has_repeat (λ (a b : SourceClass). same_text a.name b.name) tree.classes) (list_any class_doubles tree.classes) doubled).0).1 in
-      has_repeat-map source_entry same_entry tree.classes ∙ classes
-
-  no_repeats : IsLegal tree → has_repeat same_entry (declarations tree) ≡ false
-  no_repeats legal =
-      all_five (plain_alone mscorlib object_name.name tree.classes) (plain_alone mscorlib string_name.name tree.classes) (plain_alone mscorlib console_name.name tree.classes)
-      (plain_alone mscorlib monitor_name.name tree.classes) (plain_alone cilvm thread_name.name tree.classes) (source_repeats legal)
-
   module _ (legal : IsLegal tree) where
     -- a class's name is found at its own number
     pub own_number : (n : ℕ) (c : ClassName) → class_name tree n ≡ Some c → class_number tree c ≡ Some n
@@ -112,9 +47,7 @@ module _ (tree : Tree) where
         by_entry None at h = none_is_some c h
         by_entry (Some x) at h =
             let named : x.0 ≡ c = cc in
-            let place : position_from (same_entry x) 0 (declarations tree) ≡ Some (0 + n) = own_place same_entry (λ y. same_class_itself y.0) (λ y z. class_equivalence.symm y.0 z.0) (declarations tree) (no_repeats legal) 0 n x at in
-            let here : 0 + n ≡ n = omega arith in
-            subst (λ (d : ClassName). class_number tree d ≡ Some n) named (place ∙ ap Some here)
+            subst (λ (d : ClassName). class_number tree d ≡ Some n) named (number_of_place tree legal n x at)
 
     -- two numbers with one name are one
     pub one_number : (n m : ℕ) (c : ClassName) → class_name tree n ≡ Some c → class_name tree m ≡ Some c → n ≡ m
@@ -132,8 +65,8 @@ module _ (tree : Tree) where
     pub class_at : (classes : List ResolvedClass) → AreResolved tree classes → (n : ℕ) (k : ResolvedClass) → slice_get classes n ≡ Some k →
         (c : ClassName) × (d : Declaration) × (slice_get (declarations tree) n ≡ Some (c, d)) × IsResolvedClass tree d k
     class_at classes alike n k e =
-        let found : (x : ClassName × Declaration) × (slice_get (declarations tree) n ≡ Some x) × IsResolvedClass tree x.1 k = alike_at (λ (x : ClassName × Declaration) r. IsResolvedClass tree x.1 r) (declarations tree) classes alike n k e in
-        (found.0.0, found.0.1, found.1, found.2)
+        let found : AlikeTo (λ (x : ClassName × Declaration) (r : ResolvedClass). IsResolvedClass tree x.1 r) (declarations tree) n k = alike_to (λ (x : ClassName × Declaration) (r : ResolvedClass). IsResolvedClass tree x.1 r) (declarations tree) classes n k alike e in
+        (found.item.0, found.item.1, found.there, found.alike)
 
   -- the declarations are as many as the classes
   pub class_count : (classes : List ResolvedClass) → AreResolved tree classes → length classes ≡ length tree.classes + 5

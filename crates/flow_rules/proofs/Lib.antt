@@ -6,6 +6,6 @@ pub mod Operands
 pub mod MemberLaws
 pub mod MemberRules
 pub mod OperationLaws
-pub mod BracketLaws
 pub mod ChainNumbers
+pub mod KnownTypes
 pub mod ObjectLaws

@@ -41,7 +41,8 @@ use Rattle.resolved_code.specs.declared.classes.ResolvedKind.TheVariants as Kind
 use Rattle.resolved_code.specs.declared.classes.ResolvedMethod.{ResolvedMethod}
 use Rattle.resolved_code.specs.declared.classes.ResolvedClass.{ResolvedClass}
 use Rattle.flow_rules.specs.Members.{IsCallable, is_abstract_kind}
-use Rattle.flow_rules.proofs.Classes.{element_at_number, alike_at, alike_beyond, own_declaration}
+use Rattle.resolved_code.proofs.AlikeLaws.{AlikeTo, alike_to, alike_beyond}
+use Rattle.flow_rules.proofs.Classes.{element_at_number, own_declaration}
 
 nearest_passes : {X : Type 0} (test : X → Bool) (held : ClassName → List X) (cs : List ClassName) (c : ClassName) (x : X) → nearest (λ k. find test (held k)) cs ≡ Some (c, x) → IsTrue (test x)
 nearest_passes test held [] c x e = none_is_some (c, x) e
@@ -125,9 +126,9 @@ module _ (tree : Tree) where
   pub field_there : (b : Bool) (r : FieldReference) (f : MemberNumber) (k : ResolvedClass) (x : ResolvedField) → IsField tree b r f → IsClassAt tree f.class k → slice_get k.fields f.place ≡ Some x → type_named tree x.field_type ≡ r.field_type
   field_there b r f k x is (name, d, at, alike) e =
       let member : (slice_get d.fields f.place ≡ Some is.found) × (name ≡ is.declared_in) = member_of_class (λ y. y.fields) f.class f.place is.declared_in name d is.found at is.numbered in
-      let field : (y : Field) × (slice_get d.fields f.place ≡ Some y) × IsResolvedField tree y x = alike_at (IsResolvedField tree) d.fields k.fields alike.fields f.place x e in
-      let same : field.0 ≡ is.found = same_Some field.0 is.found (sym field.1 ∙ member.0) in
-      type_is_named x.field_type field.0.field_type field.2.field_type ∙ ap (λ (y : Field). y.field_type) same ∙ field_has_type b r is.declared_in is.found is.finds
+      let field : AlikeTo (IsResolvedField tree) d.fields f.place x = alike_to (IsResolvedField tree) d.fields k.fields f.place x alike.fields e in
+      let same : field.item ≡ is.found = same_Some field.item is.found (sym field.there ∙ member.0) in
+      type_is_named x.field_type field.item.field_type field.alike.field_type ∙ ap (λ (y : Field). y.field_type) same ∙ field_has_type b r is.declared_in is.found is.finds
 
   pub field_lacks : (b : Bool) (r : FieldReference) (f : MemberNumber) (k : ResolvedClass) → IsField tree b r f → IsClassAt tree f.class k → slice_get k.fields f.place ≡ None → ⊥
   field_lacks b r f k is (name, d, at, alike) e =
@@ -158,13 +159,13 @@ module _ (tree : Tree) where
   pub method_there : (b : Bool) (r : MethodReference) (f : MemberNumber) (k : ResolvedClass) (x : ResolvedMethod) (is : IsMethod tree b r f) → IsClassAt tree f.class k → slice_get k.methods f.place ≡ Some x → IsCallable tree r.signature is.found x
   method_there b r f k x is (name, d, at, alike) e =
       let member : (slice_get d.methods f.place ≡ Some is.found) × (name ≡ is.declared_in) = member_of_class (λ y. y.methods) f.class f.place is.declared_in name d is.found at is.numbered in
-      let method : (y : Method) × (slice_get d.methods f.place ≡ Some y) × IsResolvedMethod tree y x = alike_at (IsResolvedMethod tree) d.methods k.methods alike.methods f.place x e in
-      let same : method.0 ≡ is.found = same_Some method.0 is.found (sym method.1 ∙ member.0) in
-      let signature : method.0.signature ≡ r.signature = ap (λ (y : Method). y.signature) same ∙ method_has_signature b r is.declared_in is.found is.finds in
+      let method : AlikeTo (IsResolvedMethod tree) d.methods f.place x = alike_to (IsResolvedMethod tree) d.methods k.methods f.place x alike.methods e in
+      let same : method.item ≡ is.found = same_Some method.item is.found (sym method.there ∙ member.0) in
+      let signature : method.item.signature ≡ r.signature = ap (λ (y : Method). y.signature) same ∙ method_has_signature b r is.declared_in is.found is.finds in
       record {
-        parameters = types_are_named x.parameters method.0.signature.parameters method.2.parameters ∙ ap (λ (y : Signature). y.parameters) signature;
-        return_type = return_is_named x.return_type method.0.signature.return_type method.2.return_type ∙ ap (λ (y : Signature). y.return_type) signature;
-        is_abstract = is_abstract_too method.0.kind x.kind method.2.kind ∙ ap (λ (y : Method). is_abstract_method y.kind) same;
+        parameters = types_are_named x.parameters method.item.signature.parameters method.alike.parameters ∙ ap (λ (y : Signature). y.parameters) signature;
+        return_type = return_is_named x.return_type method.item.signature.return_type method.alike.return_type ∙ ap (λ (y : Signature). y.return_type) signature;
+        is_abstract = is_abstract_too method.item.kind x.kind method.alike.kind ∙ ap (λ (y : Method). is_abstract_method y.kind) same;
       }
 
   pub method_lacks : (b : Bool) (r : MethodReference) (f : MemberNumber) (k : ResolvedClass) → IsMethod tree b r f → IsClassAt tree f.class k → slice_get k.methods f.place ≡ None → ⊥

@@ -3,10 +3,8 @@
 ghost use Rattle.std.specs.Prelude.{◌≡◌, ◌≤◌, ◌+◌, ◌-◌, ◌==◌, ◌||◌, if◌then◌else◌, true, false, Some, None, option_map, slice_get, IfSome};
 ghost use Rattle.cil_model.specs.declared.trees.Tree.{Tree};
 ghost use Rattle.cil_model.specs.declared.types.ClassName.{ClassName};
-ghost use Rattle.cil_model.specs.Assignable.{element_of_class, type_of_class, is_class_assignable, is_element_assignable, is_assignable};
+ghost use Rattle.cil_model.specs.Assignable.{element_of_class, type_of_class, is_class_assignable, is_assignable};
 ghost use Rattle.std.specs.List.{list_any};
-ghost use Rattle.cil_model.specs.Same.{same_element};
-ghost use Rattle.cil_model.specs.declared.types.Element.TheVariants as Named;
 ghost use Rattle.cil_model.specs.Chains.{base_of, longest_chain};
 ghost use Rattle.cil_model.specs.TypeTree.{ancestor, parent, parent_element};
 ghost use Rattle.cil_model.specs.TypeTree as OnStack;
@@ -20,6 +18,7 @@ ghost use Rattle.flow_rules.specs.Merging.{AreClasses, AreLevel, IsClassAt, IsDe
 use crate::entries::{StackEntry, is_reference};
 use cil_model::trees::Tree;
 use resolved_code::classes::ResolvedClass;
+use resolved_code::type_tests::TypeTest;
 use resolved_code::types::{NumberedElement, NumberedType};
 use std::marker::Model;
 
@@ -206,47 +205,16 @@ impl<'a> TypeTree<'a> {
         false
     }
 
-    /// The same of types without brackets. Only the two integers may not stand for `object`.
-    fn is_element_assignable(&self, from: NumberedElement, to: NumberedElement) -> bool
-        requires from { is_known self.now from ≡ true }
-        requires to { is_known self.now to ≡ true }
-        ensures { result ≡ is_element_assignable self.now (element_named self.now from) (element_named self.now to) }
-    {
-        match (from, to) {
-            (NumberedElement::Int32, NumberedElement::Object) => false,
-            (NumberedElement::Int64, NumberedElement::Object) => false,
-            (_, NumberedElement::Object) => true,
-            (NumberedElement::Class(from), NumberedElement::Class(to)) => {
-                self.is_class_assignable(from, to)
-            }
-            (NumberedElement::Int32, NumberedElement::Int32) => true,
-            (NumberedElement::Int64, NumberedElement::Int64) => true,
-            (NumberedElement::String, NumberedElement::String) => true,
-            _ => false,
-        }
-    }
-
-    /// The same of types whose classes are known: as many brackets on both, or fewer on `object`.
-    #[tactic(auto, using(crate::proofs::BracketLaws::as_many, crate::proofs::BracketLaws::with_fewer, crate::proofs::BracketLaws::with_more))]
-    fn is_known_assignable(&self, from: NumberedType, to: NumberedType) -> bool
-        requires from { is_known self.now from.element ≡ true }
-        requires to { is_known self.now to.element ≡ true }
-        ensures { result ≡ is_assignable self.now (type_named self.now from) (type_named self.now to) }
-    {
-        if from.brackets == to.brackets {
-            return self.is_element_assignable(from.element, to.element);
-        }
-        if to.brackets < from.brackets {
-            return is_object(to.element);
-        }
-        false
-    }
-
     /// Whether a value of the first type may stand where the second is wanted (ECMA-335 I.8.7).
     pub fn is_assignable(&self, from: NumberedType, to: NumberedType) -> bool
         ensures { result ≡ is_assignable self.now (type_named self.now from) (type_named self.now to) }
     {
-        self.is_known_assignable(self.known(from), self.known(to))
+        let one = self.known(from);
+        let other = self.known(to);
+        match one.test_for(other) {
+            TypeTest::Answered(answer) => answer,
+            TypeTest::OfClasses { from, to } => self.is_class_assignable(from, to),
+        }
     }
 
     /// The closest common ancestor of two entries (ECMA-335 III.1.8.1.3; the tree is this profile's). None where no type is above
@@ -280,13 +248,6 @@ fn is_or_lists(number: usize, class: &ResolvedClass, wanted: usize) -> bool
     ensures { result ≡ (number == wanted) || list_any (λ i. i == wanted) class.now.interfaces }
 {
     number == wanted || class.interfaces.as_slice().contains(&wanted)
-}
-
-/// `object`
-fn is_object(element: NumberedElement) -> bool
-    ensures { (tree : Tree) → result ≡ same_element (element_named tree element) Named.Object }
-{
-    matches!(element, NumberedElement::Object)
 }
 
 /// Null lies below every reference, and below nothing else.

@@ -1,8 +1,7 @@
--- What instructions that touch frames alone do to them (III.3; the limits are this profile's). A rule has no answer where an
+-- What instructions that change frames alone do to them (III.3; the limits are this profile's). A rule has no answer where an
 -- operand is missing or of another kind, or where the frame has no room: no verified program comes there.
-use Rattle.std.specs.Prelude.{ℕ, ◌+◌, ℤ, pos, Bool, true, false, not, ◌==◌, ◌%◌, ◌^◌, if◌then◌else◌, nat_lt, List, [], ◌∷◌, length, Option, Some, None, Result, Ok, Err, slice_get}
-use Rattle.std.specs.Int.{w32, w64, cast_signed, cast_unsigned}
-use Rattle.std.specs.Ordering.{int_eq}
+use Rattle.std.specs.Prelude.{ℕ, ◌+◌, ℤ, pos, Bool, true, false, not, ◌==◌, if◌then◌else◌, nat_lt, List, [], ◌∷◌, length, Option, Some, None, Result, Ok, Err, slice_get}
+use Rattle.std.specs.Int.{w32, cast_unsigned}
 use Rattle.cil_model.specs.declared.instructions.BinaryOperation.{BinaryOperation}
 use Rattle.cil_model.specs.declared.instructions.UnaryOperation.{UnaryOperation}
 use Rattle.cil_model.specs.declared.instructions.ShiftOperation.{ShiftOperation}
@@ -15,11 +14,12 @@ use Rattle.cil_model.specs.declared.reports.Fault.{Fault}
 use Rattle.cil_model.specs.Bodies.{at_place}
 use Rattle.object_memory.specs.declared.values.Value.{Value}
 use Rattle.object_memory.specs.declared.values.Value.TheVariants.{Int32, Int64, Native, Ref}
+use Rattle.object_memory.specs.Objects.{Objects, is_same_object}
 use Rattle.threads_monitors.specs.Frames.{Frames, size, with_place, with_stack, with_argument, with_local}
 use Rattle.threads_monitors.specs.declared.effects.Effect.{Effect}
 use Rattle.threads_monitors.specs.declared.effects.Effect.TheVariants.{GoesOn, Raises}
 use Rattle.reference_machine.specs.Values.{Int32 as Int32Value, Int64 as Int64Value}
-use Rattle.reference_machine.specs.Arithmetic.{binary, unary, shift, compared, branch_values}
+use Rattle.reference_machine.specs.Arithmetic.{Operand, I4, I8, NativeInt, Object, binary_of, unary_of, shift_of, is_set_of, convert_32_of, convert_64_of, one_or_zero_of, compared, branch_values}
 
 -- the frames after an instruction, and what it comes to; or it has no answer
 abbrev pub Turn : Type 0
@@ -64,75 +64,56 @@ leaves_result m (Err f) = Some (m, Raises f)
 
 -- ---- values
 
-abbrev pub held_as : (ℤ → Value) → Result ℤ Fault → Result Value Fault
-held_as kind (Ok z) = Ok (kind z)
-held_as kind (Err f) = Err f
+-- what an operation sees of a value (III.1.5)
+abbrev pub operand : Value → Operand
+operand (Int32 x) = I4 x
+operand (Int64 x) = I8 x
+operand (Native x) = NativeInt x
+operand (Ref a) = Object (a.number == 0)
 
--- an operation on two integers of one size (III.1.5, table 2)
+-- the operations on operands, on values of this machine
 abbrev pub binary_result : BinaryOperation → Value → Value → Option (Result Value Fault)
-binary_result op (Int32 x) (Int32 y) = Some (held_as Int32 (binary w32 op x y))
-binary_result op (Int64 x) (Int64 y) = Some (held_as Int64 (binary w64 op x y))
-binary_result op _ _ = None
+binary_result op v w = binary_of Int32 Int64 op (operand v) (operand w)
 
--- on one integer (III.1.5, table 3)
 abbrev pub unary_result : UnaryOperation → Value → Option Value
-unary_result op (Int32 x) = Some (Int32 (unary w32 op x))
-unary_result op (Int64 x) = Some (Int64 (unary w64 op x))
-unary_result op _ = None
+unary_result op v = unary_of Int32 Int64 op (operand v)
 
--- the amount has 32 bits (III.1.5, table 6)
 abbrev pub shift_result : ShiftOperation → Value → Value → Option Value
-shift_result op (Int32 x) (Int32 amount) = Some (Int32 (shift w32 op x amount))
-shift_result op (Int64 x) (Int32 amount) = Some (Int64 (shift w64 op x amount))
-shift_result op _ _ = None
+shift_result op v amount = shift_of Int32 Int64 op (operand v) (operand amount)
+
+abbrev pub is_set : Value → Option Bool
+is_set v = is_set_of (operand v)
+
+abbrev pub in_32_bits : Value → Option Value
+in_32_bits v = convert_32_of Int32 (operand v)
+
+abbrev pub in_64_bits : Value → Option Value
+in_64_bits v = convert_64_of Int64 (operand v)
+
+abbrev pub one_or_zero : Bool → Value
+one_or_zero holds = one_or_zero_of Int32 holds
 
 -- two references that are compared for being one (III.1.5, table 4)
 abbrev pub same_reference : Comparison → Bool → Option Bool
 same_reference Equal same = Some same
 same_reference _ same = None
 
-abbrev pub comparison : Comparison → Value → Value → Option Bool
-comparison op (Int32 x) (Int32 y) = Some (compared op x y)
-comparison op (Int64 x) (Int64 y) = Some (compared op x y)
-comparison op (Ref a) (Ref b) = same_reference op (a.number == b.number)
-comparison op _ _ = None
+abbrev pub comparison : Objects → Comparison → Value → Value → Option Bool
+comparison o op (Int32 x) (Int32 y) = Some (compared op x y)
+comparison o op (Int64 x) (Int64 y) = Some (compared op x y)
+comparison o op (Ref a) (Ref b) = same_reference op (is_same_object o a b)
+comparison o op _ _ = None
 
 abbrev pub branch_reference : BranchComparison → Bool → Option Bool
 branch_reference BranchEqual same = Some same
 branch_reference NotEqual same = Some (not same)
 branch_reference _ same = None
 
-abbrev pub branch_test : BranchComparison → Value → Value → Option Bool
-branch_test op (Int32 x) (Int32 y) = branch_values op (Int32Value x) (Int32Value y)
-branch_test op (Int64 x) (Int64 y) = branch_values op (Int64Value x) (Int64Value y)
-branch_test op (Ref a) (Ref b) = branch_reference op (a.number == b.number)
-branch_test op _ _ = None
-
--- what a comparison leaves (III.3.21)
-abbrev pub one_or_zero : Bool → Value
-one_or_zero true = Int32 (pos 1)
-one_or_zero false = Int32 (pos 0)
-
--- neither zero nor null (III.3.17, III.3.18)
-abbrev pub is_set : Value → Option Bool
-is_set (Int32 x) = Some (not (int_eq x (pos 0)))
-is_set (Int64 x) = Some (not (int_eq x (pos 0)))
-is_set (Native x) = None
-is_set (Ref a) = Some (not (a.number == 0))
-
--- the low 32 bits (III.3.27)
-abbrev pub in_32_bits : Value → Option Value
-in_32_bits (Int32 x) = Some (Int32 x)
-in_32_bits (Int64 x) = Some (Int32 (cast_signed w32 (cast_unsigned w64 x % 2 ^ 32)))
-in_32_bits (Native x) = Some (Int32 (cast_signed w32 (cast_unsigned w64 x % 2 ^ 32)))
-in_32_bits (Ref a) = None
-
--- with its sign (III.3.27)
-abbrev pub in_64_bits : Value → Option Value
-in_64_bits (Int32 x) = Some (Int64 x)
-in_64_bits (Int64 x) = Some (Int64 x)
-in_64_bits (Native x) = Some (Int64 x)
-in_64_bits (Ref a) = None
+abbrev pub branch_test : Objects → BranchComparison → Value → Value → Option Bool
+branch_test o op (Int32 x) (Int32 y) = branch_values op (Int32Value x) (Int32Value y)
+branch_test o op (Int64 x) (Int64 y) = branch_values op (Int64Value x) (Int64Value y)
+branch_test o op (Ref a) (Ref b) = branch_reference op (is_same_object o a b)
+branch_test o op _ _ = None
 
 -- ---- instructions
 
@@ -169,8 +150,8 @@ unary_turn op m = with_top m (λ v n. given (unary_result op v) (λ u. leaves u 
 abbrev pub shift_turn : ShiftOperation → Frames → Turn
 shift_turn op m = with_top m (λ w n. with_top n (λ v k. given (shift_result op v w) (λ u. leaves u k)))
 
-abbrev pub compare_turn : Comparison → Frames → Turn
-compare_turn op m = with_top m (λ w n. with_top n (λ v k. given (comparison op v w) (λ holds. leaves (one_or_zero holds) k)))
+abbrev pub compare_turn : Comparison → Frames → Objects → Turn
+compare_turn op m o = with_top m (λ w n. with_top n (λ v k. given (comparison o op v w) (λ holds. leaves (one_or_zero holds) k)))
 
 abbrev pub convert_32_turn : Frames → Turn
 convert_32_turn m = with_top m (λ v n. given (in_32_bits v) (λ u. leaves u n))
@@ -185,8 +166,8 @@ branch_true_turn place m = with_top m (λ v n. given (is_set v) (λ holds. branc
 abbrev pub branch_false_turn : ℕ → Frames → Turn
 branch_false_turn place m = with_top m (λ v n. given (is_set v) (λ holds. branch_if (not holds) place n))
 
-abbrev pub branch_compare_turn : BranchComparison → ℕ → Frames → Turn
-branch_compare_turn op place m = with_top m (λ w n. with_top n (λ v k. given (branch_test op v w) (λ holds. branch_if holds place k)))
+abbrev pub branch_compare_turn : BranchComparison → ℕ → Frames → Objects → Turn
+branch_compare_turn op place m o = with_top m (λ w n. with_top n (λ v k. given (branch_test o op v w) (λ holds. branch_if holds place k)))
 
 -- to the place of that number, counted as unsigned, or on to the instruction behind (III.3.66)
 abbrev pub to_place : Option ℕ → Frames → Turn

@@ -8,8 +8,8 @@ use Rattle.object_memory.specs.declared.kinds.Kind.TheVariants.{Array}
 use Rattle.object_memory.specs.declared.values.Value.{Value}
 use Rattle.object_memory.specs.declared.values.Value.TheVariants.{Int32, Native, Ref}
 use Rattle.object_memory.specs.declared.values.ValueKind.{ValueKind}
-use Rattle.object_memory.specs.Cells.{Cell, cell_at}
-use Rattle.object_memory.specs.Objects.{Objects, with_birth, with_slot}
+use Rattle.object_memory.specs.Cells.{Cell}
+use Rattle.object_memory.specs.Objects.{Objects, object_cell, with_birth, with_slot}
 use Rattle.object_memory.specs.Values.{value_word, value_in}
 use Rattle.threads_monitors.specs.Frames.{Frames}
 use Rattle.threads_monitors.specs.declared.effects.Effect.{Effect}
@@ -44,7 +44,7 @@ index_of v go = given (index_in v) go
 
 -- the slots of the object at an address
 abbrev pub slots_of : Objects → Addr → Option (List ℕ)
-slots_of o a = option_map (λ (c : Cell). c.slots) (cell_at o.block a)
+slots_of o a = option_map (λ (c : Cell). c.slots) (object_cell o a)
 
 -- leaves the value of a slot, of its kind
 abbrev pub load_slot : ValueKind → ℕ → Addr → Frames → Objects → ObjectTurn

@@ -20,8 +20,8 @@ use Rattle.object_memory.specs.declared.kinds.Kind.{Kind}
 use Rattle.object_memory.specs.declared.kinds.Kind.TheVariants.{Instance, Array}
 use Rattle.object_memory.specs.declared.values.Value.{Value}
 use Rattle.object_memory.specs.declared.values.Value.TheVariants.{Ref}
-use Rattle.object_memory.specs.Cells.{Cell, cell_at, literal_number}
-use Rattle.object_memory.specs.Objects.{Objects}
+use Rattle.object_memory.specs.Cells.{Cell, literal_number}
+use Rattle.object_memory.specs.Objects.{Objects, object_cell}
 use Rattle.threads_monitors.specs.Frames.{Frames}
 use Rattle.threads_monitors.specs.declared.effects.Effect.TheVariants.{Raises}
 use Rattle.instructions.specs.Frames.{given, with_top, leaves}
@@ -49,7 +49,7 @@ type_of_kind tree (Array a) = option_map array_of (type_at tree (held_type a))
 -- of what lies at an address: a literal is a string
 abbrev pub type_of_address : Tree → Objects → Addr → Option DeclaredType
 type_of_address tree o a =
-    option_map_or (λ n. Some (plain StringElement)) (literal_number a) (option_and_then (λ (c : Cell). type_of_kind tree c.kind) (cell_at o.block a))
+    option_map_or (λ n. Some (plain StringElement)) (literal_number a) (option_and_then (λ (c : Cell). type_of_kind tree c.kind) (object_cell o a))
 
 -- whether a reference may stand where the type is wanted: null may everywhere
 abbrev pub may_stand : Tree → Objects → Value → DeclaredType → Option Bool
@@ -82,7 +82,7 @@ element_in (Array a) = Some a
 
 -- what the array at an address holds
 abbrev pub element_at : Objects → Addr → Option ArrayElement
-element_at o a = option_and_then (λ (c : Cell). element_in c.kind) (cell_at o.block a)
+element_at o a = option_and_then (λ (c : Cell). element_in c.kind) (object_cell o a)
 
 -- stores to a place that is there what the array's own elements admit
 abbrev pub store_admitted : Tree → Value → ℕ → Addr → Frames → Objects → ObjectTurn

@@ -6,7 +6,7 @@ ghost use Rattle.instructions.specs.Frames.{binary_turn, unary_turn, shift_turn,
 use crate::places::{leave, leave_result};
 use cil_model::instructions::{BinaryOperation, Comparison, ShiftOperation, UnaryOperation};
 use int_ops::{Integer, sign_extended, truncated};
-use object_memory::Value;
+use object_memory::{Heap, Value};
 use threads_monitors::{Effect, FrameMemory};
 
 /// `add`, `sub`, `mul`, their forms with `.ovf`, `div`, `rem`, `and`, `or`, `xor` (ECMA-335 III.1.5, table 2). The faults are
@@ -58,26 +58,26 @@ pub fn shift(frames: &mut FrameMemory, operation: ShiftOperation) -> Effect
     }
 }
 
-/// `ceq`, `cgt` and `clt` (ECMA-335 III.3.21, III.3.22, III.3.25).
-pub fn compare(frames: &mut FrameMemory, operation: Comparison) -> Effect
-    requires { IsSome (compare_turn operation frames.old) }
-    ensures { Some (frames.new, result) ≡ compare_turn operation frames.old }
+/// `ceq`, `cgt` and `clt` (ECMA-335 III.3.21, III.3.22, III.3.25). Of references the heap tells whether they are equal.
+pub fn compare(frames: &mut FrameMemory, heap: &Heap, operation: Comparison) -> Effect
+    requires { IsSome (compare_turn operation frames.old heap.now) }
+    ensures { Some (frames.new, result) ≡ compare_turn operation frames.old heap.now }
 {
     let second = frames.pop();
     let first = frames.pop();
-    let holds = holds(operation, first, second);
+    let holds = holds(heap, operation, first, second);
     leave(frames, one_or_zero(holds))
 }
 
 /// Whether a comparison of two integers of one size, or of two references, holds.
-fn holds(operation: Comparison, first: Value, second: Value) -> bool
-    requires { IsSome (comparison operation first second) }
-    ensures { comparison operation first second ≡ Some result }
+fn holds(heap: &Heap, operation: Comparison, first: Value, second: Value) -> bool
+    requires { IsSome (comparison heap.now operation first second) }
+    ensures { comparison heap.now operation first second ≡ Some result }
 {
     match (first, second) {
         (Value::Int32(x), Value::Int32(y)) => Integer::compare(operation, x, y),
         (Value::Int64(x), Value::Int64(y)) => Integer::compare(operation, x, y),
-        (Value::Ref(x), Value::Ref(y)) => x == y,
+        (Value::Ref(x), Value::Ref(y)) => heap.is_same_object(x, y),
         _ => unreachable!(),
     }
 }

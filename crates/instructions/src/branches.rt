@@ -6,7 +6,7 @@ ghost use Rattle.instructions.specs.Frames.{branch_true_turn, branch_false_turn,
 use crate::places::{branch_if, go_on, jump};
 use cil_model::instructions::BranchComparison;
 use int_ops::Integer;
-use object_memory::Value;
+use object_memory::{Heap, Value};
 use threads_monitors::{Effect, FrameMemory};
 
 /// `brtrue` (ECMA-335 III.3.18).
@@ -40,27 +40,33 @@ fn is_set(value: Value) -> bool
     }
 }
 
-/// `beq`, `bne.un`, `bge`, `bgt`, `ble` and `blt` (ECMA-335 III.3.5 to III.3.14).
-pub fn branch_compare(frames: &mut FrameMemory, operation: BranchComparison, place: usize) -> Effect
-    requires { IsSome (branch_compare_turn operation place frames.old) }
-    ensures { Some (frames.new, result) ≡ branch_compare_turn operation place frames.old }
+/// `beq`, `bne.un`, `bge`, `bgt`, `ble` and `blt` (ECMA-335 III.3.5 to III.3.14). Of references the heap tells whether they are
+/// equal.
+pub fn branch_compare(
+    frames: &mut FrameMemory,
+    heap: &Heap,
+    operation: BranchComparison,
+    place: usize,
+) -> Effect
+    requires { IsSome (branch_compare_turn operation place frames.old heap.now) }
+    ensures { Some (frames.new, result) ≡ branch_compare_turn operation place frames.old heap.now }
 {
     let second = frames.pop();
     let first = frames.pop();
-    branch_if(frames, is_taken(operation, first, second), place)
+    branch_if(frames, is_taken(heap, operation, first, second), place)
 }
 
 /// Whether a branch that compares two integers of one size, or two references, is taken.
-fn is_taken(operation: BranchComparison, first: Value, second: Value) -> bool
-    requires { IsSome (branch_test operation first second) }
-    ensures { branch_test operation first second ≡ Some result }
+fn is_taken(heap: &Heap, operation: BranchComparison, first: Value, second: Value) -> bool
+    requires { IsSome (branch_test heap.now operation first second) }
+    ensures { branch_test heap.now operation first second ≡ Some result }
 {
     match (first, second) {
         (Value::Int32(x), Value::Int32(y)) => Integer::branches(operation, x, y),
         (Value::Int64(x), Value::Int64(y)) => Integer::branches(operation, x, y),
         (Value::Ref(x), Value::Ref(y)) => match operation {
-            BranchComparison::Equal => x == y,
-            BranchComparison::NotEqual => x != y,
+            BranchComparison::Equal => heap.is_same_object(x, y),
+            BranchComparison::NotEqual => !heap.is_same_object(x, y),
             _ => unreachable!(),
         },
         _ => unreachable!(),

@@ -4,8 +4,7 @@ ghost use Rattle.std.specs.Prelude.{◌≡◌, ℤ, pos, Some};
 ghost use Rattle.std.specs.Int.{Width, w32, w64};
 ghost use Rattle.std.specs.Ordering.{int_eq};
 ghost use Rattle.reference_machine.specs.Values.{Value, Int32, Int64};
-ghost use Rattle.reference_machine.specs.Arithmetic.{binary, unary, shift, compared, branch_values};
-ghost use Rattle.int_ops.specs.Integers.{with_number};
+ghost use Rattle.reference_machine.specs.Arithmetic.{binary, unary, shift, compared, branch_values, result_as};
 
 use cil_model::instructions::{
     BinaryOperation, BranchComparison, Comparison, ShiftOperation, UnaryOperation,
@@ -31,7 +30,7 @@ pub trait Integer: Copy {
     /// - `Arithmetic`: the least value is divided by -1, or its remainder by -1 is asked for (the remainder is this
     ///   profile's).
     fn binary(op: BinaryOperation, x: Self, y: Self) -> Result<Self, Fault>
-        ensures { with_number number result ≡ binary width op (number x) (number y) };
+        ensures { result_as number result ≡ binary width op (number x) (number y) };
 
     /// `-x`, which is the least value itself at the least value, or the complement of each bit (III.3.50, III.3.52).
     fn unary(op: UnaryOperation, x: Self) -> Self

@@ -21,16 +21,15 @@ use Rattle.method_table.specs.MethodNumbers.{number_of}
 use Rattle.threads_monitors.specs.Frames.{Frames}
 use Rattle.threads_monitors.specs.declared.effects.Effect.{Effect}
 use Rattle.threads_monitors.specs.declared.effects.Effect.TheVariants.{Raises}
-use Rattle.instructions.specs.Frames.{Turn, given, onward, top_of}
-use Rattle.instructions.specs.ObjectTurns.{ObjectTurn, beside}
-use Rattle.instructions.specs.Calls.{call_turn}
-use Rattle.instructions.specs.BuiltInTurns.{enter_turn, exit_turn, write_turn}
-use Rattle.interpreter.specs.Operations.{constant_rule, stack_rule, arithmetic_rule, branch_rule, field_rule, array_rule, type_rule, static_rule}
-use Rattle.interpreter.specs.Instructions.{IsDone, MachineTurn, of_frames, of_objects, of_statics, of_calls, operation_turn}
-use Rattle.interpreter.specs.Calls.{CallTurn, act_turn, beside_console, called_as, call_rule, chosen_at, new_at, receiver, return_rule, run_chosen, run_turn, top_reference, virtual_at}
-use Rattle.interpreter.specs.declared.outcomes.Outcome.{Outcome}
-use Rattle.interpreter.specs.declared.outcomes.Outcome.TheVariants.{Comes, Starts, Joins}
-use Rattle.step_simulation.specs.simulation.Turns.{Answer}
+use Rattle.step_simulation.specs.simulation.instructions.Frames.{Turn, given, onward, top_of}
+use Rattle.step_simulation.specs.simulation.instructions.ObjectTurns.{ObjectTurn, beside}
+use Rattle.step_simulation.specs.simulation.instructions.Calls.{call_turn}
+use Rattle.step_simulation.specs.simulation.instructions.BuiltInTurns.{enter_turn, exit_turn, write_turn}
+use Rattle.step_simulation.specs.simulation.interpreter.Operations.{constant_rule, stack_rule, arithmetic_rule, branch_rule, field_rule, array_rule, type_rule, static_rule}
+use Rattle.step_simulation.specs.simulation.interpreter.Instructions.{IsDone, MachineTurn, of_frames, of_objects, of_statics, of_calls, operation_turn, Answer, answer_of}
+use Rattle.step_simulation.specs.simulation.interpreter.Calls.{CallTurn, act_turn, beside_console, called_as, call_rule, chosen_at, new_at, receiver, return_rule, run_chosen, run_turn, top_reference, virtual_at, CallAnswer, call_answer}
+use Rattle.step_simulation.specs.simulation.interpreter.declared.outcomes.Outcome.{Outcome}
+use Rattle.step_simulation.specs.simulation.interpreter.declared.outcomes.Outcome.TheVariants.{Comes, Starts, Joins}
 use Rattle.cil_model.proofs.Lists.{none_is_some}
 
 -- an outcome for the thread itself, or a wait, is no start
@@ -49,41 +48,41 @@ joins_not {A} a object h = absurd (lost h)
 module _ (m : Frames) (o : Objects) (statics : List Value) (printed : List ℕ) where
   -- an answer that asks for a start is all as it was
   abbrev KeepsAll : MachineTurn → Type 0
-  KeepsAll turn = (answer : Answer) (object : Addr) → Some answer ≡ turn → answer.4 ≡ Starts object → answer ≡ (m, o, statics, printed, Starts object)
+  KeepsAll turn = (answer : Answer) (object : Addr) → Some answer ≡ turn → answer.outcome ≡ Starts object → answer ≡ answer_of m o statics printed (Starts object)
 
   abbrev KeepsCall : CallTurn → Type 0
-  KeepsCall turn = (t : Frames × Objects × List ℕ × Outcome) (object : Addr) → Some t ≡ turn → t.3 ≡ Starts object → t ≡ (m, o, printed, Starts object)
+  KeepsCall turn = (t : CallAnswer) (object : Addr) → Some t ≡ turn → t.outcome ≡ Starts object → t ≡ call_answer m o printed (Starts object)
 
   -- ---- what comes to an effect asks for nothing
 
-  other_outcome : {A : Type 0} (answer other : Answer) (e : Effect) (object : Addr) → Some answer ≡ Some other → other.4 ≡ Comes e → answer.4 ≡ Starts object → A
+  other_outcome : {A : Type 0} (answer other : Answer) (e : Effect) (object : Addr) → Some answer ≡ Some other → other.outcome ≡ Comes e → answer.outcome ≡ Starts object → A
   other_outcome answer other e object is comes starts =
-      comes_not e object (sym comes ∙ sym (ap (λ (x : Answer). x.4) (same_Some answer other is)) ∙ starts)
+      comes_not e object (sym comes ∙ sym (ap (λ (x : Answer). x.outcome) (same_Some answer other is)) ∙ starts)
 
   frames_keep : (turn : Turn) → KeepsAll (of_frames o statics printed turn)
   frames_keep None answer object is starts = none_is_some answer (sym is)
-  frames_keep (Some t) answer object is starts = other_outcome answer (t.0, o, statics, printed, Comes t.1) t.1 object is refl starts
+  frames_keep (Some t) answer object is starts = other_outcome answer (answer_of t.0 o statics printed (Comes t.1)) t.1 object is refl starts
 
   objects_keep : (turn : ObjectTurn) → KeepsAll (of_objects o statics printed turn)
   objects_keep None answer object is starts = none_is_some answer (sym is)
-  objects_keep (Some t) answer object is starts = other_outcome answer (t.0, t.1, statics, printed, Comes t.2) t.2 object is refl starts
+  objects_keep (Some t) answer object is starts = other_outcome answer (answer_of t.0 t.1 statics printed (Comes t.2)) t.2 object is refl starts
 
   statics_keep : (turn : Option (Frames × List Value × Effect)) → KeepsAll (of_statics o statics printed turn)
   statics_keep None answer object is starts = none_is_some answer (sym is)
-  statics_keep (Some t) answer object is starts = other_outcome answer (t.0, o, t.1, printed, Comes t.2) t.2 object is refl starts
+  statics_keep (Some t) answer object is starts = other_outcome answer (answer_of t.0 o t.1 printed (Comes t.2)) t.2 object is refl starts
 
   -- ---- calls
 
   calls_keep : (turn : CallTurn) → KeepsCall turn → KeepsAll (of_calls o statics printed turn)
   calls_keep None keeps answer object is starts = none_is_some answer (sym is)
   calls_keep (Some t) keeps answer object is starts =
-      let same : answer ≡ (t.0, t.1, statics, t.2, t.3) = same_Some answer (t.0, t.1, statics, t.2, t.3) is in
-      same ∙ ap (λ (x : Frames × Objects × List ℕ × Outcome). (x.0, x.1, statics, x.2, x.3)) (keeps t object refl (sym (ap (λ (x : Answer). x.4) same) ∙ starts))
+      let same : answer ≡ (answer_of t.frames t.objects statics t.printed t.outcome) = same_Some answer (answer_of t.frames t.objects statics t.printed t.outcome) is in
+      same ∙ ap (λ (x : CallAnswer). answer_of x.frames x.objects statics x.printed x.outcome) (keeps t object refl (sym (ap (λ (x : Answer). x.outcome) same) ∙ starts))
 
   -- a call that comes to an effect
-  effect_keeps : (n : Frames) (p : Objects) (w : List ℕ) (e : Effect) → KeepsCall (Some (n, p, w, Comes e))
+  effect_keeps : (n : Frames) (p : Objects) (w : List ℕ) (e : Effect) → KeepsCall (Some (call_answer n p w (Comes e)))
   effect_keeps n p w e t object is starts =
-      comes_not e object (sym (ap (λ (x : Frames × Objects × List ℕ × Outcome). x.3) (same_Some t (n, p, w, Comes e) is)) ∙ starts)
+      comes_not e object (sym (ap (λ (x : CallAnswer). x.outcome) (same_Some t (call_answer n p w (Comes e)) is)) ∙ starts)
 
   none_keeps : KeepsCall None
   none_keeps t object is starts = none_is_some t (sym is)
@@ -92,7 +91,7 @@ module _ (m : Frames) (o : Objects) (statics : List Value) (printed : List ℕ) 
   console_keeps None = none_keeps
   console_keeps (Some t) = effect_keeps t.0 t.1 printed t.2
 
-  write_keeps : (turn : Option (Frames × List ℕ × Effect)) → KeepsCall (option_map (λ (t : Frames × List ℕ × Effect). (t.0, o, t.1, Comes t.2)) turn)
+  write_keeps : (turn : Option (Frames × List ℕ × Effect)) → KeepsCall (option_map (λ (t : Frames × List ℕ × Effect). call_answer t.0 o t.1 (Comes t.2)) turn)
   write_keeps None = none_keeps
   write_keeps (Some t) = effect_keeps t.0 o t.1 t.2
 
@@ -100,15 +99,15 @@ module _ (m : Frames) (o : Objects) (statics : List Value) (printed : List ℕ) 
   given_keeps None go keeps = none_keeps
   given_keeps (Some x) go keeps = keeps x
 
-  start_keeps : (found : Option Addr) → KeepsCall (option_map (λ a. (m, o, printed, Starts a)) found)
+  start_keeps : (found : Option Addr) → KeepsCall (option_map (λ a. call_answer m o printed (Starts a)) found)
   start_keeps None t object is starts = none_is_some t (sym is)
   start_keeps (Some a) t object is starts =
-      let same : t ≡ (m, o, printed, Starts a) = same_Some t (m, o, printed, Starts a) is in
-      same ∙ ap (λ (x : Outcome). (m, o, printed, x)) (sym (ap (λ (x : Frames × Objects × List ℕ × Outcome). x.3) same) ∙ starts)
+      let same : t ≡ (call_answer m o printed (Starts a)) = same_Some t (call_answer m o printed (Starts a)) is in
+      same ∙ ap (λ (x : Outcome). call_answer m o printed x) (sym (ap (λ (x : CallAnswer). x.outcome) same) ∙ starts)
 
-  join_keeps : (found : Option Addr) → KeepsCall (option_map (λ a. (m, o, printed, Joins a)) found)
+  join_keeps : (found : Option Addr) → KeepsCall (option_map (λ a. call_answer m o printed (Joins a)) found)
   join_keeps None t object is starts = none_is_some t (sym is)
-  join_keeps (Some a) t object is starts = joins_not a object (sym (ap (λ (x : Frames × Objects × List ℕ × Outcome). x.3) (same_Some t (m, o, printed, Joins a) is)) ∙ starts)
+  join_keeps (Some a) t object is starts = joins_not a object (sym (ap (λ (x : CallAnswer). x.outcome) (same_Some t (call_answer m o printed (Joins a)) is)) ∙ starts)
 
   construct_keeps : (stack : List Value) → KeepsCall (top_of stack m (λ v n. beside_console printed (beside o (onward n))))
   construct_keeps [] = none_keeps
@@ -135,7 +134,7 @@ module _ (m : Frames) (o : Objects) (statics : List Value) (printed : List ℕ) 
     chosen_keeps : (a : Addr) (n : MemberNumber) → KeepsCall (run_chosen tree thread a n m o printed)
     chosen_keeps a n = given_keeps (chosen_at tree o a n) (λ run. run_turn tree thread run m o printed) run_keeps
 
-    null_keeps : (is_null : Bool) (turn : CallTurn) → KeepsCall turn → KeepsCall (if is_null then Some (m, o, printed, Comes (Raises NullReference)) else turn)
+    null_keeps : (is_null : Bool) (turn : CallTurn) → KeepsCall turn → KeepsCall (if is_null then Some (call_answer m o printed (Comes (Raises NullReference))) else turn)
     null_keeps true turn keeps = effect_keeps m o printed (Raises NullReference)
     null_keeps false turn keeps = keeps
 
@@ -159,17 +158,17 @@ module _ (m : Frames) (o : Objects) (statics : List Value) (printed : List ℕ) 
     operation_keeps (StoreLocal n) = frames_keep (stack_rule (StoreLocal n) m)
     operation_keeps Duplicate = frames_keep (stack_rule Duplicate m)
     operation_keeps Pop = frames_keep (stack_rule Pop m)
-    operation_keeps (Binary op) = frames_keep (arithmetic_rule (Binary op) m)
-    operation_keeps (Unary op) = frames_keep (arithmetic_rule (Unary op) m)
-    operation_keeps (Shift op) = frames_keep (arithmetic_rule (Shift op) m)
-    operation_keeps (Compare op) = frames_keep (arithmetic_rule (Compare op) m)
-    operation_keeps ConvertInt32 = frames_keep (arithmetic_rule ConvertInt32 m)
-    operation_keeps ConvertInt64 = frames_keep (arithmetic_rule ConvertInt64 m)
-    operation_keeps (Branch place) = frames_keep (branch_rule (Branch place) m)
-    operation_keeps (BranchTrue place) = frames_keep (branch_rule (BranchTrue place) m)
-    operation_keeps (BranchFalse place) = frames_keep (branch_rule (BranchFalse place) m)
-    operation_keeps (BranchCompare op place) = frames_keep (branch_rule (BranchCompare op place) m)
-    operation_keeps (Switch places) = frames_keep (branch_rule (Switch places) m)
+    operation_keeps (Binary op) = frames_keep (arithmetic_rule (Binary op) m o)
+    operation_keeps (Unary op) = frames_keep (arithmetic_rule (Unary op) m o)
+    operation_keeps (Shift op) = frames_keep (arithmetic_rule (Shift op) m o)
+    operation_keeps (Compare op) = frames_keep (arithmetic_rule (Compare op) m o)
+    operation_keeps ConvertInt32 = frames_keep (arithmetic_rule ConvertInt32 m o)
+    operation_keeps ConvertInt64 = frames_keep (arithmetic_rule ConvertInt64 m o)
+    operation_keeps (Branch place) = frames_keep (branch_rule (Branch place) m o)
+    operation_keeps (BranchTrue place) = frames_keep (branch_rule (BranchTrue place) m o)
+    operation_keeps (BranchFalse place) = frames_keep (branch_rule (BranchFalse place) m o)
+    operation_keeps (BranchCompare op place) = frames_keep (branch_rule (BranchCompare op place) m o)
+    operation_keeps (Switch places) = frames_keep (branch_rule (Switch places) m o)
     operation_keeps (LoadField owner field) = objects_keep (field_rule tree (LoadField owner field) m o)
     operation_keeps (StoreField owner field) = objects_keep (field_rule tree (StoreField owner field) m o)
     operation_keeps (LoadStaticField field) = statics_keep (static_rule tree (LoadStaticField field) m statics)
@@ -190,5 +189,5 @@ module _ (m : Frames) (o : Objects) (statics : List Value) (printed : List ℕ) 
     operation_keeps Return = calls_keep (call_rule tree thread Return m o printed) (console_keeps (beside o (return_rule tree m)))
 
     -- an instruction that asks for a thread to start leaves all as it was
-    pub start_changes_nothing : (answer : Answer) (object : Addr) → IsDone tree thread m o statics printed answer → answer.4 ≡ Starts object → answer ≡ (m, o, statics, printed, Starts object)
+    pub start_changes_nothing : (answer : Answer) (object : Addr) → IsDone tree thread m o statics printed answer → answer.outcome ≡ Starts object → answer ≡ answer_of m o statics printed (Starts object)
     start_changes_nothing answer object done starts = operation_keeps done.operation answer object done.is starts

@@ -15,12 +15,13 @@ use Rattle.threads_monitors.specs.declared.effects.Effect.TheVariants.{GoesOn, R
 use Rattle.threads_monitors.specs.declared.threads.Standing.{Standing}
 use Rattle.threads_monitors.specs.declared.threads.Standing.TheVariants.{Live, Ended}
 use Rattle.threads_monitors.specs.declared.threads.Thread.{Thread}
-use Rattle.interpreter.specs.declared.outcomes.Outcome.{Outcome}
+use Rattle.step_simulation.specs.simulation.interpreter.declared.outcomes.Outcome.{Outcome}
 use Rattle.step_simulation.specs.simulation.Budgets.{KeepsBudgets, made_step, steps_left_of, steps_made}
 use Rattle.step_simulation.specs.simulation.MachineContents.{Content}
-use Rattle.step_simulation.specs.simulation.Turns.{Answer, IsStandingTurn, IsThreadTurn, IsTurn, counted, finished, left_by, live_thread}
+use Rattle.step_simulation.specs.simulation.Turns.{IsStandingTurn, IsThreadTurn, IsTurn, counted, finished, left_by, live_thread}
 use Rattle.step_simulation.proofs.Finished.{HasBegun, finished_by}
 use Rattle.cil_model.proofs.Lists.{none_is_some, get_before, set_is_there}
+use Rattle.step_simulation.specs.simulation.interpreter.Instructions.{Answer}
 
 -- ---- one thread among others
 
@@ -153,23 +154,23 @@ module _ (c : Content) (live : LiveHaveSteps c.limits.budget c.threads) (some : 
 
     -- the thread has other frames
     module _ (a : Answer) where
-      own_is : slice_get (left_by c n left a).threads n ≡ Some (live_thread left a.0)
-      own_is = set_is_there c.threads n (live_thread left a.0) (live_thread left before) there
+      own_is : slice_get (left_by c n left a).threads n ≡ Some (live_thread left a.frames)
+      own_is = set_is_there c.threads n (live_thread left a.frames) (live_thread left before) there
 
       replaced : AreAsBefore (left_by c n left a).threads
       replaced = record {
-        own = live_thread left a.0;
+        own = live_thread left a.frames;
         own_there = own_is;
         own_left = refl;
-        same = λ t. left_kept c.limits.budget c.threads n t (live_thread left a.0) (live_thread left before) there refl;
-        have_steps = live_set c.limits.budget c.threads n (live_thread left a.0) (λ h. some_left) live;
+        same = λ t. left_kept c.limits.budget c.threads n t (live_thread left a.frames) (live_thread left before) there refl;
+        have_steps = live_set c.limits.budget c.threads n (live_thread left a.frames) (λ h. some_left) live;
       }
 
       -- and a thread has begun beside it
       joined_by : (threads : List Thread) → HasBegun c.limits.budget (left_by c n left a).threads threads → AreAsBefore threads
       joined_by threads more = subst AreAsBefore (sym more.are) (record {
-        own = live_thread left a.0;
-        own_there = get_before (left_by c n left a).threads (more.new ∷ []) n (live_thread left a.0) own_is;
+        own = live_thread left a.frames;
+        own_there = get_before (left_by c n left a).threads (more.new ∷ []) n (live_thread left a.frames) own_is;
         own_left = refl;
         same = λ t. left_behind c.limits.budget (left_by c n left a).threads t more.new more.whole ∙ replaced.same t;
         have_steps = live_behind c.limits.budget (left_by c n left a).threads more.new (subst (λ k. 0 < k) (sym more.whole) some) replaced.have_steps;
@@ -192,7 +193,7 @@ module _ (c : Content) (live : LiveHaveSteps c.limits.budget c.threads) (some : 
   turn_keeps (Step n) after h = by_thread (slice_get c.threads n) refl h
     where
       by_standing : (left : ℕ) (standing : Standing) → slice_get c.threads n ≡ Some (record { standing = standing; steps_left = left }) → IsStandingTurn c n left standing after → KeepsBudgets c after.0 ((Step n, after.1) ∷ [])
-      by_standing left (Live m) there k = outcome_keeps n left m there k.0 k.0.4 after k.2
+      by_standing left (Live m) there k = outcome_keeps n left m there k.0 k.0.outcome after k.2
       by_standing left (Ended e) there k = unmoved_as (Step n) Absent after k (λ t. refl)
 
       by_thread : (o : Option Thread) → slice_get c.threads n ≡ o → IsThreadTurn c n o after → KeepsBudgets c after.0 ((Step n, after.1) ∷ [])

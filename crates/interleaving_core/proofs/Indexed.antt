@@ -1,9 +1,9 @@
 -- A thread that was reached by its number, and its machine once it has changed.
-use Rattle.std.proofs.Common.{◌≡◌, ℕ, true, false, List, ◌++◌, length, take, drop, Option, Some, None, option_map, slice_get, slice_set, refl, sym, ap, ◌∙◌, subst}
+use Rattle.std.proofs.Common.{◌≡◌, ◌<◌, ℕ, true, false, List, ◌++◌, length, take, drop, Option, Some, None, option_map, slice_get, slice_set, refl, sym, ap, ◌∙◌, subst}
 use Rattle.std.specs.Prelude.{slice_index_or}
 use Rattle.std.specs.Option.{option_map_or}
 use Rattle.std.proofs.Math.Seq.{take-append_seam}
-use Rattle.std.proofs.lemmas.Option.{get_or_from_slice_get}
+use Rattle.std.proofs.lemmas.Option.{get_or_from_slice_get, slice_get_read}
 use Rattle.cil_model.specs.declared.limits.Limits.{Limits}
 use Rattle.cil_model.specs.declared.reports.Fault.{Fault}
 use Rattle.cil_model.specs.declared.reports.Report.{Report}
@@ -17,8 +17,8 @@ use Rattle.threads_monitors.specs.declared.effects.Effect.{Effect}
 use Rattle.threads_monitors.specs.declared.effects.Effect.TheVariants.{Raises}
 use Rattle.threads_monitors.specs.declared.threads.Standing.TheVariants.{Live}
 use Rattle.threads_monitors.specs.declared.threads.Thread.{Thread}
-use Rattle.interpreter.specs.Instructions.{IsDone}
-use Rattle.interpreter.specs.declared.outcomes.Outcome.{Outcome}
+use Rattle.step_simulation.specs.simulation.interpreter.Instructions.{IsDone, answer_of}
+use Rattle.step_simulation.specs.simulation.interpreter.declared.outcomes.Outcome.{Outcome}
 use Rattle.step_simulation.specs.simulation.MachineContents.{Content}
 use Rattle.step_simulation.specs.simulation.Turns.{after_request, answered, counted, live_thread, started, thread_for}
 use Rattle.interleaving_core.specs.Finishing.{IsInstructed}
@@ -29,6 +29,11 @@ pub refilled : (xs ws : List Value) (n : ℕ) → length ws ≡ n → take n (ws
 refilled xs ws n e = subst (λ k. take k (ws ++ drop (length ws) xs) ≡ ws) e (take-append_seam ws (drop (length ws) xs))
 
 -- ---- what was reached
+
+-- a thread that was read at a number
+pub read_there : (threads read : List Thread) (t i : ℕ) (thread : Thread) → read ≡ threads → i ≡ t → i < length read → thread ≡ slice_index_or read i thread → slice_get threads t ≡ Some thread
+read_there threads read t i thread same number inside reads =
+    subst (λ x. slice_get x t ≡ Some thread) same (subst (λ n. slice_get read n ≡ Some thread) number (slice_get_read read (length read) i thread refl inside reads))
 
 module _ (threads : List Thread) (t i : ℕ) (same : i ≡ t) (thread : Thread) (reads : thread ≡ slice_index_or threads i thread) where
   pub reached : (x : Thread) → slice_get threads t ≡ Some x → thread ≡ x
@@ -71,7 +76,7 @@ module _ (c : Content) (t i : ℕ) (same : i ≡ t) (thread : Thread) (reads : t
 
   -- once its instruction is done
   pub instructed : is_live_at c.threads t ≡ true → (new : Thread) (tree : Tree) (o : Objects) (before statics held : List Value) (printed : List ℕ) (outcome : Outcome) → tree ≡ c.tree → before ≡ c.statics → held ≡ statics
-      → ((m : Frames) → thread.standing ≡ Live m → (n : Frames) × (new ≡ record thread { standing = Live n }) × IsDone tree t m c.objects before c.printed (n, o, statics, printed, outcome))
+      → ((m : Frames) → thread.standing ≡ Live m → (n : Frames) × (new ≡ record thread { standing = Live n }) × IsDone tree t m c.objects before c.printed (answer_of n o statics printed outcome))
       → IsInstructed c t outcome (record c { threads = slice_set c.threads i new; objects = o; statics = held; printed = printed })
   instructed live new tree o before statics held printed outcome same_tree same_statics kept does =
       let there = live_there c.threads t live in
@@ -81,10 +86,10 @@ module _ (c : Content) (t i : ℕ) (same : i ≡ t) (thread : Thread) (reads : t
       record {
         left = there.0;
         frames = there.1;
-        answer = (done.0, o, statics, printed, outcome);
+        answer = answer_of done.0 o statics printed outcome;
         there = there.2;
-        done = subst (λ (x : Tree). IsDone x t there.1 c.objects c.statics c.printed (done.0, o, statics, printed, outcome)) same_tree
-            (subst (λ (x : List Value). IsDone tree t there.1 c.objects x c.printed (done.0, o, statics, printed, outcome)) same_statics done.2);
+        done = subst (λ (x : Tree). IsDone x t there.1 c.objects c.statics c.printed (answer_of done.0 o statics printed outcome)) same_tree
+            (subst (λ (x : List Value). IsDone tree t there.1 c.objects x c.printed (answer_of done.0 o statics printed outcome)) same_statics done.2);
         comes = refl;
         is = ap (λ (k : ℕ). record c { threads = slice_set c.threads k new; objects = o; statics = held; printed = printed }) same
             ∙ ap (λ (x : Thread). record c { threads = slice_set c.threads t x; objects = o; statics = held; printed = printed }) new_is

@@ -1,4 +1,5 @@
 pub use Rattle.step_simulation.proofs.simulation as simulation
+pub use Rattle.step_simulation.proofs as step_simulation
 pub mod Declared
 pub mod OpeningLaws
 pub mod Budgets
@@ -11,3 +12,4 @@ pub mod Stepping
 pub mod Indexed
 pub mod Requests
 pub mod Ends
+pub mod AwaitedObjects

@@ -23,7 +23,7 @@ use Rattle.cil_model.proofs.Lists.{none_is_some}
 use Rattle.cil_model.proofs.Legal.{entry_alone}
 use Rattle.name_tables.specs.declared.lookups.MemberNumber.{MemberNumber}
 use Rattle.name_tables.specs.Numbers.{declarations, method_at, source_entry}
-use Rattle.class_layout.proofs.ClassNumbers.{FoundAt, found_at, number_of_place as class_of_place}
+use Rattle.resolved_code.proofs.ClassNumbers.{FoundAt, found_at, number_of_place as class_of_place}
 use Rattle.programs.specs.Contents.{IsEntryPoint}
 use Rattle.object_memory.specs.declared.addresses.Addr.{Addr}
 use Rattle.object_memory.specs.declared.values.Value.{Value}
@@ -35,7 +35,7 @@ use Rattle.method_table.specs.Prepared.{kind_of_type}
 use Rattle.method_table.proofs.NumberLaws.{number_of_place}
 use Rattle.threads_monitors.specs.Frames.{zero_value}
 use Rattle.threads_monitors.specs.declared.threads.Thread.{Thread}
-use Rattle.interpreter.specs.Calls.{chosen_at}
+use Rattle.step_simulation.specs.simulation.interpreter.Calls.{chosen_at}
 use Rattle.step_simulation.specs.simulation.Turns.{content_at, opening_content, run_member, thread_at, thread_for}
 use Rattle.interleaving_core.specs.Statics.{declared_fields, zeros_of}
 

@@ -13,11 +13,11 @@ use Rattle.threads_monitors.specs.Threads.{join_effect, start_fault, with_start}
 use Rattle.threads_monitors.specs.declared.effects.Effect.{Effect}
 use Rattle.threads_monitors.specs.declared.effects.Effect.TheVariants.{GoesOn, Raises}
 use Rattle.threads_monitors.specs.declared.threads.Thread.{Thread}
-use Rattle.interpreter.specs.Instructions.{IsDone, Prints}
-use Rattle.interpreter.specs.declared.outcomes.Outcome.{Outcome}
-use Rattle.interpreter.specs.declared.outcomes.Outcome.TheVariants.{Comes, Starts, Joins}
+use Rattle.step_simulation.specs.simulation.interpreter.Instructions.{IsDone, Prints, Answer}
+use Rattle.step_simulation.specs.simulation.interpreter.declared.outcomes.Outcome.{Outcome}
+use Rattle.step_simulation.specs.simulation.interpreter.declared.outcomes.Outcome.TheVariants.{Comes, Starts, Joins}
 use Rattle.step_simulation.specs.simulation.MachineContents.{Content}
-use Rattle.step_simulation.specs.simulation.Turns.{Answer, IsThreadTurn, IsTurn, PrintsOrStarts, after_request, counted, finished, left_by, live_thread, started, thread_for}
+use Rattle.step_simulation.specs.simulation.Turns.{IsThreadTurn, IsTurn, PrintsOrStarts, after_request, counted, finished, left_by, live_thread, started, thread_for}
 use Rattle.step_simulation.specs.simulation.Ready.{IsAnswerable}
 use Rattle.interleaving_core.specs.Finishing.{IsInstructed}
 use Rattle.step_simulation.proofs.Finished.{finished_printed}
@@ -34,57 +34,57 @@ there_mapped f None h = absurd cc
 module _ (c : Content) (t left : ℕ) (a : Answer) where
   -- the content and the report, where a start left so much
   abbrev started_in : List Thread × Objects × Effect → Content × Report
-  started_in x = counted (record (left_by c t left a) { threads = x.0; objects = x.1 }) t left x.2 (after_request x.2 a.0)
+  started_in x = counted (record (left_by c t left a) { threads = x.0; objects = x.1 }) t left x.2 (after_request x.2 a.frames)
 
   -- a start that can be answered has an answer
-  module _ (object : Addr) (can : start_fault (left_by c t left a).threads a.1 object ≡ None → IsSome (thread_for c.tree c.limits a.1 object)) where
-    started_there : IsSome (started c.tree c.limits (left_by c t left a).threads a.1 object)
-    started_there = by_fault (start_fault (left_by c t left a).threads a.1 object) (thread_for c.tree c.limits a.1 object) can
+  module _ (object : Addr) (can : start_fault (left_by c t left a).threads a.objects object ≡ None → IsSome (thread_for c.tree c.limits a.objects object)) where
+    started_there : IsSome (started c.tree c.limits (left_by c t left a).threads a.objects object)
+    started_there = by_fault (start_fault (left_by c t left a).threads a.objects object) (thread_for c.tree c.limits a.objects object) can
       where
         by_fault : (f : Option Fault) (new : Option Thread) → (f ≡ None → IsSome new) →
-            IsSome (option_map_or {U = Option (List Thread × Objects × Effect)} (λ x. Some ((left_by c t left a).threads, a.1, Raises x)) f (option_map (with_start (left_by c t left a).threads a.1 object) new))
+            IsSome (option_map_or {U = Option (List Thread × Objects × Effect)} (λ x. Some ((left_by c t left a).threads, a.objects, Raises x)) f (option_map (with_start (left_by c t left a).threads a.objects object) new))
         by_fault (Some x) new h = refl
         by_fault None (Some new) h = refl
         by_fault None None h = h refl
 
   finished_there : (o : Outcome) → IsAnswerable c t left a o → (after : Content × Report) × (finished c t left a o ≡ Some after)
-  finished_there (Comes e) h = (counted (left_by c t left a) t left e a.0, refl)
+  finished_there (Comes e) h = (counted (left_by c t left a) t left e a.frames, refl)
   finished_there (Joins object) h =
-      let effect = join_effect (left_by c t left a).threads a.1 object in (counted (left_by c t left a) t left effect (after_request effect a.0), refl)
+      let effect = join_effect (left_by c t left a).threads a.objects object in (counted (left_by c t left a) t left effect (after_request effect a.frames), refl)
   finished_there (Starts object) h =
-      let x = there_mapped started_in (started c.tree c.limits (left_by c t left a).threads a.1 object) (started_there object h.1) in (started_in x.0, x.2)
+      let x = there_mapped started_in (started c.tree c.limits (left_by c t left a).threads a.objects object) (started_there object h.1) in (started_in x.0, x.2)
 
   -- a start without a fault brings one thread more
-  one_more : (object : Addr) → IsAnswerable c t left a (Starts object) → start_fault (left_by c t left a).threads a.1 object ≡ None → (after : Content × Report) × (finished c t left a (Starts object) ≡ Some after) × (length c.threads < length after.0.threads)
+  one_more : (object : Addr) → IsAnswerable c t left a (Starts object) → start_fault (left_by c t left a).threads a.objects object ≡ None → (after : Content × Report) × (finished c t left a (Starts object) ≡ Some after) × (length c.threads < length after.0.threads)
   one_more object h free =
-      let new = there_mapped (with_start (left_by c t left a).threads a.1 object) (thread_for c.tree c.limits a.1 object) (h.1 free) in
+      let new = there_mapped (with_start (left_by c t left a).threads a.objects object) (thread_for c.tree c.limits a.objects object) (h.1 free) in
       let threads = (left_by c t left a).threads in
-      let x : List Thread × Objects × Effect = (threads ++ new.0 ∷ [], with_slot a.1 object 0 (length threads + 1), GoesOn) in
-      let begun : started c.tree c.limits threads a.1 object ≡ Some x =
-      ap (λ (f : Option Fault). option_map_or {U = Option (List Thread × Objects × Effect)} (λ y. Some (threads, a.1, Raises y)) f (option_map (with_start threads a.1 object) (thread_for c.tree c.limits a.1 object))) free
-      ∙ (new.2 ∙ ap (λ (f : Option Fault). Some (option_map_or {U = List Thread × Objects × Effect} (λ y. (threads, a.1, Raises y)) f x)) free) in
+      let x : List Thread × Objects × Effect = (threads ++ new.0 ∷ [], with_slot a.objects object 0 (length threads + 1), GoesOn) in
+      let begun : started c.tree c.limits threads a.objects object ≡ Some x =
+      ap (λ (f : Option Fault). option_map_or {U = Option (List Thread × Objects × Effect)} (λ y. Some (threads, a.objects, Raises y)) f (option_map (with_start threads a.objects object) (thread_for c.tree c.limits a.objects object))) free
+      ∙ (new.2 ∙ ap (λ (f : Option Fault). Some (option_map_or {U = List Thread × Objects × Effect} (λ y. (threads, a.objects, Raises y)) f x)) free) in
       let more : length (threads ++ new.0 ∷ []) ≡ length threads + 1 = length-append threads (new.0 ∷ []) in
-      let same : length threads ≡ length c.threads = length-set c.threads t (live_thread left a.0) in
+      let same : length threads ≡ length c.threads = length-set c.threads t (live_thread left a.frames) in
       let kept : length (started_in x).0.threads ≡ length (threads ++ new.0 ∷ []) = length-set (threads ++ new.0 ∷ []) t _ in
       (started_in x, ap (option_map started_in) begun, omega (arith, more, same, kept))
 
 module _ (c : Content) (t left : ℕ) (m : Frames) (there : slice_get c.threads t ≡ Some (live_thread left m)) where
-  turn_is : (a : Answer) → IsDone c.tree t m c.objects c.statics c.printed a → (after : Content × Report) → finished c t left a a.4 ≡ Some after → IsTurn c (Step t) after
+  turn_is : (a : Answer) → IsDone c.tree t m c.objects c.statics c.printed a → (after : Content × Report) → finished c t left a a.outcome ≡ Some after → IsTurn c (Step t) after
   turn_is a done after is = subst (λ (o : Option Thread). IsThreadTurn c t o after) (sym there) (a, done, is)
 
   -- an instruction that prints
-  pub print_refused : ((a : Answer) → IsDone c.tree t m c.objects c.statics c.printed a → IsAnswerable c t left a a.4) → Prints c.tree t m c.objects c.statics c.printed → PrintsOrStarts c (Step t)
+  pub print_refused : ((a : Answer) → IsDone c.tree t m c.objects c.statics c.printed a → IsAnswerable c t left a a.outcome) → Prints c.tree t m c.objects c.statics c.printed → PrintsOrStarts c (Step t)
   print_refused can prints =
       let a = prints.0 in
       let answerable = can a prints.1 in
-      let after = finished_there c t left a a.4 answerable in
-      (after.0, turn_is a prints.1 after.0 after.1, inl (subst (λ (bytes : List ℕ). length c.printed < length bytes) (sym (finished_printed c t left a after.0 a.4 after.1)) prints.2))
+      let after = finished_there c t left a a.outcome answerable in
+      (after.0, turn_is a prints.1 after.0 after.1, inl (subst (λ (bytes : List ℕ). length c.printed < length bytes) (sym (finished_printed c t left a after.0 a.outcome after.1)) prints.2))
 
 -- an instruction that starts a thread
-pub start_refused : (c : Content) (t : ℕ) (outcome : Outcome) (middle : Content) (half : IsInstructed c t outcome middle) → IsAnswerable c t half.left half.answer half.answer.4 →
+pub start_refused : (c : Content) (t : ℕ) (outcome : Outcome) (middle : Content) (half : IsInstructed c t outcome middle) → IsAnswerable c t half.left half.answer half.answer.outcome →
     (object : Addr) → outcome ≡ Starts object → start_fault middle.threads middle.objects object ≡ None → PrintsOrStarts c (Step t)
 start_refused c t outcome middle half answerable object starts free =
-    let is : half.answer.4 ≡ Starts object = half.comes ∙ starts in
-    let free' : start_fault (left_by c t half.left half.answer).threads half.answer.1 object ≡ None = subst (λ (x : Content). start_fault x.threads x.objects object ≡ None) half.is free in
+    let is : half.answer.outcome ≡ Starts object = half.comes ∙ starts in
+    let free' : start_fault (left_by c t half.left half.answer).threads half.answer.objects object ≡ None = subst (λ (x : Content). start_fault x.threads x.objects object ≡ None) half.is free in
     let more = one_more c t half.left half.answer object (subst (IsAnswerable c t half.left half.answer) is answerable) free' in
     (more.0, turn_is c t half.left half.frames half.there half.answer half.done more.0 (subst (λ (o : Outcome). finished c t half.left half.answer o ≡ Some more.0) (sym is) more.1), inr more.2)

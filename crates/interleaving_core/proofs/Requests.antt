@@ -9,8 +9,8 @@ use Rattle.threads_monitors.specs.Frames.{Frames}
 use Rattle.threads_monitors.specs.Threads.{is_live_at, join_effect}
 use Rattle.threads_monitors.specs.declared.effects.Effect.{Effect}
 use Rattle.threads_monitors.specs.declared.threads.Thread.{Thread}
-use Rattle.interpreter.specs.declared.outcomes.Outcome.{Outcome}
-use Rattle.interpreter.specs.declared.outcomes.Outcome.TheVariants.{Starts, Joins}
+use Rattle.step_simulation.specs.simulation.interpreter.declared.outcomes.Outcome.{Outcome}
+use Rattle.step_simulation.specs.simulation.interpreter.declared.outcomes.Outcome.TheVariants.{Starts, Joins}
 use Rattle.step_simulation.specs.simulation.Ready.{CanFinish}
 use Rattle.step_simulation.specs.simulation.MachineContents.{Content}
 use Rattle.step_simulation.specs.simulation.Turns.{answered, finish, live_thread, started}

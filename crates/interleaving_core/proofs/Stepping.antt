@@ -16,10 +16,10 @@ use Rattle.threads_monitors.specs.declared.effects.Effect.TheVariants.{GoesOn, R
 use Rattle.threads_monitors.specs.declared.threads.Standing.{Standing}
 use Rattle.threads_monitors.specs.declared.threads.Standing.TheVariants.{Live, Ended}
 use Rattle.threads_monitors.specs.declared.threads.Thread.{Thread}
-use Rattle.interpreter.specs.declared.outcomes.Outcome.{Outcome}
-use Rattle.interpreter.specs.declared.outcomes.Outcome.TheVariants.{Comes, Starts, Joins}
+use Rattle.step_simulation.specs.simulation.interpreter.declared.outcomes.Outcome.{Outcome}
+use Rattle.step_simulation.specs.simulation.interpreter.declared.outcomes.Outcome.TheVariants.{Comes, Starts, Joins}
 use Rattle.step_simulation.specs.simulation.MachineContents.{Content}
-use Rattle.step_simulation.specs.simulation.Turns.{Answer, IsStandingTurn, IsThreadTurn, IsTurn, finish, finished, left_by, live_thread, started, thread_for}
+use Rattle.step_simulation.specs.simulation.Turns.{IsStandingTurn, IsThreadTurn, IsTurn, finish, finished, left_by, live_thread, started, thread_for}
 use Rattle.step_simulation.specs.simulation.Ready.{CanFinish, IsAnswerable}
 use Rattle.interleaving_core.specs.Finishing.{IsInstructed}
 use Rattle.interleaving_core.proofs.Asking.{start_changes_nothing}
@@ -67,18 +67,18 @@ started_keeps tree limits threads o a n t after is done = by_fault (start_fault 
 -- ---- both halves
 
 module _ (c : Content) (t : ℕ) (outcome : Outcome) (after : Content) (half : IsInstructed c t outcome after) where
-  pub thread_left : slice_get after.threads t ≡ Some (live_thread half.left half.answer.0)
-  thread_left = ap (λ (x : Content). slice_get x.threads t) half.is ∙ set_is_there c.threads t (live_thread half.left half.answer.0) (live_thread half.left half.frames) half.there
+  pub thread_left : slice_get after.threads t ≡ Some (live_thread half.left half.answer.frames)
+  thread_left = ap (λ (x : Content). slice_get x.threads t) half.is ∙ set_is_there c.threads t (live_thread half.left half.answer.frames) (live_thread half.left half.frames) half.there
 
   pub live_left : is_live_at after.threads t ≡ true
-  live_left = live_by after.threads t half.left half.answer.0 thread_left
+  live_left = live_by after.threads t half.left half.answer.frames thread_left
 
   -- a thread whose instruction was done and whose step was counted made a step
   pub turn_of_halves : (final : Content) (report : Report) → ((left : ℕ) (m : Frames) → slice_get after.threads t ≡ Some (live_thread left m) → finish after t left m outcome ≡ Some (final, report)) → IsTurn c (Step t) (final, report)
   turn_of_halves final report counts =
-      let second : finish (left_by c t half.left half.answer) t half.left half.answer.0 outcome ≡ Some (final, report) =
-      subst (λ (x : Content). finish x t half.left half.answer.0 outcome ≡ Some (final, report)) half.is (counts half.left half.answer.0 thread_left) in
-      let whole : finished c t half.left half.answer half.answer.4 ≡ Some (final, report) =
+      let second : finish (left_by c t half.left half.answer) t half.left half.answer.frames outcome ≡ Some (final, report) =
+      subst (λ (x : Content). finish x t half.left half.answer.frames outcome ≡ Some (final, report)) half.is (counts half.left half.answer.frames thread_left) in
+      let whole : finished c t half.left half.answer half.answer.outcome ≡ Some (final, report) =
       subst (λ (x : Outcome). finished c t half.left half.answer x ≡ Some (final, report)) (sym half.comes) second in
       let turn : IsStandingTurn c t half.left (Live half.frames) (final, report) = (half.answer, half.done, whole) in
       subst (λ (x : Option Thread). IsThreadTurn c t x (final, report)) (sym half.there) turn
@@ -97,11 +97,11 @@ same_frames left l m n e = same_live m n (ap (λ (x : Thread). x.standing) e)
     same_live : (x y : Frames) → Live x ≡ Live y → x ≡ y
     same_live x y h = cc
 
-module _ (c : Content) (t : ℕ) (outcome : Outcome) (after : Content) (half : IsInstructed c t outcome after) (answerable : IsAnswerable c t half.left half.answer half.answer.4) where
+module _ (c : Content) (t : ℕ) (outcome : Outcome) (after : Content) (half : IsInstructed c t outcome after) (answerable : IsAnswerable c t half.left half.answer half.answer.outcome) where
   pub can_finish : (left : ℕ) (m : Frames) → slice_get after.threads t ≡ Some (live_thread left m) → CanFinish after m outcome
   can_finish left m is =
-      let asked : CanFinish (left_by c t half.left half.answer) half.answer.0 outcome = subst (IsAnswerable c t half.left half.answer) half.comes answerable in
-      let there : CanFinish after half.answer.0 outcome = subst (λ (x : Content). CanFinish x half.answer.0 outcome) (sym half.is) asked in
-      let same : half.answer.0 ≡ m =
-      same_frames half.left left half.answer.0 m (same_Some (live_thread half.left half.answer.0) (live_thread left m) (sym (thread_left c t outcome after half) ∙ is)) in
+      let asked : CanFinish (left_by c t half.left half.answer) half.answer.frames outcome = subst (IsAnswerable c t half.left half.answer) half.comes answerable in
+      let there : CanFinish after half.answer.frames outcome = subst (λ (x : Content). CanFinish x half.answer.frames outcome) (sym half.is) asked in
+      let same : half.answer.frames ≡ m =
+      same_frames half.left left half.answer.frames m (same_Some (live_thread half.left half.answer.frames) (live_thread left m) (sym (thread_left c t outcome after half) ∙ is)) in
       subst (λ (x : Frames). CanFinish after x outcome) same there

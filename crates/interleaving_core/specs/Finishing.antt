@@ -1,10 +1,10 @@
 -- A step of a thread in two halves: its instruction, and what that comes to. This is where the first one ends.
 use Rattle.std.specs.Prelude.{◌≡◌, ℕ, Some, slice_get}
 use Rattle.threads_monitors.specs.Frames.{Frames}
-use Rattle.interpreter.specs.Instructions.{IsDone}
-use Rattle.interpreter.specs.declared.outcomes.Outcome.{Outcome}
+use Rattle.step_simulation.specs.simulation.interpreter.Instructions.{IsDone, Answer}
+use Rattle.step_simulation.specs.simulation.interpreter.declared.outcomes.Outcome.{Outcome}
 use Rattle.step_simulation.specs.simulation.MachineContents.{Content}
-use Rattle.step_simulation.specs.simulation.Turns.{Answer, left_by, live_thread}
+use Rattle.step_simulation.specs.simulation.Turns.{left_by, live_thread}
 
 -- the thread's instruction is done and came to this, and its step isn't counted yet
 pub record IsInstructed (c : Content) (t : ℕ) (outcome : Outcome) (after : Content) : Type 0 where
@@ -13,5 +13,5 @@ pub record IsInstructed (c : Content) (t : ℕ) (outcome : Outcome) (after : Con
   pub answer : Answer
   pub there : slice_get c.threads t ≡ Some (live_thread left frames)
   pub done : IsDone c.tree t frames c.objects c.statics c.printed answer
-  pub comes : answer.4 ≡ outcome
+  pub comes : answer.outcome ≡ outcome
   pub is : after ≡ left_by c t left answer

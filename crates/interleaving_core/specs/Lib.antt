@@ -4,3 +4,4 @@ pub mod Finishing
 pub mod Refusals
 pub mod Statics
 pub mod Positions
+pub mod Waits

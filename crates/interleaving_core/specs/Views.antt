@@ -9,10 +9,9 @@ use Rattle.threads_monitors.specs.Frames.{Frames}
 use Rattle.threads_monitors.specs.Threads.{end_of}
 use Rattle.threads_monitors.specs.declared.threads.Standing.TheVariants.{Live}
 use Rattle.threads_monitors.specs.declared.threads.Thread.{Thread}
-use Rattle.interpreter.specs.Instructions.{IsDone}
+use Rattle.step_simulation.specs.simulation.interpreter.Instructions.{IsDone, Answer}
 use Rattle.step_simulation.specs.simulation.MachineContents.{Content}
 use Rattle.step_simulation.specs.simulation.StandsFor.{Represents}
-use Rattle.step_simulation.specs.simulation.Turns.{Answer}
 use Rattle.step_simulation.specs.simulation.Ready.{IsReady, IsAnswerable}
 use Rattle.interleaving_core.specs.declared.engine.Engine.{Engine}
 
@@ -26,7 +25,7 @@ pub record CanGoOn (e : Engine) : Type 0 where
   pub limits : IsTrue (are_in_range e.limits)
   pub ready : (t left : ℕ) (m : Frames) → slice_get e.threads.items t ≡ Some (record { standing = Live m; steps_left = left }) → IsReady (content_of e) t m
   pub answerable : (t left : ℕ) (m : Frames) → slice_get e.threads.items t ≡ Some (record { standing = Live m; steps_left = left }) → (a : Answer) →
-      IsDone e.program t m e.heap e.statics.items e.console.items a → IsAnswerable (content_of e) t left a a.4
+      IsDone e.program t m e.heap e.statics.items e.console.items a → IsAnswerable (content_of e) t left a a.outcome
 
 -- how the thread of a number ended; none where it is live or was never started
 abbrev pub end_at : List Thread → ℕ → Option End

@@ -12,17 +12,17 @@ ghost use Rattle.object_memory.specs.declared.values.Value.{Value as AnyValue};
 ghost use Rattle.object_memory.specs.declared.values.Value.TheVariants.{Ref};
 ghost use Rattle.step_simulation.specs.simulation.MachineContents.{frame_room};
 ghost use Rattle.step_simulation.specs.simulation.Turns.{run_member, thread_at, thread_for};
-ghost use Rattle.interpreter.specs.Calls.{chosen_at};
+ghost use Rattle.step_simulation.specs.simulation.interpreter.Calls.{chosen_at};
 ghost use Rattle.threads_monitors.specs.Threads.{new_thread};
 
 use cil_model::limits::{Limits, MOST_ARGUMENTS, MOST_LOCALS, MOST_STACK};
 use class_layout::Layout;
-use interpreter::targets::chosen;
 use method_table::MethodTable;
 use name_tables::lookups::MemberNumber;
 use name_tables::numbers::THREAD;
 use object_memory::{Addr, Heap};
 use programs::Program;
+use step_simulation::interpreter_code::targets::chosen;
 use threads_monitors::Beginning;
 
 /// How many values a frame may hold: arguments, locals, the stack, and a new object beneath the operands of its constructor.

@@ -1,35 +1,38 @@
 //! What a machine does on each event.
 
-ghost use Rattle.std.specs.Prelude.{◌≡◌, ◌≢◌, ◌<◌, ℕ, IfOk, OnErr, IsSome, None, Some, length, slice_get, true};
+ghost use Rattle.std.specs.Prelude.{◌≡◌, ◌≢◌, ◌<◌, ◌≤◌, ℕ, IfOk, OnErr, IsSome, None, Some, length, slice_get, true};
 ghost use Rattle.std.specs.List.{count_by};
 ghost use Rattle.cil_model.specs.Ranges.{are_in_range};
-ghost use Rattle.object_memory.specs.Cells.{null, slots_at};
+ghost use Rattle.object_memory.specs.Cells.{null};
+ghost use Rattle.object_memory.specs.Objects.{object_slots};
 ghost use Rattle.object_memory.specs.declared.addresses.Addr.{Addr as AnyAddr};
-ghost use Rattle.cil_model.specs.declared.limits.TheConstants.{MOST_INSTRUCTIONS};
+ghost use Rattle.cil_model.specs.declared.limits.TheConstants.{MOST_INSTRUCTIONS, MOST_THREADS};
 ghost use Rattle.cil_model.specs.declared.events.Event.TheVariants.{Step as StepOf, Ack as AckOf};
 ghost use Rattle.threads_monitors.specs.Frames.{Frames};
 ghost use Rattle.threads_monitors.specs.Threads.{is_live, is_live_at, start_fault};
-ghost use Rattle.interpreter.specs.declared.outcomes.Outcome.TheVariants.{Starts as StartsOn, Joins as JoinsOn};
+ghost use Rattle.step_simulation.specs.simulation.interpreter.declared.outcomes.Outcome.TheVariants.{Starts as StartsOn, Joins as JoinsOn};
 ghost use Rattle.method_table.specs.Prepared.{IsMethodTable};
-ghost use Rattle.interpreter.specs.Instructions.{Prints};
+ghost use Rattle.step_simulation.specs.simulation.interpreter.Instructions.{Prints};
 ghost use Rattle.step_simulation.specs.simulation.Ready.{CanFinish};
 ghost use Rattle.step_simulation.specs.simulation.Turns.{IsTurn, PrintsOrStarts, answered, counted, finish, live_thread, started, thread_for};
 ghost use Rattle.interleaving_core.specs.Views.{CanGoOn, content_of, end_at};
 ghost use Rattle.interleaving_core.specs.Positions.{position_at};
+ghost use Rattle.interleaving_core.specs.Waits.{wait_at};
 ghost use Rattle.interleaving_core.specs.Finishing.{IsInstructed};
 
 use crate::beginnings::beginning_on;
 use crate::positions::{Position, position_in};
 use crate::steps::{answer, instruct};
+use crate::waits::{Wait, wait_in};
 use cil_model::events::Event;
 use cil_model::limits::Limits;
 use cil_model::memory::NoMemory;
 use cil_model::reports::{End, Report};
-use interpreter::outcomes::Outcome;
 use method_table::MethodTable;
 use object_memory::{Addr, Heap, Value};
 use std::alloc::Global;
-use threads_monitors::{Effect, Thread, join, start, start_fault};
+use step_simulation::interpreter_code::outcomes::Outcome;
+use threads_monitors::{Effect, Standing, Thread, join, start, start_fault};
 use verifier::Verified;
 
 /// A program with its table of methods, and all that changes while it runs.
@@ -166,7 +169,7 @@ impl Engine {
     fn start(&mut self, alloc: Global, object: Addr) -> Result<Effect, NoMemory>
         requires table { IsMethodTable self.old.program self.old.table }
         requires limits { are_in_range self.old.limits ≡ true }
-        requires slot { object ≢ null → 0 < length (slots_at self.old.heap.block object) }
+        requires slot { object ≢ null → 0 < length (object_slots self.old.heap object) }
         requires there { start_fault self.old.threads.items self.old.heap object ≡ None → IsSome (thread_for self.old.program self.old.limits self.old.heap object) }
         ensures started { IfOk result (λ effect. Some (self.new.threads.items, self.new.heap, effect) ≡ started self.old.program self.old.limits self.old.threads.items self.old.heap object) }
         ensures others { IfOk result (λ _. content_of self.new ≡ record (content_of self.old) { threads = self.new.threads.items; objects = self.new.heap }) }
@@ -220,6 +223,18 @@ impl Engine {
         ensures { result ≡ position_at self.now.threads.items thread }
     {
         position_in(&self.threads.get(usize::from(thread))?.standing)
+    }
+
+    /// What the thread waits for. None where its next step is not blocked, and where it has ended or was never started.
+    pub fn wait_of(&self, thread: u8) -> Option<Wait>
+        requires ready { CanGoOn self.now }
+        requires few { length self.now.threads.items ≤ MOST_THREADS }
+        ensures { result ≡ wait_at (content_of self.now) thread }
+    {
+        match &self.threads.get(usize::from(thread))?.standing {
+            Standing::Live(frames) => wait_in(self, thread, frames),
+            Standing::Ended(_) => None,
+        }
     }
 
     /// How many threads are live.

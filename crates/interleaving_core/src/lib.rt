@@ -7,6 +7,8 @@ mod machine;
 mod openings;
 mod positions;
 mod steps;
+mod waits;
 
 pub use machine::{Machine, Refused};
 pub use positions::Position;
+pub use waits::Wait;

@@ -6,10 +6,11 @@ ghost use Rattle.cil_model.specs.Ranges.{are_in_range, is_between};
 ghost use Rattle.cil_model.specs.declared.limits.TheConstants.{MOST_THREADS};
 ghost use Rattle.reference_machine.specs.Runs.{opening};
 ghost use Rattle.reference_machine.specs.States.{State};
-ghost use Rattle.object_memory.specs.Cells.{used_words};
+ghost use Rattle.object_memory.specs.Objects.{used_space, whole_space};
 ghost use Rattle.threads_monitors.specs.Threads.{end_of, is_live, is_live_at};
 ghost use Rattle.interleaving_core.specs.Views.{end_at};
 ghost use Rattle.interleaving_core.specs.Positions.{position_at};
+ghost use Rattle.interleaving_core.specs.Waits.{wait_at};
 ghost use Rattle.step_simulation.specs.simulation.StandsFor.{Represents};
 ghost use Rattle.step_simulation.specs.simulation.Turns.{IsTurn, PrintsOrStarts, opening_content};
 ghost use Rattle.interleaving_core.specs.Refusals.{number_of};
@@ -19,6 +20,7 @@ ghost use Rattle.interleaving_core.specs.declared.machine.Refused.TheVariants.{L
 use crate::engine::Engine;
 use crate::openings::opened;
 use crate::positions::Position;
+use crate::waits::Wait;
 use cil_model::events::Event;
 use cil_model::limits::{LEAST_WORDS, Limits, MOST_BUDGET, MOST_DEPTH, MOST_WORDS};
 use cil_model::memory::NoMemory;
@@ -175,6 +177,15 @@ impl Machine {
         self.engine.position_of(thread)
     }
 
+    /// What a thread waits for: a monitor that another thread holds, or the end of a live thread. None where its next step is not blocked,
+    /// and where it has ended or was never started. It takes no memory.
+    pub fn wait_of(&self, thread: u8) -> Option<Wait>
+        ensures { result ≡ wait_at self.now thread }
+    {
+        let _engine = &self.engine;
+        self.engine.wait_of(thread)
+    }
+
     /// The program that it runs, as a tree, which is the same for ever.
     pub fn tree(&self) -> &Tree
         ensures { result.now ≡ self.now.tree }
@@ -202,8 +213,8 @@ impl Machine {
     /// The space keeps its size, which is the limit of words: so a birth is refused exactly where its cell has more words than the limit
     /// less those of all births so far.
     pub fn used(&self) -> (u32, u32)
-        ensures used { result ≡ (used_words self.now.objects.block.cells, 0) }
-        ensures space { self.now.objects.block.words ≡ self.now.limits.words }
+        ensures used { result ≡ (used_space self.now.objects, 0) }
+        ensures space { whole_space self.now.objects ≡ self.now.limits.words }
     {
         (self.engine.heap.used_words() as u32, 0)
     }

@@ -8,17 +8,17 @@ ghost use Rattle.method_table.specs.Prepared.{IsMethodTable};
 ghost use Rattle.threads_monitors.specs.Frames.{Frames};
 ghost use Rattle.threads_monitors.specs.Threads.{is_live, settled};
 ghost use Rattle.threads_monitors.specs.declared.threads.Standing.TheVariants.{Live};
-ghost use Rattle.interpreter.specs.Instructions.{HasSmallConstant, IsAt, IsDone, Prints, line_at, operation_turn};
+ghost use Rattle.step_simulation.specs.simulation.interpreter.Instructions.{HasSmallConstant, IsAt, IsDone, Prints, line_at, operation_turn, answer_of};
 ghost use Rattle.step_simulation.specs.simulation.Turns.{after_request};
 
 use cil_model::memory::NoMemory;
 use cil_model::reports::Report;
 use class_layout::Layout;
-use interpreter::outcomes::Outcome;
-use interpreter::places::instruction;
 use method_table::MethodTable;
 use object_memory::{Heap, Value};
 use programs::Program;
+use step_simulation::interpreter_code::outcomes::Outcome;
+use step_simulation::interpreter_code::places::instruction;
 use threads_monitors::{Effect, FrameMemory, Standing, Thread};
 
 /// The instruction at a live thread's place. `NoMemory` of a print alone, where nothing is changed.
@@ -37,7 +37,7 @@ pub(crate) fn instruct(
     requires live { is_live thread.old ≡ true }
     requires place { (m : Frames) → thread.old.standing ≡ Live m → IsSome (line_at program.now m) }
     requires there { (m : Frames) → thread.old.standing ≡ Live m → (op : AnyOperation) → IsAt program.now m op → HasSmallConstant op → IsSome (operation_turn program.now number op m heap.old statics.old console.old.items) }
-    ensures done { IfOk result (λ outcome. (m : Frames) → thread.old.standing ≡ Live m → (n : Frames) × (thread.new ≡ record thread.old { standing = Live n }) × IsDone program.now number m heap.old statics.old console.old.items (n, heap.new, statics.new, console.new.items, outcome)) }
+    ensures done { IfOk result (λ outcome. (m : Frames) → thread.old.standing ≡ Live m → (n : Frames) × (thread.new ≡ record thread.old { standing = Live n }) × IsDone program.now number m heap.old statics.old console.old.items (answer_of n heap.new statics.new console.new.items outcome)) }
     ensures prints { OnErr result ((m : Frames) → thread.old.standing ≡ Live m → Prints program.now number m heap.old statics.old console.old.items) }
     ensures refused { OnErr result ((thread.new ≡ thread.old) × (heap.new ≡ heap.old) × (statics.new ≡ statics.old) × (console.new.items ≡ console.old.items)) }
 {

@@ -7,8 +7,7 @@ use Rattle.resolved_code.specs.declared.operations.Operation.{Operation}
 use Rattle.object_memory.specs.declared.values.Value.{Value}
 use Rattle.object_memory.specs.Objects.{Objects}
 use Rattle.threads_monitors.specs.Frames.{Frames}
-use Rattle.interpreter.specs.Instructions.{HasSmallConstant, IsAt, Prints, is_printing, operation_turn}
-use Rattle.interpreter.specs.declared.outcomes.Outcome.{Outcome}
+use Rattle.interpreter.specs.Instructions.{HasSmallConstant, IsAt, Prints, is_printing, operation_turn, MachineTurn}
 
 -- an instruction at the thread's place that prints
 pub instruction_prints : (tree : Tree) (thread : ℕ) (m : Frames) (o : Objects) (statics : List Value) (console : List ℕ) (operation : Operation) → IsAt tree m operation → HasSmallConstant operation →
@@ -18,6 +17,6 @@ instruction_prints tree thread m o statics console operation at constant h = by_
     below : (a b : ℕ) → nat_lt a b ≡ true → a < b
     below a b is = grind (arith, nat_tests)
 
-    by_turn : (turn : Option (Frames × Objects × List Value × List ℕ × Outcome)) → operation_turn tree thread operation m o statics console ≡ turn → is_printing console turn ≡ true → Prints tree thread m o statics console
+    by_turn : (turn : MachineTurn) → operation_turn tree thread operation m o statics console ≡ turn → is_printing console turn ≡ true → Prints tree thread m o statics console
     by_turn None is e = absurd cc
-    by_turn (Some answer) is e = (answer, record { operation = operation; at = at; constant = constant; is = sym is }, below (length console) (length answer.3) e)
+    by_turn (Some answer) is e = (answer, record { operation = operation; at = at; constant = constant; is = sym is }, below (length console) (length answer.printed) e)

@@ -14,11 +14,11 @@ use Rattle.threads_monitors.specs.Frames.{Frames}
 use Rattle.threads_monitors.specs.declared.effects.Effect.TheVariants.{Raises}
 use Rattle.instructions.specs.Frames.{given}
 use Rattle.interpreter.specs.declared.outcomes.Outcome.TheVariants.{Comes}
-use Rattle.interpreter.specs.Calls.{CallTurn, receiver, run_chosen, virtual_at}
+use Rattle.interpreter.specs.Calls.{CallTurn, receiver, run_chosen, virtual_at, call_answer}
 
 module _ (tree : Tree) (thread : ℕ) (n : MemberNumber) (m : Frames) (o : Objects) (console : List ℕ) where
   abbrev pub null_raised : CallTurn
-  null_raised = Some (m, o, console, Comes (Raises NullReference))
+  null_raised = Some (call_answer m o console (Comes (Raises NullReference)))
 
   abbrev pub received : Addr → CallTurn
   received a = if a.number == 0 then null_raised else run_chosen tree thread a n m o console

@@ -22,8 +22,8 @@ use Rattle.object_memory.specs.declared.kinds.Kind.{Kind}
 use Rattle.object_memory.specs.declared.kinds.Kind.TheVariants.{Instance, Array}
 use Rattle.object_memory.specs.declared.values.Value.{Value}
 use Rattle.object_memory.specs.declared.values.Value.TheVariants.{Ref}
-use Rattle.object_memory.specs.Cells.{Cell, cell_at, literal_number}
-use Rattle.object_memory.specs.Objects.{Objects}
+use Rattle.object_memory.specs.Cells.{Cell, literal_number}
+use Rattle.object_memory.specs.Objects.{Objects, object_cell}
 use Rattle.method_table.specs.AllMethods.{all_methods}
 use Rattle.method_table.specs.MethodNumbers.{number_of}
 use Rattle.method_table.specs.Prepared.{local_kinds}
@@ -39,16 +39,26 @@ use Rattle.interpreter.specs.declared.outcomes.Outcome.{Outcome}
 use Rattle.interpreter.specs.declared.outcomes.Outcome.TheVariants.{Comes, Starts, Joins}
 
 -- the frames, the objects and the printed bytes after an instruction, and what it comes to
+pub record CallAnswer : Type 0 where
+  pub frames : Frames
+  pub objects : Objects
+  pub printed : List ℕ
+  pub outcome : Outcome
+
+abbrev pub call_answer : Frames → Objects → List ℕ → Outcome → CallAnswer
+call_answer m o console outcome = record { frames = m; objects = o; printed = console; outcome = outcome }
+
+-- or there is none
 abbrev pub CallTurn : Type 0
-CallTurn = Option (Frames × Objects × List ℕ × Outcome)
+CallTurn = Option CallAnswer
 
 -- a turn of frames and objects beside the printed bytes
 abbrev pub beside_console : List ℕ → ObjectTurn → CallTurn
-beside_console console turn = option_map (λ (t : Frames × Objects × Effect). (t.0, t.1, console, Comes t.2)) turn
+beside_console console turn = option_map (λ (t : Frames × Objects × Effect). call_answer t.0 t.1 console (Comes t.2)) turn
 
 -- whether a rule has an answer that prints: there are more bytes than there were
 abbrev pub prints : List ℕ → CallTurn → Bool
-prints console turn = option_map_or (λ (t : Frames × Objects × List ℕ × Outcome). nat_lt (length console) (length t.2)) turn false
+prints console turn = option_map_or (λ (t : CallAnswer). nat_lt (length console) (length t.printed)) turn false
 
 -- ---- built-in members
 
@@ -59,12 +69,12 @@ top_reference _ = None
 
 -- asks for something of another thread; the operand stays until it is done
 abbrev pub asks : (Addr → Outcome) → Frames → Objects → List ℕ → CallTurn
-asks what m o console = option_map (λ a. (m, o, console, what a)) (top_reference m.running.stack)
+asks what m o console = option_map (λ a. call_answer m o console (what a)) (top_reference m.running.stack)
 
 -- what a member without code does
 abbrev pub act_turn : Tree → ℕ → Action → Frames → Objects → List ℕ → CallTurn
 act_turn tree thread Construct m o console = with_top m (λ v n. beside_console console (beside o (onward n)))
-act_turn tree thread Write m o console = option_map (λ (t : Frames × List ℕ × Effect). (t.0, o, t.1, Comes t.2)) (write_turn (literals_of tree) console m)
+act_turn tree thread Write m o console = option_map (λ (t : Frames × List ℕ × Effect). call_answer t.0 o t.1 (Comes t.2)) (write_turn (literals_of tree) console m)
 act_turn tree thread Enter m o console = beside_console console (enter_turn thread m o)
 act_turn tree thread Exit m o console = beside_console console (exit_turn thread m o)
 act_turn tree thread Start m o console = asks Starts m o console
@@ -93,7 +103,7 @@ class_of_kind (Array a) = None
 
 -- of what lies at an address: a literal is of the second class, System.String
 abbrev pub class_at : Objects → Addr → Option (Option ℕ)
-class_at o a = option_map_or (λ n. Some (Some 1)) (literal_number a) (option_map (λ (c : Cell). class_of_kind c.kind) (cell_at o.block a))
+class_at o a = option_map_or (λ n. Some (Some 1)) (literal_number a) (option_map (λ (c : Cell). class_of_kind c.kind) (object_cell o a))
 
 -- the method that runs for an object: the target for its class; on an array one that isn't virtual runs itself
 abbrev pub chosen_by : Tree → ClassName × Method → Option ℕ → Option (ClassName × Method)
@@ -125,7 +135,7 @@ abbrev pub virtual_at : Tree → ℕ → MemberNumber → Frames → Objects →
 virtual_at tree thread n m o console =
     given (method_at tree (n.class, n.place)) (λ found.
     given (receiver m.running.stack (length (argument_types found.1 found.0))) (λ a.
-    if a.number == 0 then Some (m, o, console, Comes (Raises NullReference)) else run_chosen tree thread a n m o console))
+    if a.number == 0 then Some (call_answer m o console (Comes (Raises NullReference))) else run_chosen tree thread a n m o console))
 
 -- the number of a member's class, of 16 bits
 abbrev pub class_in : MemberNumber → Option ℕ

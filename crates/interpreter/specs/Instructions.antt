@@ -20,28 +20,39 @@ use Rattle.instructions.specs.ObjectTurns.{ObjectTurn}
 use Rattle.interpreter.specs.declared.outcomes.Outcome.{Outcome}
 use Rattle.interpreter.specs.declared.outcomes.Outcome.TheVariants.{Comes}
 use Rattle.interpreter.specs.Operations.{constant_rule, stack_rule, arithmetic_rule, branch_rule, field_rule, array_rule, type_rule, static_rule}
-use Rattle.interpreter.specs.Calls.{CallTurn, call_rule}
+use Rattle.interpreter.specs.Calls.{CallAnswer, CallTurn, call_rule}
 
 -- the frames of the thread, the objects, the static fields and the printed bytes after an instruction, and what it comes to
+pub record Answer : Type 0 where
+  pub frames : Frames
+  pub objects : Objects
+  pub statics : List Value
+  pub printed : List ℕ
+  pub outcome : Outcome
+
+abbrev pub answer_of : Frames → Objects → List Value → List ℕ → Outcome → Answer
+answer_of m o statics console outcome = record { frames = m; objects = o; statics = statics; printed = console; outcome = outcome }
+
+-- or there is none
 abbrev pub MachineTurn : Type 0
-MachineTurn = Option (Frames × Objects × List Value × List ℕ × Outcome)
+MachineTurn = Option Answer
 
 module _ (o : Objects) (statics : List Value) (console : List ℕ) where
   -- what changes the frames alone
   abbrev pub of_frames : Turn → MachineTurn
-  of_frames turn = option_map (λ (t : Frames × Effect). (t.0, o, statics, console, Comes t.1)) turn
+  of_frames turn = option_map (λ (t : Frames × Effect). answer_of t.0 o statics console (Comes t.1)) turn
 
   -- what changes objects too
   abbrev pub of_objects : ObjectTurn → MachineTurn
-  of_objects turn = option_map (λ (t : Frames × Objects × Effect). (t.0, t.1, statics, console, Comes t.2)) turn
+  of_objects turn = option_map (λ (t : Frames × Objects × Effect). answer_of t.0 t.1 statics console (Comes t.2)) turn
 
   -- or static fields
   abbrev pub of_statics : Option (Frames × List Value × Effect) → MachineTurn
-  of_statics turn = option_map (λ (t : Frames × List Value × Effect). (t.0, o, t.1, console, Comes t.2)) turn
+  of_statics turn = option_map (λ (t : Frames × List Value × Effect). answer_of t.0 o t.1 console (Comes t.2)) turn
 
   -- or the printed bytes
   abbrev pub of_calls : CallTurn → MachineTurn
-  of_calls turn = option_map (λ (t : Frames × Objects × List ℕ × Outcome). (t.0, t.1, statics, t.2, t.3)) turn
+  of_calls turn = option_map (λ (t : CallAnswer). answer_of t.frames t.objects statics t.printed t.outcome) turn
 
 -- each resolved instruction, by the group that it belongs to (III.3, III.4)
 abbrev pub operation_turn : Tree → ℕ → Operation → Frames → Objects → List Value → List ℕ → MachineTurn
@@ -56,17 +67,17 @@ operation_turn tree thread (LoadLocal n) m o ss c = of_frames o ss c (stack_rule
 operation_turn tree thread (StoreLocal n) m o ss c = of_frames o ss c (stack_rule (StoreLocal n) m)
 operation_turn tree thread Duplicate m o ss c = of_frames o ss c (stack_rule Duplicate m)
 operation_turn tree thread Pop m o ss c = of_frames o ss c (stack_rule Pop m)
-operation_turn tree thread (Binary op) m o ss c = of_frames o ss c (arithmetic_rule (Binary op) m)
-operation_turn tree thread (Unary op) m o ss c = of_frames o ss c (arithmetic_rule (Unary op) m)
-operation_turn tree thread (Shift op) m o ss c = of_frames o ss c (arithmetic_rule (Shift op) m)
-operation_turn tree thread (Compare op) m o ss c = of_frames o ss c (arithmetic_rule (Compare op) m)
-operation_turn tree thread ConvertInt32 m o ss c = of_frames o ss c (arithmetic_rule ConvertInt32 m)
-operation_turn tree thread ConvertInt64 m o ss c = of_frames o ss c (arithmetic_rule ConvertInt64 m)
-operation_turn tree thread (Branch place) m o ss c = of_frames o ss c (branch_rule (Branch place) m)
-operation_turn tree thread (BranchTrue place) m o ss c = of_frames o ss c (branch_rule (BranchTrue place) m)
-operation_turn tree thread (BranchFalse place) m o ss c = of_frames o ss c (branch_rule (BranchFalse place) m)
-operation_turn tree thread (BranchCompare op place) m o ss c = of_frames o ss c (branch_rule (BranchCompare op place) m)
-operation_turn tree thread (Switch places) m o ss c = of_frames o ss c (branch_rule (Switch places) m)
+operation_turn tree thread (Binary op) m o ss c = of_frames o ss c (arithmetic_rule (Binary op) m o)
+operation_turn tree thread (Unary op) m o ss c = of_frames o ss c (arithmetic_rule (Unary op) m o)
+operation_turn tree thread (Shift op) m o ss c = of_frames o ss c (arithmetic_rule (Shift op) m o)
+operation_turn tree thread (Compare op) m o ss c = of_frames o ss c (arithmetic_rule (Compare op) m o)
+operation_turn tree thread ConvertInt32 m o ss c = of_frames o ss c (arithmetic_rule ConvertInt32 m o)
+operation_turn tree thread ConvertInt64 m o ss c = of_frames o ss c (arithmetic_rule ConvertInt64 m o)
+operation_turn tree thread (Branch place) m o ss c = of_frames o ss c (branch_rule (Branch place) m o)
+operation_turn tree thread (BranchTrue place) m o ss c = of_frames o ss c (branch_rule (BranchTrue place) m o)
+operation_turn tree thread (BranchFalse place) m o ss c = of_frames o ss c (branch_rule (BranchFalse place) m o)
+operation_turn tree thread (BranchCompare op place) m o ss c = of_frames o ss c (branch_rule (BranchCompare op place) m o)
+operation_turn tree thread (Switch places) m o ss c = of_frames o ss c (branch_rule (Switch places) m o)
 operation_turn tree thread (LoadField owner field) m o ss c = of_objects o ss c (field_rule tree (LoadField owner field) m o)
 operation_turn tree thread (StoreField owner field) m o ss c = of_objects o ss c (field_rule tree (StoreField owner field) m o)
 operation_turn tree thread (LoadStaticField field) m o ss c = of_statics o ss c (static_rule tree (LoadStaticField field) m ss)
@@ -88,7 +99,7 @@ operation_turn tree thread Return m o ss c = of_calls o ss c (call_rule tree thr
 
 -- whether an instruction has an answer that prints
 abbrev pub is_printing : List ℕ → MachineTurn → Bool
-is_printing c turn = option_map_or (λ (t : Frames × Objects × List Value × List ℕ × Outcome). nat_lt (length c) (length t.3)) turn false
+is_printing c turn = option_map_or (λ (t : Answer). nat_lt (length c) (length t.printed)) turn false
 
 -- ---- the instruction at a frame's place
 
@@ -115,7 +126,7 @@ pub record IsAt (tree : Tree) (m : Frames) (op : Operation) : Type 0 where
   pub stands : IsOperation tree (lines_of found.1) line.instruction op
 
 -- what a thread's next instruction has done: its answer is that of a resolved instruction there
-pub record IsDone (tree : Tree) (thread : ℕ) (m : Frames) (o : Objects) (ss : List Value) (c : List ℕ) (answer : Frames × Objects × List Value × List ℕ × Outcome) : Type 0 where
+pub record IsDone (tree : Tree) (thread : ℕ) (m : Frames) (o : Objects) (ss : List Value) (c : List ℕ) (answer : Answer) : Type 0 where
   pub operation : Operation
   pub at : IsAt tree m operation
   pub constant : HasSmallConstant operation
@@ -123,4 +134,4 @@ pub record IsDone (tree : Tree) (thread : ℕ) (m : Frames) (o : Objects) (ss : 
 
 -- what a thread's next instruction would have done prints
 abbrev pub Prints : Tree → ℕ → Frames → Objects → List Value → List ℕ → Type 0
-Prints tree thread m o ss c = (answer : Frames × Objects × List Value × List ℕ × Outcome) × IsDone tree thread m o ss c answer × (length c < length answer.3)
+Prints tree thread m o ss c = (answer : Answer) × IsDone tree thread m o ss c answer × (length c < length answer.printed)

@@ -57,7 +57,7 @@ static_at tree n = option_and_then (static_in tree) (field_at tree (n.class, n.p
 abbrev pub held_at : Tree → MemberNumber → Option ValueKind
 held_at tree n = option_map (λ (found : ClassName × Field). kind_of_type found.1.field_type) (field_at tree (n.class, n.place))
 
--- ---- instructions that touch frames alone
+-- ---- instructions that change frames alone
 
 -- an instruction that needs no operand of its own but numbers (III.3)
 abbrev pub constant_rule : Operation → Frames → Turn
@@ -78,24 +78,24 @@ stack_rule Duplicate m = duplicate_turn m
 stack_rule Pop m = pop_turn m
 stack_rule _ m = None
 
--- arithmetic, comparisons and conversions
-abbrev pub arithmetic_rule : Operation → Frames → Turn
-arithmetic_rule (Binary op) m = binary_turn op m
-arithmetic_rule (Unary op) m = unary_turn op m
-arithmetic_rule (Shift op) m = shift_turn op m
-arithmetic_rule (Compare op) m = compare_turn op m
-arithmetic_rule ConvertInt32 m = convert_32_turn m
-arithmetic_rule ConvertInt64 m = convert_64_turn m
-arithmetic_rule _ m = None
+-- arithmetic, comparisons and conversions; the objects tell which references are equal
+abbrev pub arithmetic_rule : Operation → Frames → Objects → Turn
+arithmetic_rule (Binary op) m o = binary_turn op m
+arithmetic_rule (Unary op) m o = unary_turn op m
+arithmetic_rule (Shift op) m o = shift_turn op m
+arithmetic_rule (Compare op) m o = compare_turn op m o
+arithmetic_rule ConvertInt32 m o = convert_32_turn m
+arithmetic_rule ConvertInt64 m o = convert_64_turn m
+arithmetic_rule _ m o = None
 
 -- branches
-abbrev pub branch_rule : Operation → Frames → Turn
-branch_rule (Branch place) m = jump place m
-branch_rule (BranchTrue place) m = branch_true_turn place m
-branch_rule (BranchFalse place) m = branch_false_turn place m
-branch_rule (BranchCompare op place) m = branch_compare_turn op place m
-branch_rule (Switch places) m = switch_turn places m
-branch_rule _ m = None
+abbrev pub branch_rule : Operation → Frames → Objects → Turn
+branch_rule (Branch place) m o = jump place m
+branch_rule (BranchTrue place) m o = branch_true_turn place m
+branch_rule (BranchFalse place) m o = branch_false_turn place m
+branch_rule (BranchCompare op place) m o = branch_compare_turn op place m o
+branch_rule (Switch places) m o = switch_turn places m
+branch_rule _ m o = None
 
 -- ---- instructions on objects
 

@@ -6,7 +6,7 @@ ghost use Rattle.method_table.specs.Prepared.{action_named, IsMethodTable, IsTab
 ghost use Rattle.cil_model.specs.declared.types.ClassName.{ClassName};
 ghost use Rattle.cil_model.specs.declared.trees.Method.{Method};
 ghost use Rattle.name_tables.specs.Numbers.{method_at};
-ghost use Rattle.interpreter.specs.Calls.{act_turn, call_rule, prints, receiver, return_rule, run_at, run_chosen, top_reference, virtual_at};
+ghost use Rattle.interpreter.specs.Calls.{act_turn, call_rule, prints, receiver, return_rule, run_at, run_chosen, top_reference, virtual_at, call_answer};
 
 use crate::births::new_operation;
 use crate::outcomes::Outcome;
@@ -45,7 +45,7 @@ fn act(
     console: &mut Vec<u8>,
 ) -> Result<Outcome, NoMemory>
     requires { IsSome (act_turn program.now thread (action_named action) frames.old heap.old console.old.items) }
-    ensures done { IfOk result (λ outcome. Some (frames.new, heap.new, console.new.items, outcome) ≡ act_turn program.now thread (action_named action) frames.old heap.old console.old.items) }
+    ensures done { IfOk result (λ outcome. Some (call_answer frames.new heap.new console.new.items outcome) ≡ act_turn program.now thread (action_named action) frames.old heap.old console.old.items) }
     ensures refused { OnErr result ((frames.new ≡ frames.old) × (heap.new ≡ heap.old) × (console.new.items ≡ console.old.items)) }
     ensures prints { OnErr result (prints console.old.items (act_turn program.now thread (action_named action) frames.old heap.old console.old.items) ≡ true) }
 {
@@ -104,7 +104,7 @@ fn run(
     requires layout { IsLayout program.now layout.now }
     requires table { IsMethodTable program.now table.now }
     requires there { IsSome (run_at program.now thread method frames.old heap.old console.old.items) }
-    ensures done { IfOk result (λ outcome. Some (frames.new, heap.new, console.new.items, outcome) ≡ run_at program.now thread method frames.old heap.old console.old.items) }
+    ensures done { IfOk result (λ outcome. Some (call_answer frames.new heap.new console.new.items outcome) ≡ run_at program.now thread method frames.old heap.old console.old.items) }
     ensures refused { OnErr result ((frames.new ≡ frames.old) × (heap.new ≡ heap.old) × (console.new.items ≡ console.old.items)) }
     ensures prints { OnErr result (prints console.old.items (run_at program.now thread method frames.old heap.old console.old.items) ≡ true) }
 {
@@ -138,7 +138,7 @@ fn run_chosen(
     requires layout { IsLayout program.now layout.now }
     requires table { IsMethodTable program.now table.now }
     requires there { IsSome (run_chosen program.now thread object method frames.old heap.old console.old.items) }
-    ensures done { IfOk result (λ outcome. Some (frames.new, heap.new, console.new.items, outcome) ≡ run_chosen program.now thread object method frames.old heap.old console.old.items) }
+    ensures done { IfOk result (λ outcome. Some (call_answer frames.new heap.new console.new.items outcome) ≡ run_chosen program.now thread object method frames.old heap.old console.old.items) }
     ensures refused { OnErr result ((frames.new ≡ frames.old) × (heap.new ≡ heap.old) × (console.new.items ≡ console.old.items)) }
     ensures prints { OnErr result (prints console.old.items (run_chosen program.now thread object method frames.old heap.old console.old.items) ≡ true) }
 {
@@ -162,7 +162,7 @@ fn call_virtual(
     requires layout { IsLayout program.now layout.now }
     requires table { IsMethodTable program.now table.now }
     requires there { IsSome (virtual_at program.now thread method frames.old heap.old console.old.items) }
-    ensures done { IfOk result (λ outcome. Some (frames.new, heap.new, console.new.items, outcome) ≡ virtual_at program.now thread method frames.old heap.old console.old.items) }
+    ensures done { IfOk result (λ outcome. Some (call_answer frames.new heap.new console.new.items outcome) ≡ virtual_at program.now thread method frames.old heap.old console.old.items) }
     ensures refused { OnErr result ((frames.new ≡ frames.old) × (heap.new ≡ heap.old) × (console.new.items ≡ console.old.items)) }
     ensures prints { OnErr result (prints console.old.items (virtual_at program.now thread method frames.old heap.old console.old.items) ≡ true) }
 {
@@ -201,7 +201,7 @@ pub fn call_operation(
     requires layout { IsLayout program.now layout.now }
     requires table { IsMethodTable program.now table.now }
     requires there { IsSome (call_rule program.now thread operation.now frames.old heap.old console.old.items) }
-    ensures done { IfOk result (λ outcome. Some (frames.new, heap.new, console.new.items, outcome) ≡ call_rule program.now thread operation.now frames.old heap.old console.old.items) }
+    ensures done { IfOk result (λ outcome. Some (call_answer frames.new heap.new console.new.items outcome) ≡ call_rule program.now thread operation.now frames.old heap.old console.old.items) }
     ensures refused { OnErr result ((frames.new ≡ frames.old) × (heap.new ≡ heap.old) × (console.new.items ≡ console.old.items)) }
     ensures prints { OnErr result (prints console.old.items (call_rule program.now thread operation.now frames.old heap.old console.old.items) ≡ true) }
 {

@@ -3,7 +3,7 @@
 ghost use Rattle.std.specs.Prelude.{◌≡◌, IsSome, Some, IfOk, OnErr, true};
 ghost use Rattle.class_layout.specs.Laid.{IsLayout};
 ghost use Rattle.method_table.specs.Prepared.{IsMethodTable};
-ghost use Rattle.interpreter.specs.Instructions.{is_printing, operation_turn};
+ghost use Rattle.interpreter.specs.Instructions.{is_printing, operation_turn, answer_of};
 
 use crate::calls::call_operation;
 use crate::frame_operations::{arithmetic_operation, branch, constant, stack_operation};
@@ -35,7 +35,7 @@ pub fn operation_done(
     requires layout { IsLayout program.now layout.now }
     requires table { IsMethodTable program.now table.now }
     requires there { IsSome (operation_turn program.now thread operation.now frames.old heap.old statics.old console.old.items) }
-    ensures done { IfOk result (λ outcome. Some (frames.new, heap.new, statics.new, console.new.items, outcome) ≡ operation_turn program.now thread operation.now frames.old heap.old statics.old console.old.items) }
+    ensures done { IfOk result (λ outcome. Some (answer_of frames.new heap.new statics.new console.new.items outcome) ≡ operation_turn program.now thread operation.now frames.old heap.old statics.old console.old.items) }
     ensures refused { OnErr result ((frames.new ≡ frames.old) × (heap.new ≡ heap.old) × (statics.new ≡ statics.old) × (console.new.items ≡ console.old.items)) }
     ensures prints { OnErr result (is_printing console.old.items (operation_turn program.now thread operation.now frames.old heap.old statics.old console.old.items) ≡ true) }
 {
@@ -56,12 +56,14 @@ pub fn operation_done(
         | Operation::Shift(_)
         | Operation::Compare(_)
         | Operation::ConvertInt32
-        | Operation::ConvertInt64 => Ok(Outcome::Comes(arithmetic_operation(frames, operation))),
+        | Operation::ConvertInt64 => Ok(Outcome::Comes(arithmetic_operation(
+            frames, heap, operation,
+        ))),
         Operation::Branch(_)
         | Operation::BranchTrue(_)
         | Operation::BranchFalse(_)
         | Operation::BranchCompare(_, _)
-        | Operation::Switch(_) => Ok(Outcome::Comes(branch(frames, operation))),
+        | Operation::Switch(_) => Ok(Outcome::Comes(branch(frames, heap, operation))),
         Operation::LoadField { .. } | Operation::StoreField { .. } => Ok(Outcome::Comes(
             field_operation(program, layout, frames, heap, operation),
         )),

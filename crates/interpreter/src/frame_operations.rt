@@ -1,10 +1,10 @@
-// Instructions that touch the frames of their thread alone.
+// Instructions that change the frames of their thread alone.
 
 ghost use Rattle.std.specs.Prelude.{◌≡◌, IsSome, Some};
 ghost use Rattle.interpreter.specs.Operations.{constant_rule, stack_rule, arithmetic_rule, branch_rule};
 
 use instructions::{arithmetic, branches, places, stack};
-use object_memory::{Addr, Value};
+use object_memory::{Addr, Heap, Value};
 use resolved_code::operations::Operation;
 use threads_monitors::{Effect, FrameMemory};
 
@@ -41,33 +41,33 @@ pub fn stack_operation(frames: &mut FrameMemory, operation: &Operation) -> Effec
     }
 }
 
-/// Arithmetic, comparisons and conversions.
-pub fn arithmetic_operation(frames: &mut FrameMemory, operation: &Operation) -> Effect
-    requires { IsSome (arithmetic_rule operation.now frames.old) }
-    ensures { Some (frames.new, result) ≡ arithmetic_rule operation.now frames.old }
+/// Arithmetic, comparisons and conversions. The heap tells which references are equal.
+pub fn arithmetic_operation(frames: &mut FrameMemory, heap: &Heap, operation: &Operation) -> Effect
+    requires { IsSome (arithmetic_rule operation.now frames.old heap.now) }
+    ensures { Some (frames.new, result) ≡ arithmetic_rule operation.now frames.old heap.now }
 {
     match operation {
         Operation::Binary(binary) => arithmetic::binary(frames, *binary),
         Operation::Unary(unary) => arithmetic::unary(frames, *unary),
         Operation::Shift(shift) => arithmetic::shift(frames, *shift),
-        Operation::Compare(comparison) => arithmetic::compare(frames, *comparison),
+        Operation::Compare(comparison) => arithmetic::compare(frames, heap, *comparison),
         Operation::ConvertInt32 => arithmetic::convert_to_32(frames),
         Operation::ConvertInt64 => arithmetic::convert_to_64(frames),
         _ => unreachable!(),
     }
 }
 
-/// Branches.
-pub fn branch(frames: &mut FrameMemory, operation: &Operation) -> Effect
-    requires { IsSome (branch_rule operation.now frames.old) }
-    ensures { Some (frames.new, result) ≡ branch_rule operation.now frames.old }
+/// Branches. The heap tells which references are equal.
+pub fn branch(frames: &mut FrameMemory, heap: &Heap, operation: &Operation) -> Effect
+    requires { IsSome (branch_rule operation.now frames.old heap.now) }
+    ensures { Some (frames.new, result) ≡ branch_rule operation.now frames.old heap.now }
 {
     match operation {
         Operation::Branch(place) => places::jump(frames, *place),
         Operation::BranchTrue(place) => branches::branch_true(frames, *place),
         Operation::BranchFalse(place) => branches::branch_false(frames, *place),
         Operation::BranchCompare(comparison, place) => {
-            branches::branch_compare(frames, *comparison, *place)
+            branches::branch_compare(frames, heap, *comparison, *place)
         }
         Operation::Switch(places) => branches::switch(frames, places.as_slice()),
         _ => unreachable!(),

@@ -4,7 +4,7 @@ ghost use Rattle.std.specs.Prelude.{◌≡◌, FitsSigned, Some, IsSome, IfOk, O
 ghost use Rattle.std.specs.Int.{w32, w64};
 ghost use Rattle.class_layout.specs.Laid.{IsLayout};
 ghost use Rattle.method_table.specs.Prepared.{IsMethodTable};
-ghost use Rattle.interpreter.specs.Instructions.{HasSmallConstant, IsAt, IsDone, Prints, line_at, operation_turn};
+ghost use Rattle.interpreter.specs.Instructions.{HasSmallConstant, IsAt, IsDone, Prints, line_at, operation_turn, answer_of};
 
 use crate::dispatch::operation_done;
 use crate::outcomes::Outcome;
@@ -76,7 +76,7 @@ pub fn instruction(
     requires table { IsMethodTable program.now table.now }
     requires place { IsSome (line_at program.now frames.old) }
     requires there { (op : Operation) → IsAt program.now frames.old op → HasSmallConstant op → IsSome (operation_turn program.now thread op frames.old heap.old statics.old console.old.items) }
-    ensures done { IfOk result (λ outcome. IsDone program.now thread frames.old heap.old statics.old console.old.items (frames.new, heap.new, statics.new, console.new.items, outcome)) }
+    ensures done { IfOk result (λ outcome. IsDone program.now thread frames.old heap.old statics.old console.old.items (answer_of frames.new heap.new statics.new console.new.items outcome)) }
     ensures refused { OnErr result ((frames.new ≡ frames.old) × (heap.new ≡ heap.old) × (statics.new ≡ statics.old) × (console.new.items ≡ console.old.items)) }
     ensures prints { OnErr result (Prints program.now thread frames.old heap.old statics.old console.old.items) }
 {

@@ -3,3 +3,4 @@ pub mod Heaps
 pub mod Addressed
 pub mod Walks
 pub mod MonitorsAt
+pub mod Spaces

@@ -1,11 +1,12 @@
 -- What a heap holds: the cells of its block, and the monitors of the literals, which lie in no block and take no words of it (this profile).
-use Rattle.std.specs.Prelude.{ℕ, List, replicate, Bool, Option, option_map, slice_get, slice_set}
+use Rattle.std.specs.Prelude.{◌≡◌, ◌≤◌, ℕ, ◌==◌, List, replicate, Bool, Option, option_map, slice_get, slice_set}
 use Rattle.std.specs.Option.{option_map_or}
+use Rattle.cil_model.specs.declared.limits.TheConstants.{MOST_WORDS}
 use Rattle.object_memory.specs.declared.addresses.Addr.{Addr}
 use Rattle.object_memory.specs.declared.kinds.Kind.{Kind}
 use Rattle.object_memory.specs.declared.monitors.Monitor.{Monitor}
 use Rattle.object_memory.specs.declared.monitors.Monitor.TheVariants.{Free}
-use Rattle.object_memory.specs.Cells.{Cell, Cells, no_cells, literal_number, cell_at, change_at, birth, store_slot, store_monitor, store_copies}
+use Rattle.object_memory.specs.Cells.{Cell, Cells, first, used_words, free_words, no_cells, literal_number, cell_at, change_at, slots_at, birth, store_slot, store_monitor, store_copies}
 
 -- the cells, and the monitor of each literal in the place of the literal's number
 pub record Objects : Type 0 where
@@ -15,6 +16,44 @@ pub record Objects : Type 0 where
 -- a block without cells, and so many literals, which nobody has entered
 abbrev pub no_objects : (words literals : ℕ) → Objects
 no_objects words literals = record { block = no_cells words; literals = replicate literals Free }
+
+-- ---- what is there
+
+-- the cell of the object at an address
+abbrev pub object_cell : Objects → Addr → Option Cell
+object_cell o a = cell_at o.block a
+
+-- the words of its fields or elements
+abbrev pub object_slots : Objects → Addr → List ℕ
+object_slots o a = slots_at o.block a
+
+-- the words in which objects are born, those that objects take, and those that none takes
+abbrev pub whole_space : Objects → ℕ
+whole_space o = o.block.words
+
+abbrev pub used_space : Objects → ℕ
+used_space o = used_words o.block.cells
+
+abbrev pub free_space : Objects → ℕ
+free_space o = free_words o.block
+
+-- objects lie from the first address on, within the space, which has no more words than there may be
+pub record IsWithinSpace (o : Objects) : Type 0 where
+  pub start : o.block.start ≡ first
+  pub within : used_space o ≤ whole_space o
+  pub words : whole_space o ≤ MOST_WORDS
+
+-- ---- references
+
+-- two addresses are of one object, or both null: in one block they are the same
+abbrev pub AreOfOneObject : Objects → Addr → Addr → Type 0
+AreOfOneObject o a b = a.number ≡ b.number
+
+-- the test of it (III.1.5, table 4)
+abbrev pub is_same_object : Objects → Addr → Addr → Bool
+is_same_object o a b = a.number == b.number
+
+-- ---- births and stores
 
 -- a birth in the block
 abbrev pub with_birth : Objects → Kind → ℕ → Objects × Option Addr
@@ -37,7 +76,7 @@ with_literal_monitor o m n = record o { literals = slice_set o.literals n m }
 
 -- the monitor of the literal or the cell at an address
 abbrev pub monitor_at : Objects → Addr → Option Monitor
-monitor_at o a = option_map_or (slice_get o.literals) (literal_number a) (option_map (λ (c : Cell). c.monitor) (cell_at o.block a))
+monitor_at o a = option_map_or (slice_get o.literals) (literal_number a) (option_map (λ (c : Cell). c.monitor) (object_cell o a))
 
 -- another monitor of the literal or the cell at an address
 abbrev pub with_monitor : Objects → Addr → Monitor → Objects

@@ -8,7 +8,7 @@ pub const ADDRESSES: u64 = 4_294_967_296;
 /// The number of the first literal's address. The addresses of a heap's objects have numbers below it.
 pub const FIRST_LITERAL: u32 = 2_147_483_648;
 
-/// Where an object is, or null. The objects of a heap have addresses, and so have the literals of a program. Two addresses can be compared, and nothing else can be done with them.
+/// Where an object is, or null. The objects of a heap have addresses, and so have the literals of a program. Whether two are of one object, `Heap::is_same_object` tells; nothing else can be done with them.
 #[derive(Clone, Copy, Debug, PartialEq, Eq)]
 pub struct Addr {
     pub(crate) number: u32,

@@ -48,7 +48,7 @@ impl Model for Heap {
 impl Heap {
     ghost use Rattle.object_memory.specs.declared.addresses.Addr.{Addr};
     ghost use Rattle.object_memory.specs.Cells.{null, free_words, used_words, literal_number, addresses, cell_at, slots_at, store_monitor};
-    ghost use Rattle.object_memory.specs.Objects.{no_objects, with_birth, with_cell, with_slot, with_copies, monitor_at, with_monitor};
+    ghost use Rattle.object_memory.specs.Objects.{no_objects, is_same_object, with_birth, with_cell, with_slot, with_copies, monitor_at, with_monitor};
 
     /// A heap without objects, in a block that holds zeros alone, beside so many literals, which nobody has entered.
     ///
@@ -89,6 +89,13 @@ impl Heap {
         ensures literals { (a : Addr) → IsSome (cell_at self.now.block a) → literal_number a ≡ None }
     {
         let _block = &self.block;
+    }
+
+    /// Whether two references are of one object, or both null (ECMA-335 III.1.5, table 4). An object of one block has one address.
+    pub fn is_same_object(&self, first: Addr, second: Addr) -> bool
+        ensures { result ≡ is_same_object self.now first second }
+    {
+        first.number == second.number
     }
 
     /// Makes an object with so many slots, which all hold 0 or null, at the front of what is free, and answers its

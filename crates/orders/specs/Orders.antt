@@ -9,21 +9,22 @@ abbrev pub file_of : Order → Option (List ℕ)
 file_of (Check file explain) = Some file.now
 file_of (Run file schedule limits explain) = Some file.now
 file_of (Replay file schedule limits explain) = Some file.now
-file_of (Trace file schedule limits) = Some file.now
+file_of (Trace file schedule limits explain) = Some file.now
 file_of (Flip sizes) = None
 
 -- the name of the file that holds the schedule's text, where one does
 abbrev pub schedule_file_of : Order → Option (List ℕ)
 schedule_file_of (Replay file schedule limits explain) = Some schedule.now
-schedule_file_of (Trace file schedule limits) = Some schedule.now
+schedule_file_of (Trace file schedule limits explain) = Some schedule.now
 schedule_file_of _ = None
 
--- a refusal is to be explained
+-- a refusal is to be explained, and what threads wait for when a run has ended
 abbrev pub is_explained : Order → Bool
 is_explained (Check file explain) = explain
 is_explained (Run file schedule limits explain) = explain
 is_explained (Replay file schedule limits explain) = explain
-is_explained _ = false
+is_explained (Trace file schedule limits explain) = explain
+is_explained (Flip sizes) = false
 
 -- these bytes are the source that a file holds, or too long as that is too
 abbrev pub StandsFor : List ℕ → List ℕ → Type 0

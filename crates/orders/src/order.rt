@@ -5,7 +5,8 @@ ghost use Rattle.orders.specs.Orders.{file_of, is_explained, schedule_file_of};
 use cil_model::limits::Limits;
 use flip_trial::Sizes;
 
-/// A command with its files and options, each default filled in. With `explain`, a refusal is told with its place and its rule.
+/// A command with its files and options, each default filled in. With `explain`, a refusal is told with its place and its rule, and a run
+/// that ends with live threads with where they are and what they wait for.
 #[derive(Clone, Copy, Debug, PartialEq, Eq)]
 pub enum Order<'a> {
     /// Says whether the source of this file is accepted.
@@ -32,6 +33,7 @@ pub enum Order<'a> {
         file: &'a str,
         schedule: &'a str,
         limits: Limits,
+        explain: bool,
     },
     /// Tries the flip without a lock, by threads.
     Flip(Sizes),
@@ -51,15 +53,16 @@ impl<'a> Order<'a> {
         }
     }
 
-    /// Whether a refusal is to be explained.
+    /// Whether a refusal, and what threads wait for when a run has ended, is to be explained.
     pub fn is_explained(&self) -> bool
         ensures { result ≡ is_explained self.now }
     {
         match *self {
             Order::Check { explain, .. }
             | Order::Run { explain, .. }
-            | Order::Replay { explain, .. } => explain,
-            Order::Trace { .. } | Order::Flip(_) => false,
+            | Order::Replay { explain, .. }
+            | Order::Trace { explain, .. } => explain,
+            Order::Flip(_) => false,
         }
     }
 

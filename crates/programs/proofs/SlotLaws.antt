@@ -3,7 +3,6 @@ use Rattle.std.proofs.Common.{◌≡◌, ◌==◌, ℕ, Bool, true, false, cond,
 use Rattle.std.specs.Prelude.{filter_map, unwrap_or}
 use Rattle.std.specs.List.{list_any, cons_option}
 use Rattle.std.specs.Option.{option_map_or}
-use Rattle.std.proofs.lemmas.Bool.{eqb-true, eq-eqb}
 use Rattle.cil_model.specs.declared.types.ClassName.{ClassName}
 use Rattle.cil_model.specs.declared.trees.Tree.{Tree}
 use Rattle.cil_model.specs.declared.trees.Method.{Method}
@@ -13,37 +12,18 @@ use Rattle.cil_model.specs.Chains.{listed_by, chain_of, methods_declared, method
 use Rattle.cil_model.specs.Slots.{slot_filled, slot_along, filler_along, class_target}
 use Rattle.cil_model.specs.Legality.{is_filled_abstract, is_found_not_virtual, has_abstract_slot}
 use Rattle.cil_model.proofs.Lists.{list_any_congr}
-use Rattle.cil_model.proofs.SameLaws.{same_class_equal, same_class_itself}
+use Rattle.cil_model.proofs.SameLaws.{class_equivalence}
 use Rattle.name_tables.specs.Sameness.{MethodIdentity, identity_of}
 use Rattle.name_tables.specs.Numbers.{declarations, class_number, chain_numbers, method_found}
 use Rattle.name_tables.proofs.NumberLaws.{IsNumbered, numbered, declared_at_none}
+use Rattle.resolved_code.proofs.ClassNumbers.{number_equal}
 use Rattle.programs.specs.Found.{slot_filled_at, slot_over, slot_numbered, open_over, open_numbered, is_left_open, class_leaves_open, plain_numbered}
 use Rattle.programs.proofs.NumberedMethods.{found_by_number, nothing_found}
 
 module _ (tree : Tree) where
   -- two declared names are the same where their numbers are equal
   pub same_by_number : (a b : ClassName) (n m : ℕ) → class_number tree a ≡ Some n → class_number tree b ≡ Some m → same_class a b ≡ (n == m)
-  same_by_number a b n m e f = by_tests (same_class a b) (n == m) refl refl
-    where
-      found_at : (c : ClassName) (i : ℕ) → class_number tree c ≡ Some i → (d : Declaration) × (declaration_of tree c ≡ Some d) × (slice_get (declarations tree) i ≡ Some (c, d))
-      found_at c i g = subst (IsNumbered tree c) g (numbered tree c)
-
-      one_name : n ≡ m → a ≡ b
-      one_name h =
-          let first : (d : Declaration) × (declaration_of tree a ≡ Some d) × (slice_get (declarations tree) n ≡ Some (a, d)) = found_at a n e in
-          let second : (d : Declaration) × (declaration_of tree b ≡ Some d) × (slice_get (declarations tree) m ≡ Some (b, d)) = found_at b m f in
-          let both : Some (a, first.0) ≡ Some (b, second.0) = sym first.2 ∙ ap (slice_get (declarations tree)) h ∙ second.2 in
-          let pairs : (a, first.0) ≡ (b, second.0) = cc in
-          ap (λ (y : ClassName × Declaration). y.0) pairs
-
-      one_number : a ≡ b → n ≡ m
-      one_number h = let s : Some n ≡ Some m = sym e ∙ ap (class_number tree) h ∙ f in cc
-
-      by_tests : (s t : Bool) → same_class a b ≡ s → (n == m) ≡ t → s ≡ t
-      by_tests true true p q = refl
-      by_tests false false p q = refl
-      by_tests true false p q = sym (eq-eqb n m (one_number (same_class_equal a b p))) ∙ q
-      by_tests false true p q = let P : ClassName → Type 0 = λ y. same_class a y ≡ true in sym p ∙ subst P (one_name (eqb-true n m q)) (same_class_itself a)
+  same_by_number a b n m e f = sym (number_equal tree b a m n f e ∙ class_equivalence.symm b a)
 
   -- a class and its number, or neither
   abbrev pub IsTied : Option ClassName → Option ℕ → Type 0

@@ -1,11 +1,7 @@
 //! What the grammar has at a place, in words.
 
-use cil_model::memory::NoMemory;
 use cil_model::tokens::Symbol;
 use ilasm_tokens::expected::Expected;
-use ilasm_tokens::failure::Failure;
-use ilasm_tokens::source::{token_offset, tokens};
-use std::alloc::Global;
 use std::{fmt, str};
 
 /// What the grammar has at a place: `a name`, or a word or a mark in backquotes.
@@ -90,15 +86,4 @@ fn words_of_blocks(expected: Expected) -> &'static str {
         Expected::LabelledLine => "an instruction, or a label with its `:`",
         _ => "`:`",
     }
-}
-
-/// The offset of the last token of a text; 0 where it has none. Fails for want of memory alone.
-pub(crate) fn last_token(alloc: Global, text: &[u8]) -> Result<usize, NoMemory> {
-    let tokens = match tokens(alloc, text) {
-        Ok(tokens) => tokens,
-        Err(Failure::Refused { .. }) => return Ok(0),
-        Err(Failure::OutOfMemory) => return Err(NoMemory),
-    };
-    let last = tokens.as_slice().len().saturating_sub(1);
-    Ok(token_offset(text, last).unwrap_or(0))
 }

@@ -2,8 +2,12 @@
 #![tactic(auto)]
 
 mod hints;
+mod instead;
+mod left_out;
+mod places;
 mod readings;
 mod schedules;
+mod spots;
 
 pub use readings::explain_reading;
 pub use schedules::explain_schedule;

@@ -1,6 +1,8 @@
 //! Why a source has no tree (numbers 101 to 104).
 
-use crate::hints::{ExpectedText, last_token};
+use crate::hints::ExpectedText;
+use crate::instead::{Instead, instead_at, instead_of_bytes};
+use crate::spots::{offset_before, spot_at, word_at};
 use cil_model::limits::MOST_SOURCE_BYTES;
 use cil_model::memory::NoMemory;
 use ilasm_reader::ReadError;
@@ -142,18 +144,40 @@ fn end_of_tokens(text: &[u8]) -> usize {
     text.len().saturating_sub(blanks)
 }
 
-/// The message of what is wrong at an offset, or of the whole source.
+/// What to write in the place of bytes above 127, with which a file begins that is saved with a byte-order mark.
+fn instead_of_mark(text: &[u8]) -> Option<Instead<'_>> {
+    match text {
+        [0xef, 0xbb, 0xbf, ..] | [0xfe, 0xff, ..] | [0xff, 0xfe, ..] => Some(Instead::Advice(
+            "save the file as ASCII, without a byte-order mark",
+        )),
+        _ => None,
+    }
+}
+
+/// The message of what is wrong at an offset, or of the whole source; what to write instead is the last line.
 fn told(
     alloc: Global,
     named: Named,
     offset: Option<usize>,
     unread: Unread,
+    instead: Option<Instead>,
 ) -> Result<String, NoMemory> {
     let sentence = unread.to_string(alloc)?;
-    named.message(alloc, offset, sentence.as_str())
+    let mut message = named.message(alloc, offset, sentence.as_str())?;
+    if let Some(instead) = instead {
+        writeln!(message, "{instead}")?;
+    }
+    Ok(message)
 }
 
 /// Without the `:` of a label, it is the name before it that is at fault.
+fn no_instruction(alloc: Global, named: Named, offset: usize) -> Result<String, NoMemory> {
+    let name = offset_before(alloc, named.text, offset)?;
+    let instead = instead_at(Expected::LabelColon, spot_at(alloc, named.text, name)?);
+    let unread = Unread::NoInstruction(token_at(named.text, name));
+    told(alloc, named, Some(name), unread, instead)
+}
+
 fn no_tree(
     alloc: Global,
     named: Named,
@@ -161,34 +185,40 @@ fn no_tree(
     expected: Expected,
 ) -> Result<String, NoMemory> {
     if let Expected::LabelColon = expected {
-        let before = named.text.get(..offset).unwrap_or(named.text);
-        let name = last_token(alloc, before)?;
-        let unread = Unread::NoInstruction(token_at(named.text, name));
-        return told(alloc, named, Some(name), unread);
+        return no_instruction(alloc, named, offset);
     }
     let token = token_at(named.text, offset);
     let shown = offset.min(end_of_tokens(named.text));
-    told(
-        alloc,
-        named,
-        Some(shown),
-        Unread::NoTree { token, expected },
-    )
+    let instead = instead_at(expected, spot_at(alloc, named.text, offset)?);
+    let unread = Unread::NoTree { token, expected };
+    told(alloc, named, Some(shown), unread, instead)
 }
 
-/// Why a source has no tree. Fails for want of memory alone, and where memory was wanted for the tree.
+/// Why a source has no tree. The last line says what to write instead, where that can be told by the token at fault and its place. Fails
+/// for want of memory alone, and where memory was wanted for the tree.
 pub fn explain_reading(alloc: Global, named: Named, error: ReadError) -> Result<String, NoMemory> {
     let text = named.text;
     match error {
-        ReadError::TooLong => told(alloc, named, None, Unread::TooLong(text.len())),
+        ReadError::TooLong => told(alloc, named, None, Unread::TooLong(text.len()), None),
         ReadError::NotAscii { offset } => {
             let byte = text.get(offset).copied().unwrap_or(0);
-            told(alloc, named, Some(offset), Unread::Foreign(byte))
+            let instead = instead_of_mark(text);
+            told(alloc, named, Some(offset), Unread::Foreign(byte), instead)
         }
         ReadError::NoToken { offset } => {
             let rest = text.get(offset..).unwrap_or(&[]);
             let token = token_at(text, offset);
-            told(alloc, named, Some(offset), Unread::NoToken { rest, token })
+            let instead = match rest {
+                [b'/', b'*', ..] => None,
+                _ => instead_of_bytes(word_at(text, offset)),
+            };
+            told(
+                alloc,
+                named,
+                Some(offset),
+                Unread::NoToken { rest, token },
+                instead,
+            )
         }
         ReadError::NoTree { offset, expected } => no_tree(alloc, named, offset, expected),
         ReadError::OutOfMemory => Err(NoMemory),

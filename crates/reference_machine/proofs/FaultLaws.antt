@@ -48,7 +48,7 @@ integer_faults w And x y f e = no_fault _ f e
 integer_faults w Or x y f e = no_fault _ f e
 integer_faults w ExclusiveOr x y f e = no_fault _ f e
 
-result_fault : (kind : ℤ → Value) (r : Result ℤ Fault) (result : Result Value Fault) (f : Fault) → result_as kind r ≡ Some result → result ≡ Err f → r ≡ Err f
+result_fault : (kind : ℤ → Value) (r : Result ℤ Fault) (result : Result Value Fault) (f : Fault) → Some (result_as kind r) ≡ Some result → result ≡ Err f → r ≡ Err f
 result_fault kind (Ok z) result f e h = cc
 result_fault kind (Err g) result f e h = cc
 

@@ -74,30 +74,94 @@ compared Equal x y = int_eq x y
 compared Greater x y = int_lt y x
 compared Less x y = int_lt x y
 
--- ---- the same on values; none where an operand is of the wrong kind
+-- ---- the same on operands of whatever values; none where one is of the wrong kind
 
--- a result as a value of one kind
-abbrev pub result_as : (ℤ → Value) → Result ℤ Fault → Option (Result Value Fault)
-result_as kind (Ok z) = Some (Ok (kind z))
-result_as kind (Err f) = Some (Err f)
+-- what an operation sees of a value on the stack (III.1.5): an integer of one size, or a reference, which is null or is not
+pub data Operand : Type 0 where
+  I4 : ℤ → Operand
+  I8 : ℤ → Operand
+  NativeInt : ℤ → Operand
+  Object : (is_null : Bool) → Operand
+
+-- a result with something else in its place, or the same fault
+abbrev pub result_as : {A B : Type 0} → (A → B) → Result A Fault → Result B Fault
+result_as kind (Ok z) = Ok (kind z)
+result_as kind (Err f) = Err f
 
 -- both operands have one size (III.1.5, table 2)
-abbrev pub binary_value : BinaryOperation → Value → Value → Option (Result Value Fault)
-binary_value op (Int32 x) (Int32 y) = result_as Int32 (binary w32 op x y)
-binary_value op (Int64 x) (Int64 y) = result_as Int64 (binary w64 op x y)
-binary_value op _ _ = None
+abbrev pub binary_of : {V : Type 0} → (ℤ → V) → (ℤ → V) → BinaryOperation → Operand → Operand → Option (Result V Fault)
+binary_of int32 int64 op (I4 x) (I4 y) = Some (result_as int32 (binary w32 op x y))
+binary_of int32 int64 op (I8 x) (I8 y) = Some (result_as int64 (binary w64 op x y))
+binary_of int32 int64 op _ _ = None
 
 -- the operand is an integer of either size (III.1.5, table 3)
-abbrev pub unary_value : UnaryOperation → Value → Option Value
-unary_value op (Int32 x) = Some (Int32 (unary w32 op x))
-unary_value op (Int64 x) = Some (Int64 (unary w64 op x))
-unary_value op _ = None
+abbrev pub unary_of : {V : Type 0} → (ℤ → V) → (ℤ → V) → UnaryOperation → Operand → Option V
+unary_of int32 int64 op (I4 x) = Some (int32 (unary w32 op x))
+unary_of int32 int64 op (I8 x) = Some (int64 (unary w64 op x))
+unary_of int32 int64 op _ = None
 
 -- the amount has 32 bits (III.1.5, table 6)
+abbrev pub shift_of : {V : Type 0} → (ℤ → V) → (ℤ → V) → ShiftOperation → Operand → Operand → Option V
+shift_of int32 int64 op (I4 x) (I4 amount) = Some (int32 (shift w32 op x amount))
+shift_of int32 int64 op (I8 x) (I4 amount) = Some (int64 (shift w64 op x amount))
+shift_of int32 int64 op _ _ = None
+
+-- whether the operand is neither zero nor null (III.3.17, III.3.18)
+abbrev pub is_set_of : Operand → Option Bool
+is_set_of (I4 x) = Some (not (int_eq x (pos 0)))
+is_set_of (I8 x) = Some (not (int_eq x (pos 0)))
+is_set_of (NativeInt x) = None
+is_set_of (Object is_null) = Some (not is_null)
+
+-- conv.i4 keeps the low 32 bits (III.3.27)
+abbrev pub convert_32_of : {V : Type 0} → (ℤ → V) → Operand → Option V
+convert_32_of int32 (I4 x) = Some (int32 x)
+convert_32_of int32 (I8 x) = Some (int32 (cast_signed w32 (cast_unsigned w64 x % 2 ^ 32)))
+convert_32_of int32 (NativeInt x) = Some (int32 (cast_signed w32 (cast_unsigned w64 x % 2 ^ 32)))
+convert_32_of int32 (Object is_null) = None
+
+-- conv.i8 extends the sign (III.3.27)
+abbrev pub convert_64_of : {V : Type 0} → (ℤ → V) → Operand → Option V
+convert_64_of int64 (I4 x) = Some (int64 x)
+convert_64_of int64 (I8 x) = Some (int64 x)
+convert_64_of int64 (NativeInt x) = Some (int64 x)
+convert_64_of int64 (Object is_null) = None
+
+-- what a comparison leaves on the stack (III.3.21)
+abbrev pub one_or_zero_of : {V : Type 0} → (ℤ → V) → Bool → V
+one_or_zero_of int32 true = int32 (pos 1)
+one_or_zero_of int32 false = int32 (pos 0)
+
+-- ---- the same on values
+
+-- what an operation sees of a value
+abbrev pub operand : Value → Operand
+operand (Int32 x) = I4 x
+operand (Int64 x) = I8 x
+operand (Native x) = NativeInt x
+operand Null = Object true
+operand (Reference n) = Object false
+
+abbrev pub binary_value : BinaryOperation → Value → Value → Option (Result Value Fault)
+binary_value op v w = binary_of Int32 Int64 op (operand v) (operand w)
+
+abbrev pub unary_value : UnaryOperation → Value → Option Value
+unary_value op v = unary_of Int32 Int64 op (operand v)
+
 abbrev pub shift_value : ShiftOperation → Value → Value → Option Value
-shift_value op (Int32 x) (Int32 amount) = Some (Int32 (shift w32 op x amount))
-shift_value op (Int64 x) (Int32 amount) = Some (Int64 (shift w64 op x amount))
-shift_value op _ _ = None
+shift_value op v amount = shift_of Int32 Int64 op (operand v) (operand amount)
+
+abbrev pub is_set : Value → Option Bool
+is_set v = is_set_of (operand v)
+
+abbrev pub convert_32 : Value → Option Value
+convert_32 v = convert_32_of Int32 (operand v)
+
+abbrev pub convert_64 : Value → Option Value
+convert_64 v = convert_64_of Int64 (operand v)
+
+abbrev pub one_or_zero : Bool → Value
+one_or_zero holds = one_or_zero_of Int32 holds
 
 -- references are equal where they are one object's (III.1.5, table 4)
 abbrev pub equal_values : Value → Value → Option Bool
@@ -135,37 +199,8 @@ branch_values BranchGreater v w = ordered_values (λ x y. int_lt y x) v w
 branch_values LessOrEqual v w = ordered_values int_le v w
 branch_values BranchLess v w = ordered_values int_lt v w
 
--- whether the value is neither zero nor null (III.3.17, III.3.18)
-abbrev pub is_set : Value → Option Bool
-is_set (Int32 x) = Some (not (int_eq x (pos 0)))
-is_set (Int64 x) = Some (not (int_eq x (pos 0)))
-is_set (Native x) = None
-is_set Null = Some false
-is_set (Reference n) = Some true
-
--- conv.i4 keeps the low 32 bits, and conv.i8 extends the sign (III.3.27)
-abbrev pub convert_32 : Value → Option Value
-convert_32 (Int32 x) = Some (Int32 x)
-convert_32 (Int64 x) = Some (Int32 (cast_signed w32 (cast_unsigned w64 x % 2 ^ 32)))
-convert_32 (Native x) = Some (Int32 (cast_signed w32 (cast_unsigned w64 x % 2 ^ 32)))
-convert_32 Null = None
-convert_32 (Reference n) = None
-
--- conv.i8 (III.3.27)
-abbrev pub convert_64 : Value → Option Value
-convert_64 (Int32 x) = Some (Int64 x)
-convert_64 (Int64 x) = Some (Int64 x)
-convert_64 (Native x) = Some (Int64 x)
-convert_64 Null = None
-convert_64 (Reference n) = None
-
 -- an array's length or an index (III.4.20, III.4.8)
 abbrev pub as_index : Value → Option ℤ
 as_index (Int32 x) = Some x
 as_index (Native x) = Some x
 as_index _ = None
-
--- what a comparison leaves on the stack (III.3.21)
-abbrev pub one_or_zero : Bool → Value
-one_or_zero true = Int32 (pos 1)
-one_or_zero false = Int32 (pos 0)

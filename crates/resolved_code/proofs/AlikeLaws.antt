@@ -1,5 +1,5 @@
 -- Lists whose items stand in a relation, place by place.
-use Rattle.std.proofs.Common.{◌≡◌, ℕ, zero, suc, List, [], ◌∷◌, length, Some, slice_get, refl, ap, subst}
+use Rattle.std.proofs.Common.{◌≡◌, ℕ, zero, suc, List, [], ◌∷◌, length, None, Some, slice_get, refl, sym, ap, subst}
 use Rattle.name_tables.proofs.NumberLaws.{none_is_some}
 use Rattle.resolved_code.specs.Resolved.{AllAlike}
 
@@ -25,3 +25,11 @@ alike_to R (x ∷ xs) (z ∷ zs) (suc n) y h e =
     record { item = further.item; there = further.there; alike = further.alike }
 alike_to R [] (z ∷ zs) n y h e = absurd h
 alike_to R (x ∷ xs) [] n y h e = absurd h
+
+-- beyond the last of one list there is none of the other
+pub alike_beyond : {X Y : Type 0} (R : X → Y → Type 0) (xs : List X) (ys : List Y) → AllAlike R xs ys → (n : ℕ) → slice_get ys n ≡ None → slice_get xs n ≡ None
+alike_beyond R [] [] h n e = refl
+alike_beyond R (x ∷ xs) (z ∷ zs) h zero e = absurd (none_is_some z (sym e))
+alike_beyond R (x ∷ xs) (z ∷ zs) h (suc n) e = alike_beyond R xs zs h.1 n e
+alike_beyond R [] (z ∷ zs) h n e = absurd h
+alike_beyond R (x ∷ xs) [] h n e = absurd h

@@ -8,3 +8,6 @@ pub mod OtherInstructions
 pub mod WholeLaws
 pub mod Made
 pub mod DeclaredNumbers
+pub mod ClassNumbers
+pub mod BracketLaws
+pub mod TypeTestLaws

@@ -1,4 +1,5 @@
 pub mod Numbered
+pub mod TypeTests
 pub mod Identities
 pub mod Resolved
 pub mod Rules

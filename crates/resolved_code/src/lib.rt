@@ -11,4 +11,5 @@ mod members;
 mod numbering;
 pub mod operations;
 pub mod resolved;
+pub mod type_tests;
 pub mod types;

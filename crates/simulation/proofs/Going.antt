@@ -27,10 +27,12 @@ use Rattle.interpreter.specs.declared.outcomes.Outcome.TheVariants.{Comes}
 use Rattle.size_bounds.proofs.MethodSizes.{arguments_few, instructions_few, locals_few, stack_low}
 use Rattle.simulation.specs.Agreement.{Agree}
 use Rattle.simulation.specs.MachineContents.{frame_room}
-use Rattle.simulation.specs.StandsFor.{Names, Extends, IsValue, IsFrame, AreFrames, IsMemory}
+use Rattle.simulation.specs.StandsFor.{Names, Extends, IsValue, IsFrame, AreFrames}
 use Rattle.simulation.proofs.AgreeLaws.{agree_length}
 use Rattle.simulation.proofs.Extending.{values_extend, frame_list_extends, object_extends}
 use Rattle.simulation.proofs.Instructions.{IsSetting, GoesAlike}
+use Rattle.simulation.proofs.MemoryModels.{MemoryModel, IsModelled}
+use Rattle.interpreter.specs.Instructions.{answer_of}
 
 -- ---- how long typed lists are
 
@@ -85,8 +87,8 @@ module _ (tree : Tree) (legal : IsLegal tree) (s : State) (given : Option Declar
       let three : length m.stack ≡ length f.stack = agree_length (IsValue name) m.stack f.stack h.stack in
       omega (arith, one, two, three, arguments_are_few, locals_are_few, stack_is_low)
 
-module _ (here : Setting) (name : Names) (m : Frames) (o : Objects) (statics : List Value) (printed : List ℕ) (s : State) (f : StateFrame) (below : List StateFrame) (i : Instruction) (operation : Operation)
-    (at : IsSetting here name m o statics printed s f below i operation) where
+module _ (here : Setting) (model : MemoryModel here.tree) (name : Names) (m : Frames) (o : Objects) (statics : List Value) (printed : List ℕ) (s : State) (f : StateFrame) (below : List StateFrame) (i : Instruction) (operation : Operation)
+    (at : IsSetting here model name m o statics printed s f below i operation) where
   pub own_frame : IsFrame here.tree name m.running f
   own_frame = at.frames.frames.0
 
@@ -127,9 +129,9 @@ module _ (here : Setting) (name : Names) (m : Frames) (o : Objects) (statics : L
       }
 
   -- on to the next instruction in another memory
-  pub onward_alike : (names : Names) → Extends name names → (o' : Objects) (statics' : List Value) (printed' : List ℕ) (s' : State) → s'.threads ≡ s.threads → IsMemory here.tree names o' statics' printed' s' →
+  pub onward_alike : (names : Names) → Extends name names → (o' : Objects) (statics' : List Value) (printed' : List ℕ) (s' : State) → s'.threads ≡ s.threads → IsModelled here.tree model names o' statics' printed' s' →
       (stack : List Value) (stack' : List StateValue) → Agree (IsValue names) stack stack' →
-      GoesAlike here name m o statics printed s f below (with_place (with_stack m stack) (m.running.place + 1), o', statics', printed', Comes GoesOn) (onward_frame f below s' stack')
+      GoesAlike here model name m o statics printed s f below (answer_of (with_place (with_stack m stack) (m.running.place + 1)) o' statics' printed' (Comes GoesOn)) (onward_frame f below s' stack')
   onward_alike names extends o' statics' printed' s' others memory stack stack' h =
       record {
         running = after f stack';
@@ -150,12 +152,12 @@ module _ (here : Setting) (name : Names) (m : Frames) (o : Objects) (statics : L
 
   -- on to the next instruction with another stack alone
   pub next_alike : (stack : List Value) (stack' : List StateValue) → Agree (IsValue name) stack stack' →
-      GoesAlike here name m o statics printed s f below (with_place (with_stack m stack) (m.running.place + 1), o, statics, printed, Comes GoesOn) (onward_frame f below s stack')
+      GoesAlike here model name m o statics printed s f below (answer_of (with_place (with_stack m stack) (m.running.place + 1)) o statics printed (Comes GoesOn)) (onward_frame f below s stack')
   next_alike stack stack' h = onward_alike name same_names o statics printed s refl at.memory stack stack' h
 
   -- on to another place of the method with another stack
   pub jump_alike : (place : ℕ) (stack : List Value) (stack' : List StateValue) → Agree (IsValue name) stack stack' →
-      GoesAlike here name m o statics printed s f below (with_place (with_stack m stack) place, o, statics, printed, Comes GoesOn) (Goes (record f { place = place; stack = stack' } ∷ below) s)
+      GoesAlike here model name m o statics printed s f below (answer_of (with_place (with_stack m stack) place) o statics printed (Comes GoesOn)) (Goes (record f { place = place; stack = stack' } ∷ below) s)
   jump_alike place stack stack' h =
       record {
         running = record f { place = place; stack = stack' };

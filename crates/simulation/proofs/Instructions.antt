@@ -18,23 +18,22 @@ use Rattle.interpreter.specs.resolved_code.declared.operations.Operation.{Operat
 use Rattle.interpreter.specs.object_memory.declared.addresses.Addr.{Addr}
 use Rattle.interpreter.specs.object_memory.declared.values.Value.{Value}
 use Rattle.interpreter.specs.object_memory.declared.values.Value.TheVariants.{Ref}
-use Rattle.interpreter.specs.object_memory.Cells.{free_words}
-use Rattle.interpreter.specs.object_memory.Objects.{Objects}
+use Rattle.interpreter.specs.object_memory.Objects.{Objects, free_space}
 use Rattle.interpreter.specs.threads_monitors.Frames.{Frames}
 use Rattle.interpreter.specs.threads_monitors.declared.effects.Effect.{Effect}
 use Rattle.interpreter.specs.threads_monitors.declared.effects.Effect.TheVariants.{GoesOn, Returns, Blocks, Raises}
 use Rattle.interpreter.specs.declared.outcomes.Outcome.{Outcome}
 use Rattle.interpreter.specs.declared.outcomes.Outcome.TheVariants.{Comes, Starts, Joins}
-use Rattle.interpreter.specs.Instructions.{HasSmallConstant, MachineTurn, operation_turn}
-use Rattle.simulation.specs.StandsFor.{Names, Extends, IsValue, AreFrames, IsMemory}
-use Rattle.simulation.specs.Turns.{Answer}
+use Rattle.interpreter.specs.Instructions.{HasSmallConstant, MachineTurn, operation_turn, Answer}
+use Rattle.simulation.specs.StandsFor.{Names, Extends, IsValue, AreFrames}
 use Rattle.interpreter.proofs.cil_model.SameLaws.{never}
+use Rattle.simulation.proofs.MemoryModels.{MemoryModel, IsModelled}
 
 -- ---- one instruction
 
 -- A machine is where the reference machine is: at the same instruction, with the frames of the thread and all else that an
 -- instruction touches, of a typed state.
-pub record IsSetting (here : Setting) (name : Names) (m : Frames) (o : Objects) (statics : List Value) (printed : List ℕ)
+pub record IsSetting (here : Setting) (model : MemoryModel here.tree) (name : Names) (m : Frames) (o : Objects) (statics : List Value) (printed : List ℕ)
     (s : State) (f : Frame) (below : List Frame) (i : Instruction) (operation : Operation) : Type 0 where
   pub running : IsRunning here s f below i
   pub counted : IsCounted here.limits s
@@ -42,7 +41,7 @@ pub record IsSetting (here : Setting) (name : Names) (m : Frames) (o : Objects) 
   pub resolved : IsOperation here.tree (lines_of f.method) i operation
   pub constant : HasSmallConstant operation
   pub frames : AreFrames here.tree here.limits name m (f ∷ below)
-  pub memory : IsMemory here.tree name o statics printed s
+  pub memory : IsModelled here.tree model name o statics printed s
 
 -- whether memory was refused
 abbrev pub is_refused_fault : Fault → Bool
@@ -76,7 +75,7 @@ refused_fault ArgumentNull h = never h
 refused_fault SynchronizationLock h = never h
 refused_fault ThreadState h = never h
 
-module _ (here : Setting) (name : Names) (m : Frames) (o : Objects) (statics : List Value) (printed : List ℕ) (s : State) (f : Frame) (below : List Frame) where
+module _ (here : Setting) (model : MemoryModel here.tree) (name : Names) (m : Frames) (o : Objects) (statics : List Value) (printed : List ℕ) (s : State) (f : Frame) (below : List Frame) where
   -- the thread goes on with the same frames, in the same memory, in which nothing lost its name
   pub record GoesAlike (a : Answer) (e : StateEffect) : Type 0 where
     pub running : Frame
@@ -86,12 +85,12 @@ module _ (here : Setting) (name : Names) (m : Frames) (o : Objects) (statics : L
     pub names : Names
     pub extends : Extends name names
     pub others : state.threads ≡ s.threads
-    pub frames : AreFrames here.tree here.limits names a.0 (running ∷ waiting)
-    pub memory : IsMemory here.tree names a.1 a.2 a.3 state
+    pub frames : AreFrames here.tree here.limits names a.frames (running ∷ waiting)
+    pub memory : IsModelled here.tree model names a.objects a.statics a.printed state
 
   -- nothing is changed but the frames
   abbrev pub LeavesMemory : Answer → Type 0
-  LeavesMemory a = (a.1 ≡ o) × (a.2 ≡ statics) × (a.3 ≡ printed)
+  LeavesMemory a = (a.objects ≡ o) × (a.statics ≡ statics) × (a.printed ≡ printed)
 
   -- Nothing is changed at all, and the reference machine does this action on the object that is the one operand.
   pub record AsksFor (action : Action) (object : Addr) (a : Answer) (e : StateEffect) : Type 0 where
@@ -100,14 +99,14 @@ module _ (here : Setting) (name : Names) (m : Frames) (o : Objects) (statics : L
     pub stack : f.stack ≡ operand ∷ rest
     pub stands : IsValue name (Ref object) operand
     pub is : e ≡ act here s f below action (operand ∷ []) rest
-    pub frames : a.0 ≡ m
+    pub frames : a.frames ≡ m
     pub memory : LeavesMemory a
 
   -- what an instruction comes to, and the same of the reference machine
   abbrev pub ComesAlike : Outcome → Answer → StateEffect → Type 0
   ComesAlike (Comes GoesOn) a e = GoesAlike a e
   ComesAlike (Comes Returns) a e = (e ≡ Goes [] s) × LeavesMemory a
-  ComesAlike (Comes Blocks) a e = (e ≡ StateBlocks) × (a.0 ≡ m) × LeavesMemory a
+  ComesAlike (Comes Blocks) a e = (e ≡ StateBlocks) × (a.frames ≡ m) × LeavesMemory a
   ComesAlike (Comes (Raises x)) a e = (e ≡ StateRaises x) × LeavesMemory a
   ComesAlike (Starts object) a e = AsksFor Start object a e
   ComesAlike (Joins object) a e = AsksFor Join object a e
@@ -118,19 +117,19 @@ module _ (here : Setting) (name : Names) (m : Frames) (o : Objects) (statics : L
     pub waiting : List Frame
     pub contents : Contents
     pub is : e ≡ Goes (running ∷ waiting) (with_birth s contents)
-    pub exceeds : free_words o.block < cell_words here.tree contents
+    pub exceeds : free_space o < cell_words here.tree contents
 
   -- The rule has an answer, and where the reference machine is refused memory exactly where the machine is, both do the same. The machine is refused
   -- it only where the reference machine, if it weren't, would make an object that exceeds the room.
   pub record DoesAlike (turn : MachineTurn) (e : StateEffect) : Type 0 where
     pub answer : Answer
     pub is : turn ≡ Some answer
-    pub alike : here.is_refused ≡ is_refused_outcome answer.4 → ComesAlike answer.4 answer e
-    pub refuses : here.is_refused ≡ false → is_refused_outcome answer.4 ≡ true → ExceedsRoom e ⊎ (e ≡ StateRaises OutOfMemory)
+    pub alike : here.is_refused ≡ is_refused_outcome answer.outcome → ComesAlike answer.outcome answer e
+    pub refuses : here.is_refused ≡ false → is_refused_outcome answer.outcome ≡ true → ExceedsRoom e ⊎ (e ≡ StateRaises OutOfMemory)
 
--- each instruction does
-abbrev pub InstructionsAreAlike : Type 0
+-- each instruction does, in each kind of memory
+abbrev pub InstructionsAreAlike : Type 1
 InstructionsAreAlike =
-    (here : Setting) (name : Names) (m : Frames) (o : Objects) (statics : List Value) (printed : List ℕ) (s : State) (f : Frame) (below : List Frame) (i : Instruction) (operation : Operation) →
-    IsSetting here name m o statics printed s f below i operation →
-    DoesAlike here name m o statics printed s f below (operation_turn here.tree here.thread operation m o statics printed) (execute here s f below i)
+    (here : Setting) (model : MemoryModel here.tree) (name : Names) (m : Frames) (o : Objects) (statics : List Value) (printed : List ℕ) (s : State) (f : Frame) (below : List Frame) (i : Instruction) (operation : Operation) →
+    IsSetting here model name m o statics printed s f below i operation →
+    DoesAlike here model name m o statics printed s f below (operation_turn here.tree here.thread operation m o statics printed) (execute here s f below i)

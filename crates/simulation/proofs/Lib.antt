@@ -11,6 +11,7 @@ pub use Rattle.interpreter.proofs.instructions as instructions
 pub use Rattle.interpreter.proofs as interpreter
 pub mod AgreeLaws
 pub mod Extending
+pub mod MemoryModels
 pub mod Instructions
 pub mod Going
 pub mod Operands

@@ -1,4 +1,4 @@
--- A memory stands for a state's, whatever the threads of the state are.
+-- What named addresses are not, and that a heap stands for a state's, whatever the threads of the state are.
 use Rattle.std.proofs.Common.{◌≡◌, ◌==◌, ℕ, zero, suc, false, List, Some, slice_get, sym, ap, ◌∙◌, subst, arith}
 use Rattle.std.proofs.lemmas.Bool.Decides.{nat_tests}
 use Rattle.interpreter.specs.cil_model.declared.trees.Tree.{Tree}
@@ -11,9 +11,10 @@ use Rattle.interpreter.specs.object_memory.declared.values.Value.{Value}
 use Rattle.interpreter.specs.object_memory.Objects.{Objects}
 use Rattle.simulation.specs.Agreement.{Agree}
 use Rattle.simulation.specs.StandsFor.{Names, IsValue, IsHeap, IsMemory}
+use Rattle.simulation.proofs.MemoryModels.{IsReadable}
 use Rattle.interpreter.proofs.cil_model.Lists.{none_is_some}
 
-module _ (tree : Tree) (name : Names) (o : Objects) (s : State) (heap : IsHeap tree name o s) where
+module _ (tree : Tree) (name : Names) (o : Objects) (s : State) (heap : IsReadable tree name o s) where
   -- the address of an object isn't null
   pub named_is_not_null : (a : ℕ) (n : ObjectName) → name a ≡ Some n → (a == 0) ≡ false
   named_is_not_null zero n is = none_is_some n (sym heap.null_unnamed ∙ is)
@@ -28,10 +29,8 @@ module _ (tree : Tree) (name : Names) (o : Objects) (s s' : State) (objects : s'
   -- a heap is the same beside other threads, static fields and printed bytes
   pub heap_beside : IsHeap tree name o s → IsHeap tree name o s'
   heap_beside h = record {
-    start = h.start;
-    within = h.within;
+    inside = h.inside;
     full = h.full ∙ ap (words_of_all tree) (sym objects);
-    words = h.words;
     null_unnamed = h.null_unnamed;
     small = h.small;
     apart = h.apart;

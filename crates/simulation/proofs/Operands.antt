@@ -18,11 +18,12 @@ use Rattle.simulation.specs.Agreement.{Agree}
 use Rattle.simulation.specs.StandsFor.{Names, IsValue}
 use Rattle.simulation.proofs.Instructions.{IsSetting, DoesAlike}
 use Rattle.simulation.proofs.Going.{own_frame}
+use Rattle.simulation.proofs.MemoryModels.{MemoryModel}
 
-module _ (here : Setting) (name : Names) (m : Frames) (o : Objects) (statics : List Value) (printed : List ℕ) (s : State) (f : StateFrame) (below : List StateFrame) (i : Instruction) (operation : Operation)
-    (at : IsSetting here name m o statics printed s f below i operation) where
+module _ (here : Setting) (model : MemoryModel here.tree) (name : Names) (m : Frames) (o : Objects) (statics : List Value) (printed : List ℕ) (s : State) (f : StateFrame) (below : List StateFrame) (i : Instruction) (operation : Operation)
+    (at : IsSetting here model name m o statics printed s f below i operation) where
   abbrev Alike : MachineTurn → StateEffect → Type 0
-  Alike turn e = DoesAlike here name m o statics printed s f below turn e
+  Alike turn e = DoesAlike here model name m o statics printed s f below turn e
 
   abbrev Typed : StateEffect → Type 0
   Typed e = IsTypedEffect here.tree e
@@ -32,7 +33,7 @@ module _ (here : Setting) (name : Names) (m : Frames) (o : Objects) (statics : L
   fine = instruction_typed here s f below i at.running
 
   own_stack : Agree (IsValue name) m.running.stack f.stack
-  own_stack = (own_frame here name m o statics printed s f below i operation at).stack
+  own_stack = (own_frame here model name m o statics printed s f below i operation at).stack
 
   -- one operand, with the stacks below it
   pub one_operand : {R : Type 0} (lift : Option R → MachineTurn) (go : Value → Frames → Option R) (go' : StateValue → List StateValue → StateEffect) →

@@ -1,7 +1,5 @@
--- How many words an object's cell has, and when a birth is refused.
-use Rattle.std.proofs.Common.{◌≡◌, ◌<◌, ◌+◌, ℕ, zero, suc, Bool, true, false, if◌then◌else◌, List, [], ◌∷◌, ◌++◌, length, Option, Some, None, slice_get, slice_set, refl, sym, ap, ◌∙◌, arith}
-use Rattle.std.specs.Prelude.{nat_le}
-use Rattle.std.proofs.lemmas.Bool.Decides.{nat_tests}
+-- How many words an object's cell has.
+use Rattle.std.proofs.Common.{◌≡◌, ◌+◌, ℕ, zero, suc, Bool, true, false, if◌then◌else◌, List, [], ◌∷◌, ◌++◌, length, Option, Some, slice_get, slice_set, ap, ◌∙◌, arith}
 use Rattle.std.proofs.lemmas.List.Sums.{sum_by-cons}
 use Rattle.std.proofs.lemmas.Option.{same_Some}
 use Rattle.interpreter.specs.cil_model.declared.trees.Tree.{Tree}
@@ -10,11 +8,9 @@ use Rattle.interpreter.specs.cil_model.Fields.{FieldKey}
 use Rattle.interpreter.specs.reference_machine.Rooms.{cell_words, words_of_all}
 use Rattle.interpreter.specs.reference_machine.States.{Contents, Instance as IsInstance, Array as IsArray, HeapObject}
 use Rattle.interpreter.specs.reference_machine.Values.{Value as StateValue}
-use Rattle.interpreter.specs.object_memory.declared.addresses.Addr.{Addr}
 use Rattle.interpreter.specs.object_memory.declared.kinds.Kind.{Kind}
 use Rattle.interpreter.specs.object_memory.declared.kinds.Kind.TheVariants.{Instance, Array}
-use Rattle.interpreter.specs.object_memory.Cells.{Cell, Cells, free_words, new_cell, next_address, size}
-use Rattle.interpreter.specs.object_memory.Objects.{Objects, with_birth}
+use Rattle.interpreter.specs.object_memory.Cells.{Cell, size}
 use Rattle.simulation.specs.StandsFor.{Names, IsCell, IsOfContents, IsWord, thread_word}
 use Rattle.simulation.proofs.AgreeLaws.{agree_length}
 use Rattle.interpreter.proofs.cil_model.Lists.{none_is_some}
@@ -51,20 +47,3 @@ words_stay tree (o ∷ os) (suc n) old new is same =
     let words : HeapObject → ℕ = λ x. cell_words tree x.contents in
     let later : words_of_all tree (slice_set os n new) ≡ words_of_all tree os = words_stay tree os n old new is same in
     omega (arith, sum_by-cons words o (slice_set os n new), sum_by-cons words o os, later)
-
--- ---- a birth that is refused
-
-module _ (o : Objects) (k : Kind) (count : ℕ) where
-  -- the objects and the address, by whether there is room
-  abbrev answer : Bool → Objects × Option Addr
-  answer t =
-      let outcome : Cells × Option Addr = if t then (record o.block { cells = o.block.cells ++ new_cell k count ∷ [] }, Some (next_address o.block)) else (o.block, None) in
-      (record o { block = outcome.0 }, outcome.1)
-
-  refused_by : (o' : Objects) (t : Bool) → nat_le (3 + count) (free_words o.block) ≡ t → ◌≡◌ {A = Objects × Option Addr} (answer t) (o', None) → free_words o.block < 3 + count
-  refused_by o' true test e = none_is_some (next_address o.block) (sym (ap (λ (x : Objects × Option Addr). x.1) e))
-  refused_by o' false test e = grind (arith, nat_tests)
-
-  -- the cell exceeds what is free
-  pub refused_room : (o' : Objects) → ◌≡◌ {A = Objects × Option Addr} (with_birth o k count) (o', None) → free_words o.block < 3 + count
-  refused_room o' e = refused_by o' (nat_le (3 + count) (free_words o.block)) refl e

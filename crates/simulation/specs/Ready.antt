@@ -3,15 +3,15 @@ use Rattle.std.specs.Prelude.{◌≡◌, ◌≢◌, ◌<◌, ℕ, IsSome, length
 use Rattle.interpreter.specs.cil_model.declared.limits.TheConstants.{MOST_INSTRUCTIONS}
 use Rattle.interpreter.specs.resolved_code.declared.operations.Operation.{Operation}
 use Rattle.interpreter.specs.object_memory.declared.addresses.Addr.{Addr}
-use Rattle.interpreter.specs.object_memory.Cells.{null, slots_at}
-use Rattle.interpreter.specs.object_memory.Objects.{Objects}
+use Rattle.interpreter.specs.object_memory.Cells.{null}
+use Rattle.interpreter.specs.object_memory.Objects.{Objects, object_slots}
 use Rattle.interpreter.specs.threads_monitors.Frames.{Frames}
 use Rattle.interpreter.specs.threads_monitors.Threads.{start_fault}
-use Rattle.interpreter.specs.Instructions.{HasSmallConstant, IsAt, line_at, operation_turn}
+use Rattle.interpreter.specs.Instructions.{HasSmallConstant, IsAt, line_at, operation_turn, Answer}
 use Rattle.interpreter.specs.declared.outcomes.Outcome.{Outcome}
 use Rattle.interpreter.specs.declared.outcomes.Outcome.TheVariants.{Comes, Starts, Joins}
 use Rattle.simulation.specs.MachineContents.{Content}
-use Rattle.simulation.specs.Turns.{Answer, left_by, thread_for}
+use Rattle.simulation.specs.Turns.{left_by, thread_for}
 
 -- the frames of the thread are at an instruction, whose rule has an answer
 pub record IsReady (c : Content) (t : ℕ) (m : Frames) : Type 0 where
@@ -20,7 +20,7 @@ pub record IsReady (c : Content) (t : ℕ) (m : Frames) : Type 0 where
 
 -- the slot of an object that tells its thread is there, and so are the operand and the instruction behind
 pub record HasRequest (o : Objects) (m : Frames) (object : Addr) : Type 0 where
-  pub slot : object ≢ null → 0 < length (slots_at o.block object)
+  pub slot : object ≢ null → 0 < length (object_slots o object)
   pub operand : 0 < length m.running.stack
   pub behind : m.running.place < MOST_INSTRUCTIONS
 
@@ -32,4 +32,4 @@ CanFinish c m (Joins object) = HasRequest c.objects m object
 
 -- and so it is for what an instruction leaves
 abbrev pub IsAnswerable : Content → ℕ → ℕ → Answer → Outcome → Type 0
-IsAnswerable c t left a outcome = CanFinish (left_by c t left a) a.0 outcome
+IsAnswerable c t left a outcome = CanFinish (left_by c t left a) a.frames outcome

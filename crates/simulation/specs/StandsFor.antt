@@ -2,7 +2,6 @@
 use Rattle.std.specs.Prelude.{◌≡◌, ◌≤◌, ◌<◌, ℕ, suc, ℤ, if◌then◌else◌, List, [], ◌∷◌, ◌++◌, length, Option, Some, None, slice_get, FitsSigned, IsTrue}
 use Rattle.std.specs.Int.{w32, w64}
 use Rattle.interpreter.specs.cil_model.declared.limits.Limits.{Limits}
-use Rattle.interpreter.specs.cil_model.declared.limits.TheConstants.{MOST_WORDS}
 use Rattle.interpreter.specs.cil_model.declared.trees.Tree.{Tree}
 use Rattle.interpreter.specs.cil_model.declared.types.ClassName.{ClassName}
 use Rattle.interpreter.specs.cil_model.declared.reports.End.{End}
@@ -26,8 +25,8 @@ use Rattle.interpreter.specs.object_memory.declared.monitors.Monitor.{Monitor}
 use Rattle.interpreter.specs.object_memory.declared.monitors.Monitor.TheVariants.{Free, Held}
 use Rattle.interpreter.specs.object_memory.declared.values.Value.{Value}
 use Rattle.interpreter.specs.object_memory.declared.values.Value.TheVariants.{Int32, Int64, Native, Ref}
-use Rattle.interpreter.specs.object_memory.Cells.{Cell, first, used_words, cell_at, literal, literal_number, null}
-use Rattle.interpreter.specs.object_memory.Objects.{Objects}
+use Rattle.interpreter.specs.object_memory.Cells.{Cell, literal, literal_number, null}
+use Rattle.interpreter.specs.object_memory.Objects.{Objects, IsWithinSpace, AreOfOneObject, object_cell, used_space, whole_space}
 use Rattle.interpreter.specs.object_memory.Values.{value_word}
 use Rattle.interpreter.specs.method_table.AllMethods.{all_methods}
 use Rattle.interpreter.specs.instructions.TypeTurns.{held_type}
@@ -103,7 +102,7 @@ pub record IsCell (tree : Tree) (name : Names) (cell : Cell) (object : HeapObjec
 pub record IsBornAt (tree : Tree) (name : Names) (o : Objects) (s : State) (a n : ℕ) : Type 0 where
   pub no_literal : literal_number (record { number = a }) ≡ None
   pub cell : Cell
-  pub lies : cell_at o.block (record { number = a }) ≡ Some cell
+  pub lies : object_cell o (record { number = a }) ≡ Some cell
   pub object : HeapObject
   pub is : slice_get s.objects n ≡ Some object
   pub stands : IsCell tree name cell object
@@ -119,16 +118,18 @@ pub record IsLiteralAt (tree : Tree) (o : Objects) (s : State) (a : ℕ) (charac
   pub state_held : entry_at same_text characters s.literal_monitors ≡ Some state_monitor
   pub stands : IsMonitor monitor state_monitor
 
--- Each named address has its object or its literal, and no two addresses one. The block is within its limits, and has the cells of all
--- objects that were born.
+-- addresses of one name are of one object
+abbrev pub HasOneObject : Names → Objects → Type 0
+HasOneObject name o = (a b : ℕ) (n : ObjectName) → name a ≡ Some n → name b ≡ Some n → AreOfOneObject o (record { number = a }) (record { number = b })
+
+-- Each named address has its object or its literal, and addresses of one name are of one object. The objects lie within their space, and
+-- are all that were born.
 pub record IsHeap (tree : Tree) (name : Names) (o : Objects) (s : State) : Type 0 where
-  pub start : o.block.start ≡ first
-  pub within : used_words o.block.cells ≤ o.block.words
-  pub full : used_words o.block.cells ≡ words_of_all tree s.objects
-  pub words : o.block.words ≤ MOST_WORDS
+  pub inside : IsWithinSpace o
+  pub full : used_space o ≡ words_of_all tree s.objects
   pub null_unnamed : name 0 ≡ None
   pub small : (a : ℕ) (n : ObjectName) → name a ≡ Some n → a < ADDRESSES
-  pub apart : (a b : ℕ) (n : ObjectName) → name a ≡ Some n → name b ≡ Some n → a ≡ b
+  pub apart : HasOneObject name o
   pub born : (a n : ℕ) → name a ≡ Some (Born n) → IsBornAt tree name o s a n
   pub literals : (a : ℕ) (characters : List ℕ) → name a ≡ Some (Literal characters) → IsLiteralAt tree o s a characters
   pub each_literal : (n : ℕ) (characters : List ℕ) → slice_get (literals_of tree) n ≡ Some characters → name (literal n).number ≡ Some (Literal characters)
@@ -195,5 +196,5 @@ pub record Represents (c : Content) (s : State) : Type 0 where
   pub limits : IsTrue (are_in_range c.limits)
   pub typed : IsTyped c.tree s
   pub counted : IsCounted c.limits s
-  pub space : c.objects.block.words ≡ c.limits.words
+  pub space : whole_space c.objects ≡ c.limits.words
   pub stands : StandsFor c s

@@ -28,7 +28,7 @@ use Rattle.interpreter.specs.threads_monitors.declared.threads.Standing.{Standin
 use Rattle.interpreter.specs.threads_monitors.declared.threads.Standing.TheVariants.{Live, Ended}
 use Rattle.interpreter.specs.threads_monitors.declared.threads.Thread.{Thread}
 use Rattle.interpreter.specs.Calls.{chosen_at}
-use Rattle.interpreter.specs.Instructions.{IsDone}
+use Rattle.interpreter.specs.Instructions.{IsDone, Answer}
 use Rattle.interpreter.specs.declared.outcomes.Outcome.{Outcome}
 use Rattle.interpreter.specs.declared.outcomes.Outcome.TheVariants.{Comes, Starts, Joins}
 use Rattle.simulation.specs.MachineContents.{Content, frame_room}
@@ -92,13 +92,9 @@ counted c t left effect m =
 abbrev pub answered : Content → ℕ → ℕ → Frames → Effect → Content × Report
 answered c t left m effect = counted c t left effect (after_request effect m)
 
--- all that an instruction leaves
-abbrev pub Answer : Type 0
-Answer = Frames × Objects × List Value × List ℕ × Outcome
-
 -- the content with all that an instruction of a thread left, before the step is counted
 abbrev pub left_by : Content → ℕ → ℕ → Answer → Content
-left_by c t left a = record c { threads = slice_set c.threads t (live_thread left a.0); objects = a.1; statics = a.2; printed = a.3 }
+left_by c t left a = record c { threads = slice_set c.threads t (live_thread left a.frames); objects = a.objects; statics = a.statics; printed = a.printed }
 
 -- the content once the step of a thread with these frames is counted, by what its instruction comes to
 abbrev pub finish : Content → ℕ → ℕ → Frames → Outcome → Option (Content × Report)
@@ -109,11 +105,11 @@ finish c t left m (Joins object) = Some (answered c t left m (join_effect c.thre
 
 -- the step of a thread that had so many steps left: its instruction, and then what that comes to
 abbrev pub finished : Content → ℕ → ℕ → Answer → Outcome → Option (Content × Report)
-finished c t left a outcome = finish (left_by c t left a) t left a.0 outcome
+finished c t left a outcome = finish (left_by c t left a) t left a.frames outcome
 
 -- a live thread does its next instruction; one that has ended is absent
 abbrev pub IsStandingTurn : Content → ℕ → ℕ → Standing → Content × Report → Type 0
-IsStandingTurn c t left (Live m) after = (a : Answer) × IsDone c.tree t m c.objects c.statics c.printed a × (finished c t left a a.4 ≡ Some after)
+IsStandingTurn c t left (Live m) after = (a : Answer) × IsDone c.tree t m c.objects c.statics c.printed a × (finished c t left a a.outcome ≡ Some after)
 IsStandingTurn c t left (Ended e) after = after ≡ (c, Absent)
 
 -- so is one that was never started

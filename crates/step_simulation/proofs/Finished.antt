@@ -4,36 +4,36 @@ use Rattle.std.proofs.lemmas.Bool.Decides.{nat_tests}
 use Rattle.std.proofs.lemmas.List.{length-append, length-set}
 use Rattle.std.specs.Option.{option_map_or}
 use Rattle.std.proofs.lemmas.Option.{same_Some}
-use Rattle.object_simulation.specs.simulation.cil_model.declared.events.Event.{Event}
-use Rattle.object_simulation.specs.simulation.cil_model.declared.events.Event.TheVariants.{Step, Ack, Gc}
-use Rattle.object_simulation.specs.simulation.cil_model.declared.limits.TheConstants.{MOST_THREADS}
-use Rattle.object_simulation.specs.simulation.cil_model.declared.reports.Fault.{Fault}
-use Rattle.object_simulation.specs.simulation.cil_model.declared.reports.Fault.TheVariants.{NullReference, ThreadState, TooManyThreads}
-use Rattle.object_simulation.specs.simulation.cil_model.declared.reports.Report.{Report}
-use Rattle.object_simulation.specs.simulation.cil_model.declared.trees.Method.{Method}
-use Rattle.object_simulation.specs.simulation.cil_model.declared.types.ClassName.{ClassName}
-use Rattle.object_simulation.specs.simulation.object_memory.declared.addresses.Addr.{Addr}
-use Rattle.object_simulation.specs.simulation.object_memory.declared.values.Value.TheVariants.{Ref}
-use Rattle.object_simulation.specs.simulation.object_memory.Objects.{Objects, with_slot}
-use Rattle.object_simulation.specs.simulation.method_table.MethodNumbers.{number_of}
-use Rattle.object_simulation.specs.simulation.threads_monitors.Frames.{Frames}
-use Rattle.object_simulation.specs.simulation.threads_monitors.Threads.{join_effect, start_fault, thread_on, with_start, is_live_at, wait_for}
-use Rattle.object_simulation.specs.simulation.threads_monitors.declared.effects.Effect.{Effect}
-use Rattle.object_simulation.specs.simulation.threads_monitors.declared.effects.Effect.TheVariants.{GoesOn, Raises, Blocks}
-use Rattle.object_simulation.specs.simulation.threads_monitors.declared.threads.Standing.{Standing}
-use Rattle.object_simulation.specs.simulation.threads_monitors.declared.threads.Standing.TheVariants.{Live, Ended}
-use Rattle.object_simulation.specs.simulation.threads_monitors.declared.threads.Thread.{Thread}
-use Rattle.object_simulation.specs.simulation.interpreter.Calls.{chosen_at}
-use Rattle.object_simulation.specs.simulation.interpreter.Instructions.{IsDone}
-use Rattle.object_simulation.specs.simulation.interpreter.declared.outcomes.Outcome.{Outcome}
-use Rattle.object_simulation.specs.simulation.interpreter.declared.outcomes.Outcome.TheVariants.{Comes, Starts, Joins}
-use Rattle.object_simulation.specs.simulation.MachineContents.{Content}
-use Rattle.object_simulation.specs.simulation.Turns.{Answer, IsStandingTurn, IsThreadTurn, IsTurn, after_request, counted, finished, left_by, run_member, started, thread_at, thread_for}
+use Rattle.instruction_simulation.specs.simulation.cil_model.declared.events.Event.{Event}
+use Rattle.instruction_simulation.specs.simulation.cil_model.declared.events.Event.TheVariants.{Step, Ack, Gc}
+use Rattle.instruction_simulation.specs.simulation.cil_model.declared.limits.TheConstants.{MOST_THREADS}
+use Rattle.instruction_simulation.specs.simulation.cil_model.declared.reports.Fault.{Fault}
+use Rattle.instruction_simulation.specs.simulation.cil_model.declared.reports.Fault.TheVariants.{NullReference, ThreadState, TooManyThreads}
+use Rattle.instruction_simulation.specs.simulation.cil_model.declared.reports.Report.{Report}
+use Rattle.instruction_simulation.specs.simulation.cil_model.declared.trees.Method.{Method}
+use Rattle.instruction_simulation.specs.simulation.cil_model.declared.types.ClassName.{ClassName}
+use Rattle.instruction_simulation.specs.simulation.object_memory.declared.addresses.Addr.{Addr}
+use Rattle.instruction_simulation.specs.simulation.object_memory.declared.values.Value.TheVariants.{Ref}
+use Rattle.instruction_simulation.specs.simulation.object_memory.Objects.{Objects, with_slot, whole_space}
+use Rattle.instruction_simulation.specs.simulation.method_table.MethodNumbers.{number_of}
+use Rattle.instruction_simulation.specs.simulation.threads_monitors.Frames.{Frames}
+use Rattle.instruction_simulation.specs.simulation.threads_monitors.Threads.{join_effect, start_fault, thread_on, with_start, is_live_at, wait_for}
+use Rattle.instruction_simulation.specs.simulation.threads_monitors.declared.effects.Effect.{Effect}
+use Rattle.instruction_simulation.specs.simulation.threads_monitors.declared.effects.Effect.TheVariants.{GoesOn, Raises, Blocks}
+use Rattle.instruction_simulation.specs.simulation.threads_monitors.declared.threads.Standing.{Standing}
+use Rattle.instruction_simulation.specs.simulation.threads_monitors.declared.threads.Standing.TheVariants.{Live, Ended}
+use Rattle.instruction_simulation.specs.simulation.threads_monitors.declared.threads.Thread.{Thread}
+use Rattle.instruction_simulation.specs.simulation.interpreter.Calls.{chosen_at}
+use Rattle.instruction_simulation.specs.simulation.interpreter.Instructions.{IsDone, Answer}
+use Rattle.instruction_simulation.specs.simulation.interpreter.declared.outcomes.Outcome.{Outcome}
+use Rattle.instruction_simulation.specs.simulation.interpreter.declared.outcomes.Outcome.TheVariants.{Comes, Starts, Joins}
+use Rattle.instruction_simulation.specs.simulation.MachineContents.{Content}
+use Rattle.instruction_simulation.specs.simulation.Turns.{IsStandingTurn, IsThreadTurn, IsTurn, after_request, counted, finished, left_by, run_member, started, thread_at, thread_for}
 use Rattle.step_simulation.proofs.Words.{instruction_keeps_words}
-use Rattle.object_simulation.specs.simulation.reference_machine.Runs.{is_refusal}
-use Rattle.object_simulation.proofs.simulation.Instructions.{is_refused_effect, is_refused_fault, is_refused_outcome}
+use Rattle.instruction_simulation.specs.simulation.reference_machine.Runs.{is_refusal}
+use Rattle.instruction_simulation.proofs.simulation.Instructions.{is_refused_effect, is_refused_fault, is_refused_outcome}
 use Rattle.step_simulation.proofs.Settling.{refusal_of}
-use Rattle.object_simulation.proofs.simulation.cil_model.Lists.{none_is_some}
+use Rattle.instruction_simulation.proofs.simulation.cil_model.Lists.{none_is_some}
 
 -- a thread that has begun beside these has its whole budget, and there was room for its number
 pub record HasBegun (budget : ℕ) (before threads : List Thread) : Type 0 where
@@ -49,7 +49,7 @@ pub record IsFinished (c : Content) (t left : ℕ) (a : Answer) (o : Outcome) (a
   pub effect : Effect
   pub frames : Frames
   pub is : counted (record (left_by c t left a) { threads = threads; objects = objects }) t left effect frames ≡ after
-  pub words : objects.block.words ≡ a.1.block.words
+  pub words : whole_space objects ≡ whole_space a.objects
   pub refused : is_refused_effect effect ≡ is_refused_outcome o
   pub are : (threads ≡ (left_by c t left a).threads) ⊎ HasBegun c.limits.budget (left_by c t left a).threads threads
 
@@ -59,11 +59,11 @@ module _ (c : Content) (t left : ℕ) (a : Answer) (after : Content × Report) w
 
   -- no other thread begins
   alone : (o : Outcome) (e : Effect) (m : Frames) → is_refused_effect e ≡ is_refused_outcome o → counted (left_by c t left a) t left e m ≡ after → IsFinished c t left a o after
-  alone o e m refused is = record { threads = threads; objects = a.1; effect = e; frames = m; is = is; words = refl; refused = refused; are = inl refl }
+  alone o e m refused is = record { threads = threads; objects = a.objects; effect = e; frames = m; is = is; words = refl; refused = refused; are = inl refl }
 
   module _ (object : Addr) where
-    begins_whole : (new : Thread) → thread_for c.tree c.limits a.1 object ≡ Some new → new.steps_left ≡ c.limits.budget
-    begins_whole new is = by_found (chosen_at c.tree a.1 object run_member) is
+    begins_whole : (new : Thread) → thread_for c.tree c.limits a.objects object ≡ Some new → new.steps_left ≡ c.limits.budget
+    begins_whole new is = by_found (chosen_at c.tree a.objects object run_member) is
       where
         by_number : (found : ClassName × Method) (k : Option ℕ) → option_map (thread_at c.limits found (Ref object ∷ [])) k ≡ Some new → new.steps_left ≡ c.limits.budget
         by_number found None e = none_is_some new e
@@ -74,8 +74,8 @@ module _ (c : Content) (t left : ℕ) (a : Answer) (after : Content × Report) w
         by_found (Some found) e = by_number found (number_of c.tree found) e
 
     -- without a fault there was room
-    room_left : start_fault threads a.1 object ≡ None → length threads < MOST_THREADS
-    room_left free = by_tests (object.number == 0) (is_some (thread_on a.1 object)) (nat_le MOST_THREADS (length threads)) refl free
+    room_left : start_fault threads a.objects object ≡ None → length threads < MOST_THREADS
+    room_left free = by_tests (object.number == 0) (is_some (thread_on a.objects object)) (nat_le MOST_THREADS (length threads)) refl free
       where
         by_tests : (null told full : Bool) → nat_le MOST_THREADS (length threads) ≡ full →
             ◌≡◌ {A = Option Fault} (if null then Some NullReference else if told then Some ThreadState else if full then Some TooManyThreads else None) None → length threads < MOST_THREADS
@@ -85,8 +85,8 @@ module _ (c : Content) (t left : ℕ) (a : Answer) (after : Content × Report) w
         by_tests false false false is e = grind (arith, nat_tests)
 
     -- no start is refused memory
-    fault_plain : (x : Fault) → start_fault threads a.1 object ≡ Some x → is_refused_fault x ≡ false
-    fault_plain x fault = by_tests (object.number == 0) (is_some (thread_on a.1 object)) (nat_le MOST_THREADS (length threads)) fault
+    fault_plain : (x : Fault) → start_fault threads a.objects object ≡ Some x → is_refused_fault x ≡ false
+    fault_plain x fault = by_tests (object.number == 0) (is_some (thread_on a.objects object)) (nat_le MOST_THREADS (length threads)) fault
       where
         same : (y : Fault) → is_refused_fault y ≡ false → Some y ≡ Some x → is_refused_fault x ≡ false
         same y plain e = ap is_refused_fault (sym (same_Some y x e)) ∙ plain
@@ -98,31 +98,31 @@ module _ (c : Content) (t left : ℕ) (a : Answer) (after : Content × Report) w
         by_tests false false false e = none_is_some x e
 
     abbrev started_in : List Thread × Objects × Effect → Content × Report
-    started_in x = counted (record (left_by c t left a) { threads = x.0; objects = x.1 }) t left x.2 (after_request x.2 a.0)
+    started_in x = counted (record (left_by c t left a) { threads = x.0; objects = x.1 }) t left x.2 (after_request x.2 a.frames)
 
-    begins : option_map started_in (started c.tree c.limits threads a.1 object) ≡ Some after → IsFinished c t left a (Starts object) after
-    begins is = by_fault (start_fault threads a.1 object) refl (thread_for c.tree c.limits a.1 object) refl is
+    begins : option_map started_in (started c.tree c.limits threads a.objects object) ≡ Some after → IsFinished c t left a (Starts object) after
+    begins is = by_fault (start_fault threads a.objects object) refl (thread_for c.tree c.limits a.objects object) refl is
       where
-        by_fault : (f : Option Fault) → start_fault threads a.1 object ≡ f → (new : Option Thread) → thread_for c.tree c.limits a.1 object ≡ new →
-            option_map started_in (option_map_or {U = Option (List Thread × Objects × Effect)} (λ x. Some (threads, a.1, Raises x)) f (option_map (with_start threads a.1 object) new)) ≡ Some after → IsFinished c t left a (Starts object) after
-        by_fault (Some x) fault new told e = alone (Starts object) (Raises x) a.0 (fault_plain x fault) (same_Some (started_in (threads, a.1, Raises x)) after e)
+        by_fault : (f : Option Fault) → start_fault threads a.objects object ≡ f → (new : Option Thread) → thread_for c.tree c.limits a.objects object ≡ new →
+            option_map started_in (option_map_or {U = Option (List Thread × Objects × Effect)} (λ x. Some (threads, a.objects, Raises x)) f (option_map (with_start threads a.objects object) new)) ≡ Some after → IsFinished c t left a (Starts object) after
+        by_fault (Some x) fault new told e = alone (Starts object) (Raises x) a.frames (fault_plain x fault) (same_Some (started_in (threads, a.objects, Raises x)) after e)
         by_fault None fault None told e = none_is_some after e
         by_fault None fault (Some new) told e =
-            let plain : with_start threads a.1 object new ≡ (threads ++ new ∷ [], with_slot a.1 object 0 (length threads + 1), GoesOn) =
-            ap (λ (f : Option Fault). option_map_or {U = List Thread × Objects × Effect} (λ x. (threads, a.1, Raises x)) f (threads ++ new ∷ [], with_slot a.1 object 0 (length threads + 1), GoesOn)) fault in
+            let plain : with_start threads a.objects object new ≡ (threads ++ new ∷ [], with_slot a.objects object 0 (length threads + 1), GoesOn) =
+            ap (λ (f : Option Fault). option_map_or {U = List Thread × Objects × Effect} (λ x. (threads, a.objects, Raises x)) f (threads ++ new ∷ [], with_slot a.objects object 0 (length threads + 1), GoesOn)) fault in
             record {
               threads = threads ++ new ∷ [];
-              objects = with_slot a.1 object 0 (length threads + 1);
+              objects = with_slot a.objects object 0 (length threads + 1);
               effect = GoesOn;
-              frames = after_request GoesOn a.0;
-              is = ap started_in (sym plain) ∙ same_Some (started_in (with_start threads a.1 object new)) after e;
+              frames = after_request GoesOn a.frames;
+              is = ap started_in (sym plain) ∙ same_Some (started_in (with_start threads a.objects object new)) after e;
               words = refl;
               refused = refl;
               are = inr (record { new = new; are = refl; whole = begins_whole new told; room = room_left fault });
             }
 
   -- nor is a join
-  join_plain : (object : Addr) → is_refused_effect (join_effect threads a.1 object) ≡ false
+  join_plain : (object : Addr) → is_refused_effect (join_effect threads a.objects object) ≡ false
   join_plain object = by_null (object.number == 0)
     where
       by_live : (live : Bool) → is_refused_effect (if live then Blocks else GoesOn) ≡ false
@@ -133,14 +133,14 @@ module _ (c : Content) (t left : ℕ) (a : Answer) (after : Content × Report) w
       by_thread None = refl
       by_thread (Some n) = by_live (is_live_at threads n)
 
-      by_null : (null : Bool) → is_refused_effect (if null then Raises NullReference else wait_for threads (thread_on a.1 object)) ≡ false
+      by_null : (null : Bool) → is_refused_effect (if null then Raises NullReference else wait_for threads (thread_on a.objects object)) ≡ false
       by_null true = refl
-      by_null false = by_thread (thread_on a.1 object)
+      by_null false = by_thread (thread_on a.objects object)
 
   pub finished_by : (o : Outcome) → finished c t left a o ≡ Some after → IsFinished c t left a o after
-  finished_by (Comes e) is = alone (Comes e) e a.0 refl (same_Some (counted (left_by c t left a) t left e a.0) after is)
+  finished_by (Comes e) is = alone (Comes e) e a.frames refl (same_Some (counted (left_by c t left a) t left e a.frames) after is)
   finished_by (Joins object) is =
-      let effect = join_effect threads a.1 object in alone (Joins object) effect (after_request effect a.0) (join_plain object) (same_Some (counted (left_by c t left a) t left effect (after_request effect a.0)) after is)
+      let effect = join_effect threads a.objects object in alone (Joins object) effect (after_request effect a.frames) (join_plain object) (same_Some (counted (left_by c t left a) t left effect (after_request effect a.frames)) after is)
   finished_by (Starts object) is = begins object is
 
   module _ (o : Outcome) (done : finished c t left a o ≡ Some after) where
@@ -148,7 +148,7 @@ module _ (c : Content) (t left : ℕ) (a : Answer) (after : Content × Report) w
     way = finished_by o done
 
     -- what the instruction printed is there
-    pub finished_printed : after.0.printed ≡ a.3
+    pub finished_printed : after.0.printed ≡ a.printed
     finished_printed = sym (ap (λ (x : Content × Report). x.0.printed) way.is)
 
     -- its report is a refusal where memory was refused to the instruction
@@ -160,8 +160,8 @@ module _ (c : Content) (t left : ℕ) (a : Answer) (after : Content × Report) w
     finished_program = (sym (ap (λ (x : Content × Report). x.0.tree) way.is), sym (ap (λ (x : Content × Report). x.0.limits) way.is))
 
     -- the heap has as many words as the instruction left
-    pub finished_words : after.0.objects.block.words ≡ a.1.block.words
-    finished_words = ap (λ (x : Content × Report). x.0.objects.block.words) (sym way.is) ∙ way.words
+    pub finished_words : whole_space after.0.objects ≡ whole_space a.objects
+    finished_words = ap (λ (x : Content × Report). whole_space x.0.objects) (sym way.is) ∙ way.words
 
     -- there are no more threads than there may be
     pub finished_few : length c.threads ≤ MOST_THREADS → length after.0.threads ≤ MOST_THREADS
@@ -180,7 +180,7 @@ module _ (c : Content) (t left : ℕ) (a : Answer) (after : Content × Report) w
 
 module _ (c : Content) (after : Content × Report) where
   -- what holds where nothing changes, and after each step of a live thread
-  module _ (P : Content × Report → Type 0) (unchanged : (r : Report) → P (c, r)) (stepped : (t left : ℕ) (m : Frames) (a : Answer) → IsDone c.tree t m c.objects c.statics c.printed a → finished c t left a a.4 ≡ Some after → P after) where
+  module _ (P : Content × Report → Type 0) (unchanged : (r : Report) → P (c, r)) (stepped : (t left : ℕ) (m : Frames) (a : Answer) → IsDone c.tree t m c.objects c.statics c.printed a → finished c t left a a.outcome ≡ Some after → P after) where
     turn_by : (e : Event) → IsTurn c e after → P after
     turn_by (Ack t) h = subst P (sym h) (unchanged _)
     turn_by Gc h = subst P (sym h) (unchanged _)
@@ -196,12 +196,12 @@ module _ (c : Content) (after : Content × Report) where
 
   -- the program and its limits stay
   pub same_program : (e : Event) → IsTurn c e after → (after.0.tree ≡ c.tree) × (after.0.limits ≡ c.limits)
-  same_program e = turn_by (λ x. (x.0.tree ≡ c.tree) × (x.0.limits ≡ c.limits)) (λ r. (refl, refl)) (λ t left m a done is. finished_program c t left a after a.4 is) e
+  same_program e = turn_by (λ x. (x.0.tree ≡ c.tree) × (x.0.limits ≡ c.limits)) (λ r. (refl, refl)) (λ t left m a done is. finished_program c t left a after a.outcome is) e
 
   pub turn_few : (e : Event) → IsTurn c e after → length c.threads ≤ MOST_THREADS → length after.0.threads ≤ MOST_THREADS
-  turn_few e h few = turn_by (λ x. length x.0.threads ≤ MOST_THREADS) (λ r. few) (λ t left m a done is. finished_few c t left a after a.4 is few) e h
+  turn_few e h few = turn_by (λ x. length x.0.threads ≤ MOST_THREADS) (λ r. few) (λ t left m a done is. finished_few c t left a after a.outcome is few) e h
 
   -- the heap keeps its size
-  pub turn_keeps_words : (e : Event) → IsTurn c e after → after.0.objects.block.words ≡ c.objects.block.words
-  turn_keeps_words e = turn_by (λ x. x.0.objects.block.words ≡ c.objects.block.words) (λ r. refl)
-      (λ t left m a done is. finished_words c t left a after a.4 is ∙ instruction_keeps_words c.tree t m c.objects c.statics c.printed a done) e
+  pub turn_keeps_words : (e : Event) → IsTurn c e after → whole_space after.0.objects ≡ whole_space c.objects
+  turn_keeps_words e = turn_by (λ x. whole_space x.0.objects ≡ whole_space c.objects) (λ r. refl)
+      (λ t left m a done is. finished_words c t left a after a.outcome is ∙ instruction_keeps_words c.tree t m c.objects c.statics c.printed a done) e

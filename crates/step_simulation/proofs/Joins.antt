@@ -1,32 +1,33 @@
 -- A thread waits for another alike on both machines.
 use Rattle.std.proofs.Common.{◌≡◌, if◌then◌else◌, ℕ, Bool, true, false, is_none, List, ◌∷◌, drop, Option, Some, None, option_map, unwrap_or, slice_get, refl, inl, inr, sym, ap, ◌∙◌, subst}
 use Rattle.std.specs.Option.{option_map_or}
-use Rattle.object_simulation.specs.simulation.cil_model.declared.reports.End.{End}
-use Rattle.object_simulation.specs.simulation.cil_model.declared.reports.Fault.TheVariants.{NullReference, ThreadState}
-use Rattle.object_simulation.specs.simulation.reference_machine.Values.{Value as StateValue}
-use Rattle.object_simulation.specs.simulation.reference_machine.States.{Frame as StateFrame, Thread as StateThread, State, is_live, is_live_thread}
-use Rattle.object_simulation.specs.simulation.reference_machine.Effects.{Blocks as StateBlocks, Raises as StateRaises, onward}
-use Rattle.object_simulation.specs.simulation.reference_machine.BuiltIn.{Join, join}
-use Rattle.object_simulation.specs.simulation.resolved_code.declared.operations.Operation.{Operation}
-use Rattle.object_simulation.specs.simulation.object_memory.declared.addresses.Addr.{Addr}
-use Rattle.object_simulation.specs.simulation.threads_monitors.Frames.{Frames}
-use Rattle.object_simulation.specs.simulation.threads_monitors.Threads.{end_in, is_live as is_live_machine, is_live_at, thread_on, wait_for, join_effect}
-use Rattle.object_simulation.specs.simulation.threads_monitors.declared.effects.Effect.{Effect}
-use Rattle.object_simulation.specs.simulation.threads_monitors.declared.effects.Effect.TheVariants.{GoesOn, Blocks, Raises}
-use Rattle.object_simulation.specs.simulation.threads_monitors.declared.threads.Standing.{Standing}
-use Rattle.object_simulation.specs.simulation.threads_monitors.declared.threads.Standing.TheVariants.{Live, Ended}
-use Rattle.object_simulation.specs.simulation.threads_monitors.declared.threads.Thread.{Thread}
-use Rattle.object_simulation.specs.simulation.interpreter.declared.outcomes.Outcome.TheVariants.{Comes, Joins}
-use Rattle.object_simulation.specs.simulation.interpreter.Instructions.{HasSmallConstant, IsAt}
-use Rattle.object_simulation.specs.simulation.MachineContents.{Content}
-use Rattle.object_simulation.specs.simulation.StandsFor.{IsThread, StandsAlike, Represents}
-use Rattle.object_simulation.specs.simulation.Turns.{after_request, counted}
-use Rattle.object_simulation.proofs.simulation.AgreeLaws.{agree_get, agree_beyond}
-use Rattle.object_simulation.proofs.simulation.Going.{next_alike}
-use Rattle.object_simulation.proofs.simulation.Instructions.{GoesAlike, ComesAlike, is_refused_effect}
+use Rattle.instruction_simulation.specs.simulation.cil_model.declared.reports.End.{End}
+use Rattle.instruction_simulation.specs.simulation.cil_model.declared.reports.Fault.TheVariants.{NullReference, ThreadState}
+use Rattle.instruction_simulation.specs.simulation.reference_machine.Values.{Value as StateValue}
+use Rattle.instruction_simulation.specs.simulation.reference_machine.States.{Frame as StateFrame, Thread as StateThread, State, is_live, is_live_thread}
+use Rattle.instruction_simulation.specs.simulation.reference_machine.Effects.{Blocks as StateBlocks, Raises as StateRaises, onward}
+use Rattle.instruction_simulation.specs.simulation.reference_machine.BuiltIn.{Join, join}
+use Rattle.instruction_simulation.specs.simulation.resolved_code.declared.operations.Operation.{Operation}
+use Rattle.instruction_simulation.specs.simulation.object_memory.declared.addresses.Addr.{Addr}
+use Rattle.instruction_simulation.specs.simulation.threads_monitors.Frames.{Frames}
+use Rattle.instruction_simulation.specs.simulation.threads_monitors.Threads.{end_in, is_live as is_live_machine, is_live_at, thread_on, wait_for, join_effect}
+use Rattle.instruction_simulation.specs.simulation.threads_monitors.declared.effects.Effect.{Effect}
+use Rattle.instruction_simulation.specs.simulation.threads_monitors.declared.effects.Effect.TheVariants.{GoesOn, Blocks, Raises}
+use Rattle.instruction_simulation.specs.simulation.threads_monitors.declared.threads.Standing.{Standing}
+use Rattle.instruction_simulation.specs.simulation.threads_monitors.declared.threads.Standing.TheVariants.{Live, Ended}
+use Rattle.instruction_simulation.specs.simulation.threads_monitors.declared.threads.Thread.{Thread}
+use Rattle.instruction_simulation.specs.simulation.interpreter.declared.outcomes.Outcome.TheVariants.{Comes, Joins}
+use Rattle.instruction_simulation.specs.simulation.interpreter.Instructions.{HasSmallConstant, IsAt, answer_of}
+use Rattle.instruction_simulation.specs.simulation.MachineContents.{Content}
+use Rattle.instruction_simulation.specs.simulation.StandsFor.{IsThread, StandsAlike, Represents}
+use Rattle.instruction_simulation.specs.simulation.Turns.{after_request, counted}
+use Rattle.instruction_simulation.proofs.simulation.AgreeLaws.{agree_get, agree_beyond}
+use Rattle.instruction_simulation.proofs.simulation.Going.{next_alike}
+use Rattle.instruction_simulation.proofs.simulation.Instructions.{GoesAlike, ComesAlike, is_refused_effect}
 use Rattle.step_simulation.proofs.Settling.{Follows, done, comes}
 use Rattle.step_simulation.proofs.ThreadObjects.{thread_on_is}
 use Rattle.step_simulation.proofs.Requests.{here, running, below, instruction, Asks, IsAskedOf, asked_of, rest_agrees, setting}
+use Rattle.instruction_simulation.proofs.OneBlock.{one_block}
 
 -- ---- which threads live
 
@@ -55,16 +56,16 @@ module _ (c : Content) (s : State) (r : Represents c s) (t left : ℕ) (m : Fram
   abbrev IsJoined : Effect → Type 0
   IsJoined j =
       (false ≡ is_refused_effect j) ×
-      ComesAlike (here c s r t left m there) r.stands.name m c.objects c.statics c.printed s (running c s r t left m there) (below c s r t left m there)
-      (Comes j) (after_request j m, c.objects, c.statics, c.printed, Comes j) (done c s r t left m there false)
+      ComesAlike (here c s r t left m there) (one_block c.tree) r.stands.name m c.objects c.statics c.printed s (running c s r t left m there) (below c s r t left m there)
+      (Comes j) (answer_of (after_request j m) c.objects c.statics c.printed (Comes j)) (done c s r t left m there false)
 
   module _ (operand : StateValue) (rest : List StateValue) (stack : (running c s r t left m there).stack ≡ operand ∷ rest) where
     joined_by : (live : Bool) → done c s r t left m there false ≡ (if live then StateBlocks else onward (running c s r t left m there) (below c s r t left m there) s rest) → IsJoined (if live then Blocks else GoesOn)
     joined_by true e = (refl, (e, refl, (refl, refl, refl)))
     joined_by false e = (
       refl,
-      subst (λ x. GoesAlike (here c s r t left m there) r.stands.name m c.objects c.statics c.printed s (running c s r t left m there) (below c s r t left m there) (after_request GoesOn m, c.objects, c.statics, c.printed, Comes GoesOn) x) (sym e)
-          (next_alike (here c s r t left m there) r.stands.name m c.objects c.statics c.printed s (running c s r t left m there) (below c s r t left m there) (instruction c s r t left m there) operation
+      subst (λ x. GoesAlike (here c s r t left m there) (one_block c.tree) r.stands.name m c.objects c.statics c.printed s (running c s r t left m there) (below c s r t left m there) (answer_of (after_request GoesOn m) c.objects c.statics c.printed (Comes GoesOn)) x) (sym e)
+          (next_alike (here c s r t left m there) (one_block c.tree) r.stands.name m c.objects c.statics c.printed s (running c s r t left m there) (below c s r t left m there) (instruction c s r t left m there) operation
           (setting c s r t left m there operation at constant) (drop 1 m.running.stack) rest (rest_agrees c s r t left m there operand rest stack)),
     )
 
@@ -83,12 +84,12 @@ module _ (c : Content) (s : State) (r : Represents c s) (t left : ℕ) (m : Fram
       (subst (λ k. IsJoined (wait_for c.threads k)) (sym (thread_on_is c.tree r.stands.name c.objects s object number x)) (joined_with operand rest stack x.object.thread e))
 
   -- a step that asks to join
-  pub joins : (threads : List Thread) → threads ≡ c.threads → (object : Addr) → Asks c s r t left m there Join object (m, c.objects, c.statics, c.printed, Joins object) →
+  pub joins : (threads : List Thread) → threads ≡ c.threads → (object : Addr) → Asks c s r t left m there Join object (answer_of m c.objects c.statics c.printed (Joins object)) →
       Follows c s t (counted (record c { threads = threads }) t left (join_effect threads c.objects object) (after_request (join_effect threads c.objects object) m))
   joins threads same object asks =
       let joined : IsJoined (join_effect c.threads c.objects object) =
       join_alike object asks.operand asks.rest asks.stack
-      (asked_of c s r t left m there Join (λ rest n. join (here c s r t left m there) s (running c s r t left m there) (below c s r t left m there) rest) (λ v rest. refl) object (m, c.objects, c.statics, c.printed, Joins object) asks) in
+      (asked_of c s r t left m there Join (λ rest n. join (here c s r t left m there) s (running c s r t left m there) (below c s r t left m there) rest) (λ v rest. refl) object (answer_of m c.objects c.statics c.printed (Joins object)) asks) in
       subst (λ ts. Follows c s t (counted (record c { threads = ts }) t left (join_effect ts c.objects object) (after_request (join_effect ts c.objects object) m))) (sym same)
       (comes c s r t left m there c.threads (λ x. refl) false (join_effect c.threads c.objects object) joined.0
-      (after_request (join_effect c.threads c.objects object) m, c.objects, c.statics, c.printed, Comes (join_effect c.threads c.objects object)) joined.1)
+      (answer_of (after_request (join_effect c.threads c.objects object) m) c.objects c.statics c.printed (Comes (join_effect c.threads c.objects object))) joined.1)

@@ -1,4 +1,5 @@
-pub use Rattle.object_simulation.proofs.simulation as simulation
+pub use Rattle.instruction_simulation.proofs.simulation as simulation
+pub use Rattle.instruction_simulation.proofs as instruction_simulation
 pub mod Settings
 pub mod Settling
 pub mod ThreadObjects

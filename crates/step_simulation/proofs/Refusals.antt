@@ -4,34 +4,34 @@ use Rattle.std.specs.Prelude.{nat_le}
 use Rattle.std.proofs.lemmas.Bool.Decides.{nat_tests}
 use Rattle.std.proofs.lemmas.List.Sums.{sum_by_push}
 use Rattle.std.proofs.lemmas.Option.{same_Some}
-use Rattle.object_simulation.specs.simulation.cil_model.declared.events.Event.TheVariants.{Step}
-use Rattle.object_simulation.specs.simulation.cil_model.declared.reports.Report.{Report}
-use Rattle.object_simulation.specs.simulation.cil_model.declared.reports.Report.TheVariants.{Ran, Absent}
-use Rattle.object_simulation.specs.simulation.cil_model.declared.reports.Fault.TheVariants.{OutOfMemory}
-use Rattle.object_simulation.specs.simulation.cil_model.declared.trees.Tree.{Tree}
-use Rattle.object_simulation.specs.simulation.cil_model.declared.limits.Limits.{Limits}
-use Rattle.object_simulation.specs.simulation.reference_machine.Effects.{Effect as StateEffect, Raises as StateRaises}
-use Rattle.object_simulation.specs.simulation.reference_machine.Rooms.{ExceedsRoom, cell_words, words_of_all}
-use Rattle.object_simulation.specs.simulation.reference_machine.Runs.{is_refusal}
-use Rattle.object_simulation.specs.simulation.reference_machine.States.{Contents, Frame as StateFrame, HeapObject, State, Free, with_birth}
-use Rattle.object_simulation.specs.simulation.reference_machine.Steps.{Outcome, Answers, goes_on, settled, step}
-use Rattle.object_simulation.proofs.simulation.reference_machine.StepLaws.{same_after}
-use Rattle.object_simulation.proofs.simulation.reference_machine.UnrefusedLaws.{memory_is_refused}
-use Rattle.object_simulation.specs.simulation.threads_monitors.Frames.{Frames}
-use Rattle.object_simulation.specs.simulation.threads_monitors.declared.threads.Standing.{Standing}
-use Rattle.object_simulation.specs.simulation.threads_monitors.declared.threads.Standing.TheVariants.{Live, Ended}
-use Rattle.object_simulation.specs.simulation.threads_monitors.declared.threads.Thread.{Thread}
-use Rattle.object_simulation.specs.simulation.interpreter.Instructions.{IsDone}
-use Rattle.object_simulation.specs.simulation.MachineContents.{Content}
-use Rattle.object_simulation.specs.simulation.StandsFor.{Represents}
-use Rattle.object_simulation.specs.simulation.Turns.{Answer, IsStandingTurn, IsThreadTurn, IsTurn}
-use Rattle.object_simulation.proofs.simulation.Instructions.{ExceedsRoom as ExceedsFree, InstructionsAreAlike, is_refused_outcome}
-use Rattle.object_simulation.proofs.simulation.Statements.{CellsMayChange}
+use Rattle.instruction_simulation.specs.simulation.cil_model.declared.events.Event.TheVariants.{Step}
+use Rattle.instruction_simulation.specs.simulation.cil_model.declared.reports.Report.{Report}
+use Rattle.instruction_simulation.specs.simulation.cil_model.declared.reports.Report.TheVariants.{Ran, Absent}
+use Rattle.instruction_simulation.specs.simulation.cil_model.declared.reports.Fault.TheVariants.{OutOfMemory}
+use Rattle.instruction_simulation.specs.simulation.cil_model.declared.trees.Tree.{Tree}
+use Rattle.instruction_simulation.specs.simulation.cil_model.declared.limits.Limits.{Limits}
+use Rattle.instruction_simulation.specs.simulation.reference_machine.Effects.{Effect as StateEffect, Raises as StateRaises}
+use Rattle.instruction_simulation.specs.simulation.reference_machine.Rooms.{ExceedsRoom, cell_words, words_of_all}
+use Rattle.instruction_simulation.specs.simulation.reference_machine.Runs.{is_refusal}
+use Rattle.instruction_simulation.specs.simulation.reference_machine.States.{Contents, Frame as StateFrame, HeapObject, State, Free, with_birth}
+use Rattle.instruction_simulation.specs.simulation.reference_machine.Steps.{Outcome, Answers, goes_on, settled, step}
+use Rattle.instruction_simulation.proofs.simulation.reference_machine.StepLaws.{same_after}
+use Rattle.instruction_simulation.proofs.simulation.reference_machine.UnrefusedLaws.{memory_is_refused}
+use Rattle.instruction_simulation.specs.simulation.threads_monitors.Frames.{Frames}
+use Rattle.instruction_simulation.specs.simulation.threads_monitors.declared.threads.Standing.{Standing}
+use Rattle.instruction_simulation.specs.simulation.threads_monitors.declared.threads.Standing.TheVariants.{Live, Ended}
+use Rattle.instruction_simulation.specs.simulation.threads_monitors.declared.threads.Thread.{Thread}
+use Rattle.instruction_simulation.specs.simulation.interpreter.Instructions.{IsDone, Answer}
+use Rattle.instruction_simulation.specs.simulation.MachineContents.{Content}
+use Rattle.instruction_simulation.specs.simulation.StandsFor.{Represents}
+use Rattle.instruction_simulation.specs.simulation.Turns.{IsStandingTurn, IsThreadTurn, IsTurn}
+use Rattle.instruction_simulation.proofs.simulation.Instructions.{ExceedsRoom as ExceedsFree, InstructionsAreAlike, is_refused_outcome}
 use Rattle.step_simulation.proofs.Finished.{finished_refusal, same_program}
 use Rattle.step_simulation.proofs.Settings.{setting_of, is_alive, is_running, does_alike}
 use Rattle.step_simulation.proofs.Settling.{done, step_is}
 use Rattle.step_simulation.proofs.Steps.{step_follows}
-use Rattle.object_simulation.proofs.simulation.cil_model.SameLaws.{never}
+use Rattle.instruction_simulation.proofs.simulation.cil_model.SameLaws.{never}
+use Rattle.instruction_simulation.proofs.OneBlock.{one_block}
 
 -- ---- a test of room
 
@@ -60,14 +60,14 @@ born_by s contents t (suc left) frames = record { report = _; after = _; is = re
 
 module _ (each : InstructionsAreAlike) (c : Content) (s : State) (r : Represents c s) (t left : ℕ) (m : Frames) (there : slice_get c.threads t ≡ Some (record { standing = Live m; steps_left = left })) where
   abbrev Exceeds : StateEffect → Type 0
-  Exceeds e = ExceedsFree (setting_of c t false) r.stands.name m c.objects c.statics c.printed s (is_alive c s r t left m there).running (is_alive c s r t left m there).below e
+  Exceeds e = ExceedsFree (setting_of c t false) (one_block c.tree) r.stands.name m c.objects c.statics c.printed s (is_alive c s r t left m there).running (is_alive c s r t left m there).below e
 
   -- the instruction's object exceeds what is free
-  instruction_exceeds : (a : Answer) → IsDone c.tree t m c.objects c.statics c.printed a → is_refused_outcome a.4 ≡ true → Exceeds (done c s r t left m there false)
+  instruction_exceeds : (a : Answer) → IsDone c.tree t m c.objects c.statics c.printed a → is_refused_outcome a.outcome ≡ true → Exceeds (done c s r t left m there false)
   instruction_exceeds a d refused =
       let x = does_alike each c s r t left m there false d.operation d.at d.constant in
       let same : x.answer ≡ a = same_Some x.answer a (sym x.is ∙ sym d.is) in
-      by_effect (x.refuses refl (ap (λ (y : Answer). is_refused_outcome y.4) same ∙ refused))
+      by_effect (x.refuses refl (ap (λ (y : Answer). is_refused_outcome y.outcome) same ∙ refused))
     where
       by_effect : Exceeds (done c s r t left m there false) ⊎ (done c s r t left m there false ≡ StateRaises OutOfMemory) → Exceeds (done c s r t left m there false)
       by_effect (inl e) = e
@@ -93,17 +93,17 @@ module _ (each : InstructionsAreAlike) (c : Content) (s : State) (r : Represents
 one_more : (tree : Tree) (objects : List HeapObject) (object : HeapObject) → words_of_all tree (objects ++ object ∷ []) ≡ words_of_all tree objects + cell_words tree object.contents
 one_more tree objects object = sum_by_push (λ (x : HeapObject). cell_words tree x.contents) objects object
 
-module _ (each : InstructionsAreAlike) (cells_may_change : CellsMayChange) (c : Content) (s : State) (r : Represents c s) (t : ℕ) (after : Content × Report) (turn : IsTurn c (Step t) after) where
+module _ (each : InstructionsAreAlike) (c : Content) (s : State) (r : Represents c s) (t : ℕ) (after : Content × Report) (turn : IsTurn c (Step t) after) where
   -- a state that the machine represents has no more words than the space
   within : (s' : State) → Represents after.0 s' → words_of_all c.tree s'.objects ≤ c.limits.words
   within s' h =
       let same = same_program c after (Step t) turn in
       let full : words_of_all c.tree s'.objects ≡ words_of_all after.0.tree s'.objects = ap (λ x. words_of_all x s'.objects) (sym same.0) in
       let limit : after.0.limits.words ≡ c.limits.words = ap (λ (l : Limits). l.words) same.1 in
-      omega (arith, full, limit, h.stands.by.memory.heap.full, h.stands.by.memory.heap.within, h.space)
+      omega (arith, full, limit, h.stands.by.memory.heap.full, h.stands.by.memory.heap.inside.within, h.space)
 
   exceeding_is_refused : ExceedsRoom c.tree c.limits s t → IsTrue (is_refusal after.1)
-  exceeding_is_refused x = by_report (is_refusal after.1) refl (step_follows each cells_may_change c s r t after turn)
+  exceeding_is_refused x = by_report (is_refusal after.1) refl (step_follows each c s r t after turn)
     where
       by_report : (b : Bool) → is_refusal after.1 ≡ b → (s' : State) × (step c.tree c.limits s t (is_refusal after.1) ≡ Answers after.1 s') × Represents after.0 s' → IsTrue b
       by_report true is follows = refl
@@ -122,7 +122,7 @@ module _ (each : InstructionsAreAlike) (cells_may_change : CellsMayChange) (c : 
 
       by_standing : (left : ℕ) (standing : Standing) → slice_get c.threads t ≡ Some (record { standing = standing; steps_left = left }) → IsStandingTurn c t left standing after → ExceedsRoom c.tree c.limits s t
       by_standing left (Live m) there (a, d, is) =
-          step_exceeds each c s r t left m there (instruction_exceeds each c s r t left m there a d (sym (finished_refusal c t left a after a.4 is) ∙ refused))
+          step_exceeds each c s r t left m there (instruction_exceeds each c s r t left m there a d (sym (finished_refusal c t left a after a.outcome is) ∙ refused))
       by_standing left (Ended e) there is = absent is
 
       by_thread : (x : Option Thread) → slice_get c.threads t ≡ x → IsThreadTurn c t x after → ExceedsRoom c.tree c.limits s t

@@ -2,35 +2,37 @@
 use Rattle.std.proofs.Common.{◌≡◌, ◌≢◌, ◌<◌, ◌+◌, ◌⊎◌, ◌==◌, ℕ, suc, true, false, List, [], ◌∷◌, length, drop, Some, option_map, unwrap_or, slice_get, refl, inl, inr, sym, ap, ◌∙◌, subst, arith}
 use Rattle.std.specs.Prelude.{nat_lt}
 use Rattle.std.proofs.lemmas.Bool.Decides.{nat_tests}
-use Rattle.object_simulation.specs.simulation.cil_model.declared.instructions.Instruction.{Instruction}
-use Rattle.object_simulation.specs.simulation.cil_model.declared.limits.TheConstants.{MOST_INSTRUCTIONS}
-use Rattle.object_simulation.specs.simulation.cil_model.declared.reports.Fault.TheVariants.{NullReference}
-use Rattle.object_simulation.specs.simulation.reference_machine.Values.{ObjectName, Born, Value as StateValue, Null, Reference}
-use Rattle.object_simulation.specs.simulation.reference_machine.States.{HeapObject, Frame as StateFrame, State}
-use Rattle.object_simulation.specs.simulation.reference_machine.Effects.{Setting, Effect as StateEffect, Raises as StateRaises, after, not_null}
-use Rattle.object_simulation.specs.simulation.reference_machine.BuiltIn.{Action, act, thread_object}
-use Rattle.object_simulation.proofs.simulation.type_soundness.Running.{IsTypedEffect}
-use Rattle.object_simulation.proofs.simulation.type_soundness.AllSteps.{instruction_typed}
-use Rattle.object_simulation.specs.simulation.resolved_code.declared.operations.Operation.{Operation}
-use Rattle.object_simulation.specs.simulation.object_memory.declared.addresses.Addr.{Addr}
-use Rattle.object_simulation.specs.simulation.object_memory.declared.values.Value.TheVariants.{Ref}
-use Rattle.object_simulation.specs.simulation.object_memory.Cells.{Cell, null, slots_at}
-use Rattle.object_simulation.specs.simulation.threads_monitors.Frames.{Frames, with_place, with_stack}
-use Rattle.object_simulation.specs.simulation.threads_monitors.declared.effects.Effect.TheVariants.{GoesOn}
-use Rattle.object_simulation.specs.simulation.threads_monitors.declared.threads.Standing.TheVariants.{Live}
-use Rattle.object_simulation.specs.simulation.interpreter.Instructions.{HasSmallConstant, IsAt}
-use Rattle.object_simulation.specs.simulation.Agreement.{Agree}
-use Rattle.object_simulation.specs.simulation.MachineContents.{Content}
-use Rattle.object_simulation.specs.simulation.StandsFor.{IsValue, IsFrame, AreFrames, Represents}
-use Rattle.object_simulation.specs.simulation.Turns.{Answer, after_request}
-use Rattle.object_simulation.proofs.simulation.AgreeLaws.{agree_length, agree_drop}
-use Rattle.object_simulation.proofs.simulation.Going.{moved_frames, place_is_small}
-use Rattle.object_simulation.proofs.simulation.Instructions.{IsSetting, AsksFor}
-use Rattle.object_simulation.specs.simulation.Ready.{HasRequest}
+use Rattle.instruction_simulation.specs.simulation.cil_model.declared.instructions.Instruction.{Instruction}
+use Rattle.instruction_simulation.specs.simulation.cil_model.declared.limits.TheConstants.{MOST_INSTRUCTIONS}
+use Rattle.instruction_simulation.specs.simulation.cil_model.declared.reports.Fault.TheVariants.{NullReference}
+use Rattle.instruction_simulation.specs.simulation.reference_machine.Values.{ObjectName, Born, Value as StateValue, Null, Reference}
+use Rattle.instruction_simulation.specs.simulation.reference_machine.States.{HeapObject, Frame as StateFrame, State}
+use Rattle.instruction_simulation.specs.simulation.reference_machine.Effects.{Setting, Effect as StateEffect, Raises as StateRaises, after, not_null}
+use Rattle.instruction_simulation.specs.simulation.reference_machine.BuiltIn.{Action, act, thread_object}
+use Rattle.instruction_simulation.proofs.simulation.type_soundness.Running.{IsTypedEffect}
+use Rattle.instruction_simulation.proofs.simulation.type_soundness.AllSteps.{instruction_typed}
+use Rattle.instruction_simulation.specs.simulation.resolved_code.declared.operations.Operation.{Operation}
+use Rattle.instruction_simulation.specs.simulation.object_memory.declared.addresses.Addr.{Addr}
+use Rattle.instruction_simulation.specs.simulation.object_memory.declared.values.Value.TheVariants.{Ref}
+use Rattle.instruction_simulation.specs.simulation.object_memory.Cells.{Cell, null}
+use Rattle.instruction_simulation.specs.simulation.object_memory.Objects.{object_slots}
+use Rattle.instruction_simulation.specs.simulation.threads_monitors.Frames.{Frames, with_place, with_stack}
+use Rattle.instruction_simulation.specs.simulation.threads_monitors.declared.effects.Effect.TheVariants.{GoesOn}
+use Rattle.instruction_simulation.specs.simulation.threads_monitors.declared.threads.Standing.TheVariants.{Live}
+use Rattle.instruction_simulation.specs.simulation.interpreter.Instructions.{HasSmallConstant, IsAt, Answer}
+use Rattle.instruction_simulation.specs.simulation.Agreement.{Agree}
+use Rattle.instruction_simulation.specs.simulation.MachineContents.{Content}
+use Rattle.instruction_simulation.specs.simulation.StandsFor.{IsValue, IsFrame, AreFrames, Represents}
+use Rattle.instruction_simulation.specs.simulation.Turns.{after_request}
+use Rattle.instruction_simulation.proofs.simulation.AgreeLaws.{agree_length, agree_drop}
+use Rattle.instruction_simulation.proofs.simulation.Going.{moved_frames, place_is_small}
+use Rattle.instruction_simulation.proofs.simulation.Instructions.{IsSetting, AsksFor}
+use Rattle.instruction_simulation.specs.simulation.Ready.{HasRequest}
 use Rattle.step_simulation.proofs.Settings.{setting_of, is_alive, is_running, in_setting}
 use Rattle.step_simulation.proofs.Settling.{done}
 use Rattle.step_simulation.proofs.ThreadObjects.{reference_is, IsThreadObject, thread_object_is}
-use Rattle.object_simulation.proofs.simulation.Memories.{named_is_not_null}
+use Rattle.instruction_simulation.proofs.simulation.Memories.{named_is_not_null}
+use Rattle.instruction_simulation.proofs.OneBlock.{one_block, heap_reads}
 
 module _ (c : Content) (s : State) (r : Represents c s) (t left : ℕ) (m : Frames) (there : slice_get c.threads t ≡ Some (record { standing = Live m; steps_left = left })) where
   abbrev pub here : Setting
@@ -47,7 +49,7 @@ module _ (c : Content) (s : State) (r : Represents c s) (t left : ℕ) (m : Fram
 
   -- the instruction asks for this
   abbrev pub Asks : Action → Addr → Answer → Type 0
-  Asks action object a = AsksFor here r.stands.name m c.objects c.statics c.printed s running below action object a (done c s r t left m there false)
+  Asks action object a = AsksFor here (one_block c.tree) r.stands.name m c.objects c.statics c.printed s running below action object a (done c s r t left m there false)
 
   own : IsFrame c.tree r.stands.name m.running running
   own = (is_alive c s r t left m there).frames.frames.0
@@ -82,15 +84,15 @@ module _ (c : Content) (s : State) (r : Represents c s) (t left : ℕ) (m : Fram
             x.0,
             x.2,
             comes ∙ x.3 ∙ ap (λ k. go asks.rest k x.2.object) x.1,
-            named_is_not_null c.tree r.stands.name c.objects s r.stands.by.memory.heap object.number n named,
+            named_is_not_null c.tree r.stands.name c.objects s (heap_reads c.tree r.stands.name c.objects s r.stands.by.memory.heap) object.number n named,
             named ∙ ap Some x.1,
           )
 
   -- the operand is there, and its slot
   pub has_operand : (action : Action) (go : ObjectName → HeapObject → StateEffect) (object : Addr) (a : Answer) → (asks : Asks action object a) → IsAskedOf (done c s r t left m there false) go object →
-      nat_lt m.running.place MOST_INSTRUCTIONS ≡ true → HasRequest a.1 a.0 object
+      nat_lt m.running.place MOST_INSTRUCTIONS ≡ true → HasRequest a.objects a.frames object
   has_operand action go object a asks asked small = record {
-    slot = λ apart. subst (λ o. 0 < length (slots_at o.block object)) (sym asks.memory.0) (by_object asked apart);
+    slot = λ apart. subst (λ o. 0 < length (object_slots o object)) (sym asks.memory.0) (by_object asked apart);
     operand = subst (λ (x : Frames). 0 < length x.running.stack) (sym asks.frames) stack_is_there;
     behind = subst (λ (x : Frames). x.running.place < MOST_INSTRUCTIONS) (sym asks.frames) (grind (arith, nat_tests));
   }
@@ -100,21 +102,21 @@ module _ (c : Content) (s : State) (r : Represents c s) (t left : ℕ) (m : Fram
           let same : length m.running.stack ≡ suc (length asks.rest) = agree_length (IsValue r.stands.name) m.running.stack running.stack own.stack ∙ ap length asks.stack in
           omega (arith, same)
 
-      by_object : IsAskedOf (done c s r t left m there false) go object → object ≢ null → 0 < length (slots_at c.objects.block object)
+      by_object : IsAskedOf (done c s r t left m there false) go object → object ≢ null → 0 < length (object_slots c.objects object)
       by_object (inl (is, e)) apart = absurd (apart is)
       by_object (inr (number, x, e, nonzero, named)) apart =
           subst (λ l. 0 < length l) (sym (ap (λ y. unwrap_or (option_map (λ (k : Cell). k.slots) y) []) x.lies ∙ x.slots)) (omega arith)
 
   module _ (operation : Operation) (at : IsAt c.tree m operation) (constant : HasSmallConstant operation) where
-    abbrev pub setting : IsSetting here r.stands.name m c.objects c.statics c.printed s running below instruction operation
+    abbrev pub setting : IsSetting here (one_block c.tree) r.stands.name m c.objects c.statics c.printed s running below instruction operation
     setting = in_setting c s r t left m there false operation at constant
 
     pub place_below : nat_lt m.running.place MOST_INSTRUCTIONS ≡ true
-    place_below = place_is_small here r.stands.name m c.objects c.statics c.printed s running below instruction operation setting
+    place_below = place_is_small here (one_block c.tree) r.stands.name m c.objects c.statics c.printed s running below instruction operation setting
 
     -- the frames once what was asked for is done
     pub popped_frames : (operand : StateValue) (rest : List StateValue) → running.stack ≡ operand ∷ rest → AreFrames c.tree c.limits r.stands.name (after_request GoesOn m) (after running rest ∷ below)
     popped_frames operand rest stack =
         subst (λ p. AreFrames c.tree c.limits r.stands.name (with_place (with_stack m (drop 1 m.running.stack)) (p + 1)) (after running rest ∷ below)) (sym own.place)
-        (moved_frames here r.stands.name m c.objects c.statics c.printed s running below instruction operation setting r.stands.name (λ a n is. is)
+        (moved_frames here (one_block c.tree) r.stands.name m c.objects c.statics c.printed s running below instruction operation setting r.stands.name (λ a n is. is)
         m.running.arguments m.running.locals (drop 1 m.running.stack) running.arguments running.locals rest (running.place + 1) own.arguments own.locals (rest_agrees operand rest stack))

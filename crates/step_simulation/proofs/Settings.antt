@@ -2,29 +2,30 @@
 use Rattle.std.proofs.Common.{◌≡◌, ℕ, Bool, false, List, [], ◌∷◌, Option, Some, None, option_map, option_and_then, slice_get, refl, sym, ap, ◌∙◌, subst}
 use Rattle.std.specs.Prelude.{IsSome}
 use Rattle.std.proofs.lemmas.Option.{same_Some}
-use Rattle.object_simulation.specs.simulation.cil_model.declared.instructions.Instruction.{Instruction}
-use Rattle.object_simulation.specs.simulation.cil_model.declared.reports.End.{End}
-use Rattle.object_simulation.specs.simulation.cil_model.declared.trees.Line.{Line}
-use Rattle.object_simulation.specs.simulation.cil_model.declared.trees.Method.{Method}
-use Rattle.object_simulation.specs.simulation.cil_model.declared.types.ClassName.{ClassName}
-use Rattle.object_simulation.specs.simulation.cil_model.Bodies.{lines_of}
-use Rattle.object_simulation.specs.simulation.reference_machine.States.{Frame as StateFrame, Thread as StateThread, State}
-use Rattle.object_simulation.specs.simulation.reference_machine.Effects.{Setting}
-use Rattle.object_simulation.specs.simulation.reference_machine.Steps.{instruction_at, execute}
-use Rattle.object_simulation.proofs.simulation.type_soundness.Running.{IsRunning, runs_at}
-use Rattle.object_simulation.specs.simulation.type_soundness.TypedStates.{AreTypedFrames}
-use Rattle.object_simulation.specs.simulation.resolved_code.Resolved.{IsOperation}
-use Rattle.object_simulation.specs.simulation.resolved_code.declared.operations.Operation.{Operation}
-use Rattle.object_simulation.specs.simulation.threads_monitors.Frames.{Frames}
-use Rattle.object_simulation.specs.simulation.threads_monitors.declared.threads.Standing.TheVariants.{Live}
-use Rattle.object_simulation.specs.simulation.interpreter.Instructions.{HasSmallConstant, IsAt, line_at, operation_turn}
-use Rattle.object_simulation.specs.simulation.MachineContents.{Content}
-use Rattle.object_simulation.specs.simulation.Ready.{IsReady}
-use Rattle.object_simulation.specs.simulation.StandsFor.{Names, IsFrame, AreFrames, IsThread, StandsAlike, Represents}
-use Rattle.object_simulation.proofs.simulation.AgreeLaws.{agree_at}
-use Rattle.object_simulation.proofs.simulation.Instructions.{IsSetting, DoesAlike, InstructionsAreAlike}
-use Rattle.object_simulation.proofs.simulation.LimitRanges.{budget_is_small}
-use Rattle.object_simulation.proofs.simulation.cil_model.Lists.{none_is_some}
+use Rattle.instruction_simulation.specs.simulation.cil_model.declared.instructions.Instruction.{Instruction}
+use Rattle.instruction_simulation.specs.simulation.cil_model.declared.reports.End.{End}
+use Rattle.instruction_simulation.specs.simulation.cil_model.declared.trees.Line.{Line}
+use Rattle.instruction_simulation.specs.simulation.cil_model.declared.trees.Method.{Method}
+use Rattle.instruction_simulation.specs.simulation.cil_model.declared.types.ClassName.{ClassName}
+use Rattle.instruction_simulation.specs.simulation.cil_model.Bodies.{lines_of}
+use Rattle.instruction_simulation.specs.simulation.reference_machine.States.{Frame as StateFrame, Thread as StateThread, State}
+use Rattle.instruction_simulation.specs.simulation.reference_machine.Effects.{Setting}
+use Rattle.instruction_simulation.specs.simulation.reference_machine.Steps.{instruction_at, execute}
+use Rattle.instruction_simulation.proofs.simulation.type_soundness.Running.{IsRunning, runs_at}
+use Rattle.instruction_simulation.specs.simulation.type_soundness.TypedStates.{AreTypedFrames}
+use Rattle.instruction_simulation.specs.simulation.resolved_code.Resolved.{IsOperation}
+use Rattle.instruction_simulation.specs.simulation.resolved_code.declared.operations.Operation.{Operation}
+use Rattle.instruction_simulation.specs.simulation.threads_monitors.Frames.{Frames}
+use Rattle.instruction_simulation.specs.simulation.threads_monitors.declared.threads.Standing.TheVariants.{Live}
+use Rattle.instruction_simulation.specs.simulation.interpreter.Instructions.{HasSmallConstant, IsAt, line_at, operation_turn}
+use Rattle.instruction_simulation.specs.simulation.MachineContents.{Content}
+use Rattle.instruction_simulation.specs.simulation.Ready.{IsReady}
+use Rattle.instruction_simulation.specs.simulation.StandsFor.{Names, IsFrame, AreFrames, IsThread, StandsAlike, Represents}
+use Rattle.instruction_simulation.proofs.simulation.AgreeLaws.{agree_at}
+use Rattle.instruction_simulation.proofs.simulation.Instructions.{IsSetting, DoesAlike, InstructionsAreAlike}
+use Rattle.instruction_simulation.proofs.simulation.LimitRanges.{budget_is_small}
+use Rattle.instruction_simulation.proofs.simulation.cil_model.Lists.{none_is_some}
+use Rattle.instruction_simulation.proofs.OneBlock.{one_block, modelled}
 
 -- ---- a live thread
 
@@ -65,7 +66,7 @@ module _ (c : Content) (s : State) (r : Represents c s) (t left : ℕ) (m : Fram
 
     -- that which a resolved one there stands for
     pub in_setting : (operation : Operation) → IsAt c.tree m operation → HasSmallConstant operation →
-        IsSetting (setting_of c t refused) r.stands.name m c.objects c.statics c.printed s is_alive.running is_alive.below is_running.0 operation
+        IsSetting (setting_of c t refused) (one_block c.tree) r.stands.name m c.objects c.statics c.printed s is_alive.running is_alive.below is_running.0 operation
     in_setting operation at constant = record {
       running = is_running.2;
       counted = r.counted;
@@ -73,7 +74,7 @@ module _ (c : Content) (s : State) (r : Represents c s) (t left : ℕ) (m : Fram
       resolved = subst (λ x. IsOperation c.tree (lines_of f.method) x operation) same_instruction (subst (λ (x : ClassName × Method). IsOperation c.tree (lines_of x.1) at.line.instruction operation) same_method at.stands);
       constant = constant;
       frames = is_alive.frames;
-      memory = r.stands.by.memory;
+      memory = modelled c.tree r.stands.name c.objects c.statics c.printed s r.stands.by.memory;
     }
       where
         f : StateFrame
@@ -98,11 +99,11 @@ module _ (c : Content) (s : State) (r : Represents c s) (t left : ℕ) (m : Fram
 module _ (each : InstructionsAreAlike) where
   pub does_alike : (c : Content) (s : State) (r : Represents c s) (t left : ℕ) (m : Frames) (there : slice_get c.threads t ≡ Some (record { standing = Live m; steps_left = left })) (refused : Bool) →
       (operation : Operation) → IsAt c.tree m operation → HasSmallConstant operation →
-      DoesAlike (setting_of c t refused) r.stands.name m c.objects c.statics c.printed s (is_alive c s r t left m there).running (is_alive c s r t left m there).below
+      DoesAlike (setting_of c t refused) (one_block c.tree) r.stands.name m c.objects c.statics c.printed s (is_alive c s r t left m there).running (is_alive c s r t left m there).below
       (operation_turn c.tree t operation m c.objects c.statics c.printed)
       (execute (setting_of c t refused) s (is_alive c s r t left m there).running (is_alive c s r t left m there).below (is_running c s r t left m there refused).0)
   does_alike c s r t left m there refused operation at constant =
-      each (setting_of c t refused) r.stands.name m c.objects c.statics c.printed s (is_alive c s r t left m there).running (is_alive c s r t left m there).below
+      each (setting_of c t refused) (one_block c.tree) r.stands.name m c.objects c.statics c.printed s (is_alive c s r t left m there).running (is_alive c s r t left m there).below
       (is_running c s r t left m there refused).0 operation (in_setting c s r t left m there refused operation at constant)
 
   pub live_is_ready : (c : Content) (s : State) → Represents c s → (t left : ℕ) (m : Frames) → slice_get c.threads t ≡ Some (record { standing = Live m; steps_left = left }) → IsReady c t m

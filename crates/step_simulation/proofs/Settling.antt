@@ -2,39 +2,41 @@
 use Rattle.std.proofs.Common.{◌≡◌, ◌-◌, ◌==◌, if◌then◌else◌, is_none, ℕ, zero, suc, Bool, false, List, [], ◌∷◌, Some, None, slice_get, slice_set, refl, sym, ap, ◌∙◌, subst, arith}
 use Rattle.std.proofs.lemmas.Bool.Decides.{nat_tests}
 use Rattle.std.specs.Option.{option_map_or}
-use Rattle.object_simulation.specs.simulation.cil_model.declared.reports.End.{End}
-use Rattle.object_simulation.specs.simulation.cil_model.declared.reports.End.TheVariants.{Done, Budget, Fault as ByFault}
-use Rattle.object_simulation.specs.simulation.cil_model.declared.reports.Fault.{Fault}
-use Rattle.object_simulation.specs.simulation.cil_model.declared.reports.Fault.TheVariants as Faults
-use Rattle.object_simulation.specs.simulation.cil_model.declared.reports.Report.{Report}
-use Rattle.object_simulation.specs.simulation.cil_model.declared.reports.Report.TheVariants.{Blocked, Ended as HasEnded, Absent}
-use Rattle.object_simulation.specs.simulation.reference_machine.States.{Frame as StateFrame, Thread as StateThread, State}
-use Rattle.object_simulation.specs.simulation.reference_machine.Effects.{Effect as StateEffect, Goes, Blocks as StateBlocks, Raises as StateRaises, given}
-use Rattle.object_simulation.specs.simulation.reference_machine.Steps.{Outcome, Answers, execute, effect_of, with_thread_at, ended_as, goes_on, settled as state_settled, step_of, step}
-use Rattle.object_simulation.specs.simulation.reference_machine.Runs.{is_refusal}
-use Rattle.object_simulation.specs.simulation.type_soundness.TypedStates.{IsTyped}
-use Rattle.object_simulation.proofs.simulation.type_soundness.WholeSteps.{step_typed}
-use Rattle.object_simulation.proofs.simulation.type_soundness.AllSteps.{instruction_typed}
-use Rattle.object_simulation.proofs.simulation.size_bounds.CountedSteps.{step_counted}
-use Rattle.object_simulation.specs.simulation.object_memory.declared.values.Value.{Value}
-use Rattle.object_simulation.specs.simulation.object_memory.Objects.{Objects}
-use Rattle.object_simulation.specs.simulation.threads_monitors.Frames.{Frames}
-use Rattle.object_simulation.specs.simulation.threads_monitors.Threads.{end_after, report_of, standing_after}
-use Rattle.object_simulation.specs.simulation.threads_monitors.declared.effects.Effect.{Effect}
-use Rattle.object_simulation.specs.simulation.threads_monitors.declared.effects.Effect.TheVariants.{GoesOn, Returns, Blocks, Raises}
-use Rattle.object_simulation.specs.simulation.threads_monitors.declared.threads.Standing.TheVariants.{Live, Ended}
-use Rattle.object_simulation.specs.simulation.threads_monitors.declared.threads.Thread.{Thread}
-use Rattle.object_simulation.specs.simulation.Agreement.{Agree}
-use Rattle.object_simulation.specs.simulation.MachineContents.{Content}
-use Rattle.object_simulation.specs.simulation.StandsFor.{Names, AreFrames, IsThread, IsMemory, StandsBy, StandsFor, Represents}
-use Rattle.object_simulation.specs.simulation.Turns.{Answer, counted}
-use Rattle.object_simulation.proofs.simulation.AgreeLaws.{agree_set, agree_weaken}
-use Rattle.object_simulation.proofs.simulation.Extending.{thread_extends}
-use Rattle.object_simulation.proofs.simulation.Memories.{memory_beside}
-use Rattle.object_simulation.specs.simulation.interpreter.declared.outcomes.Outcome.TheVariants.{Comes}
-use Rattle.object_simulation.proofs.simulation.Instructions.{LeavesMemory, ComesAlike, is_refused_fault, is_refused_effect}
-use Rattle.object_simulation.proofs.simulation.LimitRanges.{budget_is_some}
+use Rattle.instruction_simulation.specs.simulation.cil_model.declared.reports.End.{End}
+use Rattle.instruction_simulation.specs.simulation.cil_model.declared.reports.End.TheVariants.{Done, Budget, Fault as ByFault}
+use Rattle.instruction_simulation.specs.simulation.cil_model.declared.reports.Fault.{Fault}
+use Rattle.instruction_simulation.specs.simulation.cil_model.declared.reports.Fault.TheVariants as Faults
+use Rattle.instruction_simulation.specs.simulation.cil_model.declared.reports.Report.{Report}
+use Rattle.instruction_simulation.specs.simulation.cil_model.declared.reports.Report.TheVariants.{Blocked, Ended as HasEnded, Absent}
+use Rattle.instruction_simulation.specs.simulation.reference_machine.States.{Frame as StateFrame, Thread as StateThread, State}
+use Rattle.instruction_simulation.specs.simulation.reference_machine.Effects.{Effect as StateEffect, Goes, Blocks as StateBlocks, Raises as StateRaises, given}
+use Rattle.instruction_simulation.specs.simulation.reference_machine.Steps.{Outcome, Answers, execute, effect_of, with_thread_at, ended_as, goes_on, settled as state_settled, step_of, step}
+use Rattle.instruction_simulation.specs.simulation.reference_machine.Runs.{is_refusal}
+use Rattle.instruction_simulation.specs.simulation.type_soundness.TypedStates.{IsTyped}
+use Rattle.instruction_simulation.proofs.simulation.type_soundness.WholeSteps.{step_typed}
+use Rattle.instruction_simulation.proofs.simulation.type_soundness.AllSteps.{instruction_typed}
+use Rattle.instruction_simulation.proofs.simulation.size_bounds.CountedSteps.{step_counted}
+use Rattle.instruction_simulation.specs.simulation.object_memory.declared.values.Value.{Value}
+use Rattle.instruction_simulation.specs.simulation.object_memory.Objects.{Objects, whole_space}
+use Rattle.instruction_simulation.specs.simulation.threads_monitors.Frames.{Frames}
+use Rattle.instruction_simulation.specs.simulation.threads_monitors.Threads.{end_after, report_of, standing_after}
+use Rattle.instruction_simulation.specs.simulation.threads_monitors.declared.effects.Effect.{Effect}
+use Rattle.instruction_simulation.specs.simulation.threads_monitors.declared.effects.Effect.TheVariants.{GoesOn, Returns, Blocks, Raises}
+use Rattle.instruction_simulation.specs.simulation.threads_monitors.declared.threads.Standing.TheVariants.{Live, Ended}
+use Rattle.instruction_simulation.specs.simulation.threads_monitors.declared.threads.Thread.{Thread}
+use Rattle.instruction_simulation.specs.simulation.Agreement.{Agree}
+use Rattle.instruction_simulation.specs.simulation.MachineContents.{Content}
+use Rattle.instruction_simulation.specs.simulation.StandsFor.{Names, AreFrames, IsThread, IsMemory, StandsBy, StandsFor, Represents}
+use Rattle.instruction_simulation.specs.simulation.Turns.{counted}
+use Rattle.instruction_simulation.proofs.simulation.AgreeLaws.{agree_set, agree_weaken}
+use Rattle.instruction_simulation.proofs.simulation.Extending.{thread_extends}
+use Rattle.instruction_simulation.proofs.simulation.Memories.{memory_beside}
+use Rattle.instruction_simulation.specs.simulation.interpreter.declared.outcomes.Outcome.TheVariants.{Comes}
+use Rattle.instruction_simulation.proofs.simulation.Instructions.{LeavesMemory, ComesAlike, is_refused_fault, is_refused_effect}
+use Rattle.instruction_simulation.proofs.simulation.LimitRanges.{budget_is_some}
 use Rattle.step_simulation.proofs.Settings.{setting_of, is_alive, is_running}
+use Rattle.instruction_simulation.proofs.OneBlock.{one_block, memory_of}
+use Rattle.instruction_simulation.specs.simulation.interpreter.Instructions.{Answer}
 
 -- a thread with a step left isn't spent
 some_left : (n : ℕ) → (suc n == 0) ≡ false
@@ -115,7 +117,7 @@ same_state o x y s s' h k = cc
 
 -- what the step of a thread comes to on both machines, where the heap keeps its size
 abbrev pub Follows : Content → State → ℕ → Content × Report → Type 0
-Follows c s t after = after.0.objects.block.words ≡ c.objects.block.words → (s' : State) × (step c.tree c.limits s t (is_refusal after.1) ≡ Answers after.1 s') × Represents after.0 s'
+Follows c s t after = whole_space after.0.objects ≡ whole_space c.objects → (s' : State) × (step c.tree c.limits s t (is_refusal after.1) ≡ Answers after.1 s') × Represents after.0 s'
 
 -- a content that stands for the state after a step
 pub followed : (c : Content) (s : State) → Represents c s → (t : ℕ) (threads : List Thread) (o : Objects) (statics : List Value) (printed : List ℕ) (report : Report) (s' : State) →
@@ -167,27 +169,27 @@ module _ (c : Content) (s : State) (r : Represents c s) (t left : ℕ) (m : Fram
       (subst (λ ts. StandsFor (record c { threads = ts; objects = o; statics = statics; printed = printed }) settled.0) (sym (same x.0)) settled.2)
 
   -- memory that an instruction leaves as it was
-  memory_left : (a : Answer) → LeavesMemory (setting_of c t false) r.stands.name m c.objects c.statics c.printed s (is_alive c s r t left m there).running (is_alive c s r t left m there).below a →
-      StandsBy r.stands.name (record c { threads = c.threads; objects = a.1; statics = a.2; printed = a.3 }) s
+  memory_left : (a : Answer) → LeavesMemory (setting_of c t false) (one_block c.tree) r.stands.name m c.objects c.statics c.printed s (is_alive c s r t left m there).running (is_alive c s r t left m there).below a →
+      StandsBy r.stands.name (record c { threads = c.threads; objects = a.objects; statics = a.statics; printed = a.printed }) s
   memory_left a (one, two, three) = record {
-    memory = subst (λ o. IsMemory c.tree r.stands.name o a.2 a.3 s) (sym one) (subst (λ v. IsMemory c.tree r.stands.name c.objects v a.3 s) (sym two) (subst (λ p. IsMemory c.tree r.stands.name c.objects c.statics p s) (sym three) r.stands.by.memory));
+    memory = subst (λ o. IsMemory c.tree r.stands.name o a.statics a.printed s) (sym one) (subst (λ v. IsMemory c.tree r.stands.name c.objects v a.printed s) (sym two) (subst (λ p. IsMemory c.tree r.stands.name c.objects c.statics p s) (sym three) r.stands.by.memory));
     threads = r.stands.by.threads;
   }
 
   -- an instruction that asks nothing of other threads
   pub comes : (threads : List Thread) → ((x : Thread) → slice_set threads t x ≡ slice_set c.threads t x) → (refused : Bool) (effect : Effect) → refused ≡ is_refused_effect effect → (a : Answer) →
-      ComesAlike (setting_of c t refused) r.stands.name m c.objects c.statics c.printed s (is_alive c s r t left m there).running (is_alive c s r t left m there).below (Comes effect) a (done refused) →
-      Follows c s t (counted (record c { threads = threads; objects = a.1; statics = a.2; printed = a.3 }) t left effect a.0)
+      ComesAlike (setting_of c t refused) (one_block c.tree) r.stands.name m c.objects c.statics c.printed s (is_alive c s r t left m there).running (is_alive c s r t left m there).below (Comes effect) a (done refused) →
+      Follows c s t (counted (record c { threads = threads; objects = a.objects; statics = a.statics; printed = a.printed }) t left effect a.frames)
   comes threads same refused GoesOn refuses a h =
-      finish h.names threads c.threads a.1 a.2 a.3 h.state same
+      finish h.names threads c.threads a.objects a.statics a.printed h.state same
       (record {
-        memory = h.memory;
+        memory = memory_of c.tree h.names a.objects a.statics a.printed h.state h.memory;
         threads = subst (Agree (IsThread c.tree c.limits h.names) c.threads) (sym h.others)
             (agree_weaken (IsThread c.tree c.limits r.stands.name) (IsThread c.tree c.limits h.names) (thread_extends r.stands.name h.names h.extends c.tree c.limits) c.threads s.threads r.stands.by.threads);
       })
-      refused GoesOn refuses a.0 (h.running, h.waiting, h.is, h.frames)
-  comes threads same refused Returns refuses a (is, left_memory) = finish r.stands.name threads c.threads a.1 a.2 a.3 s same (memory_left a left_memory) refused Returns refuses a.0 is
+      refused GoesOn refuses a.frames (h.running, h.waiting, h.is, h.frames)
+  comes threads same refused Returns refuses a (is, left_memory) = finish r.stands.name threads c.threads a.objects a.statics a.printed s same (memory_left a left_memory) refused Returns refuses a.frames is
   comes threads same refused Blocks refuses a (is, frames, left_memory) =
-      finish r.stands.name threads c.threads a.1 a.2 a.3 s same (memory_left a left_memory) refused Blocks refuses a.0
+      finish r.stands.name threads c.threads a.objects a.statics a.printed s same (memory_left a left_memory) refused Blocks refuses a.frames
       (is, refl, subst (λ x. AreFrames c.tree c.limits r.stands.name x (is_alive c s r t left m there).thread.frames) (sym frames) (subst (AreFrames c.tree c.limits r.stands.name m) (sym (is_alive c s r t left m there).frames_are) (is_alive c s r t left m there).frames))
-  comes threads same refused (Raises x) refuses a (is, left_memory) = finish r.stands.name threads c.threads a.1 a.2 a.3 s same (memory_left a left_memory) refused (Raises x) refuses a.0 (is, refl)
+  comes threads same refused (Raises x) refuses a (is, left_memory) = finish r.stands.name threads c.threads a.objects a.statics a.printed s same (memory_left a left_memory) refused (Raises x) refuses a.frames (is, refl)

@@ -1,45 +1,44 @@
 -- The step of a thread that starts another.
-use Rattle.std.proofs.Common.{◌≡◌, ◌+◌, if◌then◌else◌, ℕ, suc, false, List, [], ◌∷◌, ◌++◌, length, Some, None, option_map, slice_get, slice_set, refl, inl, inr, sym, ap, ◌∙◌, subst, arith}
+use Rattle.std.proofs.Common.{◌≡◌, ◌<◌, ◌+◌, if◌then◌else◌, ℕ, suc, false, List, [], ◌∷◌, ◌++◌, length, Some, None, option_map, slice_get, slice_set, refl, inl, inr, sym, ap, ◌∙◌, subst, arith}
 use Rattle.std.specs.Prelude.{IsSome}
 use Rattle.std.specs.Option.{option_map_or}
-use Rattle.std.proofs.lemmas.List.{length-set}
 use Rattle.std.proofs.lemmas.Option.{same_Some}
-use Rattle.object_simulation.specs.simulation.cil_model.declared.reports.Fault.{Fault}
-use Rattle.object_simulation.specs.simulation.cil_model.declared.reports.Fault.TheVariants.{NullReference}
-use Rattle.object_simulation.specs.simulation.cil_model.declared.reports.Report.{Report}
-use Rattle.object_simulation.specs.simulation.reference_machine.Values.{Born, Value as StateValue}
-use Rattle.object_simulation.specs.simulation.reference_machine.States.{HeapObject, State, with_object}
-use Rattle.object_simulation.specs.simulation.reference_machine.Effects.{Raises as StateRaises, new_frame, after}
-use Rattle.object_simulation.specs.simulation.reference_machine.BuiltIn.{Start, start}
-use Rattle.object_simulation.specs.simulation.reference_machine.Values.{Reference}
-use Rattle.object_simulation.specs.simulation.resolved_code.declared.operations.Operation.{Operation}
-use Rattle.object_simulation.specs.simulation.object_memory.declared.addresses.Addr.{Addr}
-use Rattle.object_simulation.specs.simulation.object_memory.declared.kinds.Kind.TheVariants.{Instance}
-use Rattle.object_simulation.specs.simulation.object_memory.declared.values.Value.TheVariants.{Ref}
-use Rattle.object_simulation.specs.simulation.object_memory.Cells.{store_slot}
-use Rattle.object_simulation.specs.simulation.object_memory.Objects.{Objects, with_slot}
-use Rattle.object_simulation.specs.simulation.threads_monitors.Frames.{Frames}
-use Rattle.object_simulation.specs.simulation.threads_monitors.Threads.{start_fault, with_start}
-use Rattle.object_simulation.specs.simulation.threads_monitors.declared.effects.Effect.{Effect}
-use Rattle.object_simulation.specs.simulation.threads_monitors.declared.effects.Effect.TheVariants.{GoesOn, Raises}
-use Rattle.object_simulation.specs.simulation.threads_monitors.declared.threads.Standing.TheVariants.{Live}
-use Rattle.object_simulation.specs.simulation.threads_monitors.declared.threads.Thread.{Thread}
-use Rattle.object_simulation.specs.simulation.interpreter.Instructions.{HasSmallConstant, IsAt}
-use Rattle.object_simulation.specs.simulation.interpreter.declared.outcomes.Outcome.TheVariants.{Comes, Starts}
-use Rattle.object_simulation.specs.simulation.MachineContents.{Content}
-use Rattle.object_simulation.specs.simulation.StandsFor.{reference, thread_word, IsCell, IsOfContents, IsHeap, IsThread, StandsBy, Represents}
-use Rattle.object_simulation.specs.simulation.Turns.{Answer, after_request, counted, started, thread_at, thread_for}
-use Rattle.object_simulation.proofs.simulation.AgreeLaws.{agree_append, agree_length}
-use Rattle.object_simulation.proofs.simulation.Instructions.{is_refused_fault}
-use Rattle.object_simulation.proofs.simulation.Statements.{CellsMayChange}
-use Rattle.object_simulation.proofs.simulation.LimitRanges.{depth_is_some}
-use Rattle.object_simulation.proofs.simulation.Memories.{heap_beside}
+use Rattle.instruction_simulation.specs.simulation.cil_model.declared.reports.Fault.{Fault}
+use Rattle.instruction_simulation.specs.simulation.cil_model.declared.reports.Fault.TheVariants.{NullReference}
+use Rattle.instruction_simulation.specs.simulation.cil_model.declared.reports.Report.{Report}
+use Rattle.instruction_simulation.specs.simulation.reference_machine.Values.{Born, Value as StateValue}
+use Rattle.instruction_simulation.specs.simulation.reference_machine.States.{HeapObject, State, with_object}
+use Rattle.instruction_simulation.specs.simulation.reference_machine.Effects.{Raises as StateRaises, new_frame, after}
+use Rattle.instruction_simulation.specs.simulation.reference_machine.BuiltIn.{Start, start}
+use Rattle.instruction_simulation.specs.simulation.reference_machine.Values.{Reference}
+use Rattle.instruction_simulation.specs.simulation.resolved_code.declared.operations.Operation.{Operation}
+use Rattle.instruction_simulation.specs.simulation.object_memory.declared.addresses.Addr.{Addr}
+use Rattle.instruction_simulation.specs.simulation.object_memory.declared.kinds.Kind.TheVariants.{Instance}
+use Rattle.instruction_simulation.specs.simulation.object_memory.declared.values.Value.TheVariants.{Ref}
+use Rattle.instruction_simulation.specs.simulation.object_memory.Cells.{store_slot}
+use Rattle.instruction_simulation.specs.simulation.object_memory.Objects.{Objects, with_slot}
+use Rattle.instruction_simulation.specs.simulation.threads_monitors.Frames.{Frames}
+use Rattle.instruction_simulation.specs.simulation.threads_monitors.Threads.{start_fault, with_start}
+use Rattle.instruction_simulation.specs.simulation.threads_monitors.declared.effects.Effect.{Effect}
+use Rattle.instruction_simulation.specs.simulation.threads_monitors.declared.effects.Effect.TheVariants.{GoesOn, Raises}
+use Rattle.instruction_simulation.specs.simulation.threads_monitors.declared.threads.Standing.TheVariants.{Live}
+use Rattle.instruction_simulation.specs.simulation.threads_monitors.declared.threads.Thread.{Thread}
+use Rattle.instruction_simulation.specs.simulation.interpreter.Instructions.{HasSmallConstant, IsAt, Answer, answer_of}
+use Rattle.instruction_simulation.specs.simulation.interpreter.declared.outcomes.Outcome.TheVariants.{Comes, Starts}
+use Rattle.instruction_simulation.specs.simulation.MachineContents.{Content}
+use Rattle.instruction_simulation.specs.simulation.StandsFor.{reference, thread_word, IsCell, IsOfContents, IsMemory, IsThread, StandsBy, Represents}
+use Rattle.instruction_simulation.specs.simulation.Turns.{after_request, counted, started, thread_at, thread_for}
+use Rattle.instruction_simulation.proofs.simulation.AgreeLaws.{agree_append, agree_length}
+use Rattle.instruction_simulation.proofs.simulation.Instructions.{is_refused_fault}
+use Rattle.instruction_simulation.proofs.simulation.LimitRanges.{depth_is_some}
+use Rattle.instruction_simulation.proofs.simulation.Memories.{memory_beside}
 use Rattle.step_simulation.proofs.Settling.{Follows, done, finish, comes}
 use Rattle.step_simulation.proofs.Beginnings.{beginning_stands}
 use Rattle.step_simulation.proofs.ThreadObjects.{IsThreadObject}
 use Rattle.step_simulation.proofs.Requests.{here, running, below, Asks, IsAskedOf, asked_of, popped_frames}
 use Rattle.step_simulation.proofs.Starts.{state_with, IsBegun, IsStarted, faulted, begun, is_started}
-use Rattle.object_simulation.proofs.simulation.cil_model.Lists.{none_is_some}
+use Rattle.instruction_simulation.proofs.simulation.cil_model.Lists.{none_is_some}
+use Rattle.instruction_simulation.proofs.OneBlock.{one_block, modelled, memory_of}
 
 module _ (c : Content) (s : State) (r : Represents c s) (t left : ℕ) (m : Frames) (there : slice_get c.threads t ≡ Some (record { standing = Live m; steps_left = left })) where
   -- what is asked of the one operand
@@ -53,9 +52,9 @@ module _ (c : Content) (s : State) (r : Represents c s) (t left : ℕ) (m : Fram
 
   -- a step that ends by a fault
   fault_follows : (fault : Fault) → false ≡ is_refused_fault fault → done c s r t left m there false ≡ StateRaises fault → Follows c s t (counted_with (c.threads, c.objects, Raises fault))
-  fault_follows fault refuses e = comes c s r t left m there c.threads (λ x. refl) false (Raises fault) refuses (m, c.objects, c.statics, c.printed, Comes (Raises fault)) (e, (refl, refl, refl))
+  fault_follows fault refuses e = comes c s r t left m there c.threads (λ x. refl) false (Raises fault) refuses (answer_of m c.objects c.statics c.printed (Comes (Raises fault))) (e, (refl, refl, refl))
 
-  module _ (cells_may_change : CellsMayChange) (rest : List StateValue) (object : Addr) (number : ℕ) (x : IsThreadObject c.tree r.stands.name c.objects s object number) (named : r.stands.name object.number ≡ Some (Born number)) where
+  module _ (rest : List StateValue) (object : Addr) (number : ℕ) (x : IsThreadObject c.tree r.stands.name c.objects s object number) (named : r.stands.name object.number ≡ Some (Born number)) where
     -- the object tells its thread
     abbrev marked : HeapObject
     marked = record x.object { thread = Some (length s.threads) }
@@ -80,9 +79,16 @@ module _ (c : Content) (s : State) (r : Represents c s) (t left : ℕ) (m : Fram
       monitor = x.monitor;
     }
 
-    marked_heap : IsHeap c.tree r.stands.name (with_slot c.objects object 0 told_word) (with_object s (Born number) marked)
-    marked_heap =
-        cells_may_change c.tree r.stands.name c.objects s r.stands.by.memory.heap object number named (store_slot 0 told_word) (λ k. length-set k.slots 0 told_word) x.cell x.lies marked marked_cell
+    slot_there : 0 < length x.cell.slots
+    slot_there = subst (λ (l : List ℕ). 0 < length l) (sym x.slots) (omega arith)
+
+    marked_memory : IsMemory c.tree r.stands.name (with_slot c.objects object 0 told_word) c.statics c.printed (with_object s (Born number) marked)
+    marked_memory =
+        memory_of c.tree r.stands.name (with_slot c.objects object 0 told_word) c.statics c.printed (with_object s (Born number) marked)
+        (record {
+          fits = (one_block c.tree).hidden r.stands.name c.objects c.statics s (modelled c.tree r.stands.name c.objects c.statics c.printed s r.stands.by.memory).fits object number named x.cell x.lies 0 told_word slot_there marked marked_cell;
+          printed_is = r.stands.by.memory.printed_is;
+        })
 
     module _ (b : IsBegun c s r t left m there rest object number x) where
       -- the thread that begins
@@ -91,11 +97,9 @@ module _ (c : Content) (s : State) (r : Represents c s) (t left : ℕ) (m : Fram
 
       begun_stands : StandsBy r.stands.name (record c { threads = c.threads ++ beginning ∷ []; objects = with_slot c.objects object 0 told_word }) (state_with c s r t left m there rest object number x b.found b.code)
       begun_stands = record {
-        memory = record {
-          heap = heap_beside c.tree r.stands.name (with_slot c.objects object 0 told_word) (with_object s (Born number) marked) (state_with c s r t left m there rest object number x b.found b.code) refl refl marked_heap;
-          static_values = r.stands.by.memory.static_values;
-          printed_is = r.stands.by.memory.printed_is;
-        };
+        memory =
+            memory_beside c.tree r.stands.name (with_slot c.objects object 0 told_word) (with_object s (Born number) marked) (state_with c s r t left m there rest object number x b.found b.code) refl refl refl refl c.statics c.printed
+            marked_memory;
         threads = agree_append (IsThread c.tree c.limits r.stands.name) c.threads s.threads r.stands.by.threads (beginning ∷ [])
             (record { frames = new_frame b.found.0 b.found.1 b.code (Reference (Born number) ∷ []) None ∷ []; steps_left = c.limits.budget; ended = None } ∷ []) (
               beginning_stands r.stands.name c.tree c.limits (depth_is_some c.limits r.limits) b.found b.code b.has_code b.first b.stands (Ref object ∷ []) (Reference (Born number) ∷ []) (reference object (Born number) named, tt),
@@ -112,10 +116,10 @@ module _ (c : Content) (s : State) (r : Represents c s) (t left : ℕ) (m : Fram
 
   -- ---- Start
 
-  module _ (cells_may_change : CellsMayChange) (operation : Operation) (at : IsAt c.tree m operation) (constant : HasSmallConstant operation) where
-    start_follows : (object : Addr) → (asks : Asks c s r t left m there Start object (m, c.objects, c.statics, c.printed, Starts object)) → (after' : Content × Report) →
+  module _ (operation : Operation) (at : IsAt c.tree m operation) (constant : HasSmallConstant operation) where
+    start_follows : (object : Addr) → (asks : Asks c s r t left m there Start object (answer_of m c.objects c.statics c.printed (Starts object))) → (after' : Content × Report) →
         option_map counted_with (started c.tree c.limits c.threads c.objects object) ≡ Some after' → Follows c s t after'
-    start_follows object asks after' h = by_object (start_asked object (m, c.objects, c.statics, c.printed, Starts object) asks)
+    start_follows object asks after' h = by_object (start_asked object (answer_of m c.objects c.statics c.printed (Starts object)) asks)
       where
         leads : (y : List Thread × Objects × Effect) → started c.tree c.limits c.threads c.objects object ≡ Some y → Follows c s t (counted_with y) → Follows c s t after'
         leads y is f = subst (Follows c s t) (same_Some (counted_with y) after' (sym (ap (option_map counted_with) is) ∙ h)) f
@@ -139,19 +143,19 @@ module _ (c : Content) (s : State) (r : Represents c s) (t left : ℕ) (m : Fram
             by_start (begun is b) =
                 leads (c.threads ++ thread_at c.limits b.found (Ref object ∷ []) b.first ∷ [], with_slot c.objects object 0 (length c.threads + 1), GoesOn)
                 (thread_starts (thread_at c.limits b.found (Ref object ∷ []) b.first) is b.thread)
-                (begun_follows cells_may_change asks.rest object number x named b operation at constant asks.operand asks.stack)
+                (begun_follows asks.rest object number x named b operation at constant asks.operand asks.stack)
 
     -- a step that asks for a start
-    pub starts : (threads : List Thread) → threads ≡ c.threads → (object : Addr) → Asks c s r t left m there Start object (m, c.objects, c.statics, c.printed, Starts object) → (after' : Content × Report) →
+    pub starts : (threads : List Thread) → threads ≡ c.threads → (object : Addr) → Asks c s r t left m there Start object (answer_of m c.objects c.statics c.printed (Starts object)) → (after' : Content × Report) →
         option_map counted_with (started c.tree c.limits threads c.objects object) ≡ Some after' → Follows c s t after'
     starts threads same object asks after' h = start_follows object asks after' (subst (λ ts. option_map counted_with (started c.tree c.limits ts c.objects object) ≡ Some after') same h)
 
   -- ---- that it can be answered
 
   -- where there is no fault a thread begins
-  pub start_has_thread : (threads : List Thread) → threads ≡ c.threads → (object : Addr) → Asks c s r t left m there Start object (m, c.objects, c.statics, c.printed, Starts object) →
+  pub start_has_thread : (threads : List Thread) → threads ≡ c.threads → (object : Addr) → Asks c s r t left m there Start object (answer_of m c.objects c.statics c.printed (Starts object)) →
       start_fault threads c.objects object ≡ None → IsSome (thread_for c.tree c.limits c.objects object)
-  start_has_thread threads same object asks none = by_object (start_asked object (m, c.objects, c.statics, c.printed, Starts object) asks)
+  start_has_thread threads same object asks none = by_object (start_asked object (answer_of m c.objects c.statics c.printed (Starts object)) asks)
     where
       no_fault : start_fault c.threads c.objects object ≡ None
       no_fault = subst (λ ts. start_fault ts c.objects object ≡ None) same none

@@ -3,50 +3,50 @@ use Rattle.std.proofs.Common.{◌≡◌, ◌-◌, if◌then◌else◌, is_none, 
 use Rattle.std.specs.Option.{option_map_or}
 use Rattle.std.proofs.lemmas.Option.{same_Some}
 use Rattle.std.proofs.lemmas.List.{set-set}
-use Rattle.object_simulation.specs.simulation.cil_model.declared.events.Event.TheVariants.{Step}
-use Rattle.object_simulation.specs.simulation.cil_model.declared.reports.End.{End}
-use Rattle.object_simulation.specs.simulation.cil_model.declared.reports.Report.{Report}
-use Rattle.object_simulation.specs.simulation.cil_model.declared.reports.Report.TheVariants.{Absent}
-use Rattle.object_simulation.specs.simulation.reference_machine.States.{Frame as StateFrame, Thread as StateThread, State}
-use Rattle.object_simulation.specs.simulation.reference_machine.Steps.{Answers, effect_of, settled, step, step_of}
-use Rattle.object_simulation.specs.simulation.reference_machine.Runs.{is_refusal}
-use Rattle.object_simulation.specs.simulation.object_memory.declared.addresses.Addr.{Addr}
-use Rattle.object_simulation.specs.simulation.threads_monitors.Frames.{Frames}
-use Rattle.object_simulation.specs.simulation.threads_monitors.declared.threads.Standing.{Standing}
-use Rattle.object_simulation.specs.simulation.threads_monitors.declared.threads.Standing.TheVariants.{Live, Ended}
-use Rattle.object_simulation.specs.simulation.threads_monitors.declared.threads.Thread.{Thread}
-use Rattle.object_simulation.specs.simulation.interpreter.Instructions.{IsDone}
-use Rattle.object_simulation.specs.simulation.interpreter.declared.outcomes.Outcome.{Outcome}
-use Rattle.object_simulation.specs.simulation.interpreter.declared.outcomes.Outcome.TheVariants.{Comes, Starts, Joins}
-use Rattle.object_simulation.specs.simulation.reference_machine.BuiltIn.{Action, Start, Join, start, join}
-use Rattle.object_simulation.specs.simulation.MachineContents.{Content}
-use Rattle.object_simulation.specs.simulation.StandsFor.{IsThread, StandsAlike, Represents}
-use Rattle.object_simulation.specs.simulation.Turns.{Answer, IsStandingTurn, IsThreadTurn, IsTurn, finished}
-use Rattle.object_simulation.proofs.simulation.AgreeLaws.{agree_at, agree_get}
-use Rattle.object_simulation.proofs.simulation.Instructions.{InstructionsAreAlike, ComesAlike, is_refused_effect, is_refused_outcome}
-use Rattle.object_simulation.proofs.simulation.Statements.{CellsMayChange}
-use Rattle.object_simulation.specs.simulation.Ready.{IsReady, IsAnswerable}
+use Rattle.instruction_simulation.specs.simulation.cil_model.declared.events.Event.TheVariants.{Step}
+use Rattle.instruction_simulation.specs.simulation.cil_model.declared.reports.End.{End}
+use Rattle.instruction_simulation.specs.simulation.cil_model.declared.reports.Report.{Report}
+use Rattle.instruction_simulation.specs.simulation.cil_model.declared.reports.Report.TheVariants.{Absent}
+use Rattle.instruction_simulation.specs.simulation.reference_machine.States.{Frame as StateFrame, Thread as StateThread, State}
+use Rattle.instruction_simulation.specs.simulation.reference_machine.Steps.{Answers, effect_of, settled, step, step_of}
+use Rattle.instruction_simulation.specs.simulation.reference_machine.Runs.{is_refusal}
+use Rattle.instruction_simulation.specs.simulation.object_memory.declared.addresses.Addr.{Addr}
+use Rattle.instruction_simulation.specs.simulation.threads_monitors.Frames.{Frames}
+use Rattle.instruction_simulation.specs.simulation.threads_monitors.declared.threads.Standing.{Standing}
+use Rattle.instruction_simulation.specs.simulation.threads_monitors.declared.threads.Standing.TheVariants.{Live, Ended}
+use Rattle.instruction_simulation.specs.simulation.threads_monitors.declared.threads.Thread.{Thread}
+use Rattle.instruction_simulation.specs.simulation.interpreter.Instructions.{IsDone, Answer, answer_of}
+use Rattle.instruction_simulation.specs.simulation.interpreter.declared.outcomes.Outcome.{Outcome}
+use Rattle.instruction_simulation.specs.simulation.interpreter.declared.outcomes.Outcome.TheVariants.{Comes, Starts, Joins}
+use Rattle.instruction_simulation.specs.simulation.reference_machine.BuiltIn.{Action, Start, Join, start, join}
+use Rattle.instruction_simulation.specs.simulation.MachineContents.{Content}
+use Rattle.instruction_simulation.specs.simulation.StandsFor.{IsThread, StandsAlike, Represents}
+use Rattle.instruction_simulation.specs.simulation.Turns.{IsStandingTurn, IsThreadTurn, IsTurn, finished}
+use Rattle.instruction_simulation.proofs.simulation.AgreeLaws.{agree_at, agree_get}
+use Rattle.instruction_simulation.proofs.simulation.Instructions.{InstructionsAreAlike, ComesAlike, is_refused_effect, is_refused_outcome}
+use Rattle.instruction_simulation.specs.simulation.Ready.{IsReady, IsAnswerable}
 use Rattle.step_simulation.proofs.Settings.{setting_of, is_alive, does_alike, live_is_ready}
 use Rattle.step_simulation.proofs.Settling.{Follows, done, comes}
 use Rattle.step_simulation.proofs.Requests.{here, running, below, Asks, asked_of, has_operand, place_below}
 use Rattle.step_simulation.proofs.Joins.{joins}
 use Rattle.step_simulation.proofs.StartSteps.{start_asked, starts, start_has_thread}
 use Rattle.step_simulation.proofs.Finished.{turn_keeps_words}
-use Rattle.object_simulation.proofs.simulation.cil_model.Lists.{none_is_some, set_itself}
+use Rattle.instruction_simulation.proofs.simulation.cil_model.Lists.{none_is_some, set_itself}
+use Rattle.instruction_simulation.proofs.OneBlock.{one_block}
 
 -- ---- an instruction that asks something of other threads
 
 module _ (c : Content) (s : State) (r : Represents c s) (t left : ℕ) (m : Frames) (there : slice_get c.threads t ≡ Some (record { standing = Live m; steps_left = left })) where
   -- an instruction that asks leaves all as it was
   abbrev asking : Outcome → Answer
-  asking out = (m, c.objects, c.statics, c.printed, out)
+  asking out = (answer_of m c.objects c.statics c.printed out)
 
   asks_itself : (action : Action) (object : Addr) (a : Answer) (out : Outcome) → Asks c s r t left m there action object a → Asks c s r t left m there action object (asking out)
   asks_itself action object a out h = record { operand = h.operand; rest = h.rest; stack = h.stack; stands = h.stands; is = h.is; frames = refl; memory = (refl, refl, refl) }
 
-  asking_is : (action : Action) (object : Addr) (a : Answer) → Asks c s r t left m there action object a → a ≡ asking a.4
+  asking_is : (action : Action) (object : Addr) (a : Answer) → Asks c s r t left m there action object a → a ≡ asking a.outcome
   asking_is action object a h =
-      ap (λ x. (x, a.1, a.2, a.3, a.4)) h.frames ∙ ap (λ x. (m, x, a.2, a.3, a.4)) h.memory.0 ∙ ap (λ x. (m, c.objects, x, a.3, a.4)) h.memory.1 ∙ ap (λ x. (m, c.objects, c.statics, x, a.4)) h.memory.2
+      ap (λ x. answer_of x a.objects a.statics a.printed a.outcome) h.frames ∙ ap (λ x. answer_of m x a.statics a.printed a.outcome) h.memory.0 ∙ ap (λ x. answer_of m c.objects x a.printed a.outcome) h.memory.1 ∙ ap (λ x. answer_of m c.objects c.statics x a.outcome) h.memory.2
 
   -- its thread stands where it stood
   threads_stay : slice_set c.threads t (record { standing = Live m; steps_left = left }) ≡ c.threads
@@ -84,42 +84,42 @@ ended_absent c s r t left e there =
 module _ (each : InstructionsAreAlike) (c : Content) (s : State) (r : Represents c s) (t left : ℕ) (m : Frames) (there : slice_get c.threads t ≡ Some (record { standing = Live m; steps_left = left })) where
   -- the same on the reference machine, where memory is refused to both
   comes_alike : (a : Answer) → IsDone c.tree t m c.objects c.statics c.printed a →
-      ComesAlike (setting_of c t (is_refused_outcome a.4)) r.stands.name m c.objects c.statics c.printed s (is_alive c s r t left m there).running (is_alive c s r t left m there).below a.4 a
-      (done c s r t left m there (is_refused_outcome a.4))
+      ComesAlike (setting_of c t (is_refused_outcome a.outcome)) (one_block c.tree) r.stands.name m c.objects c.statics c.printed s (is_alive c s r t left m there).running (is_alive c s r t left m there).below a.outcome a
+      (done c s r t left m there (is_refused_outcome a.outcome))
   comes_alike a d =
-      let refused : Bool = is_refused_outcome a.4 in
+      let refused : Bool = is_refused_outcome a.outcome in
       let x = does_alike each c s r t left m there refused d.operation d.at d.constant in
       let same : x.answer ≡ a = same_Some x.answer a (sym x.is ∙ sym d.is) in
-      subst (λ (y : Answer). refused ≡ is_refused_outcome y.4 →
-      ComesAlike (setting_of c t refused) r.stands.name m c.objects c.statics c.printed s (is_alive c s r t left m there).running (is_alive c s r t left m there).below y.4 y (done c s r t left m there refused))
+      subst (λ (y : Answer). refused ≡ is_refused_outcome y.outcome →
+      ComesAlike (setting_of c t refused) (one_block c.tree) r.stands.name m c.objects c.statics c.printed s (is_alive c s r t left m there).running (is_alive c s r t left m there).below y.outcome y (done c s r t left m there refused))
       same x.alike refl
 
-  module _ (cells_may_change : CellsMayChange) (after : Content × Report) where
+  module _ (after : Content × Report) where
     -- a live thread's step
-    live_follows : (a : Answer) → IsDone c.tree t m c.objects c.statics c.printed a → finished c t left a a.4 ≡ Some after → Follows c s t after
-    live_follows a d is = by_answer a d (comes_alike a d) is
+    live_follows : (a : Answer) → IsDone c.tree t m c.objects c.statics c.printed a → finished c t left a a.outcome ≡ Some after → Follows c s t after
+    live_follows a d is = by_outcome a.outcome (comes_alike a d) is
       where
-        by_answer : (a : Answer) → IsDone c.tree t m c.objects c.statics c.printed a →
-            ComesAlike (setting_of c t (is_refused_outcome a.4)) r.stands.name m c.objects c.statics c.printed s (is_alive c s r t left m there).running (is_alive c s r t left m there).below a.4 a
-            (done c s r t left m there (is_refused_outcome a.4)) →
-            finished c t left a a.4 ≡ Some after → Follows c s t after
-        by_answer (m', o', statics', printed', Comes e) d' h is' =
+        by_outcome : (out : Outcome) →
+            ComesAlike (setting_of c t (is_refused_outcome out)) (one_block c.tree) r.stands.name m c.objects c.statics c.printed s (is_alive c s r t left m there).running (is_alive c s r t left m there).below out a
+            (done c s r t left m there (is_refused_outcome out)) →
+            finished c t left a out ≡ Some after → Follows c s t after
+        by_outcome (Comes e) h is' =
             subst (Follows c s t) (same_Some _ after is')
-            (comes c s r t left m there (slice_set c.threads t (record { standing = Live m'; steps_left = left })) (λ x. set-set c.threads t (record { standing = Live m'; steps_left = left }) x)
-            (is_refused_effect e) e refl (m', o', statics', printed', Comes e) h)
-        by_answer (m', o', statics', printed', Starts object) d' h is' =
-            starts c s r t left m there cells_may_change d'.operation d'.at d'.constant (slice_set c.threads t (record { standing = Live m; steps_left = left })) (threads_stay c s r t left m there) object
-            (asks_itself c s r t left m there Start object (m', o', statics', printed', Starts object) (Starts object) h) after
-            (subst (λ y. finished c t left y (Starts object) ≡ Some after) (asking_is c s r t left m there Start object (m', o', statics', printed', Starts object) h) is')
-        by_answer (m', o', statics', printed', Joins object) d' h is' =
+            (comes c s r t left m there (slice_set c.threads t (record { standing = Live a.frames; steps_left = left })) (λ x. set-set c.threads t (record { standing = Live a.frames; steps_left = left }) x)
+            (is_refused_effect e) e refl a h)
+        by_outcome (Starts object) h is' =
+            starts c s r t left m there d.operation d.at d.constant (slice_set c.threads t (record { standing = Live m; steps_left = left })) (threads_stay c s r t left m there) object
+            (asks_itself c s r t left m there Start object a (Starts object) h) after
+            (subst (λ y. finished c t left y (Starts object) ≡ Some after) (asking_is c s r t left m there Start object a h) is')
+        by_outcome (Joins object) h is' =
             subst (Follows c s t)
-            (same_Some _ after (subst (λ y. finished c t left y (Joins object) ≡ Some after) (asking_is c s r t left m there Join object (m', o', statics', printed', Joins object) h) is'))
-            (joins c s r t left m there d'.operation d'.at d'.constant (slice_set c.threads t (record { standing = Live m; steps_left = left })) (threads_stay c s r t left m there) object
-            (asks_itself c s r t left m there Join object (m', o', statics', printed', Joins object) (Joins object) h))
+            (same_Some _ after (subst (λ y. finished c t left y (Joins object) ≡ Some after) (asking_is c s r t left m there Join object a h) is'))
+            (joins c s r t left m there d.operation d.at d.constant (slice_set c.threads t (record { standing = Live m; steps_left = left })) (threads_stay c s r t left m there) object
+            (asks_itself c s r t left m there Join object a (Joins object) h))
 
 -- ---- all
 
-module _ (each : InstructionsAreAlike) (cells_may_change : CellsMayChange) where
+module _ (each : InstructionsAreAlike) where
   -- a live thread is ready
   pub thread_ready : (c : Content) (s : State) → Represents c s → (t left : ℕ) (m : Frames) → slice_get c.threads t ≡ Some (record { standing = Live m; steps_left = left }) → IsReady c t m
   thread_ready c s r t left m there = live_is_ready each c s r t left m there
@@ -130,7 +130,7 @@ module _ (each : InstructionsAreAlike) (cells_may_change : CellsMayChange) where
   step_follows c s r t after turn = by_thread (slice_get c.threads t) refl turn (turn_keeps_words c after (Step t) turn)
     where
       by_standing : (left : ℕ) (standing : Standing) → slice_get c.threads t ≡ Some (record { standing = standing; steps_left = left }) → IsStandingTurn c t left standing after → Follows c s t after
-      by_standing left (Live m) there (a, d, is) = live_follows each c s r t left m there cells_may_change after a d is
+      by_standing left (Live m) there (a, d, is) = live_follows each c s r t left m there after a d is
       by_standing left (Ended e) there is = subst (Follows c s t) (sym is) (ended_absent c s r t left e there)
 
       by_thread : (x : Option Thread) → slice_get c.threads t ≡ x → IsThreadTurn c t x after → Follows c s t after
@@ -139,28 +139,28 @@ module _ (each : InstructionsAreAlike) (cells_may_change : CellsMayChange) where
 
   -- what an instruction asks of other threads can be answered
   pub answerable : (c : Content) (s : State) → Represents c s → (t left : ℕ) (m : Frames) → slice_get c.threads t ≡ Some (record { standing = Live m; steps_left = left }) →
-      (a : Answer) → IsDone c.tree t m c.objects c.statics c.printed a → IsAnswerable c t left a a.4
-  answerable c s r t left m there a d = by_answer a d (comes_alike each c s r t left m there a d)
+      (a : Answer) → IsDone c.tree t m c.objects c.statics c.printed a → IsAnswerable c t left a a.outcome
+  answerable c s r t left m there a d = by_outcome a.outcome (comes_alike each c s r t left m there a d)
     where
-      by_answer : (a : Answer) → IsDone c.tree t m c.objects c.statics c.printed a →
-          ComesAlike (setting_of c t (is_refused_outcome a.4)) r.stands.name m c.objects c.statics c.printed s (is_alive c s r t left m there).running (is_alive c s r t left m there).below a.4 a
-          (done c s r t left m there (is_refused_outcome a.4)) →
-          IsAnswerable c t left a a.4
-      by_answer (m', o', statics', printed', Comes e) d' h = tt
-      by_answer (m', o', statics', printed', Starts object) d' h =
-          subst (λ y. IsAnswerable c t left y (Starts object)) (sym (asking_is c s r t left m there Start object (m', o', statics', printed', Starts object) h)) (
+      by_outcome : (out : Outcome) →
+          ComesAlike (setting_of c t (is_refused_outcome out)) (one_block c.tree) r.stands.name m c.objects c.statics c.printed s (is_alive c s r t left m there).running (is_alive c s r t left m there).below out a
+          (done c s r t left m there (is_refused_outcome out)) →
+          IsAnswerable c t left a out
+      by_outcome (Comes e) h = tt
+      by_outcome (Starts object) h =
+          subst (λ y. IsAnswerable c t left y (Starts object)) (sym (asking_is c s r t left m there Start object a h)) (
             has_operand c s r t left m there Start (λ n. start (here c s r t left m there) s (running c s r t left m there) (below c s r t left m there) n own.rest) object (asking c s r t left m there (Starts object)) own (start_asked c s r t left m there object (asking c s r t left m there (Starts object)) own)
-                (place_below c s r t left m there d'.operation d'.at d'.constant),
+                (place_below c s r t left m there d.operation d.at d.constant),
             start_has_thread c s r t left m there (slice_set c.threads t (record { standing = Live m; steps_left = left })) (threads_stay c s r t left m there) object own,
           )
         where
           own : Asks c s r t left m there Start object (asking c s r t left m there (Starts object))
-          own = asks_itself c s r t left m there Start object (m', o', statics', printed', Starts object) (Starts object) h
-      by_answer (m', o', statics', printed', Joins object) d' h =
-          subst (λ y. IsAnswerable c t left y (Joins object)) (sym (asking_is c s r t left m there Join object (m', o', statics', printed', Joins object) h))
+          own = asks_itself c s r t left m there Start object a (Starts object) h
+      by_outcome (Joins object) h =
+          subst (λ y. IsAnswerable c t left y (Joins object)) (sym (asking_is c s r t left m there Join object a h))
           (has_operand c s r t left m there Join (λ n. join (here c s r t left m there) s (running c s r t left m there) (below c s r t left m there) own.rest) object (asking c s r t left m there (Joins object)) own
           (asked_of c s r t left m there Join (λ rest n. join (here c s r t left m there) s (running c s r t left m there) (below c s r t left m there) rest) (λ v rest. refl) object (asking c s r t left m there (Joins object)) own)
-          (place_below c s r t left m there d'.operation d'.at d'.constant))
+          (place_below c s r t left m there d.operation d.at d.constant))
         where
           own : Asks c s r t left m there Join object (asking c s r t left m there (Joins object))
-          own = asks_itself c s r t left m there Join object (m', o', statics', printed', Joins object) (Joins object) h
+          own = asks_itself c s r t left m there Join object a (Joins object) h

@@ -2,28 +2,28 @@
 use Rattle.std.proofs.Common.{◌≡◌, ◌⊎◌, ℕ, Bool, true, false, if◌then◌else◌, List, [], ◌∷◌, ◌++◌, Option, Some, None, option_map, option_and_then, unwrap_or, slice_get, refl, inl, inr, ap, ◌∙◌, subst}
 use Rattle.std.specs.Prelude.{slice_index}
 use Rattle.std.specs.Option.{option_map_or}
-use Rattle.object_simulation.specs.simulation.cil_model.declared.trees.Tree.{Tree}
-use Rattle.object_simulation.specs.simulation.cil_model.declared.types.ClassName.{ClassName}
-use Rattle.object_simulation.specs.simulation.cil_model.Chains.{is_thread_class}
-use Rattle.object_simulation.specs.simulation.cil_model.Declarations.{string_name}
-use Rattle.object_simulation.specs.simulation.cil_model.Fields.{FieldKey}
-use Rattle.object_simulation.specs.simulation.reference_machine.Values.{ObjectName, Born, Literal, Value as StateValue, Null, Reference}
-use Rattle.object_simulation.specs.simulation.reference_machine.States.{Contents, Instance as IsInstance, Array as IsArray, HeapObject, Frame as StateFrame, State, object_at, class_of, class_of_contents}
-use Rattle.object_simulation.specs.simulation.reference_machine.Effects.{Setting, Effect as StateEffect, Sticks, given}
-use Rattle.object_simulation.specs.simulation.reference_machine.BuiltIn.{thread_object}
-use Rattle.object_simulation.proofs.simulation.type_soundness.Running.{IsTypedEffect}
-use Rattle.object_simulation.specs.simulation.resolved_code.Numbered.{class_name}
-use Rattle.object_simulation.specs.simulation.object_memory.declared.addresses.Addr.{Addr}
-use Rattle.object_simulation.specs.simulation.object_memory.declared.kinds.Kind.{Kind}
-use Rattle.object_simulation.specs.simulation.object_memory.declared.kinds.Kind.TheVariants.{Instance, Array}
-use Rattle.object_simulation.specs.simulation.object_memory.declared.values.Value.{Value}
-use Rattle.object_simulation.specs.simulation.object_memory.declared.values.Value.TheVariants.{Ref}
-use Rattle.object_simulation.specs.simulation.object_memory.Cells.{Cell, cell_at, literal_number, null}
-use Rattle.object_simulation.specs.simulation.object_memory.Objects.{Objects}
-use Rattle.object_simulation.specs.simulation.threads_monitors.Threads.{thread_told, thread_on}
-use Rattle.object_simulation.specs.simulation.interpreter.Calls.{class_at, class_of_kind}
-use Rattle.object_simulation.specs.simulation.Agreement.{Agree}
-use Rattle.object_simulation.specs.simulation.StandsFor.{Names, IsValue, int32, int64, native, null_reference, reference, IsWord, IsMonitor, thread_word, IsOfContents, IsBornAt, IsHeap}
+use Rattle.instruction_simulation.specs.simulation.cil_model.declared.trees.Tree.{Tree}
+use Rattle.instruction_simulation.specs.simulation.cil_model.declared.types.ClassName.{ClassName}
+use Rattle.instruction_simulation.specs.simulation.cil_model.Chains.{is_thread_class}
+use Rattle.instruction_simulation.specs.simulation.cil_model.Declarations.{string_name}
+use Rattle.instruction_simulation.specs.simulation.cil_model.Fields.{FieldKey}
+use Rattle.instruction_simulation.specs.simulation.reference_machine.Values.{ObjectName, Born, Literal, Value as StateValue, Null, Reference}
+use Rattle.instruction_simulation.specs.simulation.reference_machine.States.{Contents, Instance as IsInstance, Array as IsArray, HeapObject, Frame as StateFrame, State, object_at, class_of, class_of_contents}
+use Rattle.instruction_simulation.specs.simulation.reference_machine.Effects.{Setting, Effect as StateEffect, Sticks, given}
+use Rattle.instruction_simulation.specs.simulation.reference_machine.BuiltIn.{thread_object}
+use Rattle.instruction_simulation.proofs.simulation.type_soundness.Running.{IsTypedEffect}
+use Rattle.instruction_simulation.specs.simulation.resolved_code.Numbered.{class_name}
+use Rattle.instruction_simulation.specs.simulation.object_memory.declared.addresses.Addr.{Addr}
+use Rattle.instruction_simulation.specs.simulation.object_memory.declared.kinds.Kind.{Kind}
+use Rattle.instruction_simulation.specs.simulation.object_memory.declared.kinds.Kind.TheVariants.{Instance, Array}
+use Rattle.instruction_simulation.specs.simulation.object_memory.declared.values.Value.{Value}
+use Rattle.instruction_simulation.specs.simulation.object_memory.declared.values.Value.TheVariants.{Ref}
+use Rattle.instruction_simulation.specs.simulation.object_memory.Cells.{Cell, literal_number, null}
+use Rattle.instruction_simulation.specs.simulation.object_memory.Objects.{Objects, object_cell}
+use Rattle.instruction_simulation.specs.simulation.threads_monitors.Threads.{thread_told, thread_on}
+use Rattle.instruction_simulation.specs.simulation.interpreter.Calls.{class_at, class_of_kind}
+use Rattle.instruction_simulation.specs.simulation.Agreement.{Agree}
+use Rattle.instruction_simulation.specs.simulation.StandsFor.{Names, IsValue, int32, int64, native, null_reference, reference, IsWord, IsMonitor, thread_word, IsOfContents, IsBornAt, IsHeap}
 
 -- an address stands for null, or for the object that it names
 pub reference_is : (name : Names) (v : Value) (u : StateValue) → IsValue name v u → (a : Addr) → v ≡ Ref a → ((a ≡ null) × (u ≡ Null)) ⊎ ((n : ObjectName) × (u ≡ Reference n) × (name a.number ≡ Some n))
@@ -37,7 +37,7 @@ reference_is name v u (reference b n is) a e = let same : b ≡ a = cc in inr (n
 pub record IsThreadObject (tree : Tree) (name : Names) (o : Objects) (s : State) (a : Addr) (number : ℕ) : Type 0 where
   pub no_literal : literal_number a ≡ None
   pub cell : Cell
-  pub lies : cell_at o.block a ≡ Some cell
+  pub lies : object_cell o a ≡ Some cell
   pub object : HeapObject
   pub is : slice_get s.objects number ≡ Some object
   pub class : ℕ
@@ -64,7 +64,7 @@ module _ (tree : Tree) (name : Names) (o : Objects) (s : State) (a : Addr) (numb
 
   pub class_at_is : class_at o a ≡ Some (Some x.class)
   class_at_is =
-      ap (λ l. option_map_or (λ n. Some (Some 1)) l (option_map (λ (c : Cell). class_of_kind c.kind) (cell_at o.block a))) x.no_literal ∙
+      ap (λ l. option_map_or (λ n. Some (Some 1)) l (option_map (λ (c : Cell). class_of_kind c.kind) (object_cell o a))) x.no_literal ∙
       ap (option_map (λ (c : Cell). class_of_kind c.kind)) x.lies ∙ ap (λ k. Some (class_of_kind k)) x.kind
 
   pub own_class_is : class_of s (Born number) ≡ Some x.own

@@ -1,96 +1,95 @@
 -- Each instruction does the same on a machine as on the reference machine; so does each step, from the opening on.
 use Rattle.std.proofs.Common.{◌≡◌, ℕ, IsTrue, List, Some, slice_get, ◌↔◌}
-use Rattle.object_simulation.specs.simulation.cil_model.declared.instructions.Instruction.{Instruction}
-use Rattle.object_simulation.specs.simulation.cil_model.declared.limits.Limits.{Limits}
-use Rattle.object_simulation.specs.simulation.cil_model.declared.trees.Tree.{Tree}
-use Rattle.object_simulation.specs.simulation.cil_model.Bodies.{lines_of}
-use Rattle.object_simulation.specs.simulation.cil_model.Ranges.{are_in_range}
-use Rattle.object_simulation.specs.simulation.cil_model.Typings.{IsAccepted}
-use Rattle.object_simulation.specs.simulation.reference_machine.States.{Frame as StateFrame, State}
-use Rattle.object_simulation.specs.simulation.reference_machine.Effects.{Setting}
-use Rattle.object_simulation.specs.simulation.reference_machine.Steps.{Answers, execute, step}
-use Rattle.object_simulation.specs.simulation.reference_machine.Runs.{is_refusal, opening}
-use Rattle.object_simulation.specs.simulation.cil_model.declared.events.Event.TheVariants.{Step}
-use Rattle.object_simulation.specs.simulation.cil_model.declared.reports.Report.{Report}
-use Rattle.object_simulation.specs.simulation.resolved_code.Resolved.{IsOperation, no_operation, load_int32, load_int64, load_null, load_string, load_argument, store_argument, load_local, store_local, duplicate, pop, binary, unary, shift, compare, convert_int32, convert_int64, branch, branch_true, branch_false, branch_compare, switch, load_field, store_field, load_static_field, store_static_field, new_array, load_length, load_element_int32, load_element_int64, load_element_reference, store_element_int32, store_element_int64, store_element_reference, cast_class, is_instance, call, call_virtual, new_object, return}
-use Rattle.object_simulation.specs.simulation.resolved_code.declared.operations.Operation.{Operation}
-use Rattle.object_simulation.specs.simulation.object_memory.declared.values.Value.{Value}
-use Rattle.object_simulation.specs.simulation.object_memory.Objects.{Objects}
-use Rattle.object_simulation.specs.simulation.threads_monitors.Frames.{Frames}
-use Rattle.object_simulation.specs.simulation.threads_monitors.declared.threads.Standing.TheVariants.{Live}
-use Rattle.object_simulation.specs.simulation.interpreter.Instructions.{IsDone, operation_turn}
-use Rattle.object_simulation.specs.simulation.MachineContents.{Content}
-use Rattle.object_simulation.specs.simulation.StandsFor.{Names, Represents}
-use Rattle.object_simulation.specs.simulation.Turns.{Answer, IsTurn, opening_content}
-use Rattle.object_simulation.proofs.simulation.Instructions.{IsSetting, DoesAlike, InstructionsAreAlike}
-use Rattle.object_simulation.proofs.Changes.{cells_may_change, literals_may_change}
-use Rattle.object_simulation.proofs.Births.{births_stand}
-use Rattle.call_simulation.proofs.FrameInstructions.{no_operation_alike, load_int32_alike, load_int64_alike, load_null_alike, load_string_alike, load_argument_alike, store_argument_alike, load_local_alike, store_local_alike, duplicate_alike, pop_alike, binary_alike, unary_alike, shift_alike, compare_alike, convert_int32_alike, convert_int64_alike, branch_alike, branch_true_alike, branch_false_alike, branch_compare_alike, switch_alike}
-use Rattle.object_simulation.proofs.Fields.{load_field_alike, store_field_alike}
-use Rattle.object_simulation.proofs.Statics.{load_static_field_alike, store_static_field_alike}
-use Rattle.object_simulation.proofs.Lengths.{new_array_alike, load_length_alike}
-use Rattle.object_simulation.proofs.Arrays.{load_element_int32_alike, load_element_int64_alike, load_element_reference_alike, store_element_int32_alike, store_element_int64_alike}
-use Rattle.object_simulation.proofs.Casts.{cast_class_alike, is_instance_alike}
-use Rattle.object_simulation.proofs.Stores.{store_element_reference_alike}
-use Rattle.call_simulation.proofs.Running.{methods_run_alike}
-use Rattle.call_simulation.proofs.Calling.{call_alike}
-use Rattle.call_simulation.proofs.Returning.{return_alike}
-use Rattle.object_simulation.proofs.VirtualCalls.{call_virtual_alike}
-use Rattle.call_simulation.proofs.NewObjects.{new_object_alike}
-use Rattle.object_simulation.specs.simulation.Ready.{IsReady, IsAnswerable}
+use Rattle.instruction_simulation.specs.simulation.cil_model.declared.instructions.Instruction.{Instruction}
+use Rattle.instruction_simulation.specs.simulation.cil_model.declared.limits.Limits.{Limits}
+use Rattle.instruction_simulation.specs.simulation.cil_model.declared.trees.Tree.{Tree}
+use Rattle.instruction_simulation.specs.simulation.cil_model.Bodies.{lines_of}
+use Rattle.instruction_simulation.specs.simulation.cil_model.Ranges.{are_in_range}
+use Rattle.instruction_simulation.specs.simulation.cil_model.Typings.{IsAccepted}
+use Rattle.instruction_simulation.specs.simulation.reference_machine.States.{Frame as StateFrame, State}
+use Rattle.instruction_simulation.specs.simulation.reference_machine.Effects.{Setting}
+use Rattle.instruction_simulation.specs.simulation.reference_machine.Steps.{Answers, execute, step}
+use Rattle.instruction_simulation.specs.simulation.reference_machine.Runs.{is_refusal, opening}
+use Rattle.instruction_simulation.specs.simulation.cil_model.declared.events.Event.TheVariants.{Step}
+use Rattle.instruction_simulation.specs.simulation.cil_model.declared.reports.Report.{Report}
+use Rattle.instruction_simulation.specs.simulation.resolved_code.Resolved.{IsOperation, no_operation, load_int32, load_int64, load_null, load_string, load_argument, store_argument, load_local, store_local, duplicate, pop, binary, unary, shift, compare, convert_int32, convert_int64, branch, branch_true, branch_false, branch_compare, switch, load_field, store_field, load_static_field, store_static_field, new_array, load_length, load_element_int32, load_element_int64, load_element_reference, store_element_int32, store_element_int64, store_element_reference, cast_class, is_instance, call, call_virtual, new_object, return}
+use Rattle.instruction_simulation.specs.simulation.resolved_code.declared.operations.Operation.{Operation}
+use Rattle.instruction_simulation.specs.simulation.object_memory.declared.values.Value.{Value}
+use Rattle.instruction_simulation.specs.simulation.object_memory.Objects.{Objects}
+use Rattle.instruction_simulation.specs.simulation.threads_monitors.Frames.{Frames}
+use Rattle.instruction_simulation.specs.simulation.threads_monitors.declared.threads.Standing.TheVariants.{Live}
+use Rattle.instruction_simulation.specs.simulation.interpreter.Instructions.{IsDone, operation_turn, Answer}
+use Rattle.instruction_simulation.specs.simulation.MachineContents.{Content}
+use Rattle.instruction_simulation.specs.simulation.StandsFor.{Names, Represents}
+use Rattle.instruction_simulation.specs.simulation.Turns.{IsTurn, opening_content}
+use Rattle.instruction_simulation.proofs.simulation.MemoryModels.{MemoryModel}
+use Rattle.instruction_simulation.proofs.simulation.Instructions.{IsSetting, DoesAlike, InstructionsAreAlike}
+use Rattle.instruction_simulation.proofs.FrameInstructions.{no_operation_alike, load_int32_alike, load_int64_alike, load_null_alike, load_string_alike, load_argument_alike, store_argument_alike, load_local_alike, store_local_alike, duplicate_alike, pop_alike, binary_alike, unary_alike, shift_alike, compare_alike, convert_int32_alike, convert_int64_alike, branch_alike, branch_true_alike, branch_false_alike, branch_compare_alike, switch_alike}
+use Rattle.instruction_simulation.proofs.Fields.{load_field_alike, store_field_alike}
+use Rattle.instruction_simulation.proofs.Statics.{load_static_field_alike, store_static_field_alike}
+use Rattle.instruction_simulation.proofs.Lengths.{new_array_alike, load_length_alike}
+use Rattle.instruction_simulation.proofs.Arrays.{load_element_int32_alike, load_element_int64_alike, load_element_reference_alike, store_element_int32_alike, store_element_int64_alike}
+use Rattle.instruction_simulation.proofs.Casts.{cast_class_alike, is_instance_alike}
+use Rattle.instruction_simulation.proofs.Stores.{store_element_reference_alike}
+use Rattle.instruction_simulation.proofs.Running.{methods_run_alike}
+use Rattle.instruction_simulation.proofs.Calling.{call_alike}
+use Rattle.instruction_simulation.proofs.Returning.{return_alike}
+use Rattle.instruction_simulation.proofs.VirtualCalls.{call_virtual_alike}
+use Rattle.instruction_simulation.proofs.NewObjects.{new_object_alike}
+use Rattle.instruction_simulation.specs.simulation.Ready.{IsReady, IsAnswerable}
 use Rattle.step_simulation.proofs.OpeningContents.{opening_represents}
 use Rattle.step_simulation.proofs.Steps.{thread_ready, answerable, step_follows}
-use Rattle.object_simulation.specs.simulation.reference_machine.Rooms.{ExceedsRoom}
+use Rattle.instruction_simulation.specs.simulation.reference_machine.Rooms.{ExceedsRoom}
 use Rattle.step_simulation.proofs.Refusals.{refused_beyond_room}
 
-module _ (here : Setting) (name : Names) (m : Frames) (o : Objects) (statics : List Value) (printed : List ℕ) (s : State) (f : StateFrame) (below : List StateFrame) where
+module _ (here : Setting) (model : MemoryModel here.tree) (name : Names) (m : Frames) (o : Objects) (statics : List Value) (printed : List ℕ) (s : State) (f : StateFrame) (below : List StateFrame) where
   -- by what runs for the instruction
-  by_operation : (i : Instruction) (operation : Operation) → IsOperation here.tree (lines_of f.method) i operation → IsSetting here name m o statics printed s f below i operation →
-      DoesAlike here name m o statics printed s f below (operation_turn here.tree here.thread operation m o statics printed) (execute here s f below i)
-  by_operation _ _ no_operation at = no_operation_alike here name m o statics printed s f below at
-  by_operation _ _ (load_int32 z) at = load_int32_alike here name m o statics printed s f below z at
-  by_operation _ _ (load_int64 z) at = load_int64_alike here name m o statics printed s f below z at
-  by_operation _ _ load_null at = load_null_alike here name m o statics printed s f below at
-  by_operation _ _ (load_string characters number is) at = load_string_alike here name m o statics printed s f below characters number is at
-  by_operation _ _ (load_argument n) at = load_argument_alike here name m o statics printed s f below n at
-  by_operation _ _ (store_argument n) at = store_argument_alike here name m o statics printed s f below n at
-  by_operation _ _ (load_local n) at = load_local_alike here name m o statics printed s f below n at
-  by_operation _ _ (store_local n) at = store_local_alike here name m o statics printed s f below n at
-  by_operation _ _ duplicate at = duplicate_alike here name m o statics printed s f below at
-  by_operation _ _ pop at = pop_alike here name m o statics printed s f below at
-  by_operation _ _ (binary op) at = binary_alike here name m o statics printed s f below op at
-  by_operation _ _ (unary op) at = unary_alike here name m o statics printed s f below op at
-  by_operation _ _ (shift op) at = shift_alike here name m o statics printed s f below op at
-  by_operation _ _ (compare op) at = compare_alike here name m o statics printed s f below op at
-  by_operation _ _ convert_int32 at = convert_int32_alike here name m o statics printed s f below at
-  by_operation _ _ convert_int64 at = convert_int64_alike here name m o statics printed s f below at
-  by_operation _ _ (branch label place is) at = branch_alike here name m o statics printed s f below label place is at
-  by_operation _ _ (branch_true label place is) at = branch_true_alike here name m o statics printed s f below label place is at
-  by_operation _ _ (branch_false label place is) at = branch_false_alike here name m o statics printed s f below label place is at
-  by_operation _ _ (branch_compare op label place is) at = branch_compare_alike here name m o statics printed s f below op label place is at
-  by_operation _ _ (switch labels places are) at = switch_alike here name m o statics printed s f below labels places are at
-  by_operation _ _ (load_field r owner field named finds) at = load_field_alike here name m o statics printed s f below r owner field named finds at
-  by_operation _ _ (store_field r owner field named finds) at = store_field_alike here name m o statics printed s f below r owner field named finds at
-  by_operation _ _ (load_static_field r field finds) at = load_static_field_alike here name m o statics printed s f below r field finds at
-  by_operation _ _ (store_static_field r field finds) at = store_static_field_alike here name m o statics printed s f below r field finds at
-  by_operation _ _ (new_array t n is) at = new_array_alike here name m o statics printed s f below t n is at
-  by_operation _ _ load_length at = load_length_alike here name m o statics printed s f below at
-  by_operation _ _ load_element_int32 at = load_element_int32_alike here name m o statics printed s f below at
-  by_operation _ _ load_element_int64 at = load_element_int64_alike here name m o statics printed s f below at
-  by_operation _ _ load_element_reference at = load_element_reference_alike here name m o statics printed s f below at
-  by_operation _ _ store_element_int32 at = store_element_int32_alike here name m o statics printed s f below at
-  by_operation _ _ store_element_int64 at = store_element_int64_alike here name m o statics printed s f below at
-  by_operation _ _ store_element_reference at = store_element_reference_alike cells_may_change here name m o statics printed s f below at
-  by_operation _ _ (cast_class t n is) at = cast_class_alike here name m o statics printed s f below t n is at
-  by_operation _ _ (is_instance t n is) at = is_instance_alike here name m o statics printed s f below t n is at
-  by_operation _ _ (call flag r owner method named finds) at = call_alike cells_may_change literals_may_change here name m o statics printed s f below flag r owner method named finds at
-  by_operation _ _ (call_virtual c label signature owner method named finds) at = call_virtual_alike (methods_run_alike cells_may_change literals_may_change) here name m o statics printed s f below c label signature owner method named finds at
-  by_operation _ _ (new_object c parameters number finds) at = new_object_alike births_stand here name m o statics printed s f below c parameters number finds at
-  by_operation _ _ return at = return_alike here name m o statics printed s f below at
+  by_operation : (i : Instruction) (operation : Operation) → IsOperation here.tree (lines_of f.method) i operation → IsSetting here model name m o statics printed s f below i operation →
+      DoesAlike here model name m o statics printed s f below (operation_turn here.tree here.thread operation m o statics printed) (execute here s f below i)
+  by_operation _ _ no_operation at = no_operation_alike here model name m o statics printed s f below at
+  by_operation _ _ (load_int32 z) at = load_int32_alike here model name m o statics printed s f below z at
+  by_operation _ _ (load_int64 z) at = load_int64_alike here model name m o statics printed s f below z at
+  by_operation _ _ load_null at = load_null_alike here model name m o statics printed s f below at
+  by_operation _ _ (load_string characters number is) at = load_string_alike here model name m o statics printed s f below characters number is at
+  by_operation _ _ (load_argument n) at = load_argument_alike here model name m o statics printed s f below n at
+  by_operation _ _ (store_argument n) at = store_argument_alike here model name m o statics printed s f below n at
+  by_operation _ _ (load_local n) at = load_local_alike here model name m o statics printed s f below n at
+  by_operation _ _ (store_local n) at = store_local_alike here model name m o statics printed s f below n at
+  by_operation _ _ duplicate at = duplicate_alike here model name m o statics printed s f below at
+  by_operation _ _ pop at = pop_alike here model name m o statics printed s f below at
+  by_operation _ _ (binary op) at = binary_alike here model name m o statics printed s f below op at
+  by_operation _ _ (unary op) at = unary_alike here model name m o statics printed s f below op at
+  by_operation _ _ (shift op) at = shift_alike here model name m o statics printed s f below op at
+  by_operation _ _ (compare op) at = compare_alike here model name m o statics printed s f below op at
+  by_operation _ _ convert_int32 at = convert_int32_alike here model name m o statics printed s f below at
+  by_operation _ _ convert_int64 at = convert_int64_alike here model name m o statics printed s f below at
+  by_operation _ _ (branch label place is) at = branch_alike here model name m o statics printed s f below label place is at
+  by_operation _ _ (branch_true label place is) at = branch_true_alike here model name m o statics printed s f below label place is at
+  by_operation _ _ (branch_false label place is) at = branch_false_alike here model name m o statics printed s f below label place is at
+  by_operation _ _ (branch_compare op label place is) at = branch_compare_alike here model name m o statics printed s f below op label place is at
+  by_operation _ _ (switch labels places are) at = switch_alike here model name m o statics printed s f below labels places are at
+  by_operation _ _ (load_field r owner field named finds) at = load_field_alike here model name m o statics printed s f below r owner field named finds at
+  by_operation _ _ (store_field r owner field named finds) at = store_field_alike here model name m o statics printed s f below r owner field named finds at
+  by_operation _ _ (load_static_field r field finds) at = load_static_field_alike here model name m o statics printed s f below r field finds at
+  by_operation _ _ (store_static_field r field finds) at = store_static_field_alike here model name m o statics printed s f below r field finds at
+  by_operation _ _ (new_array t n is) at = new_array_alike here model name m o statics printed s f below t n is at
+  by_operation _ _ load_length at = load_length_alike here model name m o statics printed s f below at
+  by_operation _ _ load_element_int32 at = load_element_int32_alike here model name m o statics printed s f below at
+  by_operation _ _ load_element_int64 at = load_element_int64_alike here model name m o statics printed s f below at
+  by_operation _ _ load_element_reference at = load_element_reference_alike here model name m o statics printed s f below at
+  by_operation _ _ store_element_int32 at = store_element_int32_alike here model name m o statics printed s f below at
+  by_operation _ _ store_element_int64 at = store_element_int64_alike here model name m o statics printed s f below at
+  by_operation _ _ store_element_reference at = store_element_reference_alike here model name m o statics printed s f below at
+  by_operation _ _ (cast_class t n is) at = cast_class_alike here model name m o statics printed s f below t n is at
+  by_operation _ _ (is_instance t n is) at = is_instance_alike here model name m o statics printed s f below t n is at
+  by_operation _ _ (call flag r owner method named finds) at = call_alike here model name m o statics printed s f below flag r owner method named finds at
+  by_operation _ _ (call_virtual c label signature owner method named finds) at = call_virtual_alike methods_run_alike here model name m o statics printed s f below c label signature owner method named finds at
+  by_operation _ _ (new_object c parameters number finds) at = new_object_alike here model name m o statics printed s f below c parameters number finds at
+  by_operation _ _ return at = return_alike here model name m o statics printed s f below at
 
 -- each instruction, wherever a typed frame is at it
 pub each_alike : InstructionsAreAlike
-each_alike here name m o statics printed s f below i operation at = by_operation here name m o statics printed s f below i operation at.resolved at
+each_alike here model name m o statics printed s f below i operation at = by_operation here model name m o statics printed s f below i operation at.resolved at
 
 -- ---- the opening
 
@@ -104,17 +103,17 @@ opening_is_represented = opening_represents
 -- what a machine does on a step, the reference machine does
 pub step_is_followed : (c : Content) (s : State) → Represents c s → (t : ℕ) (after : Content × Report) → IsTurn c (Step t) after →
     (s' : State) × (step c.tree c.limits s t (is_refusal after.1) ≡ Answers after.1 s') × Represents after.0 s'
-step_is_followed c s r t after turn = step_follows each_alike cells_may_change c s r t after turn
+step_is_followed c s r t after turn = step_follows each_alike c s r t after turn
 
 -- it is refused memory exactly where its object exceeds the room
 pub step_is_refused : (c : Content) (s : State) → Represents c s → (t : ℕ) (after : Content × Report) → IsTurn c (Step t) after → IsTrue (is_refusal after.1) ↔ ExceedsRoom c.tree c.limits s t
-step_is_refused c s r t after turn = refused_beyond_room each_alike cells_may_change c s r t after turn
+step_is_refused c s r t after turn = refused_beyond_room each_alike c s r t after turn
 
 -- a live thread's instruction has an answer
 pub thread_is_ready : (c : Content) (s : State) → Represents c s → (t left : ℕ) (m : Frames) → slice_get c.threads t ≡ Some (record { standing = Live m; steps_left = left }) → IsReady c t m
-thread_is_ready c s r t left m there = thread_ready each_alike cells_may_change c s r t left m there
+thread_is_ready c s r t left m there = thread_ready each_alike c s r t left m there
 
 -- and so has what it asks of other threads
 pub asked_is_answerable : (c : Content) (s : State) → Represents c s → (t left : ℕ) (m : Frames) → slice_get c.threads t ≡ Some (record { standing = Live m; steps_left = left }) →
-    (a : Answer) → IsDone c.tree t m c.objects c.statics c.printed a → IsAnswerable c t left a a.4
-asked_is_answerable c s r t left m there a done = answerable each_alike cells_may_change c s r t left m there a done
+    (a : Answer) → IsDone c.tree t m c.objects c.statics c.printed a → IsAnswerable c t left a a.outcome
+asked_is_answerable c s r t left m there a done = answerable each_alike c s r t left m there a done

@@ -2,44 +2,43 @@
 use Rattle.std.proofs.Common.{◌≡◌, ℕ, ◌+◌, ℤ, pos, negsuc, Bool, true, false, nat_le, ◌==◌, ◌||◌, is_some, slice_get, if◌then◌else◌, List, [], ◌∷◌, ◌++◌, length, Option, Some, None, option_map, refl, sym, subst}
 use Rattle.std.specs.Prelude.{IfSome}
 use Rattle.std.specs.Option.{option_map_or}
-use Rattle.object_simulation.specs.simulation.cil_model.declared.types.ClassName.{ClassName}
-use Rattle.object_simulation.specs.simulation.cil_model.declared.trees.Tree.{Tree}
-use Rattle.object_simulation.specs.simulation.cil_model.declared.trees.Method.{Method}
-use Rattle.object_simulation.specs.simulation.cil_model.Bodies.{argument_types}
-use Rattle.object_simulation.specs.simulation.cil_model.Mentions.{literals_of}
-use Rattle.object_simulation.specs.simulation.reference_machine.BuiltIn.{Action, Construct, Write, Enter, Exit, Start, Join, action_of}
-use Rattle.object_simulation.specs.simulation.name_tables.declared.lookups.MemberNumber.{MemberNumber}
-use Rattle.object_simulation.specs.simulation.name_tables.Numbers.{method_at}
-use Rattle.object_simulation.specs.simulation.resolved_code.declared.types.NumberedType.{NumberedType}
-use Rattle.object_simulation.specs.simulation.resolved_code.declared.operations.Operation.{Operation}
-use Rattle.object_simulation.specs.simulation.resolved_code.declared.operations.Operation.TheVariants.{NoOperation, LoadInt32, LoadInt64, LoadNull, LoadString, LoadArgument, StoreArgument, LoadLocal, StoreLocal, Duplicate, Pop, Binary, Unary, Shift, Compare, ConvertInt32, ConvertInt64, Branch, BranchTrue, BranchFalse, BranchCompare, Switch, LoadField, StoreField, LoadStaticField, StoreStaticField, NewArray, LoadLength, LoadElementInt32, LoadElementInt64, LoadElementReference, StoreElementInt32, StoreElementInt64, StoreElementReference, CastClass, IsInstance, Call, CallVirtual, NewObject, Return}
-use Rattle.object_simulation.specs.simulation.cil_model.declared.reports.Fault.TheVariants.{ArrayTypeMismatch, InvalidCast}
-use Rattle.object_simulation.specs.simulation.object_memory.declared.addresses.Addr.{Addr}
-use Rattle.object_simulation.specs.simulation.object_memory.declared.kinds.ArrayElement.{ArrayElement}
-use Rattle.object_simulation.specs.simulation.object_memory.declared.kinds.Kind.{Kind}
-use Rattle.object_simulation.specs.simulation.object_memory.declared.kinds.Kind.TheVariants.{Instance, Array}
-use Rattle.object_simulation.specs.simulation.object_memory.declared.monitors.Monitor.{Monitor}
-use Rattle.object_simulation.specs.simulation.object_memory.declared.values.Value.{Value}
-use Rattle.object_simulation.specs.simulation.object_memory.declared.values.Value.TheVariants.{Int32, Int64, Native, Ref}
-use Rattle.object_simulation.specs.simulation.object_memory.declared.values.ValueKind.{ValueKind}
-use Rattle.object_simulation.specs.simulation.object_memory.declared.values.ValueKind.TheVariants.{Int32 as Int32Kind, Int64 as Int64Kind, Ref as RefKind}
-use Rattle.object_simulation.specs.simulation.object_memory.Cells.{Cells, free_words, literal_number, new_cell, next_address, null, store_monitor}
-use Rattle.object_simulation.specs.simulation.object_memory.Objects.{Objects, monitor_at, with_birth, with_cell, with_literal_monitor, with_monitor, with_slot}
-use Rattle.object_simulation.specs.simulation.object_memory.Values.{value_in, value_word}
-use Rattle.object_simulation.specs.simulation.method_table.MethodNumbers.{number_of}
-use Rattle.object_simulation.specs.simulation.threads_monitors.Frames.{Frames, with_stack}
-use Rattle.object_simulation.specs.simulation.threads_monitors.Monitors.{with_entry, with_exit, with_monitor_or}
-use Rattle.object_simulation.specs.simulation.threads_monitors.declared.effects.Effect.{Effect}
-use Rattle.object_simulation.specs.simulation.threads_monitors.declared.effects.Effect.TheVariants.{GoesOn, Returns, Blocks, Raises}
-use Rattle.object_simulation.specs.simulation.instructions.Frames.{Turn, given, leaves, onward, top_of}
-use Rattle.object_simulation.specs.simulation.instructions.ObjectTurns.{ObjectTurn, beside, born, in_range, index_in, leaves_born, load_element_turn, load_field_turn, load_length_turn, load_slot, new_array_of, new_array_turn, object_of, place_in, slots_of, store_element_turn, store_field_turn, store_slot}
-use Rattle.object_simulation.specs.simulation.instructions.Calls.{Called, call_turn, construct_turn, constructs, is_full, new_object_turn, new_plain_object_turn}
-use Rattle.object_simulation.specs.simulation.instructions.BuiltInTurns.{carried, enter_turn, is_countable, exit_turn, reference_from, write_turn}
-use Rattle.object_simulation.specs.simulation.interpreter.Operations.{array_held, array_rule, arithmetic_rule, branch_rule, constant_rule, held_at, slot_at, stack_rule, static_rule, type_rule}
-use Rattle.object_simulation.specs.simulation.interpreter.Instructions.{IsDone, MachineTurn, of_calls, of_frames, of_objects, of_statics, operation_turn}
-use Rattle.object_simulation.specs.simulation.interpreter.Calls.{CallTurn, act_turn, beside_console, call_rule, called_as, chosen_at, class_in, made, new_at, receiver, return_rule, run_chosen, run_turn, slots_at, top_reference, virtual_at}
-use Rattle.object_simulation.specs.simulation.interpreter.declared.outcomes.Outcome.{Outcome}
-use Rattle.object_simulation.specs.simulation.Turns.{Answer}
+use Rattle.instruction_simulation.specs.simulation.cil_model.declared.types.ClassName.{ClassName}
+use Rattle.instruction_simulation.specs.simulation.cil_model.declared.trees.Tree.{Tree}
+use Rattle.instruction_simulation.specs.simulation.cil_model.declared.trees.Method.{Method}
+use Rattle.instruction_simulation.specs.simulation.cil_model.Bodies.{argument_types}
+use Rattle.instruction_simulation.specs.simulation.cil_model.Mentions.{literals_of}
+use Rattle.instruction_simulation.specs.simulation.reference_machine.BuiltIn.{Action, Construct, Write, Enter, Exit, Start, Join, action_of}
+use Rattle.instruction_simulation.specs.simulation.name_tables.declared.lookups.MemberNumber.{MemberNumber}
+use Rattle.instruction_simulation.specs.simulation.name_tables.Numbers.{method_at}
+use Rattle.instruction_simulation.specs.simulation.resolved_code.declared.types.NumberedType.{NumberedType}
+use Rattle.instruction_simulation.specs.simulation.resolved_code.declared.operations.Operation.{Operation}
+use Rattle.instruction_simulation.specs.simulation.resolved_code.declared.operations.Operation.TheVariants.{NoOperation, LoadInt32, LoadInt64, LoadNull, LoadString, LoadArgument, StoreArgument, LoadLocal, StoreLocal, Duplicate, Pop, Binary, Unary, Shift, Compare, ConvertInt32, ConvertInt64, Branch, BranchTrue, BranchFalse, BranchCompare, Switch, LoadField, StoreField, LoadStaticField, StoreStaticField, NewArray, LoadLength, LoadElementInt32, LoadElementInt64, LoadElementReference, StoreElementInt32, StoreElementInt64, StoreElementReference, CastClass, IsInstance, Call, CallVirtual, NewObject, Return}
+use Rattle.instruction_simulation.specs.simulation.cil_model.declared.reports.Fault.TheVariants.{ArrayTypeMismatch, InvalidCast}
+use Rattle.instruction_simulation.specs.simulation.object_memory.declared.addresses.Addr.{Addr}
+use Rattle.instruction_simulation.specs.simulation.object_memory.declared.kinds.ArrayElement.{ArrayElement}
+use Rattle.instruction_simulation.specs.simulation.object_memory.declared.kinds.Kind.{Kind}
+use Rattle.instruction_simulation.specs.simulation.object_memory.declared.kinds.Kind.TheVariants.{Instance, Array}
+use Rattle.instruction_simulation.specs.simulation.object_memory.declared.monitors.Monitor.{Monitor}
+use Rattle.instruction_simulation.specs.simulation.object_memory.declared.values.Value.{Value}
+use Rattle.instruction_simulation.specs.simulation.object_memory.declared.values.Value.TheVariants.{Int32, Int64, Native, Ref}
+use Rattle.instruction_simulation.specs.simulation.object_memory.declared.values.ValueKind.{ValueKind}
+use Rattle.instruction_simulation.specs.simulation.object_memory.declared.values.ValueKind.TheVariants.{Int32 as Int32Kind, Int64 as Int64Kind, Ref as RefKind}
+use Rattle.instruction_simulation.specs.simulation.object_memory.Cells.{literal_number, null, store_monitor}
+use Rattle.instruction_simulation.proofs.simulation.object_memory.Spaces.{birth_space}
+use Rattle.instruction_simulation.specs.simulation.object_memory.Objects.{Objects, monitor_at, with_birth, with_cell, with_literal_monitor, with_monitor, with_slot, whole_space}
+use Rattle.instruction_simulation.specs.simulation.object_memory.Values.{value_in, value_word}
+use Rattle.instruction_simulation.specs.simulation.method_table.MethodNumbers.{number_of}
+use Rattle.instruction_simulation.specs.simulation.threads_monitors.Frames.{Frames, with_stack}
+use Rattle.instruction_simulation.specs.simulation.threads_monitors.Monitors.{with_entry, with_exit, with_monitor_or}
+use Rattle.instruction_simulation.specs.simulation.threads_monitors.declared.effects.Effect.{Effect}
+use Rattle.instruction_simulation.specs.simulation.threads_monitors.declared.effects.Effect.TheVariants.{GoesOn, Returns, Blocks, Raises}
+use Rattle.instruction_simulation.specs.simulation.instructions.Frames.{Turn, given, leaves, onward, top_of}
+use Rattle.instruction_simulation.specs.simulation.instructions.ObjectTurns.{ObjectTurn, beside, born, in_range, index_in, leaves_born, load_element_turn, load_field_turn, load_length_turn, load_slot, new_array_of, new_array_turn, object_of, place_in, slots_of, store_element_turn, store_field_turn, store_slot}
+use Rattle.instruction_simulation.specs.simulation.instructions.Calls.{Called, call_turn, construct_turn, constructs, is_full, new_object_turn, new_plain_object_turn}
+use Rattle.instruction_simulation.specs.simulation.instructions.BuiltInTurns.{carried, enter_turn, is_countable, exit_turn, reference_from, write_turn}
+use Rattle.instruction_simulation.specs.simulation.interpreter.Operations.{array_held, array_rule, arithmetic_rule, branch_rule, constant_rule, held_at, slot_at, stack_rule, static_rule, type_rule}
+use Rattle.instruction_simulation.specs.simulation.interpreter.Instructions.{IsDone, MachineTurn, of_calls, of_frames, of_objects, of_statics, operation_turn, Answer}
+use Rattle.instruction_simulation.specs.simulation.interpreter.Calls.{CallTurn, act_turn, beside_console, call_rule, called_as, chosen_at, class_in, made, new_at, receiver, return_rule, run_chosen, run_turn, slots_at, top_reference, virtual_at, CallAnswer}
 
 -- ---- what rules are put together from
 
@@ -63,17 +62,17 @@ module _ {R : Type 0} (P : R → Type 0) where
 module _ (o : Objects) where
   -- objects in a heap with as many words
   abbrev HasWords : Objects → Type 0
-  HasWords p = p.block.words ≡ o.block.words
+  HasWords p = whole_space p ≡ whole_space o
 
   -- and so have those that a rule leaves
   abbrev KeepsWords : ObjectTurn → Type 0
   KeepsWords turn = IfSome turn (λ (t : Frames × Objects × Effect). HasWords t.1)
 
   abbrev KeepsInCall : CallTurn → Type 0
-  KeepsInCall turn = IfSome turn (λ (t : Frames × Objects × List ℕ × Outcome). HasWords t.1)
+  KeepsInCall turn = IfSome turn (λ (t : CallAnswer). HasWords t.objects)
 
   abbrev KeepsInAll : MachineTurn → Type 0
-  KeepsInAll turn = IfSome turn (λ (a : Answer). HasWords a.1)
+  KeepsInAll turn = IfSome turn (λ (a : Answer). HasWords a.objects)
 
   -- ---- objects
 
@@ -81,11 +80,7 @@ module _ (o : Objects) where
   beside_keeps p turn same = mapped_each _ (λ (t : Frames × Effect). (t.0, p, t.1)) turn (λ t. same)
 
   birth_keeps : (k : Kind) (n : ℕ) → HasWords (with_birth o k n).0
-  birth_keeps k n = by_room (nat_le (3 + n) (free_words o.block))
-    where
-      by_room : (fits : Bool) → (if◌then◌else◌ {A = Cells × Option Addr} fits (record o.block { cells = o.block.cells ++ new_cell k n ∷ [] }, Some (next_address o.block)) (o.block, None)).0.words ≡ o.block.words
-      by_room true = refl
-      by_room false = refl
+  birth_keeps k n = birth_space o k n
 
   monitor_keeps : (a : Addr) (monitor : Monitor) → HasWords (with_monitor o a monitor)
   monitor_keeps a monitor = by_literal (literal_number a)
@@ -284,17 +279,17 @@ module _ (o : Objects) where
       operation_keeps (StoreLocal n) = frames_keep (stack_rule (StoreLocal n) m)
       operation_keeps Duplicate = frames_keep (stack_rule Duplicate m)
       operation_keeps Pop = frames_keep (stack_rule Pop m)
-      operation_keeps (Binary op) = frames_keep (arithmetic_rule (Binary op) m)
-      operation_keeps (Unary op) = frames_keep (arithmetic_rule (Unary op) m)
-      operation_keeps (Shift op) = frames_keep (arithmetic_rule (Shift op) m)
-      operation_keeps (Compare op) = frames_keep (arithmetic_rule (Compare op) m)
-      operation_keeps ConvertInt32 = frames_keep (arithmetic_rule ConvertInt32 m)
-      operation_keeps ConvertInt64 = frames_keep (arithmetic_rule ConvertInt64 m)
-      operation_keeps (Branch place) = frames_keep (branch_rule (Branch place) m)
-      operation_keeps (BranchTrue place) = frames_keep (branch_rule (BranchTrue place) m)
-      operation_keeps (BranchFalse place) = frames_keep (branch_rule (BranchFalse place) m)
-      operation_keeps (BranchCompare op place) = frames_keep (branch_rule (BranchCompare op place) m)
-      operation_keeps (Switch places) = frames_keep (branch_rule (Switch places) m)
+      operation_keeps (Binary op) = frames_keep (arithmetic_rule (Binary op) m o)
+      operation_keeps (Unary op) = frames_keep (arithmetic_rule (Unary op) m o)
+      operation_keeps (Shift op) = frames_keep (arithmetic_rule (Shift op) m o)
+      operation_keeps (Compare op) = frames_keep (arithmetic_rule (Compare op) m o)
+      operation_keeps ConvertInt32 = frames_keep (arithmetic_rule ConvertInt32 m o)
+      operation_keeps ConvertInt64 = frames_keep (arithmetic_rule ConvertInt64 m o)
+      operation_keeps (Branch place) = frames_keep (branch_rule (Branch place) m o)
+      operation_keeps (BranchTrue place) = frames_keep (branch_rule (BranchTrue place) m o)
+      operation_keeps (BranchFalse place) = frames_keep (branch_rule (BranchFalse place) m o)
+      operation_keeps (BranchCompare op place) = frames_keep (branch_rule (BranchCompare op place) m o)
+      operation_keeps (Switch places) = frames_keep (branch_rule (Switch places) m o)
       operation_keeps (LoadField owner field) = field_keeps field _ (λ slot. given_each _ (held_at tree field) _ (λ kind. load_field_keeps kind slot m))
       operation_keeps (StoreField owner field) = field_keeps field _ (λ slot. store_field_keeps slot m)
       operation_keeps (LoadStaticField field) = statics_keep (static_rule tree (LoadStaticField field) m statics)
@@ -316,5 +311,5 @@ module _ (o : Objects) where
 
 -- the heap has as many words after an instruction as before
 pub instruction_keeps_words : (tree : Tree) (thread : ℕ) (m : Frames) (o : Objects) (statics : List Value) (printed : List ℕ) (a : Answer) →
-    IsDone tree thread m o statics printed a → a.1.block.words ≡ o.block.words
+    IsDone tree thread m o statics printed a → whole_space a.objects ≡ whole_space o
 instruction_keeps_words tree thread m o statics printed a done = subst (KeepsInAll o) (sym done.is) (operation_keeps o tree thread m printed statics done.operation)

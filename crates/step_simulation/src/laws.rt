@@ -1,23 +1,23 @@
 // Laws of machines. Each function has an empty body, and its contract is the law.
 
 ghost use Rattle.std.specs.Prelude.{◌≡◌, ◌↔◌, ℕ, IsTrue, Some, slice_get};
-ghost use Rattle.object_simulation.specs.simulation.cil_model.declared.trees.Tree.{Tree};
-ghost use Rattle.object_simulation.specs.simulation.cil_model.declared.limits.Limits.{Limits};
-ghost use Rattle.object_simulation.specs.simulation.cil_model.declared.events.Event.TheVariants.{Step};
-ghost use Rattle.object_simulation.specs.simulation.cil_model.declared.reports.Report.{Report};
-ghost use Rattle.object_simulation.specs.simulation.cil_model.Ranges.{are_in_range};
-ghost use Rattle.object_simulation.specs.simulation.cil_model.Typings.{IsAccepted};
-ghost use Rattle.object_simulation.specs.simulation.reference_machine.Rooms.{ExceedsRoom};
-ghost use Rattle.object_simulation.specs.simulation.reference_machine.States.{State};
-ghost use Rattle.object_simulation.specs.simulation.reference_machine.Steps.{step, Answers};
-ghost use Rattle.object_simulation.specs.simulation.reference_machine.Runs.{is_refusal, opening};
-ghost use Rattle.object_simulation.specs.simulation.threads_monitors.Frames.{Frames};
-ghost use Rattle.object_simulation.specs.simulation.threads_monitors.declared.threads.Standing.TheVariants.{Live};
-ghost use Rattle.object_simulation.specs.simulation.interpreter.Instructions.{IsDone};
-ghost use Rattle.object_simulation.specs.simulation.MachineContents.{Content};
-ghost use Rattle.object_simulation.specs.simulation.StandsFor.{Represents};
-ghost use Rattle.object_simulation.specs.simulation.Turns.{Answer, IsTurn, opening_content};
-ghost use Rattle.object_simulation.specs.simulation.Ready.{IsReady, IsAnswerable};
+ghost use Rattle.instruction_simulation.specs.simulation.cil_model.declared.trees.Tree.{Tree};
+ghost use Rattle.instruction_simulation.specs.simulation.cil_model.declared.limits.Limits.{Limits};
+ghost use Rattle.instruction_simulation.specs.simulation.cil_model.declared.events.Event.TheVariants.{Step};
+ghost use Rattle.instruction_simulation.specs.simulation.cil_model.declared.reports.Report.{Report};
+ghost use Rattle.instruction_simulation.specs.simulation.cil_model.Ranges.{are_in_range};
+ghost use Rattle.instruction_simulation.specs.simulation.cil_model.Typings.{IsAccepted};
+ghost use Rattle.instruction_simulation.specs.simulation.reference_machine.Rooms.{ExceedsRoom};
+ghost use Rattle.instruction_simulation.specs.simulation.reference_machine.States.{State};
+ghost use Rattle.instruction_simulation.specs.simulation.reference_machine.Steps.{step, Answers};
+ghost use Rattle.instruction_simulation.specs.simulation.reference_machine.Runs.{is_refusal, opening};
+ghost use Rattle.instruction_simulation.specs.simulation.threads_monitors.Frames.{Frames};
+ghost use Rattle.instruction_simulation.specs.simulation.threads_monitors.declared.threads.Standing.TheVariants.{Live};
+ghost use Rattle.instruction_simulation.specs.simulation.interpreter.Instructions.{IsDone, Answer};
+ghost use Rattle.instruction_simulation.specs.simulation.MachineContents.{Content};
+ghost use Rattle.instruction_simulation.specs.simulation.StandsFor.{Represents};
+ghost use Rattle.instruction_simulation.specs.simulation.Turns.{IsTurn, opening_content};
+ghost use Rattle.instruction_simulation.specs.simulation.Ready.{IsReady, IsAnswerable};
 
 /// What a machine holds before its first event represents the opening state of its program.
 pub fn openings_represent()
@@ -34,7 +34,7 @@ pub fn live_threads_are_ready()
 /// And what the instruction asks of other threads can be answered.
 pub fn what_is_asked_can_be_answered()
     ensures { (c : Content) (s : State) → Represents c s → (t left : ℕ) (m : Frames) → slice_get c.threads t ≡ Some (record { standing = Live m; steps_left = left }) →
-        (a : Answer) → IsDone c.tree t m c.objects c.statics c.printed a → IsAnswerable c t left a a.4 }
+        (a : Answer) → IsDone c.tree t m c.objects c.statics c.printed a → IsAnswerable c t left a a.outcome }
 {}
 
 /// Each step of a machine has the report of the reference machine's, with the same births refused, and represents its state.

@@ -10,8 +10,7 @@ use Rattle.cil_model.specs.declared.reports.Report.{Report}
 use Rattle.cil_model.specs.declared.reports.Report.TheVariants.{Ran, Blocked, Ended as HasEnded, Absent}
 use Rattle.object_memory.specs.declared.addresses.Addr.{Addr}
 use Rattle.object_memory.specs.declared.values.Value.{Value}
-use Rattle.object_memory.specs.Cells.{slots_at}
-use Rattle.object_memory.specs.Objects.{Objects, with_slot}
+use Rattle.object_memory.specs.Objects.{Objects, object_slots, with_slot}
 use Rattle.threads_monitors.specs.Frames.{Frames, new_frame}
 use Rattle.threads_monitors.specs.declared.effects.Effect.{Effect}
 use Rattle.threads_monitors.specs.declared.effects.Effect.TheVariants.{GoesOn, Returns, Blocks, Raises}
@@ -80,7 +79,7 @@ thread_told (suc n) = Some n
 
 -- the thread that was started on an object, which the first of its slots tells
 abbrev pub thread_on : Objects → Addr → Option ℕ
-thread_on o a = thread_told (slice_index (slots_at o.block a) 0)
+thread_on o a = thread_told (slice_index (object_slots o a) 0)
 
 -- why no thread can be started on an object, in the order of the checks; none where one can
 abbrev pub start_fault : List Thread → Objects → Addr → Option Fault

@@ -1,7 +1,8 @@
 // Threads: what each step takes from their budgets, and how they start, wait for one another and end.
 
 ghost use Rattle.std.specs.Prelude.{◌≡◌, ◌≢◌, ◌<◌, ◌≤◌, ◌+◌, ◌*◌, ◌^◌, ◌∷◌, [], length, Some, None, IfOk, OnErr};
-ghost use Rattle.object_memory.specs.Cells.{null, slots_at};
+ghost use Rattle.object_memory.specs.Cells.{null};
+ghost use Rattle.object_memory.specs.Objects.{object_slots};
 ghost use Rattle.object_memory.specs.declared.values.Value.TheVariants.{Ref};
 ghost use Rattle.threads_monitors.specs.Threads.{end_of, is_live, new_thread, end_after, report_of, settled, start_fault, thread_on, with_start, is_live_at, join_effect};
 
@@ -126,7 +127,7 @@ fn report_of(effect: Effect) -> Report
 
 /// The thread that was started on an object. None where none was.
 fn thread_on(heap: &Heap, object: Addr) -> Option<u64>
-    requires there { 0 < length (slots_at heap.now.block object) }
+    requires there { 0 < length (object_slots heap.now object) }
     ensures { result ≡ thread_on heap.now object }
 {
     heap.slot(object, THREAD_SLOT).checked_sub(1)
@@ -135,7 +136,7 @@ fn thread_on(heap: &Heap, object: Addr) -> Option<u64>
 /// Why no thread can be started on an object, in the order of the checks: `NullReference` for null, `ThreadState` where one was
 /// started on it already, `TooManyThreads` where 16 were started in all. None where one can.
 pub fn start_fault(threads: &[Thread], heap: &Heap, object: Addr) -> Option<Fault>
-    requires there { object ≢ null → 0 < length (slots_at heap.now.block object) }
+    requires there { object ≢ null → 0 < length (object_slots heap.now object) }
     ensures { result ≡ start_fault threads.now heap.now object }
 {
     if object.is_null() {
@@ -161,7 +162,7 @@ pub fn start(
     object: Addr,
     beginning: Beginning,
 ) -> Result<Effect, NoMemory>
-    requires there { object ≢ null → 0 < length (slots_at heap.old.block object) }
+    requires there { object ≢ null → 0 < length (object_slots heap.old object) }
     requires some { 0 < beginning.depth }
     requires limits { beginning.depth * beginning.room < 2 ^ 32 }
     requires fits { 1 + length beginning.locals.now ≤ beginning.room }
@@ -182,7 +183,7 @@ pub fn start(
 /// `Cilvm.Thread.Join` on an object (this profile): it blocks while the thread that was started on it is live, the calling one
 /// itself too. The fault is `NullReference` for null, then `ThreadState` where none was started. It takes no memory.
 pub fn join(threads: &[Thread], heap: &Heap, object: Addr) -> Effect
-    requires there { object ≢ null → 0 < length (slots_at heap.now.block object) }
+    requires there { object ≢ null → 0 < length (object_slots heap.now object) }
     ensures { result ≡ join_effect threads.now heap.now object }
 {
     if object.is_null() {

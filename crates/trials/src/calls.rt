@@ -40,6 +40,7 @@ fn tells_of_outputs(threads: &(impl Threads + Wait), alloc: Global) -> bool {
         file: "",
         schedule: "",
         limits: LIMITS,
+        explain: false,
     };
     let mut page = Cursor::new([0; 40]);
     let mut none = Cursor::new([0; 0]);

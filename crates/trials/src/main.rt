@@ -19,7 +19,7 @@ use std::sync::Wait;
 use std::thread::Threads;
 
 /// The groups of cases. Those of `NAME` stand in the file `NAME.txt`.
-const GROUPS: [&str; 8] = [
+const GROUPS: [&str; 9] = [
     "command_line",
     "commands",
     "schedules",
@@ -27,6 +27,7 @@ const GROUPS: [&str; 8] = [
     "refusals",
     "machine",
     "traces",
+    "deadlocks",
     "examples",
 ];
 

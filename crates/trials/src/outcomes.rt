@@ -4,7 +4,7 @@ use crate::answers::answer;
 use crate::cases::Case;
 use crate::reports::{add_difference, add_run};
 use crate::texts::{expanded, limits_of, words_of};
-use command_line::{LineFault, order};
+use command_line::{LineFault, Unread, order};
 use driver::drive;
 use orders::{Order, read_source, read_text};
 use source_runs::{Failure, report};
@@ -37,8 +37,16 @@ pub fn outcome(
             out.extend_from_slice(text.as_bytes())?;
             add_end(&mut out, &[], 0)?;
         }
+        Err(LineFault::Version(text)) => {
+            out.extend_from_slice(text.as_bytes())?;
+            add_end(&mut out, &[], 0)?;
+        }
         Err(LineFault::Bad(text)) => add_end(&mut out, text.as_bytes(), 2)?,
-        Err(LineFault::Memory) => add_failure(rt, Failure::Memory, &mut out)?,
+        Err(LineFault::Memory) => {
+            let mut err = Vec::new(alloc);
+            let status = report(Failure::Memory, &mut err);
+            add_end(&mut out, err.as_slice(), status)?;
+        }
     }
     Ok(out)
 }
@@ -72,10 +80,12 @@ fn add_end(out: &mut Vec<u8>, err: &[u8], status: u8) -> io::Result<()> {
     writeln!(out, "--- status {status}")
 }
 
-/// Adds what a failure is told as.
-fn add_failure(rt: &HostRuntime, failure: Failure, out: &mut Vec<u8>) -> io::Result<()> {
+/// Adds what a file that is not read is told as.
+fn add_unread(rt: &HostRuntime, unread: &Unread<'_>, out: &mut Vec<u8>) -> io::Result<()> {
     let mut err = Vec::new(rt.alloc());
-    let status = report(failure, &mut err);
+    let status = report(Failure::from(unread.error), &mut err);
+    let text = unread.told(rt.alloc())?;
+    err.extend_from_slice(text.as_bytes())?;
     add_end(out, err.as_slice(), status)
 }
 
@@ -89,7 +99,7 @@ fn carry_out(
 ) -> io::Result<()> {
     let files = match files_of(rt, case, order) {
         Ok(files) => files,
-        Err(error) => return add_failure(rt, Failure::from(error), out),
+        Err(unread) => return add_unread(rt, &unread, out),
     };
     add_driven(rt, threads, order, &files, out)?;
     if case.wanted.contains("\n--- answer ") {
@@ -103,19 +113,38 @@ fn carry_out(
 }
 
 /// The files of an order: the texts of the case, and else the files that the order names.
-fn files_of(rt: &HostRuntime, case: &Case<'_>, order: &Order<'_>) -> io::Result<Files> {
-    let alloc = rt.alloc();
-    let source = match (case.source, order.file()) {
-        (Some(text), _) => expanded(alloc, text)?,
-        (None, Some(file)) => read_source(alloc, File::open(rt, file)?)?,
-        (None, None) => Vec::new(alloc),
+fn files_of<'a>(rt: &HostRuntime, case: &Case<'_>, order: &Order<'a>) -> Result<Files, Unread<'a>> {
+    let source = match order.file() {
+        Some(file) => match source_of(rt, case, file) {
+            Ok(source) => source,
+            Err(error) => return Err(Unread { file, error }),
+        },
+        None => Vec::new(rt.alloc()),
     };
-    let schedule = match (case.schedule, order.schedule_file()) {
-        (Some(text), _) => expanded(alloc, text)?,
-        (None, Some(file)) => read_text(alloc, File::open(rt, file)?)?,
-        (None, None) => Vec::new(alloc),
+    let schedule = match order.schedule_file() {
+        Some(file) => match schedule_of(rt, case, file) {
+            Ok(schedule) => schedule,
+            Err(error) => return Err(Unread { file, error }),
+        },
+        None => Vec::new(rt.alloc()),
     };
     Ok(Files { source, schedule })
+}
+
+/// The source of a case, and else that of the file.
+fn source_of(rt: &HostRuntime, case: &Case<'_>, file: &str) -> io::Result<Vec<u8>> {
+    match case.source {
+        Some(text) => Ok(expanded(rt.alloc(), text)?),
+        None => read_source(rt.alloc(), File::open(rt, file)?),
+    }
+}
+
+/// The schedule of a case, and else that of the file.
+fn schedule_of(rt: &HostRuntime, case: &Case<'_>, file: &str) -> io::Result<Vec<u8>> {
+    match case.schedule {
+        Some(text) => Ok(expanded(rt.alloc(), text)?),
+        None => read_text(rt.alloc(), File::open(rt, file)?),
+    }
 }
 
 /// Adds what the order prints on both outputs, and its status.

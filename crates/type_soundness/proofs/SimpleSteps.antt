@@ -163,7 +163,7 @@ module _ (here : Setting) (s : State) (f : Frame) (below : List Frame) where
       (λ is x y. by_result rest (binary w32 op x y) Int32 (λ z. on (Binary op) running refl (Int32 z ∷ rest) (a ∷ types) (int32_typed here.tree running.accepted.legal s z a is, rest_typed) passed.1))
       (λ is x y. by_result rest (binary w64 op x y) Int64 (λ z. on (Binary op) running refl (Int64 z ∷ rest) (a ∷ types) (int64_typed here.tree running.accepted.legal s z a is, rest_typed) passed.1)))
     where
-      by_result : (rest : List Value) (r : Result ℤ Fault) (kind : ℤ → Value) → ((z : ℤ) → Fine (next here s f below (kind z ∷ rest))) → Fine (given (result_as kind r) (λ result. unless_fault result (λ u. next here s f below (u ∷ rest))))
+      by_result : (rest : List Value) (r : Result ℤ Fault) (kind : ℤ → Value) → ((z : ℤ) → Fine (next here s f below (kind z ∷ rest))) → Fine (given (Some (result_as kind r)) (λ result. unless_fault result (λ u. next here s f below (u ∷ rest))))
       by_result rest (Ok z) kind each = each z
       by_result rest (Err x) kind each = tt
 

@@ -4,8 +4,8 @@ use cil_model::trees::Class;
 use flow_rules::entries::StackEntry;
 use name_tables::built_in::BuiltInClass;
 use name_tables::keys::ClassKey;
-use name_texts::ClassText;
 use resolved_code::types::{NumberedElement, NumberedType};
+use source_map::ClassText;
 use std::fmt;
 
 /// The names of classes by their numbers: the built-in ones first, and then those of the source.

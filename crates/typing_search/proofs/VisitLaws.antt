@@ -19,7 +19,7 @@ use Rattle.flow_rules.specs.Named.{type_named, types_named, stack_types}
 use Rattle.flow_rules.specs.Flow.{flow_of}
 use Rattle.flow_rules.specs.declared.entries.StackEntry.{StackEntry}
 use Rattle.flow_rules.specs.declared.method_types.MethodTypes.{MethodTypes}
-use Rattle.flow_rules.proofs.Classes.{alike_at, alike_beyond, alike_length}
+use Rattle.resolved_code.proofs.AlikeLaws.{AlikeTo, alike_to, alike_beyond, alike_length}
 use Rattle.typing_search.specs.Rises.{table_rises, most_values, natural}
 use Rattle.typing_search.specs.Ways.{ways_on}
 use Rattle.typing_search.specs.Tables.{IsPending, HasRisen, CannotRise, AreWays}
@@ -72,8 +72,8 @@ module _ (m : MethodTypes) (operations : List Operation) (max_stack : ℤ) (code
 
   module _ (legal : IsLegal m.types.now) (old : Search) (place : ℕ) (u : IsOnTheWay m code old.rows.items (slice_set old.is_pending.items place true)) (op : Operation) (at : slice_get operations place ≡ Some op)
       (before : List StackEntry) (held : slice_get old.rows.items place ≡ Some (Some before)) where
-    line : (line : Line) × (slice_get code.lines place ≡ Some line) × IsOperation m.types.now code.lines line.instruction op
-    line = alike_at Alike code.lines operations of.resolved place op at
+    line : AlikeTo Alike code.lines place op
+    line = alike_to Alike code.lines operations place op of.resolved at
 
     named : slice_get (typing_of m.types.now old.rows.items) place ≡ Some (Some (stack_types m.types.now before))
     named = row_at m.types.now old.rows.items place (Some before) held
@@ -84,8 +84,8 @@ module _ (m : MethodTypes) (operations : List Operation) (max_stack : ℤ) (code
 
     pub visit_no_result : (T U : Type 0) (e : TypingError) (new : Search) → ((lines : List Line) (i : Instruction) → IsOperation m.types.now lines i op → IsResultAt m.types.now (Err e) (flow_of m i before)) → IsVisit {T = U} m code new (Err e)
     visit_no_result T U (Untyped failure) new h =
-        no_result m.types.now arguments return_type code legal (typing_of m.types.now old.rows.items) old.is_pending.items place u line.0 line.1 (stack_types m.types.now before) named
-        (in_code None line.0.instruction (h code.lines line.0.instruction line.2))
+        no_result m.types.now arguments return_type code legal (typing_of m.types.now old.rows.items) old.is_pending.items place u line.item line.there (stack_types m.types.now before) named
+        (in_code None line.item.instruction (h code.lines line.item.instruction line.alike))
     visit_no_result T U OutOfMemory new h = tt
 
     pub visit_goes_on : {T : Type 0} (r : Result T RaiseError) (answer : Result T TypingError) (new : Search) (after : List StackEntry) (ways : List ℕ) →
@@ -93,21 +93,21 @@ module _ (m : MethodTypes) (operations : List Operation) (max_stack : ℤ) (code
         IsRise m.types.now max_stack after ways old new r → IsAnsweredBy r answer → IsVisit m code new answer
     visit_goes_on r answer new after ways h along rise told = by_answer r answer rise told
       where
-        result : flow m.types.now arguments code.locals return_type line.0.instruction (stack_types m.types.now before) ≡ Some (stack_types m.types.now after)
-        result = in_code (Some (stack_types m.types.now after)) line.0.instruction (h code.lines line.0.instruction line.2)
+        result : flow m.types.now arguments code.locals return_type line.item.instruction (stack_types m.types.now before) ≡ Some (stack_types m.types.now after)
+        result = in_code (Some (stack_types m.types.now after)) line.item.instruction (h code.lines line.item.instruction line.alike)
 
-        are : AreWays code place line.0 ways
-        are = subst (λ (w : List ℕ). AreWays code place line.0 w) (sym along) (are_ways m.types.now code place line.0 op line.2)
+        are : AreWays code place line.item ways
+        are = subst (λ (w : List ℕ). AreWays code place line.item w) (sym along) (are_ways m.types.now code place line.item op line.alike)
 
         by_answer : {T : Type 0} (r : Result T RaiseError) (answer : Result T TypingError) → IsRise m.types.now max_stack after ways old new r → IsAnsweredBy r answer → IsVisit m code new answer
         by_answer (Ok done) (Ok done') k same =
-            visited m.types.now arguments return_type code legal (typing_of m.types.now old.rows.items) old.is_pending.items place u line.0 line.1 (stack_types m.types.now before) named
+            visited m.types.now arguments return_type code legal (typing_of m.types.now old.rows.items) old.is_pending.items place u line.item line.there (stack_types m.types.now before) named
             (stack_types m.types.now after) result ways are (typing_of m.types.now new.rows.items) new.is_pending.items
             (subst (λ (z : ℤ). HasRisen m.types.now z (stack_types m.types.now after) ways (typing_of m.types.now old.rows.items) old.is_pending.items (typing_of m.types.now new.rows.items) new.is_pending.items) of.same_max k.0)
         by_answer (Ok done) (Err e) k same = elim same [ ]
         by_answer (Err step) (Ok done) k same = elim same [ ]
         by_answer (Err (OfRaise.Refused at' reason)) (Err (Untyped failure)) k same =
-            not_visited m.types.now arguments return_type code legal (typing_of m.types.now old.rows.items) old.is_pending.items place u line.0 line.1 (stack_types m.types.now before) named
+            not_visited m.types.now arguments return_type code legal (typing_of m.types.now old.rows.items) old.is_pending.items place u line.item line.there (stack_types m.types.now before) named
             (stack_types m.types.now after) result ways are
             (subst (λ (z : ℤ). CannotRise m.types.now z (stack_types m.types.now after) ways (typing_of m.types.now old.rows.items)) of.same_max k)
         by_answer (Err OfRaise.OutOfMemory) (Err (Untyped failure)) k same = elim same [ ]

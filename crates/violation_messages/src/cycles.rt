@@ -3,8 +3,7 @@
 use crate::sites::Sites;
 use name_tables::keys::ClassKey;
 use name_tables::lookups::NameTables;
-use name_texts::ClassText;
-use source_map::{ClassPart, Place};
+use source_map::{ClassPart, ClassText, Place};
 use std::fmt;
 
 /// The most bases that are named.

@@ -6,8 +6,7 @@ use cil_model::types::DeclaredType;
 use metadata::violations;
 use metadata::violations::SourceMember;
 use name_tables::keys::MethodKey;
-use name_texts::{MethodText, TypeText};
-use source_map::{MemberPart, Place};
+use source_map::{MemberPart, MethodText, Place, TypeText};
 use std::fmt;
 
 /// Why a source has not one entry point, in a static method without parameters that returns nothing.

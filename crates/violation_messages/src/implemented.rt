@@ -6,8 +6,7 @@ use cil_model::trees::ClassKind;
 use metadata::violations;
 use name_tables::keys::{ClassKey, MethodKey};
 use name_tables::lookups::NameTables;
-use name_texts::{ClassText, MethodText};
-use source_map::{ClassPart, Place};
+use source_map::{ClassPart, ClassText, MethodText, Place};
 use std::fmt;
 
 /// A method of an interface that a class lists, for which no class of the chain has a virtual method.

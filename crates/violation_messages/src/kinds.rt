@@ -7,8 +7,7 @@ use metadata::violations;
 use metadata::violations::KindFault;
 use name_tables::keys::{ClassKey, MethodKey};
 use name_tables::lookups::{MemberNumber, NameTables};
-use name_texts::{ClassText, MethodText};
-use source_map::nth_method;
+use source_map::{ClassText, MethodText, nth_method};
 use std::fmt;
 
 /// A method whose kind does not fit its class or what it inherits.

@@ -1,5 +1,6 @@
 //! Why a tree is no legal program (numbers 201 to 207).
 
+use crate::advice::advice_on;
 use crate::breaches::{Breach, breach_of};
 use crate::sites::Sites;
 use cil_model::memory::NoMemory;
@@ -38,11 +39,15 @@ fn told_breach(
     if other.is_some() {
         named.push_where(&mut message, other, note(breach))?;
     }
+    if let Some(advice) = advice_on(breach) {
+        writeln!(message, "{advice}")?;
+    }
     Ok(message)
 }
 
 /// Why a tree breaks a rule, in words; the rule's own sentence where the tree has no such place. Where that does not agree with something
-/// else, as with the first of two names, a second part of the text shows it. Fails for want of memory alone.
+/// else, as with the first of two names, a second part of the text shows it; of a name that this profile lacks the last line says what to
+/// write instead. Fails for want of memory alone.
 pub fn explain_rule(
     alloc: Global,
     named: Named,

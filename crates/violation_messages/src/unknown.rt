@@ -11,8 +11,7 @@ use metadata::violations::{ClassFault, HeadingName, SourceMember};
 use name_tables::keys::{ClassKey, FieldKey, MethodKey};
 use name_tables::kinds::is_static;
 use name_tables::lookups::NameTables;
-use name_texts::{ClassText, MethodText, TypeText};
-use source_map::{ClassPart, LinePart, Place};
+use source_map::{ClassPart, ClassText, LinePart, MethodText, Place, TypeText};
 use std::fmt;
 
 /// What a class is named as.
@@ -159,14 +158,21 @@ fn tell_class<W: fmt::Write>(
     }
 }
 
+/// The library of a built-in class; None where no built-in class has the name.
+pub(crate) fn library_of(name: &str) -> Option<&'static str> {
+    match name {
+        "System.Object" | "System.String" | "System.Console" | "System.Threading.Monitor" => {
+            Some("mscorlib")
+        }
+        "Cilvm.Thread" => Some("cilvm"),
+        _ => None,
+    }
+}
+
 /// The built-in class that a name without an assembly may mean.
 fn tell_assembly<W: fmt::Write>(f: &mut fmt::Formatter<W>, name: &str) -> fmt::Result {
-    let library = match name {
-        "System.Object" | "System.String" | "System.Console" | "System.Threading.Monitor" => {
-            "mscorlib"
-        }
-        "Cilvm.Thread" => "cilvm",
-        _ => return Ok(()),
+    let Some(library) = library_of(name) else {
+        return Ok(());
     };
     write!(f, ", but `[{library}]{name}` is built in")
 }

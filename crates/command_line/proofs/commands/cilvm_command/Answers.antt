@@ -1,11 +1,11 @@
 use Rattle.std.proofs.Common.{◌≡◌, ◌∙◌, ap, ap₂, codes}
 use Rattle.std.proofs.lemmas.Result.{IfOk-weaker}
 use Rattle.clap.specs.Words.{App, app_of, new_app, with_subcommand}
-use Rattle.command_line.specs.CommandLine.{check_app, replay_app, run_app, trace_app, with_required_subcommand}
+use Rattle.command_line.specs.CommandLine.{check_app, replay_app, run_app, trace_app, with_required_subcommand, with_version}
 use Rattle.command_line.proofs.commands.cilvm_command.Goals as goal
 
 abbrev one : App
-one = with_subcommand (with_required_subcommand (new_app (codes "cilvm"))) check_app.top
+one = with_subcommand (with_version (with_required_subcommand (new_app (codes "cilvm")))) check_app.top
 
 abbrev two : App
 two = with_subcommand one run_app.top

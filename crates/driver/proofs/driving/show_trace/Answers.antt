@@ -1,5 +1,5 @@
 use Rattle.std.proofs.Common.{inl, inr, refl, subst, sym}
-use Rattle.event_trace.specs.Traces.{IsTraced, IsTracedInPart}
+use Rattle.deadlocks.specs.event_trace.Traces.{IsTraced, IsTracedInPart}
 use Rattle.driver.specs.Outcomes.{HasNotRun, IsTraceInPart}
 use Rattle.source_runs.specs.Failures.{IsOfWriting}
 use Rattle.source_runs.proofs.RunLemmas.{handed_on, if_err, if_ok, on_err, on_err_of}
@@ -40,7 +40,7 @@ returns-clause-done g c =
     let between = g.W.Write.contents c.write_trace.new.out in
     let traced = c.in_ok-write_trace.ensures.traced in
     if_ok c.show.result c.show.ensures.shown (λ status shown.
-    has_traced c.args.source.now c.args.limits c.args.text.now c.in_ok-machine.events.items machine after traced.0 begun between (g.W.Write.contents c.show.new.out)
+    has_traced c.args.source.now c.args.limits c.args.text.now c.args.explain c.in_ok-machine.events.items machine after traced.0 begun between (g.W.Write.contents c.show.new.out)
     (g.E.Write.contents c.args.err.now) (g.E.Write.contents c.show.new.err) status c.in_ok-machine.ensures.opened
     (subst (λ es. IsTraced machine es after traced.0 begun between) c.as_slice.ensures.value traced.1) c.in_ok-write_trace.ensures.same.1 shown)
 
@@ -60,6 +60,6 @@ returns-clause-in_part g c =
     let between = g.W.Write.contents c.write_trace.new.out in
     let traced = c.in_ok-write_trace.ensures.traced in
     on_err_of c.show.result c.show.ensures.begun (λ shown.
-    inr (inr (traced_in_part c.args.source.now c.args.limits c.args.text.now c.in_ok-machine.events.items machine after traced.0 begun between (g.W.Write.contents c.show.new.out)
+    inr (inr (traced_in_part c.args.source.now c.args.limits c.args.text.now c.args.explain c.in_ok-machine.events.items machine after traced.0 begun between (g.W.Write.contents c.show.new.out)
     (g.E.Write.contents c.args.err.now) (g.E.Write.contents c.show.new.err) c.in_ok-machine.ensures.opened
     (subst (λ es. IsTraced machine es after traced.0 begun between) c.as_slice.ensures.value traced.1) c.in_ok-write_trace.ensures.same.1 shown)))

@@ -1,7 +1,8 @@
 use Rattle.std.proofs.Common.{◌∙◌, None, add-one, ap, arith, subst, sym, take}
 use Rattle.std.specs.Io.KnownBytes.{Appends}
 use Rattle.driver.specs.Threads.{lines_from}
-use Rattle.driver.proofs.ThreadLemmas.{appends_more, lines_more}
+use Rattle.std.proofs.KnownBytes.{Appends-trans}
+use Rattle.driver.proofs.ThreadLemmas.{lines_more}
 use Rattle.driver.proofs.showing.show_ends.Goals as goal
 
 pub loop-thread-preserved : goal.loop-thread-preserved
@@ -11,4 +12,4 @@ loop-thread-preserved g c =
     let more = lines_more 0 thread thread ends None (omega arith) c.loop-thread-test.true in
     subst (Appends (g.E.Write.contents c.args.err.now) (g.E.Write.contents c.show_end.new.err))
     (sym (ap (λ n. lines_from 0 (take n ends)) (add-one thread) ∙ more))
-    (appends_more _ _ _ _ _ c.loop-thread.invariant c.in_ok-show_end.ensures)
+    (Appends-trans _ _ _ _ _ c.loop-thread.invariant c.in_ok-show_end.ensures)

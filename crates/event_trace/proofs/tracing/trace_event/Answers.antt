@@ -1,19 +1,19 @@
-use Rattle.std.proofs.Common.{◌≡◌, inr, rules, subst}
-use Rattle.event_trace.specs.Columns.{line_of}
+use Rattle.std.proofs.Common.{◌∙◌, inr, subst}
 use Rattle.interleaving_core.proofs.Refusing.{on_err}
 use Rattle.outputs.specs.Beginnings.{AppendsBeginning}
-use Rattle.outputs.proofs.BeginningLaws.{begins_nothing}
+use Rattle.event_trace.proofs.TraceLaws.{event_cut}
 use Rattle.event_trace.proofs.tracing.trace_event.Goals as goal
 
-pub returns-in_err-write-clause-stopped : goal.returns-in_err-write-clause-stopped
-returns-in_err-write-clause-stopped g c =
-    on_err c.from_residual-in_err-write.result (
-    inr (c.in_ok-report.report, c.in_ok-report.ensures.turns, begins_nothing (g.W.Write.contents c.args.out.now) (line_of c.args.number c.args.event c.in_ok-report.report c.args.machine.now c.step.new.self))
-    )
+pub returns-in_err-write_piece-in-Ok-clause-stopped : goal.returns-in_err-write_piece-in-Ok-clause-stopped
+returns-in_err-write_piece-in-Ok-clause-stopped g c =
+    let (report, turn, line) = c.in-Ok.ensures.traced in
+    on_err c.from_residual.result
+    (inr (report, turn, subst (AppendsBeginning (g.W.Write.contents c.args.out.now) (g.W.Write.contents c.write_piece.new.out)) line c.in_err-write_piece-in-Ok.ensures.begun))
 
-pub returns-in_err-write_whole-clause-stopped : goal.returns-in_err-write_whole-clause-stopped
-returns-in_err-write_whole-clause-stopped g c =
-    let text : c.as_slice.result.now ≡ line_of c.args.number c.args.event c.in_ok-report.report c.args.machine.now c.step.new.self = search rules in
-    on_err c.from_residual-in_err-write_whole.result (
-    inr (c.in_ok-report.report, c.in_ok-report.ensures.turns, subst (AppendsBeginning (g.W.Write.contents c.args.out.now) (g.W.Write.contents c.write_whole.new.out)) text c.in_err-write_whole.ensures.begun)
-    )
+pub returns-in_err-write_whole-in-Err-clause-stopped : goal.returns-in_err-write_whole-in-Err-clause-stopped
+returns-in_err-write_whole-in-Err-clause-stopped g c =
+    let begun = g.W.Write.contents c.args.out.now in
+    let new = g.W.Write.contents c.write_whole.new.out in
+    on_err c.from_residual-in_err-write_whole-in-Err.result
+    (event_cut c.args.number c.args.event c.args.machine.now c.add_event.new.machine c.args.pending.now.items begun new c.in-Err.ensures.stopped
+    (subst (AppendsBeginning begun new) (c.as_slice.ensures.value ∙ c.in-Err.ensures.kept) c.in_err-write_whole-in-Err.ensures.begun))

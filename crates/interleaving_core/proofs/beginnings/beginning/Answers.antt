@@ -10,7 +10,7 @@ use Rattle.threads_monitors.specs.Frames.{new_frame}
 use Rattle.threads_monitors.specs.declared.threads.Standing.TheVariants.{Live}
 use Rattle.threads_monitors.specs.declared.threads.Thread.{Thread}
 use Rattle.step_simulation.specs.simulation.MachineContents.{frame_room}
-use Rattle.interpreter.proofs.Running.{alike_both, alike_none, there_is}
+use Rattle.step_simulation.proofs.simulation.interpreter.Running.{alike_both, alike_none, there_is}
 use Rattle.interleaving_core.proofs.Declared.{locals_fit}
 use Rattle.interleaving_core.proofs.beginnings.beginning.Goals as goal
 

@@ -1,7 +1,7 @@
 use Rattle.std.proofs.Common.{Some, [], ◌∷◌, ap, sym, ◌∙◌}
 use Rattle.object_memory.specs.declared.values.Value.TheVariants.{Ref}
-use Rattle.interpreter.specs.Calls.{chosen_at}
-use Rattle.interpreter.proofs.Running.{there_is}
+use Rattle.step_simulation.specs.simulation.interpreter.Calls.{chosen_at}
+use Rattle.step_simulation.proofs.simulation.interpreter.Running.{there_is}
 use Rattle.step_simulation.specs.simulation.Turns.{run_member}
 use Rattle.interleaving_core.proofs.OpeningLaws.{chosen_there, thread_for_chosen}
 use Rattle.interleaving_core.proofs.beginnings.beginning_on.Goals as goal

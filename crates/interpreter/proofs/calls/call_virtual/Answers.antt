@@ -3,7 +3,7 @@ use Rattle.std.specs.Prelude.{IsSome, IfOk, OnErr}
 use Rattle.std.specs.Option.{is_some}
 use Rattle.std.proofs.lemmas.Option.{same_Some}
 use Rattle.method_table.specs.Prepared.{IsTableMethod}
-use Rattle.interpreter.specs.Calls.{prints, receiver, virtual_at}
+use Rattle.interpreter.specs.Calls.{prints, receiver, virtual_at, call_answer}
 use Rattle.interpreter.proofs.Receiving.{Receiving, receiving, received, on_null, on_object}
 use Rattle.interpreter.proofs.calls.call_virtual.Goals as goal
 
@@ -42,7 +42,7 @@ returns-clause-done c =
     let named : receiver c.args.frames.now.running.stack c.entry.result.now.arguments ≡ Some call.object = ap (receiver c.args.frames.now.running.stack) known.arguments ∙ call.object_is in
     let same : call.object ≡ c.receiver-object.result = same_Some call.object c.receiver-object.result (sym named ∙ c.receiver-object.ensures) in
     let whole = subst (λ a. virtual_at c.args.program.now c.args.thread c.args.method c.args.frames.now c.args.heap.now c.args.console.now.items ≡ received c.args.program.now c.args.thread c.args.method c.args.frames.now c.args.heap.now c.args.console.now.items a) same call.whole in
-    subst (λ t. IfOk c.run_chosen.result (λ outcome. Some (c.run_chosen.new.frames, c.run_chosen.new.heap, c.run_chosen.new.console.items, outcome) ≡ t))
+    subst (λ t. IfOk c.run_chosen.result (λ outcome. Some (call_answer c.run_chosen.new.frames c.run_chosen.new.heap c.run_chosen.new.console.items outcome) ≡ t))
     (sym (on_object c.args.program.now c.args.thread c.args.method c.args.frames.now c.args.heap.now c.args.console.now.items c.receiver-object.result whole (sym c.is_null.ensures ∙ c.if-is_null.false))) c.run_chosen.ensures.done
 
 pub returns-clause-prints : goal.returns-clause-prints

@@ -7,7 +7,7 @@ use Rattle.method_table.specs.Prepared.{action_named, IsTableMethod}
 use Rattle.method_table.proofs.NumberLaws.{number_of_place}
 use Rattle.instructions.specs.Calls.{call_turn}
 use Rattle.instructions.specs.ObjectTurns.{beside}
-use Rattle.interpreter.specs.Calls.{beside_console, called_as, prints}
+use Rattle.interpreter.specs.Calls.{beside_console, called_as, prints, call_answer}
 use Rattle.interpreter.proofs.Running.{there_is, given_there, called_alike, run_acts, run_calls, call_there}
 use Rattle.interpreter.proofs.calls.run.Goals as goal
 
@@ -37,7 +37,7 @@ returns-in-Some-clause-done c =
     let known : IsTableMethod c.args.program.now found.0 c.entry-entry.result.now = c.entry-entry.ensures found.0 found.1 in
     let acts : action_of found.0.0 found.0.1 ≡ Some (action_named c.in-Some.action) = sym known.action ∙ ap (option_map action_named) c.in-Some.is in
     let runs = run_acts c.args.program.now c.args.thread c.args.method found.0 found.1 c.args.frames.now c.args.heap.now c.args.console.now.items (action_named c.in-Some.action) acts in
-    subst (λ t. IfOk c.act.result (λ outcome. Some (c.act.new.frames, c.act.new.heap, c.act.new.console.items, outcome) ≡ t)) (sym runs) c.act.ensures.done
+    subst (λ t. IfOk c.act.result (λ outcome. Some (call_answer c.act.new.frames c.act.new.heap c.act.new.console.items outcome) ≡ t)) (sym runs) c.act.ensures.done
 
 pub returns-in-None-clause-done : goal.returns-in-None-clause-done
 returns-in-None-clause-done c =

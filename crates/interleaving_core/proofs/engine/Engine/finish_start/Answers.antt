@@ -1,6 +1,6 @@
 use Rattle.step_simulation.specs.simulation.Turns.{live_thread}
 use Rattle.interleaving_core.specs.Views.{content_of}
-use Rattle.interpreter.specs.declared.outcomes.Outcome.TheVariants.{Starts}
+use Rattle.step_simulation.specs.simulation.interpreter.declared.outcomes.Outcome.TheVariants.{Starts}
 use Rattle.interleaving_core.proofs.Stepping.{started_keeps}
 use Rattle.interleaving_core.proofs.Requests.{live_after, of_live, start_finished, started_back}
 use Rattle.interleaving_core.proofs.engine.Engine.finish_start.Goals as goal

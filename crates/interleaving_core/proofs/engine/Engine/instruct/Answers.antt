@@ -5,7 +5,7 @@ use Rattle.cil_model.specs.declared.trees.Tree.{Tree}
 use Rattle.class_layout.specs.Laid.{IsLayout}
 use Rattle.method_table.specs.Prepared.{IsMethodTable}
 use Rattle.object_memory.specs.declared.values.Value.{Value}
-use Rattle.interpreter.specs.Instructions.{IsAt, line_at, operation_turn}
+use Rattle.step_simulation.specs.simulation.interpreter.Instructions.{IsAt, line_at, operation_turn}
 use Rattle.interleaving_core.specs.Views.{content_of}
 use Rattle.interleaving_core.proofs.Indexed.{instructed, reached_live, reached_with, refilled}
 use Rattle.interleaving_core.proofs.engine.Engine.instruct.Goals as goal

@@ -1,0 +1,59 @@
+//! What is told of a file that is not read.
+ghost use Rattle.std.specs.Prelude.{◌≡◌, IfOk, string_bytes};
+ghost use Rattle.command_line.specs.UnreadFiles.{IsLineOf, IsToldOf, shown_character, shown_name};
+
+use std::alloc::{AllocError, Global};
+use std::io;
+use std::io::ErrorKind;
+
+/// A file that an order names and that is not read.
+#[derive(Clone, Copy, Debug)]
+pub struct Unread<'a> {
+    /// The file's name, as the command line has it.
+    pub file: &'a str,
+    /// Why it is not opened, or not read.
+    pub error: io::Error,
+}
+
+impl Unread<'_> {
+    /// What stands on the standard error behind the line `device`: the line `cilvm: cannot read FILE: WHY`, with `?` in the place of each
+    /// control character of the file's name. It is empty where memory was wanted, since that is told by `memory` alone. Fails for want of
+    /// memory alone.
+    pub fn told(&self, alloc: Global) -> Result<String, AllocError>
+        ensures { IfOk result (λ text. IsToldOf self.now.file.now self.now.error (string_bytes text)) }
+    {
+        if self.error.kind() == ErrorKind::OutOfMemory {
+            return Ok(String::new(alloc));
+        }
+        line_of(alloc, self.file, self.error)
+    }
+}
+
+fn line_of(alloc: Global, file: &str, error: io::Error) -> Result<String, AllocError>
+    ensures { IfOk result (λ line. IsLineOf file.now (string_bytes line)) }
+{
+    let name = shown_name(alloc, file)?;
+    let why = error.to_string(alloc)?;
+    format!(in alloc; "cilvm: cannot read {name}: {why}\n")
+}
+
+/// A name as it may stand in a line of text, whatever a terminal takes its characters for.
+fn shown_name(alloc: Global, name: &str) -> Result<String, AllocError>
+    ensures { IfOk result (λ shown. string_bytes shown ≡ shown_name name.now) }
+{
+    let mut shown = String::new(alloc);
+    for character in name.chars() {
+        shown.push(shown_character(character))?;
+    }
+    Ok(shown)
+}
+
+fn shown_character(character: char) -> char
+    ensures { result ≡ shown_character character }
+{
+    if character.is_control() {
+        '?'
+    } else {
+        character
+    }
+}

@@ -1,0 +1,5 @@
+pub mod Agreeing
+pub mod Classes
+pub mod Counting
+pub mod RoundLaws
+pub mod Greatest

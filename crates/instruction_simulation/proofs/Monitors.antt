@@ -1,0 +1,87 @@
+-- The monitor at an address and that of the object which has it, and what both are once they have changed.
+use Rattle.std.proofs.Common.{◌≡◌, ℕ, List, Some, option_map, slice_get, refl, sym, ap, ◌∙◌, subst}
+use Rattle.std.specs.Prelude.{unwrap_or}
+use Rattle.std.specs.Option.{option_map_or}
+use Rattle.simulation.specs.cil_model.declared.trees.Tree.{Tree}
+use Rattle.simulation.specs.cil_model.declared.limits.Limits.{Limits}
+use Rattle.simulation.specs.reference_machine.Values.{ObjectName, Born, Literal}
+use Rattle.simulation.specs.reference_machine.States.{Monitor as StateMonitor, HeapObject, State, with_object, monitor_of, with_monitor as with_state_monitor}
+use Rattle.simulation.specs.size_bounds.Counts.{IsCountedMonitor, IsCounted}
+use Rattle.simulation.specs.object_memory.declared.addresses.Addr.{Addr}
+use Rattle.simulation.specs.object_memory.declared.monitors.Monitor.{Monitor}
+use Rattle.simulation.specs.object_memory.declared.values.Value.{Value}
+use Rattle.simulation.specs.object_memory.Cells.{Cell}
+use Rattle.simulation.specs.object_memory.Objects.{Objects, object_cell, monitor_at, with_monitor}
+use Rattle.simulation.specs.StandsFor.{Names, IsMonitor, IsBornAt, IsLiteralAt}
+use Rattle.simulation.proofs.MemoryModels.{MemoryModel, IsModelled}
+
+module _ (tree : Tree) (model : MemoryModel tree) (name : Names) (o : Objects) (statics : List Value) (printed : List ℕ) (limits : Limits) (s : State) (a : Addr) (n : ObjectName) where
+  -- the memory with other monitors of the object
+  pub record IsChanged (monitor : Monitor) (changed : StateMonitor) : Type 0 where
+    pub memory : IsModelled tree model name (with_monitor o a monitor) statics printed (with_state_monitor s n changed)
+    pub others : (with_state_monitor s n changed).threads ≡ s.threads
+
+  -- the monitors of an object under a name, which may change alike
+  pub record IsMonitorAt : Type 0 where
+    pub monitor : Monitor
+    pub held : monitor_at o a ≡ Some monitor
+    pub state_monitor : StateMonitor
+    pub state_held : monitor_of s n ≡ Some state_monitor
+    pub stands : IsMonitor monitor state_monitor
+    pub counted : IsCountedMonitor limits s state_monitor
+    pub changes : (new : Monitor) (changed : StateMonitor) → IsMonitor new changed → IsChanged new changed
+
+module _ (tree : Tree) (model : MemoryModel tree) (name : Names) (o : Objects) (statics : List Value) (printed : List ℕ) (limits : Limits) (s : State) (memory : IsModelled tree model name o statics printed s) (counted : IsCounted limits s) (a : Addr) where
+  -- of an object that was born
+  born_monitor : (n : ℕ) → name a.number ≡ Some (Born n) → IsMonitorAt tree model name o statics printed limits s a (Born n)
+  born_monitor n named = record {
+    monitor = here.cell.monitor;
+    held = ap (λ x. option_map_or (slice_get o.literals) x (option_map (λ (c : Cell). c.monitor) (object_cell o a))) here.no_literal ∙ ap (option_map (λ (c : Cell). c.monitor)) here.lies;
+    state_monitor = here.object.monitor;
+    state_held = ap (option_map (λ (x : HeapObject). x.monitor)) here.is;
+    stands = here.stands.monitor;
+    counted = counted.objects n here.object here.is;
+    changes = changes;
+  }
+    where
+      here : IsBornAt tree name o s a.number n
+      here = (model.reads name o statics s memory.fits).born a.number n named
+
+      changes : (new : Monitor) (changed : StateMonitor) → IsMonitor new changed → IsChanged tree model name o statics printed limits s a (Born n) new changed
+      changes new changed h =
+          let after : State = with_object s (Born n) (record here.object { monitor = changed }) in
+          let state_is : with_state_monitor s (Born n) changed ≡ after = ap (λ x. unwrap_or (option_map (λ (y : HeapObject). with_object s (Born n) (record y { monitor = changed })) x) s) here.is in
+          let known : IsModelled tree model name (with_monitor o a new) statics printed after =
+          record {
+            fits = model.monitors name o statics s memory.fits a n named here.cell here.lies new (record here.object { monitor = changed }) (record { contents = here.stands.contents; monitor = h });
+            printed_is = memory.printed_is;
+          }
+          in record {
+            memory = subst (λ x. IsModelled tree model name (with_monitor o a new) statics printed x) (sym state_is) known;
+            others = ap (λ (x : State). x.threads) state_is;
+          }
+
+  -- of a literal
+  literal_monitor : (characters : List ℕ) → name a.number ≡ Some (Literal characters) → IsMonitorAt tree model name o statics printed limits s a (Literal characters)
+  literal_monitor characters named = record {
+    monitor = here.monitor;
+    held = ap (λ x. option_map_or (slice_get o.literals) x (option_map (λ (c : Cell). c.monitor) (object_cell o a))) here.numbered ∙ here.held;
+    state_monitor = here.state_monitor;
+    state_held = here.state_held;
+    stands = here.stands;
+    counted = counted.literals characters here.state_monitor here.state_held;
+    changes = λ new changed h. record {
+      memory = record {
+        fits = model.literals name o statics s memory.fits a characters named new changed h;
+        printed_is = memory.printed_is;
+      };
+      others = refl;
+    };
+  }
+    where
+      here : IsLiteralAt tree o s a.number characters
+      here = (model.reads name o statics s memory.fits).literals a.number characters named
+
+  pub monitor_there : (n : ObjectName) → name a.number ≡ Some n → IsMonitorAt tree model name o statics printed limits s a n
+  monitor_there (Born n) named = born_monitor n named
+  monitor_there (Literal characters) named = literal_monitor characters named

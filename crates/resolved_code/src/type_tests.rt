@@ -1,0 +1,65 @@
+// Whether a value of one type may stand where another is wanted, up to a test of two classes (ECMA-335 I.8.7).
+
+ghost use Rattle.std.specs.Prelude.{◌≡◌, Some};
+ghost use Rattle.cil_model.specs.declared.trees.Tree.{Tree};
+ghost use Rattle.cil_model.specs.declared.types.DeclaredType.{DeclaredType};
+ghost use Rattle.cil_model.specs.Assignable.{is_assignable};
+ghost use Rattle.resolved_code.specs.Numbered.{type_at};
+ghost use Rattle.resolved_code.specs.TypeTests.{is_object, element_test, type_test, ComesTo};
+
+use crate::types::{NumberedElement, NumberedType};
+
+/// What a test of two types comes to.
+#[derive(Clone, Copy, PartialEq, Eq, Debug)]
+pub enum TypeTest {
+    /// The answer, whatever the classes are.
+    Answered(bool),
+    /// What is answered of two classes, by their numbers: whether the first may stand for the second.
+    OfClasses { from: usize, to: usize },
+}
+
+/// `object`
+fn is_object(element: NumberedElement) -> bool
+    ensures { result ≡ is_object element }
+{
+    matches!(element, NumberedElement::Object)
+}
+
+/// The test of types without brackets. Only the two integers may not stand for `object`.
+fn element_test(from: NumberedElement, to: NumberedElement) -> TypeTest
+    ensures { result ≡ element_test from to }
+{
+    match (from, to) {
+        (NumberedElement::Int32, NumberedElement::Object) => TypeTest::Answered(false),
+        (NumberedElement::Int64, NumberedElement::Object) => TypeTest::Answered(false),
+        (_, NumberedElement::Object) => TypeTest::Answered(true),
+        (NumberedElement::Class(from), NumberedElement::Class(to)) => {
+            TypeTest::OfClasses { from, to }
+        }
+        (NumberedElement::Int32, NumberedElement::Int32) => TypeTest::Answered(true),
+        (NumberedElement::Int64, NumberedElement::Int64) => TypeTest::Answered(true),
+        (NumberedElement::String, NumberedElement::String) => TypeTest::Answered(true),
+        _ => TypeTest::Answered(false),
+    }
+}
+
+/// As many brackets on both, or fewer on `object`.
+fn type_test(from: NumberedType, to: NumberedType) -> TypeTest
+    ensures { result ≡ type_test from to }
+{
+    if from.brackets == to.brackets {
+        element_test(from.element, to.element)
+    } else {
+        TypeTest::Answered(to.brackets < from.brackets && is_object(to.element))
+    }
+}
+
+impl NumberedType {
+    /// Whether a value of this type may stand where the other is wanted (ECMA-335 I.8.7), as far as elements and brackets tell it.
+    /// An array may stand for one of as many brackets where its element may stand for the other's, and for `object` with fewer.
+    pub fn test_for(self, wanted: NumberedType) -> TypeTest
+        ensures { (tree : Tree) (a b : DeclaredType) → type_at tree self ≡ Some a → type_at tree wanted ≡ Some b → ComesTo tree result (is_assignable tree a b) }
+    {
+        type_test(self, wanted)
+    }
+}

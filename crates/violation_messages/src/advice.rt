@@ -1,0 +1,158 @@
+//! What to write in the place of names that this profile lacks.
+
+use crate::breaches::Breach;
+use crate::entry::BadEntry;
+use crate::unknown::{Role, Unknown, library_of};
+use metadata::violations::ClassFault;
+use name_tables::keys::{ClassKey, MethodKey};
+use std::fmt;
+
+/// What to write in the place of what breaks a rule. It prints as one sentence without an end.
+#[derive(Clone, Copy)]
+pub(crate) enum Advice<'a> {
+    /// This sentence.
+    Sentence(&'static str),
+    /// The declaration of this library.
+    Extern(&'a str),
+    /// A class of a library.
+    BuiltIn {
+        library: &'static str,
+        class: &'a str,
+    },
+}
+
+impl fmt::Display for Advice<'_> {
+    fn fmt<W: fmt::Write>(&self, f: &mut fmt::Formatter<W>) -> fmt::Result {
+        match *self {
+            Advice::Sentence(sentence) => write!(f, "{sentence}"),
+            Advice::Extern(library) => {
+                write!(
+                    f,
+                    "write `.assembly extern {library} {{}}` before the classes"
+                )
+            }
+            Advice::BuiltIn { library, class } => write!(f, "write `[{library}]{class}`"),
+        }
+    }
+}
+
+/// What to write in the place of a type that is no class of the source, nor of this profile's libraries.
+fn advice_on_type(name: &str) -> Option<&'static str> {
+    match name {
+        "Object" | "System.Object" => Some("write `object`, without `class`"),
+        "String" | "System.String" => Some("write `string`, without `class`"),
+        "System.Boolean" | "System.Char" | "System.Byte" | "System.Int32" => {
+            Some("write `int32`, without `class`")
+        }
+        "System.Int64" => Some("write `int64`, without `class`"),
+        "System.Array" => Some("write a type with brackets, as `int32[]`"),
+        _ => None,
+    }
+}
+
+/// What to write in the place of a class that is none of the source, nor of this profile's libraries.
+fn advice_on_class(name: &str) -> Option<&'static str> {
+    match name {
+        "Object" => Some("write `[mscorlib]System.Object`"),
+        "String" => Some("write `[mscorlib]System.String`"),
+        "Console" => Some("write `[mscorlib]System.Console`"),
+        "Monitor" => Some("write `[mscorlib]System.Threading.Monitor`"),
+        "Thread" | "System.Threading.Thread" => Some("write `[cilvm]Cilvm.Thread`"),
+        "System.Enum" => Some("write `int32`: there are no value types"),
+        "System.ValueType" => Some("write a class: there are no value types"),
+        "System.Delegate" | "System.MulticastDelegate" => {
+            Some("write an interface with one method")
+        }
+        "System.Exception" => Some("write the code without handlers: a fault ends its thread"),
+        _ => None,
+    }
+}
+
+/// What to write in the place of a class by its name alone.
+fn advice_on_name(name: &str, role: Role) -> Option<&'static str> {
+    match (role, advice_on_type(name)) {
+        (Role::Type, Some(advice)) => Some(advice),
+        _ => advice_on_class(name),
+    }
+}
+
+/// What to write in the place of a class that is not there, or whose assembly is not declared.
+fn advice_on_absent_class<'a>(class: ClassKey<'a>, role: Role) -> Option<Advice<'a>> {
+    let name = class.name.as_str();
+    if let Some(sentence) = advice_on_name(name, role) {
+        return Some(Advice::Sentence(sentence));
+    }
+    if let Some(library) = library_of(name) {
+        let class = name;
+        return Some(Advice::BuiltIn { library, class });
+    }
+    match (class.assembly, role) {
+        (None, _) => None,
+        (Some(_), Role::Interface) => Some(Advice::Sentence("write an interface of the source")),
+        (Some(_), _) => Some(Advice::Sentence("write a class of the source")),
+    }
+}
+
+/// What to write in the place of a class that may not be named so.
+fn advice_on_fault<'a>(class: ClassKey<'a>, role: Role, fault: ClassFault) -> Option<Advice<'a>> {
+    let assembly = match class.assembly {
+        None => "",
+        Some(assembly) => assembly.as_str(),
+    };
+    match fault {
+        ClassFault::NoExtern if matches!(assembly, "mscorlib" | "cilvm") => {
+            Some(Advice::Extern(assembly))
+        }
+        ClassFault::NoExtern | ClassFault::Absent => advice_on_absent_class(class, role),
+        _ => None,
+    }
+}
+
+/// What to write in the place of a method of a built-in class that it lacks, by the class.
+fn advice_on_member(owner: &str) -> Option<&'static str> {
+    match owner {
+        "System.Console" => Some("write `WriteLine` of one `int32`, `int64` or `string`"),
+        "System.Threading.Monitor" => Some("write `Enter(object)` and `Exit(object)`"),
+        "System.String" => Some("a string can be loaded, compared as a reference, and printed"),
+        "Cilvm.Thread" => Some("write `instance void Start()` or `instance void Join()`"),
+        _ => None,
+    }
+}
+
+/// What to write in the place of a method that is not there.
+fn advice_on_method(owner: ClassKey, method: MethodKey) -> Option<&'static str> {
+    match method.name?.as_str() {
+        "ctor" => Some("write `.ctor`, with its `.`"),
+        "ToString" | "GetHashCode" | "GetType" | "Equals" => {
+            Some("write a virtual method of a class of the source")
+        }
+        _ if owner.assembly.is_some() => advice_on_member(owner.name.as_str()),
+        _ => None,
+    }
+}
+
+fn advice_on_entry(entry: &BadEntry) -> &'static str {
+    match entry {
+        BadEntry::Absent => "write `.entrypoint` before `.maxstack` of the first method",
+        BadEntry::Second => "leave out one of the two",
+        BadEntry::NotStatic(_) | BadEntry::Returns(_) | BadEntry::Takes(_) => {
+            "write `static void Main()`"
+        }
+    }
+}
+
+/// What to write in the place of what breaks a rule; None where the breach says it, or nothing is to be said.
+pub(crate) fn advice_on<'a>(breach: &Breach<'a>) -> Option<Advice<'a>> {
+    match breach {
+        Breach::Unknown(Unknown::Extern(_)) => Some(Advice::Extern("mscorlib")),
+        Breach::Unknown(Unknown::Class { class, role, fault }) => {
+            advice_on_fault(*class, *role, *fault)
+        }
+        Breach::Unknown(Unknown::Method { owner, method, .. }) => {
+            let sentence = advice_on_method(*owner, *method)?;
+            Some(Advice::Sentence(sentence))
+        }
+        Breach::BadEntry(entry) => Some(Advice::Sentence(advice_on_entry(entry))),
+        _ => None,
+    }
+}
