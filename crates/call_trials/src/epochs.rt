@@ -82,6 +82,38 @@ fn all_are_seen<R: Threads + Sync>(
     posted == 200 && seen == (200, 200)
 }
 
+/// Whether a seat that acknowledged the first number is found to have seen it, the other seat not, and the next number is posted once that
+/// one acknowledged too.
+pub fn counts_in_turn(alloc: Global) -> Result<bool, AllocError> {
+    let (epochs, herald, mut seats) = Epochs::new(alloc, 2)?;
+    let Some(second) = seats.pop() else {
+        return Ok(false);
+    };
+    let Some(first) = seats.pop() else {
+        return Ok(false);
+    };
+    Ok(are_counted(&epochs, herald, first, second))
+}
+
+fn are_counted(epochs: &Epochs, herald: Herald, first: Seat, second: Seat) -> bool
+    requires herald { (herald.table ≡ epochs.now.table) × (epochs.now.workers ≡ 2) }
+    requires seats { (first.table ≡ epochs.now.table) × (second.table ≡ epochs.now.table) }
+{
+    let (begun, herald) = epochs.post(herald);
+    let (polled, first) = epochs.poll(first);
+    let _first = epochs.ack(first);
+    let (of_first, herald) = epochs.seen_by(herald, 0);
+    let (of_second, herald) = epochs.seen_by(herald, 1);
+    let (held, herald) = epochs.post(herald);
+    let (_polled, second) = epochs.poll(second);
+    let _second = epochs.ack(second);
+    let (last, _herald) = epochs.post(herald);
+    begun == Post::Posted
+        && (polled, of_first, of_second) == (1, 1, 0)
+        && held == Post::Late
+        && last == Post::Posted
+}
+
 /// Whether two threads see each epoch that a third one posts, under any schedule of them.
 pub fn threads_see_every_epoch<R: Threads + Sync>(
     rt: &R,

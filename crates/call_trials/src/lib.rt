@@ -3,6 +3,7 @@
 
 mod epochs;
 mod library_calls;
-mod workers;
+mod two_workers;
+mod worker_runs;
 
 pub use library_calls::{Call, LIMITS, SUM, calls};

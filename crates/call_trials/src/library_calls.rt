@@ -1,7 +1,8 @@
 //! The calls, each with what is expected of it.
 
-use crate::epochs::threads_see_every_epoch;
-use crate::workers::{act_many, run_both};
+use crate::epochs::{counts_in_turn, threads_see_every_epoch};
+use crate::two_workers::{act_many, run_both};
+use crate::worker_runs::{goes_on_without, records_one_worker, replays_workers};
 use cil_model::events::Event;
 use cil_model::limits::Limits;
 use cil_model::memory::NoMemory;
@@ -54,7 +55,7 @@ fn came_to(name: &'static str, is_as_expected: bool) -> Call {
 }
 
 /// Makes the calls. One that wants memory counts as one that came to something else.
-pub fn calls(threads: &(impl Threads + Wait + Sync), alloc: Global) -> [Call; 11] {
+pub fn calls(threads: &(impl Threads + Wait + Sync), alloc: Global) -> [Call; 18] {
     [
         came_to("a reader that fails", tells_of_readers(alloc)),
         came_to(
@@ -90,7 +91,35 @@ pub fn calls(threads: &(impl Threads + Wait + Sync), alloc: Global) -> [Call; 11
             "epochs",
             threads_see_every_epoch(threads, alloc).unwrap_or(false),
         ),
+        came_to(
+            "epochs one call behind another",
+            counts_in_turn(alloc).unwrap_or(false),
+        ),
         came_to("the plain machine", runs_plainly(alloc).unwrap_or(false)),
+        came_to(
+            "the record of one worker",
+            records_one_worker(threads, alloc).unwrap_or(false),
+        ),
+        came_to(
+            "a replay of one worker",
+            replays_workers(threads, alloc, 1).unwrap_or(false),
+        ),
+        came_to(
+            "a replay of four workers",
+            replays_workers(threads, alloc, 4).unwrap_or(false),
+        ),
+        came_to(
+            "a replay of sixteen workers",
+            replays_workers(threads, alloc, 16).unwrap_or(false),
+        ),
+        came_to(
+            "a first worker that is held",
+            goes_on_without(threads, alloc, 0).unwrap_or(false),
+        ),
+        came_to(
+            "a second worker that is held",
+            goes_on_without(threads, alloc, 1).unwrap_or(false),
+        ),
     ]
 }
 

@@ -1,18 +1,19 @@
 //! The program `cilvm`.
 #![tactic(auto)]
 
-use command_line::{LineFault, Unread};
-use driver::Failure;
+use command_line::{LineFault, Unread, Unwritten};
+use driver::{Device, Failure};
 use orders::{Order, read_source, read_text};
+use std::alloc::AllocError;
 use std::fs::File;
 use std::process::ExitCode;
 use std::sync::Wait;
 use std::thread::Threads;
-use std::{env, io};
+use std::{env, fs, io};
 
 fn main(rt: HostRuntime) -> ExitCode {
     let errors = rt.stderr();
-    let mut err = io::writer(&errors);
+    let mut err = Device::new(io::writer(&errors));
     let status = match program(&rt, &rt) {
         Ok(status) => status,
         Err(failure) => driver::report(failure, &mut err),
@@ -20,7 +21,7 @@ fn main(rt: HostRuntime) -> ExitCode {
     ExitCode::from(status)
 }
 
-fn program(rt: &HostRuntime, threads: &(impl Threads + Wait)) -> Result<u8, Failure> {
+fn program(rt: &HostRuntime, threads: &(impl Threads + Wait + Sync)) -> Result<u8, Failure> {
     let alloc = rt.alloc();
     let given: Vec<String> = match env::args(rt) {
         Ok(args) => args.collect(alloc)?,
@@ -50,7 +51,7 @@ fn program(rt: &HostRuntime, threads: &(impl Threads + Wait)) -> Result<u8, Fail
 }
 
 /// Carries out an order on its files, and answers the status.
-fn carry_out(rt: &HostRuntime, threads: &(impl Threads + Wait), order: &Order<'_>) -> u8 {
+fn carry_out(rt: &HostRuntime, threads: &(impl Threads + Wait + Sync), order: &Order<'_>) -> u8 {
     let source = match source_of(rt, order) {
         Ok(source) => source,
         Err(unread) => return tell_unread(rt, &unread),
@@ -61,10 +62,10 @@ fn carry_out(rt: &HostRuntime, threads: &(impl Threads + Wait), order: &Order<'_
     };
     let alloc = rt.alloc();
     let errors = rt.stderr();
-    let mut out = io::writer(rt);
-    let mut err = io::writer(&errors);
+    let mut out = Device::new(io::writer(rt));
+    let mut err = Device::new(io::writer(&errors));
     let mut record = Vec::new(alloc);
-    driver::drive(
+    let status = driver::drive(
         threads,
         alloc,
         order,
@@ -73,7 +74,26 @@ fn carry_out(rt: &HostRuntime, threads: &(impl Threads + Wait), order: &Order<'_
         &mut out,
         &mut err,
         &mut record,
-    )
+    );
+    match write_record(rt, order, record.as_slice()) {
+        Ok(()) => status,
+        Err(unwritten) => tell_unwritten(rt, &unwritten),
+    }
+}
+
+/// Writes the record of a run to the file that the order names for it. A run that has one has some events; where there is no record, no
+/// file is made.
+fn write_record<'a>(
+    rt: &HostRuntime,
+    order: &Order<'a>,
+    record: &[u8],
+) -> Result<(), Unwritten<'a>> {
+    match order.record_file() {
+        Some(file) if !record.is_empty() => {
+            fs::write(rt, file, record).map_err(|error| Unwritten { file, error })
+        }
+        _ => Ok(()),
+    }
 }
 
 /// The bytes of the file that holds the source; none where no file does.
@@ -100,12 +120,21 @@ fn schedule_of<'a>(rt: &HostRuntime, order: &Order<'a>) -> Result<Vec<u8>, Unrea
     }
 }
 
-/// Tells that a file is not read, and why, and answers the status. Where the second line is not to be had or not written, the first stands
-/// alone.
+/// Tells that a file is not read, and why, and answers the status.
 fn tell_unread(rt: &HostRuntime, unread: &Unread<'_>) -> u8 {
+    tell_file(rt, unread.error, unread.told(rt.alloc()))
+}
+
+/// Tells that the record's file is not written, and why, and answers the status.
+fn tell_unwritten(rt: &HostRuntime, unwritten: &Unwritten<'_>) -> u8 {
+    tell_file(rt, unwritten.error, unwritten.told(rt.alloc()))
+}
+
+/// Tells an error of a file, and behind it what is told of the file. Where that is not to be had or not written, the first line stands alone.
+fn tell_file(rt: &HostRuntime, error: io::Error, told: Result<String, AllocError>) -> u8 {
     let errors = rt.stderr();
-    let status = driver::report(Failure::from(unread.error), &mut io::writer(&errors));
-    if let Ok(text) = unread.told(rt.alloc()) {
+    let status = driver::report(Failure::from(error), &mut Device::new(io::writer(&errors)));
+    if let Ok(text) = told {
         let _written = eprint!(rt; "{text}");
     }
     status

@@ -17,7 +17,7 @@ use Rattle.cil_model.specs.declared.limits.Limits.{Limits}
 use Rattle.cil_model.specs.declared.limits.TheConstants.{LEAST_WORDS, MOST_WORDS}
 use Rattle.cil_model.specs.declared.limits.TheConstants.{MOST_BUDGET, MOST_DEPTH}
 use Rattle.orders.specs.declared.order.Order.{Order}
-use Rattle.orders.specs.declared.order.Order.TheVariants.{Check, Run, Replay, Trace, Flip}
+use Rattle.orders.specs.declared.order.Order.TheVariants.{Check, Run, Replay, Trace, Threads, Flip}
 use Rattle.command_line.specs.declared.line.LineFault.{LineFault}
 use Rattle.command_line.specs.declared.line.LineFault.TheVariants.{Help, Version, Bad, Memory}
 
@@ -72,6 +72,11 @@ replay_app = with_limits (with_explain (with_files (codes "replay")))
 abbrev pub trace_app : App
 trace_app = with_limits (with_explain (with_files (codes "trace")))
 
+-- 1 to 16 workers, 1 where none is said, and perhaps the file of a record
+abbrev pub threads_app : App
+threads_app = with_limits (with_explain (with_rule (with_rule (with_rule (new_app (codes "threads")) (file_rule (codes "file")))
+    (with_default (codes "1") (number_rule (codes "workers") 1 16))) (text_rule (codes "record"))))
+
 -- all four numbers have to be given
 abbrev pub flip_app : App
 flip_app = with_rule (with_rule (with_rule (with_rule (new_app (codes "flip"))
@@ -87,9 +92,9 @@ abbrev pub with_version : App → App
 with_version a = record a { top = record a.top { has_version = true } }
 
 abbrev pub cilvm_app : App
-cilvm_app = with_subcommand (with_subcommand (with_subcommand (with_subcommand (with_subcommand
-    (with_version (with_required_subcommand (new_app (codes "cilvm")))) check_app.top) run_app.top) replay_app.top)
-    trace_app.top) flip_app.top
+cilvm_app = with_subcommand (with_subcommand (with_subcommand (with_subcommand (with_subcommand (with_subcommand
+    (with_version (with_required_subcommand (new_app (codes "cilvm")))) check_app.top) threads_app.top) run_app.top)
+    replay_app.top) trace_app.top) flip_app.top
 
 -- ---- what the words ask for
 
@@ -99,6 +104,7 @@ pub data Wanted : Type 0 where
   run : Text → Text → Limits → Bool → Wanted
   replay : Text → Text → Limits → Bool → Wanted
   trace : Text → Text → Limits → Bool → Wanted
+  threads : Text → ℕ → Option Text → Limits → Bool → Wanted
   flip : ℕ → ℕ → ℕ → ℕ → Wanted
 
 abbrev pub wanted_of : Order → Wanted
@@ -106,6 +112,7 @@ wanted_of (Check file explain) = check file.now explain
 wanted_of (Run file schedule limits explain) = run file.now schedule.now limits explain
 wanted_of (Replay file schedule limits explain) = replay file.now schedule.now limits explain
 wanted_of (Trace file schedule limits explain) = trace file.now schedule.now limits explain
+wanted_of (Threads file workers kept limits explain) = threads file.now workers.count (option_map (λ name. name.now) kept) limits explain
 wanted_of (Flip sizes) = flip sizes.seats sizes.objects sizes.slots sizes.rounds
 
 -- the number that the text writes in decimal digits, where it lies in the range
@@ -150,6 +157,14 @@ replay_in rows = option_map (λ (s : Text × Text × Limits). replay s.0 s.1 s.2
 abbrev pub trace_in : List Row → Option Wanted
 trace_in rows = option_map (λ (s : Text × Text × Limits). trace s.0 s.1 s.2 (flag_at (codes "explain") rows)) (scheduled_in rows)
 
+-- a source's file, the number of workers and the limits of a run
+abbrev pub worked_in : List Row → Option (Text × ℕ × Limits)
+worked_in rows = option_and_then (λ file. option_and_then (λ workers. option_map (λ limits. (file, workers, limits))
+    (limits_in rows)) (number_at 1 16 (codes "workers") rows)) (first_of (codes "file") rows)
+
+abbrev pub threads_in : List Row → Option Wanted
+threads_in rows = option_map (λ (s : Text × ℕ × Limits). threads s.0 s.1 (first_of (codes "record") rows) s.2 (flag_at (codes "explain") rows)) (worked_in rows)
+
 abbrev pub flip_in : List Row → Option Wanted
 flip_in rows = option_and_then (λ seats. option_and_then (λ objects. option_and_then (λ slots.
     option_map (flip seats objects slots) (number_at 0 10000 (codes "rounds") rows))
@@ -160,10 +175,11 @@ flip_in rows = option_and_then (λ seats. option_and_then (λ objects. option_an
 abbrev pub named_in : Text → List Row → Option Wanted
 named_in name rows =
     if bytes_eq name (codes "check") then check_in rows
+    else (if bytes_eq name (codes "threads") then threads_in rows
     else (if bytes_eq name (codes "run") then run_in rows
     else (if bytes_eq name (codes "replay") then replay_in rows
     else (if bytes_eq name (codes "trace") then trace_in rows
-    else (if bytes_eq name (codes "flip") then flip_in rows else None))))
+    else (if bytes_eq name (codes "flip") then flip_in rows else None)))))
 
 abbrev pub wanted_in : Option (Text × List Row) → Option Wanted
 wanted_in = option_and_then (λ p. named_in p.0 p.1)
@@ -206,4 +222,5 @@ IsInRange (Check file explain) = ⊤
 IsInRange (Run file schedule limits explain) = are_in_range limits ≡ true
 IsInRange (Replay file schedule limits explain) = are_in_range limits ≡ true
 IsInRange (Trace file schedule limits explain) = are_in_range limits ≡ true
+IsInRange (Threads file workers kept limits explain) = are_in_range limits ≡ true
 IsInRange (Flip sizes) = ⊤

@@ -1,4 +1,4 @@
--- What is told of a file that is not read (this profile).
+-- What is told of a file that is not read or not written (this profile).
 use Rattle.std.specs.Char.{is_control}
 use Rattle.std.specs.IoError.{error_kind}
 use Rattle.std.specs.Prelude.{◌≡◌, ◌≢◌, ◌++◌, ◌∷◌, [], ℕ, List, chars, codes, encode_utf8_all, map, if◌then◌else◌}
@@ -13,10 +13,10 @@ shown_character c = if is_control c then 63 else c
 abbrev pub shown_name : List ℕ → List ℕ
 shown_name name = encode_utf8_all (map shown_character (chars name))
 
--- the line that names a file which is not read, and tells why
-abbrev pub IsLineOf : List ℕ → List ℕ → Type 0
-IsLineOf file line = (why : List ℕ) × (line ≡ codes "cilvm: cannot read " ++ shown_name file ++ codes ": " ++ why ++ 10 ∷ [])
+-- the line that names a file, and tells what could not be done with it and why
+abbrev pub IsLineOf : List ℕ → List ℕ → List ℕ → Type 0
+IsLineOf what file line = (why : List ℕ) × (line ≡ codes "cilvm: cannot " ++ what ++ codes " " ++ shown_name file ++ codes ": " ++ why ++ 10 ∷ [])
 
 -- what stands behind `device`: that line, and nothing where memory was wanted
-abbrev pub IsToldOf : List ℕ → Error → List ℕ → Type 0
-IsToldOf file error text = (error_kind error ≡ OutOfMemory → text ≡ []) × (error_kind error ≢ OutOfMemory → IsLineOf file text)
+abbrev pub IsToldOf : List ℕ → List ℕ → Error → List ℕ → Type 0
+IsToldOf what file error text = (error_kind error ≡ OutOfMemory → text ≡ []) × (error_kind error ≢ OutOfMemory → IsLineOf what file text)

@@ -4,7 +4,7 @@ ghost use Rattle.std.specs.Prelude.{codes, ◌≤◌, ◌^◌, ◌<◌};
 ghost use Rattle.clap.specs.Words.{app_of, new_app, rule_of};
 ghost use Rattle.clap.specs.declared.builder.command.Command.TheViews.{out-Command};
 ghost use Rattle.command_line.specs.CommandLine.{check_app, cilvm_app, file_rule, flag_rule, number_rule};
-ghost use Rattle.command_line.specs.CommandLine.{flip_app, needed, replay_app, run_app, text_rule, trace_app, with_default};
+ghost use Rattle.command_line.specs.CommandLine.{flip_app, needed, replay_app, run_app, text_rule, threads_app, trace_app, with_default};
 ghost use Rattle.command_line.specs.CommandLine.{with_explain, with_files, with_limits, with_required_subcommand, with_version};
 
 use crate::version::VERSION;
@@ -29,16 +29,20 @@ fn file_argument<'a>(alloc: Global, id: &'a str, name: &'a str, help: &'a str) -
         .help(help)
 }
 
+/// An option that takes a text.
+fn text_option<'a>(alloc: Global, id: &'a str, name: &'a str, help: &'a str) -> Arg<'a>
+    ensures rule { rule_of result ≡ text_rule id.entry.now }
+    ensures local { result.global ≡ false }
+{
+    Arg::new(alloc, id).long(id).value_name(name).help(help)
+}
+
 /// An option whose text has to be given.
 fn needed_text<'a>(alloc: Global, id: &'a str, name: &'a str, help: &'a str) -> Arg<'a>
     ensures rule { rule_of result ≡ needed (text_rule id.entry.now) }
     ensures local { result.global ≡ false }
 {
-    Arg::new(alloc, id)
-        .long(id)
-        .value_name(name)
-        .help(help)
-        .required(true)
+    text_option(alloc, id, name, help).required(true)
 }
 
 fn number_option<'a>(alloc: Global, id: &'a str, least: u32, most: u32, help: &'a str) -> Arg<'a>
@@ -145,6 +149,27 @@ fn check_command<'a>(alloc: Global) -> Result<Command<'a>, AllocError>
     with_explain(alloc, command, EXPLAIN_REFUSAL)
 }
 
+fn threads_command<'a>(alloc: Global) -> Result<Command<'a>, AllocError>
+    ensures app { IfOk result (λ c. app_of c ≡ threads_app) }
+    ensures local { IfOk result (λ c. (out-Command c).has_globals ≡ false) }
+{
+    let command = Command::new(alloc, "threads")
+        .about("Runs a source by workers, each in a thread of its own")
+        .after_help(
+            "Of N workers, number K runs the threads whose numbers leave K when they are divided by N. The record is a schedule: 'cilvm replay FILE RECORD' with the same limits does the run again, to the same output. A record has at most 1000000 events.\n\nExample, which prints 5:\n  cilvm threads examples/add.il",
+        )
+        .arg(file_argument(alloc, "file", "FILE", "The source, in ilasm text"))?
+        .arg(limit_option(alloc, "workers", 1, 16, "1", "Workers, 1 to 16"))?
+        .arg(text_option(
+            alloc,
+            "record",
+            "RECORD",
+            "Writes the events of the run to this file",
+        ))?;
+    let command = with_explain(alloc, command, EXPLAIN_REFUSAL)?;
+    with_limits(alloc, command)
+}
+
 fn run_command<'a>(alloc: Global) -> Result<Command<'a>, AllocError>
     ensures app { IfOk result (λ c. app_of c ≡ run_app) }
     ensures local { IfOk result (λ c. (out-Command c).has_globals ≡ false) }
@@ -223,9 +248,9 @@ fn program<'a>(alloc: Global) -> Command<'a>
 {
     Command::new(alloc, "cilvm")
         .version(VERSION)
-        .about("Checks CIL programs, and runs their threads by a schedule of steps")
+        .about("Checks CIL programs, and runs their threads, freely or by a schedule of steps")
         .after_help(
-            "'cilvm COMMAND --help' says what a command takes.\n\nExample, which prints 5:\n  cilvm run examples/add.il --schedule 's0*5'",
+            "'cilvm COMMAND --help' says what a command takes.\n\nExample, which prints 5:\n  cilvm threads examples/add.il",
         )
         .subcommand_required(true)
         .arg_required_else_help(true)
@@ -236,6 +261,7 @@ pub fn cilvm_command<'a>(alloc: Global) -> Result<Command<'a>, AllocError>
     ensures { IfOk result (λ c. app_of c ≡ cilvm_app) }
 {
     let command = program(alloc).subcommand(check_command(alloc)?)?;
+    let command = command.subcommand(threads_command(alloc)?)?;
     let command = command.subcommand(run_command(alloc)?)?;
     let command = command.subcommand(replay_command(alloc)?)?;
     let command = command.subcommand(trace_command(alloc)?)?;

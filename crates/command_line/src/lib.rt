@@ -1,4 +1,4 @@
-//! The command line of `cilvm`: its commands with their help, the order that its words hold, and what is told of a file that is not read.
+//! The command line of `cilvm`: its commands with their help, the order that its words hold, and what is told of a file that is not read or not written.
 #![tactic(auto)]
 
 mod commands;
@@ -7,4 +7,4 @@ mod unread;
 mod version;
 
 pub use line::{LineFault, order};
-pub use unread::Unread;
+pub use unread::{Unread, Unwritten};

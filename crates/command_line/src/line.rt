@@ -2,8 +2,8 @@
 ghost use Rattle.std.specs.Prelude.{◌≡◌, IfOk, IfSome, codes, map, option_map, IfErr, is_some, true, ◌≤◌};
 ghost use Rattle.clap.specs.Words.{found_of, first_of, kind_of, rows_of, subcommand_rows_of};
 ghost use Rattle.command_line.specs.CommandLine.{Answers, FaultIs, IsInRange, check_in, limits_in};
-ghost use Rattle.command_line.specs.CommandLine.{flag_at, number_at, number_in, flip_in, replay_in, run_in, scheduled_in, trace_in, wanted_in};
-ghost use Rattle.command_line.specs.CommandLine.{wanted_of};
+ghost use Rattle.command_line.specs.CommandLine.{flag_at, number_at, number_in, flip_in, replay_in, run_in, scheduled_in, threads_in, trace_in, wanted_in};
+ghost use Rattle.command_line.specs.CommandLine.{wanted_of, worked_in};
 ghost use Rattle.cil_model.specs.Ranges.{are_in_range};
 ghost use Rattle.command_line.specs.declared.line.LineFault.TheVariants.{Memory};
 
@@ -12,7 +12,7 @@ use cil_model::limits::{LEAST_WORDS, Limits, MOST_BUDGET, MOST_DEPTH, MOST_WORDS
 use clap::error::ErrorKind;
 use clap::{ArgMatches, Error};
 use flip_trial::Sizes;
-use orders::Order;
+use orders::{Order, Workers};
 use std::alloc::{AllocError, Global};
 
 /// Why the words of a command line hold no order.
@@ -89,6 +89,7 @@ fn wanted<'a>(matches: &ArgMatches<'a>) -> Option<Order<'a>>
     let (name, found) = matches.subcommand()?;
     match name {
         "check" => wanted_check(found),
+        "threads" => wanted_threads(found),
         "run" => wanted_run(found),
         "replay" => wanted_replay(found),
         "trace" => wanted_trace(found),
@@ -148,6 +149,22 @@ fn wanted_trace<'a>(found: &ArgMatches<'a>) -> Option<Order<'a>>
     })
 }
 
+fn wanted_threads<'a>(found: &ArgMatches<'a>) -> Option<Order<'a>>
+    ensures value { option_map wanted_of result ≡ threads_in (rows_of (found_of found.now)) }
+    ensures range { IfSome result IsInRange }
+{
+    let (file, workers, limits) = worked(found)?;
+    let record = text(found, "record");
+    let explain = flag(found, "explain");
+    Some(Order::Threads {
+        file,
+        workers,
+        record,
+        limits,
+        explain,
+    })
+}
+
 fn wanted_flip<'a>(found: &ArgMatches<'a>) -> Option<Order<'a>>
     ensures value { option_map wanted_of result ≡ flip_in (rows_of (found_of found.now)) }
     ensures range { IfSome result IsInRange }
@@ -168,6 +185,17 @@ fn scheduled<'a>(found: &ArgMatches<'a>) -> Option<(&'a str, &'a str, Limits)>
     let schedule = text(found, "schedule")?;
     let limits = limits(found)?;
     Some((file, schedule, limits))
+}
+
+/// The source's file, the workers and the limits of a run.
+fn worked<'a>(found: &ArgMatches<'a>) -> Option<(&'a str, Workers, Limits)>
+    ensures value { option_map (λ s. (s.0.now, s.1.count, s.2)) result ≡ worked_in (rows_of (found_of found.now)) }
+    ensures range { IfSome result (λ s. are_in_range s.2 ≡ true) }
+{
+    let file = text(found, "file")?;
+    let workers = number(found, "workers", 1, 16)?;
+    let limits = limits(found)?;
+    Some((file, Workers::new(workers as u8), limits))
 }
 
 fn limits(found: &ArgMatches<'_>) -> Option<Limits>

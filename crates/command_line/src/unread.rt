@@ -1,5 +1,5 @@
-//! What is told of a file that is not read.
-ghost use Rattle.std.specs.Prelude.{◌≡◌, IfOk, string_bytes};
+//! What is told of a file that is not read or not written.
+ghost use Rattle.std.specs.Prelude.{◌≡◌, IfOk, codes, string_bytes};
 ghost use Rattle.command_line.specs.UnreadFiles.{IsLineOf, IsToldOf, shown_character, shown_name};
 
 use std::alloc::{AllocError, Global};
@@ -15,26 +15,52 @@ pub struct Unread<'a> {
     pub error: io::Error,
 }
 
+/// A file that an order names for its record and that is not written.
+#[derive(Clone, Copy, Debug)]
+pub struct Unwritten<'a> {
+    /// The file's name, as the command line has it.
+    pub file: &'a str,
+    /// Why it is not made, or not written.
+    pub error: io::Error,
+}
+
 impl Unread<'_> {
     /// What stands on the standard error behind the line `device`: the line `cilvm: cannot read FILE: WHY`, with `?` in the place of each
     /// control character of the file's name. It is empty where memory was wanted, since that is told by `memory` alone. Fails for want of
     /// memory alone.
     pub fn told(&self, alloc: Global) -> Result<String, AllocError>
-        ensures { IfOk result (λ text. IsToldOf self.now.file.now self.now.error (string_bytes text)) }
+        ensures { IfOk result (λ text. IsToldOf (codes "read") self.now.file.now self.now.error (string_bytes text)) }
     {
-        if self.error.kind() == ErrorKind::OutOfMemory {
-            return Ok(String::new(alloc));
-        }
-        line_of(alloc, self.file, self.error)
+        told_of(alloc, "read", self.file, self.error)
     }
 }
 
-fn line_of(alloc: Global, file: &str, error: io::Error) -> Result<String, AllocError>
-    ensures { IfOk result (λ line. IsLineOf file.now (string_bytes line)) }
+impl Unwritten<'_> {
+    /// What stands on the standard error behind the line `device`: the line `cilvm: cannot write FILE: WHY`, as that of `Unread`. It is empty
+    /// where memory was wanted. Fails for want of memory alone.
+    pub fn told(&self, alloc: Global) -> Result<String, AllocError>
+        ensures { IfOk result (λ text. IsToldOf (codes "write") self.now.file.now self.now.error (string_bytes text)) }
+    {
+        told_of(alloc, "write", self.file, self.error)
+    }
+}
+
+/// What is told of a file for which this could not be done.
+fn told_of(alloc: Global, what: &str, file: &str, error: io::Error) -> Result<String, AllocError>
+    ensures { IfOk result (λ text. IsToldOf what.now file.now error (string_bytes text)) }
+{
+    if error.kind() == ErrorKind::OutOfMemory {
+        return Ok(String::new(alloc));
+    }
+    line_of(alloc, what, file, error)
+}
+
+fn line_of(alloc: Global, what: &str, file: &str, error: io::Error) -> Result<String, AllocError>
+    ensures { IfOk result (λ line. IsLineOf what.now file.now (string_bytes line)) }
 {
     let name = shown_name(alloc, file)?;
     let why = error.to_string(alloc)?;
-    format!(in alloc; "cilvm: cannot read {name}: {why}\n")
+    format!(in alloc; "cilvm: cannot {what} {name}: {why}\n")
 }
 
 /// A name as it may stand in a line of text, whatever a terminal takes its characters for.

@@ -1,2 +1,3 @@
 pub mod OutcomeLemmas
 pub mod ThreadLemmas
+pub mod WorkerLemmas

@@ -59,7 +59,7 @@ has_run source limits text explain events reports c out out' err err' status by 
       events = events;
       reports = reports;
       state = after.state;
-      comes_to = record { tree = by.1.0; is_accepted = by.1.1; in_range = by.1.2.0; are_read = by.0; is_run = after.is_run; budgets = after.budgets };
+      comes_to = record { are_read = by.0; by_events = record { tree = by.1.0; is_accepted = by.1.1; in_range = by.1.2.0; is_run = after.is_run; budgets = after.budgets } };
       after = c;
       represents = after.represents;
       explanation = left.0;
@@ -76,7 +76,7 @@ run_in_part source limits text explain events reports c out out' err err' by lef
       events = events;
       reports = reports;
       state = after.state;
-      comes_to = record { tree = by.1.0; is_accepted = by.1.1; in_range = by.1.2.0; are_read = by.0; is_run = after.is_run; budgets = after.budgets };
+      comes_to = record { are_read = by.0; by_events = record { tree = by.1.0; is_accepted = by.1.1; in_range = by.1.2.0; is_run = after.is_run; budgets = after.budgets } };
       after = c;
       represents = after.represents;
       explanation = left.0;
@@ -116,7 +116,7 @@ has_traced source limits text explain events begins after reports out between ou
       events = events;
       reports = reports;
       state = stands.state;
-      comes_to = record { tree = ready.tree; is_accepted = ready.is_accepted; in_range = ready.in_range; are_read = ready.are_read; is_run = stands.is_run; budgets = stands.budgets };
+      comes_to = record { are_read = ready.are_read; by_events = record { tree = ready.tree; is_accepted = ready.is_accepted; in_range = ready.in_range; is_run = stands.is_run; budgets = stands.budgets } };
       begins = begins;
       opened = ready.opened;
       after = after;

@@ -1,2 +1,3 @@
 pub mod Outcomes
+pub mod Records
 pub mod Threads

@@ -1,7 +1,8 @@
 -- What comes of an order: what is printed, and the status that the program ends with (this profile).
 use Rattle.std.specs.Io.KnownBytes.{Appends}
 use Rattle.std.specs.Fmt.{decimal}
-use Rattle.std.specs.Prelude.{◌≡◌, ◌⊎◌, ◌*◌, ◌++◌, ◌∷◌, [], ℕ, Bool, true, false, List, Option, codes, map, if◌then◌else◌}
+use Rattle.std.specs.Prelude.{◌≡◌, ◌⊎◌, ◌*◌, ◌++◌, ◌∷◌, [], ℕ, Bool, true, false, All, List, Option, codes, is_some, map, if◌then◌else◌}
+use Rattle.std.specs.List.{list_any}
 use Rattle.flip_trial.specs.Trial.{place_count}
 use Rattle.flip_trial.specs.declared.sizes.Sizes.{Sizes}
 use Rattle.deadlocks.specs.Deadlocks.{IsDeadlockOf}
@@ -21,12 +22,17 @@ use Rattle.source_runs.specs.Failures.{is_refusal, message_of}
 use Rattle.source_runs.specs.Failures.{IsOfWriting, status_of_failure}
 use Rattle.outputs.specs.Beginnings.{AppendsBeginning}
 use Rattle.orders.specs.Orders.{is_explained}
-use Rattle.driver.specs.Threads.{ends_of, lines_from, status_of}
+use Rattle.driver.specs.Records.{IsRecordOf, refusal_of, status_with, text_of}
+use Rattle.driver.specs.Threads.{ends_of, is_live, lines_from, status_of}
+use Rattle.driver.specs.declared.recording.Record.{Record}
+use Rattle.source_runs.specs.shared_machine.Histories.{events_of, reports_of}
+use Rattle.source_runs.specs.shared_machine.declared.history.Entry.{Entry}
+use Rattle.workers.specs.Work.{IsOwnOf}
 use Rattle.source_runs.specs.declared.failure.Failure.{Failure}
 use Rattle.source_runs.specs.declared.failure.Failure.TheVariants.{Memory, Device}
 use Rattle.orders.specs.declared.order.Order.{Order}
-use Rattle.orders.specs.declared.order.Order.TheVariants.{Check, Run, Replay, Trace, Flip}
-use Rattle.source_runs.specs.Runs.{IsLetIn, IsNotAccepted, IsNotRunBy, ComesTo, IsOpened, IsReady}
+use Rattle.orders.specs.declared.order.Order.TheVariants.{Check, Run, Replay, Trace, Threads, Flip}
+use Rattle.source_runs.specs.Runs.{IsLetIn, IsNotAccepted, IsNotRun, IsNotRunBy, ComesTo, ComesToBy, IsOpened, IsReady}
 
 -- the lines of each live thread of a machine, and of those that are deadlocked
 abbrev pub AreThreadsExplained : Content → List ℕ → Type 0
@@ -107,7 +113,7 @@ pub record HasTraced (source : List ℕ) (limits : Limits) (text : List ℕ) (ex
   pub state : State
   pub comes_to : ComesTo source limits text events reports state
   pub begins : Content
-  pub opened : IsOpened comes_to.tree limits begins
+  pub opened : IsOpened comes_to.by_events.tree limits begins
   pub after : Content
   pub between : Option (List ℕ)
   pub traced : IsTraced begins events after reports out between
@@ -116,18 +122,50 @@ pub record HasTraced (source : List ℕ) (limits : Limits) (text : List ℕ) (ex
   pub explains : IsThreadText explain after explanation
   pub shown : IsShown state.printed (ends_of state) explanation between out' err err' status
 
--- an order is carried out: a run takes its schedule from the command line, a replay from the file
-abbrev pub IsDone : Order → List ℕ → List ℕ → Option (List ℕ) → Option (List ℕ) → Option (List ℕ) → Option (List ℕ) → ℕ → Type 0
-IsDone (Check file explain) source schedule out out' err err' status =
-    IsChecked source out out' status × (err' ≡ err)
-IsDone (Run file text limits explain) source schedule out out' err err' status =
-    HasRun source limits text.now explain out out' err err' status
-IsDone (Replay file name limits explain) source schedule out out' err err' status =
-    HasRun source limits schedule explain out out' err err' status
-IsDone (Trace file name limits explain) source schedule out out' err err' status =
-    HasTraced source limits schedule explain out out' err err' status
-IsDone (Flip sizes) source schedule out out' err err' status =
-    IsTried sizes out out' status × (err' ≡ err)
+-- Workers have run a source. There is a list of entries, each an event of its worker's own. The reference machine's run over the steps
+-- among the events comes to this state, in which no thread is live. The record is that of these events, and this is what is told on the
+-- standard error: how the threads stand, what explains that, and perhaps why there is no record.
+pub record IsRunByWorkers (source : List ℕ) (limits : Limits) (workers : ℕ) (asked explain : Bool) (state : State) (made : Record) (told : List ℕ) : Type 0 where
+  pub entries : List Entry
+  pub own : All (IsOwnOf workers) entries
+  pub comes_to : ComesToBy source limits (events_of entries) (reports_of entries) state
+  pub ended : list_any is_live (ends_of state) ≡ false
+  pub is_record : IsRecordOf asked (events_of entries) made
+  pub after : Content
+  pub represents : Represents after state
+  pub explanation : List ℕ
+  pub explains : IsThreadText explain after explanation
+  pub tells : told ≡ lines_from 0 (ends_of state) ++ explanation ++ refusal_of made
+
+-- a run by workers is done: what its state has printed and what is told is shown, and the record is put behind the bytes that are kept
+pub record HasRunThreads (source : List ℕ) (limits : Limits) (workers : ℕ) (asked explain : Bool) (out out' err err' : Option (List ℕ)) (kept kept' : List ℕ) (status : ℕ) : Type 0 where
+  pub state : State
+  pub made : Record
+  pub told : List ℕ
+  pub is_run : IsRunByWorkers source limits workers asked explain state made told
+  pub output : Appends out out' state.printed
+  pub errors : Appends err err' told
+  pub behind : kept' ≡ kept ++ text_of made
+  pub status_is : status ≡ status_with made (status_of (ends_of state))
+
+-- why a run by workers is not done
+abbrev pub HasNotRunThreads : List ℕ → Limits → Failure → Type 0
+HasNotRunThreads source limits failure = IsNotRun source limits failure ⊎ (IsLetIn source × IsOfWriting failure)
+
+-- an order is carried out: a run takes its schedule from the command line, a replay from the file; only workers leave a record
+abbrev pub IsDone : Order → List ℕ → List ℕ → Option (List ℕ) → Option (List ℕ) → Option (List ℕ) → Option (List ℕ) → List ℕ → List ℕ → ℕ → Type 0
+IsDone (Check file explain) source schedule out out' err err' kept kept' status =
+    IsChecked source out out' status × (err' ≡ err) × (kept' ≡ kept)
+IsDone (Run file text limits explain) source schedule out out' err err' kept kept' status =
+    HasRun source limits text.now explain out out' err err' status × (kept' ≡ kept)
+IsDone (Replay file name limits explain) source schedule out out' err err' kept kept' status =
+    HasRun source limits schedule explain out out' err err' status × (kept' ≡ kept)
+IsDone (Trace file name limits explain) source schedule out out' err err' kept kept' status =
+    HasTraced source limits schedule explain out out' err err' status × (kept' ≡ kept)
+IsDone (Threads file workers name limits explain) source schedule out out' err err' kept kept' status =
+    HasRunThreads source limits workers.count (is_some name) explain out out' err err' kept kept' status
+IsDone (Flip sizes) source schedule out out' err err' kept kept' status =
+    IsTried sizes out out' status × (err' ≡ err) × (kept' ≡ kept)
 
 -- why an order is not carried out
 abbrev pub IsNotDone : Order → List ℕ → List ℕ → Failure → Type 0
@@ -138,6 +176,8 @@ IsNotDone (Replay file name limits explain) source schedule failure =
     HasNotRun source limits schedule failure
 IsNotDone (Trace file name limits explain) source schedule failure =
     HasNotRun source limits schedule failure
+IsNotDone (Threads file workers name limits explain) source schedule failure =
+    HasNotRunThreads source limits failure
 IsNotDone (Flip sizes) source schedule failure = IsOfWriting failure
 
 -- ---- an order that is not carried out
@@ -174,6 +214,15 @@ pub record IsTracedThenInPart (source : List ℕ) (limits : Limits) (text : List
   pub traced : IsTraced begins events after reports out between
   pub shown : IsRunInPart source limits text explain between out' err err'
 
+-- a run by workers is shown in part: a beginning of what its state has printed, and of what is told
+pub record IsRunByWorkersInPart (source : List ℕ) (limits : Limits) (workers : ℕ) (asked explain : Bool) (out out' err err' : Option (List ℕ)) : Type 0 where
+  pub state : State
+  pub made : Record
+  pub told : List ℕ
+  pub is_run : IsRunByWorkers source limits workers asked explain state made told
+  pub output : AppendsBeginning out out' state.printed
+  pub errors : AppendsBeginning err err' told
+
 -- a beginning of what the order shows where it is carried out
 abbrev pub IsDoneInPart : Order → List ℕ → List ℕ → Option (List ℕ) → Option (List ℕ) → Option (List ℕ) → Option (List ℕ) → Type 0
 IsDoneInPart (Check file explain) source schedule out out' err err' =
@@ -184,6 +233,8 @@ IsDoneInPart (Replay file name limits explain) source schedule out out' err err'
     IsRunInPart source limits schedule explain out out' err err'
 IsDoneInPart (Trace file name limits explain) source schedule out out' err err' =
     (IsTraceInPart source limits schedule out out' × (err' ≡ err)) ⊎ IsTracedThenInPart source limits schedule explain out out' err err'
+IsDoneInPart (Threads file workers name limits explain) source schedule out out' err err' =
+    IsRunByWorkersInPart source limits workers.count (is_some name) explain out out' err err'
 IsDoneInPart (Flip sizes) source schedule out out' err err' =
     ((retired : ℕ) × AppendsBeginning out out' (trial_text (sizes.rounds * place_count sizes) retired)) × (err' ≡ err)
 
@@ -212,22 +263,23 @@ pub record IsTold (order : Order) (source schedule : List ℕ) (out out' err err
   pub written : Appends before err' (message_of failure ++ text)
   pub status_is : status ≡ status_of_failure failure
 
--- an order is given up for a failure, and a beginning of what is to be told of it is written
-pub record IsTellingCut (order : Order) (source schedule : List ℕ) (out out' err err' : Option (List ℕ)) : Type 0 where
+-- an order is given up for a failure, and a write failed that was to tell it: a beginning of that is written
+pub record IsTellingCut (order : Order) (source schedule : List ℕ) (out out' err err' : Option (List ℕ)) (failed : Bool) : Type 0 where
   pub failure : Failure
   pub before : Option (List ℕ)
   pub given_up : IsGivenUp order source schedule failure out out' err before
   pub text : List ℕ
   pub explains : IsExplanation (is_told_why order failure) text
   pub begun : AppendsBeginning before err' (message_of failure ++ text)
+  pub has_failed : failed ≡ true
 
--- the order is carried out, or it is told why it is not
-abbrev pub IsOutcome : Order → List ℕ → List ℕ → Option (List ℕ) → Option (List ℕ) → Option (List ℕ) → Option (List ℕ) → ℕ → Type 0
-IsOutcome order source schedule out out' err err' status =
-    IsDone order source schedule out out' err err' status ⊎ IsTold order source schedule out out' err err' status
+-- the order is carried out, or it is told why it is not, and no record is left
+abbrev pub IsOutcome : Order → List ℕ → List ℕ → Option (List ℕ) → Option (List ℕ) → Option (List ℕ) → Option (List ℕ) → List ℕ → List ℕ → ℕ → Type 0
+IsOutcome order source schedule out out' err err' kept kept' status =
+    IsDone order source schedule out out' err err' kept kept' status ⊎ (IsTold order source schedule out out' err err' status × (kept' ≡ kept))
 
 -- that, or a write failed that was to tell it: the status is 5
-abbrev pub IsOutcomeOrCut : Order → List ℕ → List ℕ → Option (List ℕ) → Option (List ℕ) → Option (List ℕ) → Option (List ℕ) → ℕ → Type 0
-IsOutcomeOrCut order source schedule out out' err err' status =
-    IsOutcome order source schedule out out' err err' status
-    ⊎ ((status ≡ 5) × IsTellingCut order source schedule out out' err err')
+abbrev pub IsOutcomeOrCut : Order → List ℕ → List ℕ → Option (List ℕ) → Option (List ℕ) → Option (List ℕ) → Option (List ℕ) → Bool → List ℕ → List ℕ → ℕ → Type 0
+IsOutcomeOrCut order source schedule out out' err err' failed kept kept' status =
+    IsOutcome order source schedule out out' err err' kept kept' status
+    ⊎ ((status ≡ 5) × IsTellingCut order source schedule out out' err err' failed × (kept' ≡ kept))

@@ -1,27 +1,28 @@
 //! Does what an order asks for.
 
-ghost use Rattle.std.specs.Prelude.{◌≡◌, ◌⊎◌, ◌*◌, ◌++◌, ◌∷◌, [], ℕ, codes, IfErr, IfOk, List, OnErr, OnOk, true};
+ghost use Rattle.std.specs.Prelude.{◌≡◌, ◌⊎◌, ◌*◌, ◌++◌, ◌∷◌, [], ◌≤◌, ℕ, codes, IfErr, IfOk, List, None, OnErr, OnOk, true};
 ghost use Rattle.cil_model.specs.declared.reports.Report.{Report};
 ghost use Rattle.deadlocks.specs.event_trace.Traces.{IsTraced, IsTracedInPart};
 ghost use Rattle.flip_trial.specs.Trial.{place_count};
 ghost use Rattle.outputs.specs.Beginnings.{AppendsBeginning};
 ghost use Rattle.source_runs.specs.Failures.{IsOfWriting, is_refusal};
+ghost use Rattle.orders.specs.Orders.{record_file_of};
 ghost use Rattle.driver.specs.Outcomes.{HasNotRun, HasRun, HasTraced, IsChecked, IsDone, IsNotChecked, failure_of_tracing};
 ghost use Rattle.source_runs.specs.Runs.{IsLetIn};
 ghost use Rattle.driver.specs.Outcomes.{IsNotDone, IsDoneInPart, IsOutcome, IsOutcomeOrCut};
 ghost use Rattle.driver.specs.Outcomes.{IsRunInPart, IsTellingCut, IsTraceInPart, IsTracedThenInPart, IsTried, trial_text};
 
 use crate::explaining::tell_failure;
+use crate::running_threads::show_threads;
 use crate::showing::{say_accepted, show, show_trial};
 use cil_model::events::Event;
 use cil_model::limits::Limits;
 use deadlocks::{TraceError, trace};
 use flip_trial::Sizes;
 use orders::Order;
-use outputs::NotWritten;
+use outputs::{NotWritten, Output};
 use source_runs::{Failure, Machine, accept, open, run_source};
 use std::alloc::Global;
-use std::io::Write;
 use std::sync::Wait;
 use std::thread::Threads;
 
@@ -33,10 +34,13 @@ use std::thread::Threads;
 /// asks for that, what its live threads wait for stands behind, unless memory is wanted for it. A trace has
 /// printed a line of each event and an empty line to `out` before. A refusal prints `error` and its number to `err`, and what
 /// explains it where the order asks for that; want of memory prints `memory`, a failed write `device`. Where
-/// that can't be written either, the status is 5, and a beginning of it is written. No command has a record
-/// yet, so `record` stays as it was.
-pub fn drive<W: Write, E: Write>(
-    rt: &(impl Threads + Wait),
+/// that can't be written either, the status is 5, and a beginning of it is written.
+///
+/// Where workers run the program and a record is asked for, the text of the run's events is put behind the bytes of `record`, once all is
+/// printed: a replay of it with the same limits prints the same. Of more than 1,000,000 events there is no record; that is told by
+/// `error 503` behind the lines of the threads, and the status is 1. In every other case `record` has the bytes that it had.
+pub fn drive<W: Output, E: Output>(
+    rt: &(impl Threads + Wait + Sync),
     alloc: Global,
     order: &Order<'_>,
     source: &[u8],
@@ -46,48 +50,52 @@ pub fn drive<W: Write, E: Write>(
     record: &mut Vec<u8>,
 ) -> u8
     ensures outcome { IsOutcomeOrCut order.now source.now schedule.now (W.contents out.old) (W.contents out.new)
-        (E.contents err.old) (E.contents err.new) result }
-    ensures kept { «record».new ≡ «record».old }
+        (E.contents err.old) (E.contents err.new) (E.has_failed err.new) «record».old.items «record».new.items result }
+    ensures kept { record_file_of order.now ≡ None → «record».new.items ≡ «record».old.items }
 {
-    match carry_out(rt, alloc, order, source, schedule, out, err) {
+    match carry_out(rt, alloc, order, source, schedule, out, err, record) {
         Ok(status) => status,
         Err(_) => 5,
     }
 }
 
 /// Does a command as `drive` does, and answers the status. An error is a write that failed and was to tell why the command is not done.
-pub fn carry_out<W: Write, E: Write>(
-    rt: &(impl Threads + Wait),
+pub fn carry_out<W: Output, E: Output>(
+    rt: &(impl Threads + Wait + Sync),
     alloc: Global,
     order: &Order<'_>,
     source: &[u8],
     schedule: &[u8],
     out: &mut W,
     err: &mut E,
+    record: &mut Vec<u8>,
 ) -> Result<u8, NotWritten>
     ensures told { IfOk result (IsOutcome order.now source.now schedule.now (W.contents out.old)
-        (W.contents out.new) (E.contents err.old) (E.contents err.new)) }
+        (W.contents out.new) (E.contents err.old) (E.contents err.new) «record».old.items «record».new.items) }
     ensures cut { IfErr result (λ _. IsTellingCut order.now source.now schedule.now (W.contents out.old)
-        (W.contents out.new) (E.contents err.old) (E.contents err.new)) }
+        (W.contents out.new) (E.contents err.old) (E.contents err.new) (E.has_failed err.new)) }
+    ensures same { OnErr result («record».new.items ≡ «record».old.items) }
 {
-    match perform(rt, alloc, order, source, schedule, out, err) {
+    match perform(rt, alloc, order, source, schedule, out, err, record) {
         Ok(status) => Ok(status),
         Err(failure) => tell_failure(alloc, order, failure, source, schedule, err),
     }
 }
 
-fn perform<W: Write, E: Write>(
-    rt: &(impl Threads + Wait),
+fn perform<W: Output, E: Output>(
+    rt: &(impl Threads + Wait + Sync),
     alloc: Global,
     order: &Order<'_>,
     source: &[u8],
     schedule: &[u8],
     out: &mut W,
     err: &mut E,
+    record: &mut Vec<u8>,
 ) -> Result<u8, Failure>
     ensures done { IfOk result (IsDone order.now source.now schedule.now (W.contents out.old)
-        (W.contents out.new) (E.contents err.old) (E.contents err.new)) }
+        (W.contents out.new) (E.contents err.old) (E.contents err.new) «record».old.items «record».new.items) }
     ensures failed { IfErr result (IsNotDone order.now source.now schedule.now) }
+    ensures same { OnErr result («record».new.items ≡ «record».old.items) }
     ensures untouched { IfErr result (λ failure. is_refusal failure ≡ true
         → (W.contents out.new ≡ W.contents out.old) × (E.contents err.new ≡ E.contents err.old)) }
     ensures in_part { OnErr result (((W.contents out.new ≡ W.contents out.old) × (E.contents err.new ≡ E.contents err.old))
@@ -120,12 +128,30 @@ fn perform<W: Write, E: Write>(
             explain,
             ..
         } => show_trace(alloc, source, limits, schedule, explain, out, err),
+        Order::Threads {
+            workers,
+            record: file,
+            limits,
+            explain,
+            ..
+        } => show_threads(
+            rt,
+            alloc,
+            source,
+            limits,
+            workers,
+            file.is_some(),
+            explain,
+            out,
+            err,
+            record,
+        ),
         Order::Flip(sizes) => try_flip(rt, alloc, sizes, out),
     }
 }
 
 /// Tries the flip by threads, prints what came of it, and answers the status.
-fn try_flip<W: Write>(
+fn try_flip<W: Output>(
     rt: &impl Threads,
     alloc: Global,
     sizes: Sizes,
@@ -142,7 +168,7 @@ fn try_flip<W: Write>(
 }
 
 /// Says that a source is accepted, and answers the status.
-fn check<W: Write>(alloc: Global, source: &[u8], out: &mut W) -> Result<u8, Failure>
+fn check<W: Output>(alloc: Global, source: &[u8], out: &mut W) -> Result<u8, Failure>
     ensures done { IfOk result (IsChecked source.now (W.contents out.old) (W.contents out.new)) }
     ensures failed { IfErr result (IsNotChecked source.now) }
     ensures untouched { IfErr result (λ failure. is_refusal failure ≡ true
@@ -156,7 +182,7 @@ fn check<W: Write>(alloc: Global, source: &[u8], out: &mut W) -> Result<u8, Fail
 }
 
 /// Runs a source by the events of a text, prints what the run leaves, and answers its status.
-fn show_run<W: Write, E: Write>(
+fn show_run<W: Output, E: Output>(
     rt: &impl Wait,
     alloc: Global,
     source: &[u8],
@@ -179,7 +205,7 @@ fn show_run<W: Write, E: Write>(
 }
 
 /// Runs a source by the events of a text, prints a line of each and an empty line, then what the run leaves, and answers its status.
-fn show_trace<W: Write, E: Write>(
+fn show_trace<W: Output, E: Output>(
     alloc: Global,
     source: &[u8],
     limits: Limits,
@@ -203,7 +229,7 @@ fn show_trace<W: Write, E: Write>(
 }
 
 /// Gives a machine its events, and writes a line of each and an empty line.
-fn write_trace<W: Write>(
+fn write_trace<W: Output>(
     alloc: Global,
     machine: &mut Machine,
     events: &[Event],

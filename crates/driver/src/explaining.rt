@@ -1,6 +1,6 @@
 //! What a person needs where an order is refused.
 
-ghost use Rattle.std.specs.Prelude.{◌≡◌, ◌++◌, IfErr, IfOk, List, ℕ, OnErr, OnOk};
+ghost use Rattle.std.specs.Prelude.{◌≡◌, ◌++◌, IfErr, IfOk, List, ℕ, OnErr, OnOk, true};
 ghost use Rattle.std.specs.Io.KnownBytes.{Appends};
 ghost use Rattle.outputs.specs.Beginnings.{AppendsBeginning};
 ghost use Rattle.source_runs.specs.Failures.{message_of, status_of_failure};
@@ -10,16 +10,15 @@ use cil_model::limits::Limits;
 use cil_model::memory::NoMemory;
 use diagnostics::{explain, explain_limits, explain_schedule};
 use orders::Order;
-use outputs::{NotWritten, write_whole};
+use outputs::{NotWritten, Output};
 use schedule_text::read_schedule;
 use source_runs::{Failure, status_of_failure, tell};
 use std::alloc::Global;
-use std::io::Write;
 
 /// Writes a failure to the standard error, and behind a refusal a text that explains it, where the order asks for one. It answers the
 /// failure's status. An error is a write that failed, and a beginning of the telling is written then. Where the explanation wants memory,
 /// the refusal is told without it.
-pub(crate) fn tell_failure<E: Write>(
+pub(crate) fn tell_failure<E: Output>(
     alloc: Global,
     order: &Order<'_>,
     failure: Failure,
@@ -29,7 +28,7 @@ pub(crate) fn tell_failure<E: Write>(
 ) -> Result<u8, NotWritten>
     ensures told { IfOk result (λ status. (status ≡ status_of_failure failure) × ((text : List ℕ)
         × IsExplanation (is_told_why order.now failure) text × Appends (E.contents err.old) (E.contents err.new) (message_of failure ++ text))) }
-    ensures begun { IfErr result (λ _. (text : List ℕ)
+    ensures begun { IfErr result (λ _. (E.has_failed err.new ≡ true) × (text : List ℕ)
         × IsExplanation (is_told_why order.now failure) text × AppendsBeginning (E.contents err.old) (E.contents err.new) (message_of failure ++ text)) }
 {
     tell(failure, err)?;
@@ -52,7 +51,7 @@ fn is_told_why(order: &Order<'_>, failure: Failure) -> bool
 }
 
 /// Writes what explains the refusal of an order, where it is to be told.
-fn tell_why<E: Write>(
+fn tell_why<E: Output>(
     alloc: Global,
     order: &Order<'_>,
     is_told: bool,
@@ -61,7 +60,7 @@ fn tell_why<E: Write>(
     err: &mut E,
 ) -> Result<(), NotWritten>
     ensures shown { OnOk result ((text : List ℕ) × IsExplanation is_told text × Appends (E.contents err.old) (E.contents err.new) text) }
-    ensures begun { OnErr result ((text : List ℕ) × IsExplanation is_told text × AppendsBeginning (E.contents err.old) (E.contents err.new) text) }
+    ensures begun { OnErr result ((E.has_failed err.new ≡ true) × (text : List ℕ) × IsExplanation is_told text × AppendsBeginning (E.contents err.old) (E.contents err.new) text) }
 {
     if is_told {
         show_explanation(alloc, order, source, schedule, err)
@@ -71,7 +70,7 @@ fn tell_why<E: Write>(
 }
 
 /// Writes what explains the refusal of an order, or nothing where memory is wanted.
-fn show_explanation<E: Write>(
+fn show_explanation<E: Output>(
     alloc: Global,
     order: &Order<'_>,
     source: &[u8],
@@ -79,10 +78,10 @@ fn show_explanation<E: Write>(
     err: &mut E,
 ) -> Result<(), NotWritten>
     ensures shown { OnOk result ((text : List ℕ) × Appends (E.contents err.old) (E.contents err.new) text) }
-    ensures begun { OnErr result ((text : List ℕ) × AppendsBeginning (E.contents err.old) (E.contents err.new) text) }
+    ensures begun { OnErr result ((E.has_failed err.new ≡ true) × (text : List ℕ) × AppendsBeginning (E.contents err.old) (E.contents err.new) text) }
 {
     let text = explanation(alloc, order, source, schedule).unwrap_or(String::new(alloc));
-    write_whole(err, text.as_bytes())
+    err.write_whole(text.as_bytes())
 }
 
 /// What explains the refusal of an order: of its source, else of its limits, else of its schedule. Empty where none of them is refused.
@@ -111,6 +110,7 @@ fn explanation(
             limits,
             ..
         } => explain_run(alloc, limits, name, schedule)?,
+        Order::Threads { limits, .. } => explain_limits(alloc, limits)?,
         Order::Check { .. } | Order::Flip(_) => None,
     };
     Ok(text.unwrap_or(String::new(alloc)))

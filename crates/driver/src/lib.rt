@@ -3,7 +3,10 @@
 
 mod driving;
 mod explaining;
+mod recording;
+mod running_threads;
 mod showing;
 
 pub use driving::drive;
+pub use outputs::Device;
 pub use source_runs::{Failure, report};

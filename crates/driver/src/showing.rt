@@ -11,22 +11,22 @@ ghost use Rattle.driver.specs.Threads.{is_done, is_live, line_of, lines_from, st
 use cil_model::reports::End;
 use deadlocks::explain_threads;
 use flip_trial::Outcome;
-use outputs::{NotWritten, write_whole};
+use outputs::{NotWritten, Output};
 use source_runs::{Failure, Machine};
 use std::alloc::Global;
 use std::io;
 use std::io::Write;
 
 /// Writes the one line of a check.
-pub(crate) fn say_accepted<W: Write>(out: &mut W) -> Result<(), NotWritten>
+pub(crate) fn say_accepted<W: Output>(out: &mut W) -> Result<(), NotWritten>
     ensures said { OnOk result (Appends (W.contents out.old) (W.contents out.new) (codes "accepted" ++ 10 ∷ [])) }
     ensures begun { OnErr result (AppendsBeginning (W.contents out.old) (W.contents out.new) (codes "accepted" ++ 10 ∷ [])) }
 {
-    write_whole(out, b"accepted\n")
+    out.write_whole(b"accepted\n")
 }
 
 /// Prints what came of a trial.
-pub(crate) fn show_trial<W: Write>(
+pub(crate) fn show_trial<W: Output>(
     alloc: Global,
     outcome: Outcome,
     out: &mut W,
@@ -37,7 +37,7 @@ pub(crate) fn show_trial<W: Write>(
 {
     let mut text = Vec::new(alloc);
     write_trial(outcome, &mut text)?;
-    write_whole(out, text.as_slice())?;
+    out.write_whole(text.as_slice())?;
     Ok(())
 }
 
@@ -49,7 +49,7 @@ fn write_trial(outcome: Outcome, text: &mut Vec<u8>) -> io::Result<()>
 
 /// Prints what a run leaves, and answers its status. The lines of its threads, and behind them what explains how they stand, are made
 /// before anything is written.
-pub(crate) fn show<W: Write, E: Write>(
+pub(crate) fn show<W: Output, E: Output>(
     alloc: Global,
     explain: bool,
     machine: &Machine,
@@ -62,8 +62,8 @@ pub(crate) fn show<W: Write, E: Write>(
 {
     let ends = machine.ends(alloc)?;
     let lines = lines_of(alloc, explain, machine, ends.as_slice())?;
-    write_whole(out, machine.console())?;
-    write_whole(err, lines.as_slice())?;
+    out.write_whole(machine.console())?;
+    err.write_whole(lines.as_slice())?;
     Ok(status_of(ends.as_slice()))
 }
 

@@ -6,15 +6,14 @@ ghost use Rattle.outputs.specs.Beginnings.{AppendsBeginning};
 ghost use Rattle.event_trace.specs.Pieces.{TakesAllBut};
 ghost use Rattle.event_trace.specs.declared.pieces.TheConstants.{PIECE};
 
-use outputs::{NotWritten, write_whole};
-use std::io::Write;
+use outputs::{NotWritten, Output};
 
 /// The bytes of a piece: so many are put together before they are written.
 const PIECE: usize = 32_768;
 
 /// Writes what is pending, once it fills a piece; nothing is pending then. What does not fill one stays, and nothing is written. Where the
 /// write fails, a beginning of what was pending is written.
-pub(crate) fn write_piece<W: Write>(pending: &mut Vec<u8>, out: &mut W) -> Result<(), NotWritten>
+pub(crate) fn write_piece<W: Output>(pending: &mut Vec<u8>, out: &mut W) -> Result<(), NotWritten>
     ensures written { OnOk result (TakesAllBut pending.new.items (W.contents out.old) (W.contents out.new) pending.old.items) }
     ensures short { OnOk result (length pending.new.items < PIECE) }
     ensures stays { length pending.old.items < PIECE
@@ -24,16 +23,16 @@ pub(crate) fn write_piece<W: Write>(pending: &mut Vec<u8>, out: &mut W) -> Resul
     if pending.len() < PIECE {
         return Ok(());
     }
-    write_whole(out, pending.as_slice())?;
+    out.write_whole(pending.as_slice())?;
     pending.clear();
     Ok(())
 }
 
 /// Writes what is pending, and the empty line that ends a trace. Where a write fails, a beginning of both is written.
-pub(crate) fn write_end<W: Write>(pending: &[u8], out: &mut W) -> Result<(), NotWritten>
+pub(crate) fn write_end<W: Output>(pending: &[u8], out: &mut W) -> Result<(), NotWritten>
     ensures written { OnOk result (Appends (W.contents out.old) (W.contents out.new) (pending.now ++ 10 ∷ [])) }
     ensures begun { OnErr result (AppendsBeginning (W.contents out.old) (W.contents out.new) (pending.now ++ 10 ∷ [])) }
 {
-    write_whole(out, pending)?;
-    write_whole(out, b"\n")
+    out.write_whole(pending)?;
+    out.write_whole(b"\n")
 }

@@ -17,9 +17,8 @@ use crate::pieces::{write_end, write_piece};
 use cil_model::events::Event;
 use cil_model::memory::NoMemory;
 use interleaving_core::{Machine, Position};
-use outputs::write_whole;
+use outputs::Output;
 use std::alloc::Global;
-use std::io::Write;
 
 /// Does the events in order, as `Machine::run` does, and writes a line of each, and an empty line behind the last.
 ///
@@ -32,7 +31,7 @@ use std::io::Write;
 /// each method is declared, for a piece and one line, and no more than the machine itself for events. It stops at the first want of memory,
 /// where it writes what it has put together, and at the first write that fails. So many events are done then, and a beginning of their
 /// lines is written, and no empty line unless all of them are done.
-pub fn trace<W: Write>(
+pub fn trace<W: Output>(
     alloc: Global,
     machine: &mut Machine,
     events: &[Event],
@@ -61,7 +60,7 @@ pub fn trace<W: Write>(
 
 /// Does one event, and puts the line of its number behind those that are pending, which are written once they fill a piece. Where memory
 /// is wanted they are written too.
-fn trace_event<W: Write>(
+fn trace_event<W: Output>(
     alloc: Global,
     machine: &mut Machine,
     methods: &MethodPlaces,
@@ -82,7 +81,7 @@ fn trace_event<W: Write>(
             Ok(())
         }
         Err(error) => {
-            write_whole(out, pending.as_slice())?;
+            out.write_whole(pending.as_slice())?;
             Err(TraceError::from(error))
         }
     }

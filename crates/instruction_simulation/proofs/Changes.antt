@@ -9,7 +9,7 @@ use Rattle.simulation.proofs.cil_model.Lists.{none_is_some, set_is_there}
 use Rattle.simulation.proofs.cil_model.SameLaws.{same_text_equal, same_text_itself, if_true, if_false}
 use Rattle.simulation.specs.reference_machine.Values.{ObjectName, Born, Literal}
 use Rattle.simulation.specs.reference_machine.States.{Monitor as StateMonitor, HeapObject, State, entry_at, with_entry, with_object, with_monitor as with_state_monitor}
-use Rattle.simulation.proofs.size_bounds.ChangedEntries.{set_or_stays}
+use Rattle.simulation.proofs.ChangedEntries.{set_or_stays}
 use Rattle.simulation.specs.object_memory.declared.addresses.Addr.{Addr}
 use Rattle.simulation.specs.object_memory.declared.monitors.Monitor.{Monitor}
 use Rattle.simulation.specs.object_memory.Cells.{Cell, size, store_monitor}

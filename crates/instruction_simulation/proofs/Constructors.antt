@@ -25,8 +25,8 @@ use Rattle.simulation.specs.name_tables.declared.lookups.MemberNumber.{MemberNum
 use Rattle.simulation.specs.name_tables.Numbers.{declarations, method_at}
 use Rattle.simulation.specs.resolved_code.Numbered.{class_name}
 use Rattle.simulation.specs.resolved_code.Resolved.{IsMethod}
-use Rattle.simulation.proofs.size_bounds.FieldSizes.{class_number_small, slots_few}
-use Rattle.simulation.proofs.size_bounds.MethodSizes.{arguments_few, locals_few}
+use Rattle.simulation.proofs.FieldSizes.{class_number_small, slots_few}
+use Rattle.simulation.proofs.MethodSizes.{arguments_few, locals_few}
 use Rattle.simulation.specs.method_table.AllMethods.{all_methods}
 use Rattle.simulation.specs.method_table.MethodNumbers.{number_of}
 use Rattle.simulation.specs.method_table.Prepared.{local_kinds}

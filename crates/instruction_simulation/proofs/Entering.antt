@@ -27,7 +27,7 @@ use Rattle.simulation.specs.instructions.Calls.{is_full, behind, entered, call_t
 use Rattle.simulation.specs.interpreter.Calls.{called_as, beside_console}
 use Rattle.simulation.specs.interpreter.Instructions.{of_calls, answer_of}
 use Rattle.simulation.specs.interpreter.declared.outcomes.Outcome.TheVariants.{Comes}
-use Rattle.simulation.proofs.size_bounds.MethodSizes.{arguments_few, locals_few}
+use Rattle.simulation.proofs.MethodSizes.{arguments_few, locals_few}
 use Rattle.simulation.specs.MachineContents.{frame_room}
 use Rattle.simulation.specs.StandsFor.{Names, IsValue, IsFrame, AreFrames}
 use Rattle.simulation.proofs.AgreeLaws.{agree_length, agree_take, agree_drop, agree_reverse}

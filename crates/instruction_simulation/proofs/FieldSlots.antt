@@ -23,7 +23,7 @@ use Rattle.simulation.specs.reference_machine.Steps.{key_of}
 use Rattle.simulation.specs.type_soundness.TypedStates.{HasType, HaveFieldTypes}
 use Rattle.simulation.proofs.type_soundness.DeclaredFields.{HasField, field_there, found_type}
 use Rattle.simulation.proofs.type_soundness.StateChanges.{entry_typed}
-use Rattle.simulation.proofs.size_bounds.FieldSizes.{instance_slot_small}
+use Rattle.simulation.proofs.FieldSizes.{instance_slot_small}
 use Rattle.simulation.specs.resolved_code.Numbered.{class_name}
 use Rattle.simulation.specs.resolved_code.Resolved.{IsField}
 use Rattle.simulation.specs.method_table.Prepared.{kind_of_type}

@@ -25,8 +25,8 @@ use Rattle.simulation.specs.resolved_code.declared.operations.Operation.TheVaria
 use Rattle.simulation.specs.resolved_code.declared.types.NumberedElement.{NumberedElement}
 use Rattle.simulation.specs.resolved_code.declared.types.NumberedElement.TheVariants.{Int32 as NumberedInt32, Int64 as NumberedInt64, Object as NumberedObject, String as NumberedString, Class as NumberedClass}
 use Rattle.simulation.specs.resolved_code.declared.types.NumberedType.{NumberedType}
-use Rattle.simulation.proofs.size_bounds.FieldSizes.{class_number_small}
-use Rattle.simulation.proofs.size_bounds.MethodSizes.{arrays_shallow}
+use Rattle.simulation.proofs.FieldSizes.{class_number_small}
+use Rattle.simulation.proofs.MethodSizes.{arrays_shallow}
 use Rattle.simulation.specs.object_memory.declared.addresses.Addr.{Addr}
 use Rattle.simulation.specs.object_memory.declared.kinds.ArrayElement.{ArrayElement}
 use Rattle.simulation.specs.object_memory.declared.kinds.ElementType.{ElementType}

@@ -6,7 +6,7 @@ use Rattle.simulation.specs.cil_model.declared.trees.Tree.{Tree}
 use Rattle.simulation.specs.cil_model.declared.limits.Limits.{Limits}
 use Rattle.simulation.specs.reference_machine.Values.{ObjectName, Born, Literal}
 use Rattle.simulation.specs.reference_machine.States.{Monitor as StateMonitor, HeapObject, State, with_object, monitor_of, with_monitor as with_state_monitor}
-use Rattle.simulation.specs.size_bounds.Counts.{IsCountedMonitor, IsCounted}
+use Rattle.simulation.specs.Counts.{IsCountedMonitor, IsCounted}
 use Rattle.simulation.specs.object_memory.declared.addresses.Addr.{Addr}
 use Rattle.simulation.specs.object_memory.declared.monitors.Monitor.{Monitor}
 use Rattle.simulation.specs.object_memory.declared.values.Value.{Value}

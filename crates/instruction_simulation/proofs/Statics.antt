@@ -24,7 +24,7 @@ use Rattle.simulation.specs.reference_machine.Steps.{execute, key_of, next}
 use Rattle.simulation.specs.type_soundness.TypedStates.{HaveFieldTypes}
 use Rattle.simulation.proofs.type_soundness.DeclaredFields.{static_field_there}
 use Rattle.simulation.proofs.type_soundness.Targets.{nearest_at}
-use Rattle.simulation.proofs.size_bounds.FieldSizes.{static_slot_small}
+use Rattle.simulation.proofs.FieldSizes.{static_slot_small}
 use Rattle.simulation.specs.resolved_code.Resolved.{IsField}
 use Rattle.simulation.specs.resolved_code.declared.operations.Operation.{Operation}
 use Rattle.simulation.specs.resolved_code.declared.operations.Operation.TheVariants as Resolved

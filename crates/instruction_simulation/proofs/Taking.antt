@@ -24,8 +24,8 @@ use Rattle.simulation.specs.threads_monitors.declared.effects.Effect.TheVariants
 use Rattle.simulation.specs.instructions.Frames.{Turn, jump, onward, branch_if, leaves, with_top, given, leaves_result, stored, to_place}
 use Rattle.simulation.specs.interpreter.declared.outcomes.Outcome.TheVariants.{Comes}
 use Rattle.simulation.specs.interpreter.Instructions.{of_frames, answer_of}
-use Rattle.simulation.proofs.size_bounds.MethodSizes.{instructions_few}
-use Rattle.simulation.proofs.size_bounds.Lists.{found_within}
+use Rattle.simulation.proofs.MethodSizes.{instructions_few}
+use Rattle.simulation.proofs.Lists.{found_within}
 use Rattle.simulation.specs.Agreement.{Agree}
 use Rattle.simulation.specs.StandsFor.{Names, IsValue, IsFrame, AreFrames}
 use Rattle.simulation.proofs.AgreeLaws.{agree_length}

@@ -10,7 +10,8 @@ use Rattle.object_memory.specs.declared.values.Value.TheVariants.{Ref}
 use Rattle.threads_monitors.specs.Frames.{Frames, size, with_place, with_stack, with_inserted, with_call, returned}
 use Rattle.threads_monitors.specs.declared.effects.Effect.TheVariants.{GoesOn, Returns, Raises}
 use Rattle.object_memory.specs.declared.kinds.Kind.TheVariants.{Instance}
-use Rattle.object_memory.specs.Objects.{Objects, with_birth}
+use Rattle.object_memory.specs.Objects.{Objects}
+use Rattle.barriers.specs.Barriers.{object_born}
 use Rattle.instructions.specs.Frames.{Turn, with_top}
 use Rattle.instructions.specs.ObjectTurns.{ObjectTurn, beside, born}
 use Rattle.instructions.specs.declared.calls.Callee.{Callee}
@@ -59,11 +60,11 @@ constructs callee m (o, Some a) = beside o (construct_turn callee a m)
 
 -- newobj (III.4.21) of a class with a constructor that has code: the depth is looked at before memory
 abbrev pub new_object_turn : ℕ → ℕ → Called → Frames → Objects → ObjectTurn
-new_object_turn class slots callee m o = if is_full m then Some (m, o, Raises StackOverflow) else constructs callee m (with_birth o (Instance class) slots)
+new_object_turn class slots callee m o = if is_full m then Some (m, o, Raises StackOverflow) else constructs callee m (object_born o (Instance class) slots)
 
 -- the same with a constructor that is built in, which is done at once
 abbrev pub new_plain_object_turn : ℕ → ℕ → Frames → Objects → ObjectTurn
-new_plain_object_turn class slots m o = born m (with_birth o (Instance class) slots)
+new_plain_object_turn class slots m o = born m (object_born o (Instance class) slots)
 
 -- ---- returns
 

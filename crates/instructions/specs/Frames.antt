@@ -14,7 +14,8 @@ use Rattle.cil_model.specs.declared.reports.Fault.{Fault}
 use Rattle.cil_model.specs.Bodies.{at_place}
 use Rattle.object_memory.specs.declared.values.Value.{Value}
 use Rattle.object_memory.specs.declared.values.Value.TheVariants.{Int32, Int64, Native, Ref}
-use Rattle.object_memory.specs.Objects.{Objects, is_same_object}
+use Rattle.object_memory.specs.Objects.{Objects}
+use Rattle.barriers.specs.Barriers.{are_same}
 use Rattle.threads_monitors.specs.Frames.{Frames, size, with_place, with_stack, with_argument, with_local}
 use Rattle.threads_monitors.specs.declared.effects.Effect.{Effect}
 use Rattle.threads_monitors.specs.declared.effects.Effect.TheVariants.{GoesOn, Raises}
@@ -101,7 +102,7 @@ same_reference _ same = None
 abbrev pub comparison : Objects → Comparison → Value → Value → Option Bool
 comparison o op (Int32 x) (Int32 y) = Some (compared op x y)
 comparison o op (Int64 x) (Int64 y) = Some (compared op x y)
-comparison o op (Ref a) (Ref b) = same_reference op (is_same_object o a b)
+comparison o op (Ref a) (Ref b) = same_reference op (are_same o a b)
 comparison o op _ _ = None
 
 abbrev pub branch_reference : BranchComparison → Bool → Option Bool
@@ -112,7 +113,7 @@ branch_reference _ same = None
 abbrev pub branch_test : Objects → BranchComparison → Value → Value → Option Bool
 branch_test o op (Int32 x) (Int32 y) = branch_values op (Int32Value x) (Int32Value y)
 branch_test o op (Int64 x) (Int64 y) = branch_values op (Int64Value x) (Int64Value y)
-branch_test o op (Ref a) (Ref b) = branch_reference op (is_same_object o a b)
+branch_test o op (Ref a) (Ref b) = branch_reference op (are_same o a b)
 branch_test o op _ _ = None
 
 -- ---- instructions

@@ -77,7 +77,7 @@ fn holds(heap: &Heap, operation: Comparison, first: Value, second: Value) -> boo
     match (first, second) {
         (Value::Int32(x), Value::Int32(y)) => Integer::compare(operation, x, y),
         (Value::Int64(x), Value::Int64(y)) => Integer::compare(operation, x, y),
-        (Value::Ref(x), Value::Ref(y)) => heap.is_same_object(x, y),
+        (Value::Ref(x), Value::Ref(y)) => barriers::same(heap, x, y),
         _ => unreachable!(),
     }
 }

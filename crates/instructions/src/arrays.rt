@@ -2,8 +2,6 @@
 
 ghost use Rattle.std.specs.Prelude.{◌≡◌, IsSome, Some};
 ghost use Rattle.instructions.specs.ObjectTurns.{load_length_turn, load_element_turn, store_element_turn, new_array_turn, leaves_born, index_in, place_in};
-ghost use Rattle.object_memory.specs.Objects.{with_birth};
-ghost use Rattle.object_memory.specs.declared.kinds.Kind.TheVariants.{Array};
 
 use crate::fields::{load_slot, store_slot};
 use crate::places::leave;
@@ -93,18 +91,8 @@ pub fn new_array(frames: &mut FrameMemory, heap: &mut Heap, element: ArrayElemen
     if length < 0 {
         return Effect::Raises(Fault::Overflow);
     }
-    let address = array_born(heap, element, length.cast_unsigned());
+    let address = barriers::birth(heap, Kind::Array(element), length.cast_unsigned());
     leave_born(frames, address)
-}
-
-/// An array with so many elements. None exactly where it exceeds what is free.
-fn array_born(heap: &mut Heap, element: ArrayElement, length: u64) -> Option<Addr>
-    ensures { (heap.new, result) ≡ with_birth heap.old (Array element) length }
-{
-    if length > heap.free_words() as u64 {
-        return None;
-    }
-    heap.birth(Kind::Array(element), length as u32)
 }
 
 /// Leaves an object that was born. Where its birth was refused, it raises `OutOfMemory`.

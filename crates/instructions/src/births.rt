@@ -24,7 +24,7 @@ pub fn new_object(
     if frames.is_full() {
         return Effect::Raises(Fault::StackOverflow);
     }
-    match heap.birth(Kind::Instance(class), slots) {
+    match barriers::birth(heap, Kind::Instance(class), u64::from(slots)) {
         Some(object) => construct(frames, callee, object),
         None => Effect::Raises(Fault::OutOfMemory),
     }
@@ -35,6 +35,6 @@ pub fn new_plain_object(frames: &mut FrameMemory, heap: &mut Heap, class: u16, s
     requires { IsSome (new_plain_object_turn class slots frames.old heap.old) }
     ensures { Some (frames.new, heap.new, result) ≡ new_plain_object_turn class slots frames.old heap.old }
 {
-    let object = heap.birth(Kind::Instance(class), slots);
+    let object = barriers::birth(heap, Kind::Instance(class), u64::from(slots));
     leave_born(frames, object)
 }

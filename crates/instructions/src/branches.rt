@@ -65,8 +65,8 @@ fn is_taken(heap: &Heap, operation: BranchComparison, first: Value, second: Valu
         (Value::Int32(x), Value::Int32(y)) => Integer::branches(operation, x, y),
         (Value::Int64(x), Value::Int64(y)) => Integer::branches(operation, x, y),
         (Value::Ref(x), Value::Ref(y)) => match operation {
-            BranchComparison::Equal => heap.is_same_object(x, y),
-            BranchComparison::NotEqual => !heap.is_same_object(x, y),
+            BranchComparison::Equal => barriers::same(heap, x, y),
+            BranchComparison::NotEqual => !barriers::same(heap, x, y),
             _ => unreachable!(),
         },
         _ => unreachable!(),

@@ -34,7 +34,7 @@ pub fn store_slot(
     requires { IsSome (store_slot value slot object frames.old heap.old) }
     ensures { Some (frames.new, heap.new, result) ≡ store_slot value slot object frames.old heap.old }
 {
-    heap.set_slot(object, slot, value.word());
+    barriers::store_value(heap, object, slot, value);
     go_on(frames)
 }
 

@@ -20,6 +20,6 @@ pub fn store_static(frames: &mut FrameMemory, statics: &mut [Value], number: u32
     requires { IsSome (store_static_turn number frames.old statics.old) }
     ensures { Some (frames.new, statics.new, result) ≡ store_static_turn number frames.old statics.old }
 {
-    statics[number as usize] = frames.pop();
+    barriers::store_static(statics, number as usize, frames.pop());
     go_on(frames)
 }

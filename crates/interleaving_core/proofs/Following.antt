@@ -13,7 +13,7 @@ use Rattle.step_simulation.specs.simulation.MachineContents.{Content}
 use Rattle.step_simulation.specs.simulation.Budgets.{KeepsBudgets, steps_left_of}
 use Rattle.step_simulation.specs.simulation.StandsFor.{Represents}
 use Rattle.step_simulation.specs.simulation.Turns.{IsTurn}
-use Rattle.step_simulation.proofs.Whole.{step_is_followed, step_is_refused}
+use Rattle.step_simulation.proofs.Whole.{acknowledgement_keeps, collection_keeps, step_is_followed, step_is_refused}
 use Rattle.step_simulation.specs.simulation.Runs.{AreTurns, RunsAlike, FollowsReference}
 use Rattle.step_simulation.proofs.Finished.{same_program}
 use Rattle.interleaving_core.proofs.Budgets.{keeps_behind, turn_keeps}
@@ -34,13 +34,13 @@ module _ (c : Content) (after : Content × Report) where
       kept : (e : Event) → IsTurn c e after → KeepsBudgets c after.0 ((e, after.1) ∷ [])
       kept = λ e h. turn_keeps c (live_have_steps c s r) (some_budget c s r) e after h
 
-      itself : (e : Event) (h : IsTurn c e after) → (report : Report) → after ≡ (c, report) → run c.tree c.limits s (thread_part ((e, after.1) ∷ [])) ≡ RunsTo (step_reports ((e, after.1) ∷ [])) s →
-          RefusesBeyondRoom c.tree c.limits s (thread_part ((e, after.1) ∷ [])) → RunsAlike c after.0 ((e, after.1) ∷ []) s
-      itself e h report is comes refuses = record { state = s; comes = comes; refuses = refuses; represents = subst (λ (x : Content × Report). Represents x.0 s) (sym is) r; budgets = kept e h }
+      itself : (e : Event) (h : IsTurn c e after) → run c.tree c.limits s (thread_part ((e, after.1) ∷ [])) ≡ RunsTo (step_reports ((e, after.1) ∷ [])) s →
+          RefusesBeyondRoom c.tree c.limits s (thread_part ((e, after.1) ∷ [])) → Represents after.0 s → RunsAlike c after.0 ((e, after.1) ∷ []) s
+      itself e h comes refuses represents = record { state = s; comes = comes; refuses = refuses; represents = represents; budgets = kept e h }
 
       by_event : (e : Event) → IsTurn c e after → RunsAlike c after.0 ((e, after.1) ∷ []) s
-      by_event (Ack t) h = itself (Ack t) h _ h refl tt
-      by_event Gc h = itself Gc h _ h refl tt
+      by_event (Ack t) h = itself (Ack t) h refl tt (acknowledgement_keeps c s r t after h)
+      by_event Gc h = itself Gc h refl tt (collection_keeps c s r after h)
       by_event (Step t) h =
           let one = step_is_followed c s r t after h in
           record { state = one.0; comes = ap (λ o. followed_by o (λ u. run c.tree c.limits u [])) one.1; refuses = (step_is_refused c s r t after h, λ report next is. tt); represents = one.2; budgets = kept (Step t) h }

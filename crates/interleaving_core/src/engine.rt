@@ -7,7 +7,7 @@ ghost use Rattle.object_memory.specs.Cells.{null};
 ghost use Rattle.object_memory.specs.Objects.{object_slots};
 ghost use Rattle.object_memory.specs.declared.addresses.Addr.{Addr as AnyAddr};
 ghost use Rattle.cil_model.specs.declared.limits.TheConstants.{MOST_INSTRUCTIONS, MOST_THREADS};
-ghost use Rattle.cil_model.specs.declared.events.Event.TheVariants.{Step as StepOf, Ack as AckOf};
+ghost use Rattle.cil_model.specs.declared.events.Event.TheVariants.{Step as StepOf, Ack as AckOf, Gc as GcOf};
 ghost use Rattle.threads_monitors.specs.Frames.{Frames};
 ghost use Rattle.threads_monitors.specs.Threads.{is_live, is_live_at, start_fault};
 ghost use Rattle.step_simulation.specs.simulation.interpreter.declared.outcomes.Outcome.TheVariants.{Starts as StartsOn, Joins as JoinsOn};
@@ -60,7 +60,7 @@ impl Engine {
             Event::Step(thread) if self.is_live(thread) => self.step_thread(alloc, thread),
             Event::Step(_) => Ok(Report::Absent),
             Event::Ack(thread) => Ok(self.acknowledge(thread)),
-            Event::Gc => Ok(Report::Waiting),
+            Event::Gc => Ok(self.collect()),
         }
     }
 
@@ -191,15 +191,26 @@ impl Engine {
         start(alloc, &mut self.threads, &mut self.heap, object, beginning)
     }
 
-    /// What an acknowledgement reports: nothing is posted until there is a collector.
-    fn acknowledge(&self, thread: u8) -> Report
-        ensures { IsTurn (content_of self.now) (AckOf thread) (content_of self.now, result) }
+    /// An acknowledgement of a thread. Nothing is posted until there is a collector, so it changes nothing.
+    fn acknowledge(&mut self, thread: u8) -> Report
+        requires table { IsMethodTable self.old.program self.old.table }
+        ensures turns { IsTurn (content_of self.old) (AckOf thread) (content_of self.new, result) }
+        ensures table { IsMethodTable self.new.program self.new.table }
     {
         if self.is_live(thread) {
             Report::NothingPosted
         } else {
             Report::Absent
         }
+    }
+
+    /// An event of the collector. There is none yet, so it waits.
+    fn collect(&mut self) -> Report
+        requires table { IsMethodTable self.old.program self.old.table }
+        ensures turns { IsTurn (content_of self.old) GcOf (content_of self.new, result) }
+        ensures table { IsMethodTable self.new.program self.new.table }
+    {
+        Report::Waiting
     }
 
     /// Whether the thread was started and hasn't ended.

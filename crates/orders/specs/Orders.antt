@@ -1,8 +1,8 @@
 -- What an order names (this profile).
-use Rattle.std.specs.Prelude.{◌≡◌, ◌⊎◌, ℕ, Bool, true, false, List, Option, Some, None}
+use Rattle.std.specs.Prelude.{◌≡◌, ◌⊎◌, ℕ, Bool, true, false, List, Option, Some, None, option_map}
 use Rattle.cil_model.specs.Sources.{is_too_long}
 use Rattle.orders.specs.declared.order.Order.{Order}
-use Rattle.orders.specs.declared.order.Order.TheVariants.{Check, Run, Replay, Trace, Flip}
+use Rattle.orders.specs.declared.order.Order.TheVariants.{Check, Run, Replay, Trace, Threads, Flip}
 
 -- the name of the file that holds the source, where one does
 abbrev pub file_of : Order → Option (List ℕ)
@@ -10,6 +10,7 @@ file_of (Check file explain) = Some file.now
 file_of (Run file schedule limits explain) = Some file.now
 file_of (Replay file schedule limits explain) = Some file.now
 file_of (Trace file schedule limits explain) = Some file.now
+file_of (Threads file workers kept limits explain) = Some file.now
 file_of (Flip sizes) = None
 
 -- the name of the file that holds the schedule's text, where one does
@@ -18,12 +19,18 @@ schedule_file_of (Replay file schedule limits explain) = Some schedule.now
 schedule_file_of (Trace file schedule limits explain) = Some schedule.now
 schedule_file_of _ = None
 
+-- the name of the file that the record is to be written to, where one is asked for
+abbrev pub record_file_of : Order → Option (List ℕ)
+record_file_of (Threads file workers kept limits explain) = option_map (λ name. name.now) kept
+record_file_of _ = None
+
 -- a refusal is to be explained, and what threads wait for when a run has ended
 abbrev pub is_explained : Order → Bool
 is_explained (Check file explain) = explain
 is_explained (Run file schedule limits explain) = explain
 is_explained (Replay file schedule limits explain) = explain
 is_explained (Trace file schedule limits explain) = explain
+is_explained (Threads file workers kept limits explain) = explain
 is_explained (Flip sizes) = false
 
 -- these bytes are the source that a file holds, or too long as that is too

@@ -3,6 +3,8 @@
 
 mod files;
 mod order;
+mod workers;
 
 pub use files::{read_source, read_text};
 pub use order::Order;
+pub use workers::Workers;

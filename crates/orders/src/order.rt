@@ -1,7 +1,8 @@
 //! What a command line asks for.
 ghost use Rattle.std.specs.Prelude.{◌≡◌, option_map};
-ghost use Rattle.orders.specs.Orders.{file_of, is_explained, schedule_file_of};
+ghost use Rattle.orders.specs.Orders.{file_of, is_explained, record_file_of, schedule_file_of};
 
+use crate::workers::Workers;
 use cil_model::limits::Limits;
 use flip_trial::Sizes;
 
@@ -35,6 +36,15 @@ pub enum Order<'a> {
         limits: Limits,
         explain: bool,
     },
+    /// Runs the source of this file by workers, each in a thread of its own, until no thread of the program is live. Where a file is named
+    /// for the record, it is to get the text of the schedule that the run had.
+    Threads {
+        file: &'a str,
+        workers: Workers,
+        record: Option<&'a str>,
+        limits: Limits,
+        explain: bool,
+    },
     /// Tries the flip without a lock, by threads.
     Flip(Sizes),
 }
@@ -48,7 +58,8 @@ impl<'a> Order<'a> {
             Order::Check { file, .. }
             | Order::Run { file, .. }
             | Order::Replay { file, .. }
-            | Order::Trace { file, .. } => Some(file),
+            | Order::Trace { file, .. }
+            | Order::Threads { file, .. } => Some(file),
             Order::Flip(_) => None,
         }
     }
@@ -61,7 +72,8 @@ impl<'a> Order<'a> {
             Order::Check { explain, .. }
             | Order::Run { explain, .. }
             | Order::Replay { explain, .. }
-            | Order::Trace { explain, .. } => explain,
+            | Order::Trace { explain, .. }
+            | Order::Threads { explain, .. } => explain,
             Order::Flip(_) => false,
         }
     }
@@ -72,7 +84,22 @@ impl<'a> Order<'a> {
     {
         match *self {
             Order::Replay { schedule, .. } | Order::Trace { schedule, .. } => Some(schedule),
-            Order::Check { .. } | Order::Run { .. } | Order::Flip(_) => None,
+            Order::Check { .. } | Order::Run { .. } | Order::Threads { .. } | Order::Flip(_) =>
+                None,
+        }
+    }
+
+    /// The file that the record is to be written to, where one is asked for.
+    pub fn record_file(&self) -> Option<&'a str>
+        ensures { option_map (λ file. file.now) result ≡ record_file_of self.now }
+    {
+        match *self {
+            Order::Threads { record, .. } => record,
+            Order::Check { .. }
+            | Order::Run { .. }
+            | Order::Replay { .. }
+            | Order::Trace { .. }
+            | Order::Flip(_) => None,
         }
     }
 }

@@ -148,6 +148,13 @@ impl<M: Opening> World<M> {
         let _stopped = &self.stopped;
     }
 
+    /// The machine, which is at what the history made of it.
+    pub fn machine(&self) -> &Machine
+        ensures { result.now ≡ self.now.core }
+    {
+        &self.core
+    }
+
     /// Whether the stop mark is set.
     pub fn is_stopped(&self) -> bool
         ensures { result ≡ self.now.stopped }

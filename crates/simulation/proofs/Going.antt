@@ -24,7 +24,7 @@ use Rattle.interpreter.specs.threads_monitors.Frames.{Frame, Frames, size, with_
 use Rattle.interpreter.specs.threads_monitors.declared.effects.Effect.TheVariants.{GoesOn}
 use Rattle.interpreter.specs.instructions.Frames.{onward, leaves}
 use Rattle.interpreter.specs.declared.outcomes.Outcome.TheVariants.{Comes}
-use Rattle.size_bounds.proofs.MethodSizes.{arguments_few, instructions_few, locals_few, stack_low}
+use Rattle.simulation.proofs.MethodSizes.{arguments_few, instructions_few, locals_few, stack_low}
 use Rattle.simulation.specs.Agreement.{Agree}
 use Rattle.simulation.specs.MachineContents.{frame_room}
 use Rattle.simulation.specs.StandsFor.{Names, Extends, IsValue, IsFrame, AreFrames}

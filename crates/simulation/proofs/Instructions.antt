@@ -8,7 +8,7 @@ use Rattle.interpreter.specs.cil_model.Bodies.{lines_of}
 use Rattle.interpreter.specs.reference_machine.Values.{Value as StateValue}
 use Rattle.interpreter.specs.reference_machine.Rooms.{cell_words}
 use Rattle.interpreter.specs.reference_machine.States.{Contents, Frame, State, with_birth}
-use Rattle.size_bounds.specs.Counts.{IsCounted}
+use Rattle.simulation.specs.Counts.{IsCounted}
 use Rattle.interpreter.specs.reference_machine.Effects.{Setting, Effect as StateEffect, Goes, Blocks as StateBlocks, Raises as StateRaises}
 use Rattle.interpreter.specs.reference_machine.BuiltIn.{Action, Start, Join, act}
 use Rattle.interpreter.specs.reference_machine.Steps.{execute}

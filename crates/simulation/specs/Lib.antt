@@ -1,7 +1,6 @@
 pub use Rattle.interpreter.specs.cil_model as cil_model
 pub use Rattle.interpreter.specs.reference_machine as reference_machine
 pub use Rattle.type_soundness.specs as type_soundness
-pub use Rattle.size_bounds.specs as size_bounds
 pub use Rattle.interpreter.specs.name_tables as name_tables
 pub use Rattle.interpreter.specs.resolved_code as resolved_code
 pub use Rattle.interpreter.specs.object_memory as object_memory
@@ -10,6 +9,7 @@ pub use Rattle.interpreter.specs.threads_monitors as threads_monitors
 pub use Rattle.interpreter.specs.instructions as instructions
 pub use Rattle.interpreter.specs as interpreter
 pub mod Agreement
+pub mod Counts
 pub mod MachineContents
 pub mod StandsFor
 pub mod Turns

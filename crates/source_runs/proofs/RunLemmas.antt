@@ -3,11 +3,11 @@ use Rattle.std.proofs.Common.{◌≡◌, ◌↔◌, ◌<◌, nat_le, ℕ, Bool, 
 use Rattle.std.proofs.lemmas.Bool.{and_parts}
 use Rattle.std.proofs.lemmas.Bool.Decides.{nat_tests}
 use Rattle.std.specs.Prelude.{IfErr, IfOk, IsErrAnd, OnErr}
-use Rattle.shared_machine.proofs.simulation.StandsLaws.{stands_after}
+use Rattle.workers.proofs.shared_machine.simulation.StandsLaws.{stands_after}
 use Rattle.cil_model.specs.Legality.{IsLegal}
-use Rattle.shared_machine.specs.simulation.MachineContents.{Content}
-use Rattle.shared_machine.specs.simulation.StandsFor.{Represents}
-use Rattle.shared_machine.specs.Worlds.{HasRun as Ran}
+use Rattle.workers.specs.shared_machine.simulation.MachineContents.{Content}
+use Rattle.workers.specs.shared_machine.simulation.StandsFor.{Represents}
+use Rattle.workers.specs.shared_machine.Worlds.{HasRun as Ran}
 use Rattle.cil_model.specs.Ranges.{are_in_range}
 use Rattle.reference_machine.specs.Runs.{opening}
 use Rattle.cil_model.specs.Sources.{HasTree, IsAnswer}
@@ -16,7 +16,7 @@ use Rattle.cil_model.specs.declared.events.Event.{Event}
 use Rattle.cil_model.specs.declared.limits.Limits.{Limits}
 use Rattle.cil_model.specs.declared.reports.Report.{Report}
 use Rattle.cil_model.specs.declared.trees.Tree.{Tree}
-use Rattle.shared_machine.specs.interleaving_core.declared.machine.Refused.TheVariants.{Limits as BadLimits}
+use Rattle.workers.specs.shared_machine.interleaving_core.declared.machine.Refused.TheVariants.{Limits as BadLimits}
 use Rattle.cil_model.specs.Typings.{IsAccepted}
 use Rattle.verifier.specs.Verdicts.{IsVerdict}
 use Rattle.verifier.specs.declared.refusals.VerifyError.{VerifyError}

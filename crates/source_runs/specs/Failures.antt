@@ -15,9 +15,9 @@ use Rattle.metadata.specs.declared.program.MetaError.TheVariants.{OutOfMemory as
 use Rattle.verifier.specs.Numbers.{typing_number_of}
 use Rattle.verifier.specs.declared.refusals.VerifyError.{VerifyError}
 use Rattle.verifier.specs.declared.refusals.VerifyError.TheVariants.{OutOfMemory as UnverifiedForMemory}
-use Rattle.shared_machine.specs.interleaving_core.Refusals.{number_of as making_number_of}
-use Rattle.shared_machine.specs.interleaving_core.declared.machine.Refused.{Refused as NotMade}
-use Rattle.shared_machine.specs.interleaving_core.declared.machine.Refused.TheVariants.{OutOfMemory as NotMadeForMemory}
+use Rattle.workers.specs.shared_machine.interleaving_core.Refusals.{number_of as making_number_of}
+use Rattle.workers.specs.shared_machine.interleaving_core.declared.machine.Refused.{Refused as NotMade}
+use Rattle.workers.specs.shared_machine.interleaving_core.declared.machine.Refused.TheVariants.{OutOfMemory as NotMadeForMemory}
 use Rattle.schedule_text.specs.Errors.{number_of as schedule_number_of}
 use Rattle.schedule_text.specs.declared.errors.ScheduleError.{ScheduleError}
 use Rattle.schedule_text.specs.declared.errors.ScheduleError.TheVariants.{OutOfMemory as UnscheduledForMemory}
@@ -81,7 +81,7 @@ message_of (OutOfRange number) = number_line number
 message_of Memory = codes "memory" ++ 10 ∷ []
 message_of Device = codes "device" ++ 10 ∷ []
 
--- the line of a failure is written, and the status is the failure's; or a beginning of it, and the status is that of a failed write
-abbrev pub IsReported : Failure → Option (List ℕ) → Option (List ℕ) → ℕ → Type 0
-IsReported failure err err' status = ((status ≡ status_of_failure failure) × Appends err err' (message_of failure))
-    ⊎ ((status ≡ 5) × AppendsBeginning err err' (message_of failure))
+-- the line of a failure is written, and the status is the failure's; or a write failed, a beginning of it is written, and the status is 5
+abbrev pub IsReported : Failure → Option (List ℕ) → Option (List ℕ) → Bool → ℕ → Type 0
+IsReported failure err err' failed status = ((status ≡ status_of_failure failure) × Appends err err' (message_of failure))
+    ⊎ ((status ≡ 5) × (failed ≡ true) × AppendsBeginning err err' (message_of failure))

@@ -1,11 +1,11 @@
 -- What comes of a source by a list of events: it is accepted and run, or why not (this profile).
 use Rattle.std.specs.Prelude.{◌≡◌, ◌≢◌, ◌⊎◌, ℕ, true, false, List, Some, Err}
 use Rattle.std.specs.List.{zip}
-use Rattle.shared_machine.specs.simulation.Budgets.{AreWithinBudget}
+use Rattle.workers.specs.shared_machine.simulation.Budgets.{AreWithinBudget}
 use Rattle.cil_model.specs.Ranges.{are_in_range}
 use Rattle.cil_model.specs.Sources.{HasTree, IsAnswer}
-use Rattle.shared_machine.specs.simulation.StandsFor.{Represents}
-use Rattle.shared_machine.specs.simulation.Turns.{opening_content}
+use Rattle.workers.specs.shared_machine.simulation.StandsFor.{Represents}
+use Rattle.workers.specs.shared_machine.simulation.Turns.{opening_content}
 use Rattle.reference_machine.specs.Runs.{opening}
 use Rattle.cil_model.specs.declared.events.Event.{Event}
 use Rattle.cil_model.specs.declared.limits.Limits.{Limits}
@@ -13,7 +13,7 @@ use Rattle.cil_model.specs.declared.trees.Tree.{Tree}
 use Rattle.ilasm_reader.specs.Answers.{IsReadAnswer}
 use Rattle.ilasm_reader.specs.declared.reading.ReadError.{ReadError}
 use Rattle.cil_model.specs.Legality.{IsLegal, least_broken}
-use Rattle.shared_machine.specs.simulation.Runs.{IsRunOf, StandsAfter}
+use Rattle.workers.specs.shared_machine.simulation.Runs.{IsRunOf, StandsAfter}
 use Rattle.reference_machine.specs.States.{State}
 use Rattle.cil_model.specs.Typings.{IsAccepted}
 use Rattle.cil_model.specs.declared.reports.Report.{Report}
@@ -22,8 +22,8 @@ use Rattle.metadata.specs.declared.program.MetaError.{MetaError}
 use Rattle.metadata.specs.declared.program.MetaError.TheVariants.{OutOfMemory as NoMemoryForNames}
 use Rattle.verifier.specs.Verdicts.{IsVerdict}
 use Rattle.verifier.specs.declared.refusals.VerifyError.{VerifyError}
-use Rattle.shared_machine.specs.simulation.MachineContents.{Content}
-use Rattle.shared_machine.specs.interleaving_core.declared.machine.Refused.TheVariants.{Limits as BadLimits}
+use Rattle.workers.specs.shared_machine.simulation.MachineContents.{Content}
+use Rattle.workers.specs.shared_machine.interleaving_core.declared.machine.Refused.TheVariants.{Limits as BadLimits}
 use Rattle.schedule_text.specs.Items.{words}
 use Rattle.schedule_text.specs.Readings.{AreRead, IsFirstFault}
 use Rattle.schedule_text.specs.declared.errors.ScheduleError.{ScheduleError}
@@ -90,15 +90,19 @@ abbrev pub IsNotRunBy : List ℕ → Limits → List ℕ → Failure → Type 0
 IsNotRunBy source limits text failure = IsNotRun source limits failure
     ⊎ (IsLetIn source × (are_in_range limits ≡ true) × IsBadSchedule text failure)
 
--- A run comes to a state. The bytes have a tree that is an accepted program, the text writes events, and the reference machine's run
--- over their steps is never stuck. No thread made more steps than its budget has, and one that made as many has ended.
-pub record ComesTo (source : List ℕ) (limits : Limits) (text : List ℕ) (events : List Event) (reports : List Report) (state : State) : Type 0 where
+-- A run of a list of events comes to a state. The bytes have a tree that is an accepted program, and the reference machine's run over
+-- the steps among the events is never stuck. No thread made more steps than its budget has, and one that made as many has ended.
+pub record ComesToBy (source : List ℕ) (limits : Limits) (events : List Event) (reports : List Report) (state : State) : Type 0 where
   pub tree : Tree
   pub is_accepted : IsAcceptedSource source tree
   pub in_range : are_in_range limits ≡ true
-  pub are_read : AreRead (words text) events
   pub is_run : IsRunOf tree limits events reports state
   pub budgets : AreWithinBudget limits (zip events reports) state
+
+-- a run by a text comes to a state: the text writes the events
+pub record ComesTo (source : List ℕ) (limits : Limits) (text : List ℕ) (events : List Event) (reports : List Report) (state : State) : Type 0 where
+  pub are_read : AreRead (words text) events
+  pub by_events : ComesToBy source limits events reports state
 
 -- a machine holds exactly what a program begins with, which represents the opening state
 pub record IsOpened (tree : Tree) (limits : Limits) (machine : Content) : Type 0 where

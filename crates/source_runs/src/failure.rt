@@ -1,6 +1,6 @@
 //! Why a source is not run, or an order not carried out, and what is told of it.
 
-ghost use Rattle.std.specs.Prelude.{◌≡◌, OnErr, OnOk};
+ghost use Rattle.std.specs.Prelude.{◌≡◌, OnErr, OnOk, true};
 ghost use Rattle.std.specs.Io.KnownBytes.{Appends};
 ghost use Rattle.outputs.specs.Beginnings.{AppendsBeginning};
 ghost use Rattle.source_runs.specs.Failures.{IsFailureOfDevice, IsOfWriting, IsReported, failure_of_making};
@@ -13,13 +13,13 @@ use cil_model::memory::NoMemory;
 use ilasm_reader::ReadError;
 use itoa::Buffer;
 use metadata::MetaError;
-use outputs::{NotWritten, write_whole};
+use outputs::{NotWritten, Output};
 use schedule_text::ScheduleError;
-use shared_machine::Refused;
 use std::alloc::AllocError;
 use std::io;
-use std::io::{ErrorKind, Write};
+use std::io::ErrorKind;
 use verifier::VerifyError;
+use workers::Refused;
 
 /// Why an order was not carried out.
 #[derive(Clone, Copy, Debug, PartialEq, Eq)]
@@ -142,9 +142,9 @@ impl From<ScheduleError> for Failure {
 }
 
 /// Writes the line of a failure to the standard error, and answers its status. Where a write fails, the answer is 5, and a beginning of
-/// the line is written.
-pub fn report<E: Write>(failure: Failure, err: &mut E) -> u8
-    ensures { IsReported failure (E.contents err.old) (E.contents err.new) result }
+/// the line is written. Of a standard error that never fails the answer is the failure's status, and the whole line is written.
+pub fn report<E: Output>(failure: Failure, err: &mut E) -> u8
+    ensures { IsReported failure (E.contents err.old) (E.contents err.new) (E.has_failed err.new) result }
 {
     match tell(failure, err) {
         Ok(()) => status_of_failure(failure),
@@ -153,26 +153,28 @@ pub fn report<E: Write>(failure: Failure, err: &mut E) -> u8
 }
 
 /// Writes the line of a failure. Takes no memory. An error is a write that failed, and a beginning of the line is written then.
-pub fn tell<E: Write>(failure: Failure, err: &mut E) -> Result<(), NotWritten>
+pub fn tell<E: Output>(failure: Failure, err: &mut E) -> Result<(), NotWritten>
     ensures told { OnOk result (Appends (E.contents err.old) (E.contents err.new) (message_of failure)) }
     ensures begun { OnErr result (AppendsBeginning (E.contents err.old) (E.contents err.new) (message_of failure)) }
+    ensures failed { OnErr result (E.has_failed err.new ≡ true) }
 {
     match failure {
         Failure::Refused(number) | Failure::OutOfRange(number) => tell_number(number, err),
-        Failure::Memory => write_whole(err, b"memory\n"),
-        Failure::Device => write_whole(err, b"device\n"),
+        Failure::Memory => err.write_whole(b"memory\n"),
+        Failure::Device => err.write_whole(b"device\n"),
     }
 }
 
 /// Writes the line of a refusal's number.
-fn tell_number<E: Write>(number: u16, err: &mut E) -> Result<(), NotWritten>
+fn tell_number<E: Output>(number: u16, err: &mut E) -> Result<(), NotWritten>
     ensures told { OnOk result (Appends (E.contents err.old) (E.contents err.new) (number_line number)) }
     ensures begun { OnErr result (AppendsBeginning (E.contents err.old) (E.contents err.new) (number_line number)) }
+    ensures failed { OnErr result (E.has_failed err.new ≡ true) }
 {
     let mut digits = Buffer::new();
-    write_whole(err, b"error ")?;
-    write_whole(err, digits.format(number).as_bytes())?;
-    write_whole(err, b"\n")
+    err.write_whole(b"error ")?;
+    err.write_whole(digits.format(number).as_bytes())?;
+    err.write_whole(b"\n")
 }
 
 /// The status that the program ends with where it is told of this failure: 1 for a source or a schedule that is refused, 2 for limits, and

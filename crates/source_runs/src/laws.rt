@@ -1,4 +1,4 @@
-//! A law of runs. Its function does nothing, and its contract is the law.
+//! Laws of runs. Each function does nothing, and its contract is the law.
 
 ghost use Rattle.std.specs.Prelude.{◌≡◌, ℕ, List};
 ghost use Rattle.std.specs.List.{zip};
@@ -7,11 +7,12 @@ ghost use Rattle.cil_model.specs.declared.limits.Limits.{Limits};
 ghost use Rattle.cil_model.specs.declared.reports.Report.{Report};
 ghost use Rattle.reference_machine.specs.Runs.{step_reports};
 ghost use Rattle.reference_machine.specs.States.{State};
-ghost use Rattle.source_runs.specs.Runs.{ComesTo};
+ghost use Rattle.schedule_text.specs.Writings.{IsWritten};
+ghost use Rattle.source_runs.specs.Runs.{ComesTo, ComesToBy};
 
 use ilasm_reader::laws::answers_are_unique;
 use reference_machine::laws::the_run_is_one;
-use schedule_text::laws::one_answer;
+use schedule_text::laws::{one_answer, written_text_is_read};
 
 /// A source, a schedule's text and limits have one run: the events are the same, and so are the reports of its steps and the state that
 /// it comes to, with all that was printed and how each thread stands.
@@ -23,4 +24,13 @@ pub fn a_run_is_one()
     answers_are_unique();
     one_answer();
     the_run_is_one();
+}
+
+/// Whoever replays the record of a run has the same run: the text that its events are written as comes to the same state, by the same
+/// reports.
+pub fn a_record_repeats_its_run()
+    ensures { (source : List ℕ) (limits : Limits) (text : List ℕ) (events : List Event) (reports : List Report) (s : State) →
+        ComesToBy source limits events reports s → IsWritten events text → ComesTo source limits text events reports s }
+{
+    written_text_is_read();
 }

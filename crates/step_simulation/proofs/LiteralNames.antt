@@ -14,7 +14,7 @@ use Rattle.instruction_simulation.proofs.simulation.cil_model.SameLaws.{never, i
 use Rattle.instruction_simulation.specs.simulation.reference_machine.Values.{ObjectName, Literal}
 use Rattle.instruction_simulation.specs.simulation.reference_machine.States.{Free, entry_at}
 use Rattle.instruction_simulation.proofs.simulation.type_soundness.SourceLaws.{kept_from}
-use Rattle.instruction_simulation.proofs.simulation.size_bounds.MethodSizes.{literals_few}
+use Rattle.instruction_simulation.proofs.simulation.MethodSizes.{literals_few}
 use Rattle.instruction_simulation.specs.simulation.object_memory.declared.addresses.TheConstants.{ADDRESSES, FIRST_LITERAL}
 use Rattle.instruction_simulation.specs.simulation.object_memory.Cells.{literal, literal_number}
 use Rattle.instruction_simulation.specs.simulation.StandsFor.{Names}

@@ -17,7 +17,7 @@ use Rattle.instruction_simulation.specs.simulation.reference_machine.States.{Fre
 use Rattle.instruction_simulation.specs.simulation.reference_machine.Runs.{opening, opening_at}
 use Rattle.instruction_simulation.proofs.simulation.type_soundness.Openings.{opens, opening_typed}
 use Rattle.instruction_simulation.proofs.simulation.type_soundness.SourceLaws.{kept_from, source_is_declared}
-use Rattle.instruction_simulation.proofs.simulation.size_bounds.CountedOpenings.{opening_counted}
+use Rattle.instruction_simulation.proofs.simulation.CountedOpenings.{opening_counted}
 use Rattle.instruction_simulation.specs.simulation.method_table.AllMethods.{all_methods}
 use Rattle.instruction_simulation.specs.simulation.method_table.MethodNumbers.{number_of}
 use Rattle.instruction_simulation.proofs.simulation.method_table.NumberLaws.{declared_is_numbered}

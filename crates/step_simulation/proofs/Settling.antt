@@ -15,7 +15,7 @@ use Rattle.instruction_simulation.specs.simulation.reference_machine.Runs.{is_re
 use Rattle.instruction_simulation.specs.simulation.type_soundness.TypedStates.{IsTyped}
 use Rattle.instruction_simulation.proofs.simulation.type_soundness.WholeSteps.{step_typed}
 use Rattle.instruction_simulation.proofs.simulation.type_soundness.AllSteps.{instruction_typed}
-use Rattle.instruction_simulation.proofs.simulation.size_bounds.CountedSteps.{step_counted}
+use Rattle.instruction_simulation.proofs.simulation.CountedSteps.{step_counted}
 use Rattle.instruction_simulation.specs.simulation.object_memory.declared.values.Value.{Value}
 use Rattle.instruction_simulation.specs.simulation.object_memory.Objects.{Objects, whole_space}
 use Rattle.instruction_simulation.specs.simulation.threads_monitors.Frames.{Frames}

@@ -1,5 +1,5 @@
 -- Each instruction does the same on a machine as on the reference machine; so does each step, from the opening on.
-use Rattle.std.proofs.Common.{◌≡◌, ℕ, IsTrue, List, Some, slice_get, ◌↔◌}
+use Rattle.std.proofs.Common.{◌≡◌, ℕ, IsTrue, List, Some, slice_get, ◌↔◌, sym, subst}
 use Rattle.instruction_simulation.specs.simulation.cil_model.declared.instructions.Instruction.{Instruction}
 use Rattle.instruction_simulation.specs.simulation.cil_model.declared.limits.Limits.{Limits}
 use Rattle.instruction_simulation.specs.simulation.cil_model.declared.trees.Tree.{Tree}
@@ -10,7 +10,7 @@ use Rattle.instruction_simulation.specs.simulation.reference_machine.States.{Fra
 use Rattle.instruction_simulation.specs.simulation.reference_machine.Effects.{Setting}
 use Rattle.instruction_simulation.specs.simulation.reference_machine.Steps.{Answers, execute, step}
 use Rattle.instruction_simulation.specs.simulation.reference_machine.Runs.{is_refusal, opening}
-use Rattle.instruction_simulation.specs.simulation.cil_model.declared.events.Event.TheVariants.{Step}
+use Rattle.instruction_simulation.specs.simulation.cil_model.declared.events.Event.TheVariants.{Step, Ack, Gc}
 use Rattle.instruction_simulation.specs.simulation.cil_model.declared.reports.Report.{Report}
 use Rattle.instruction_simulation.specs.simulation.resolved_code.Resolved.{IsOperation, no_operation, load_int32, load_int64, load_null, load_string, load_argument, store_argument, load_local, store_local, duplicate, pop, binary, unary, shift, compare, convert_int32, convert_int64, branch, branch_true, branch_false, branch_compare, switch, load_field, store_field, load_static_field, store_static_field, new_array, load_length, load_element_int32, load_element_int64, load_element_reference, store_element_int32, store_element_int64, store_element_reference, cast_class, is_instance, call, call_virtual, new_object, return}
 use Rattle.instruction_simulation.specs.simulation.resolved_code.declared.operations.Operation.{Operation}
@@ -108,6 +108,13 @@ step_is_followed c s r t after turn = step_follows each_alike c s r t after turn
 -- it is refused memory exactly where its object exceeds the room
 pub step_is_refused : (c : Content) (s : State) → Represents c s → (t : ℕ) (after : Content × Report) → IsTurn c (Step t) after → IsTrue (is_refusal after.1) ↔ ExceedsRoom c.tree c.limits s t
 step_is_refused c s r t after turn = refused_beyond_room each_alike c s r t after turn
+
+-- what is no step keeps the state
+pub acknowledgement_keeps : (c : Content) (s : State) → Represents c s → (t : ℕ) (after : Content × Report) → IsTurn c (Ack t) after → Represents after.0 s
+acknowledgement_keeps c s r t after turn = subst (λ (x : Content × Report). Represents x.0 s) (sym turn) r
+
+pub collection_keeps : (c : Content) (s : State) → Represents c s → (after : Content × Report) → IsTurn c Gc after → Represents after.0 s
+collection_keeps c s r after turn = subst (λ (x : Content × Report). Represents x.0 s) (sym turn) r
 
 -- a live thread's instruction has an answer
 pub thread_is_ready : (c : Content) (s : State) → Represents c s → (t left : ℕ) (m : Frames) → slice_get c.threads t ≡ Some (record { standing = Live m; steps_left = left }) → IsReady c t m

@@ -3,7 +3,7 @@
 ghost use Rattle.std.specs.Prelude.{◌≡◌, ◌↔◌, ℕ, IsTrue, Some, slice_get};
 ghost use Rattle.instruction_simulation.specs.simulation.cil_model.declared.trees.Tree.{Tree};
 ghost use Rattle.instruction_simulation.specs.simulation.cil_model.declared.limits.Limits.{Limits};
-ghost use Rattle.instruction_simulation.specs.simulation.cil_model.declared.events.Event.TheVariants.{Step};
+ghost use Rattle.instruction_simulation.specs.simulation.cil_model.declared.events.Event.TheVariants.{Step, Ack, Gc};
 ghost use Rattle.instruction_simulation.specs.simulation.cil_model.declared.reports.Report.{Report};
 ghost use Rattle.instruction_simulation.specs.simulation.cil_model.Ranges.{are_in_range};
 ghost use Rattle.instruction_simulation.specs.simulation.cil_model.Typings.{IsAccepted};
@@ -41,6 +41,13 @@ pub fn what_is_asked_can_be_answered()
 pub fn steps_follow_the_reference_machine()
     ensures { (c : Content) (s : State) → Represents c s → (t : ℕ) (after : Content × Report) → IsTurn c (Step t) after →
         (s' : State) × (step c.tree c.limits s t (is_refusal after.1) ≡ Answers after.1 s') × Represents after.0 s' }
+{}
+
+/// What is no step of a thread keeps the state: after an acknowledgement, and after an event of the collector, a machine represents
+/// the states of the reference machine that it represented before.
+pub fn collector_events_keep_the_state()
+    ensures acknowledgements { (c : Content) (s : State) → Represents c s → (t : ℕ) (after : Content × Report) → IsTurn c (Ack t) after → Represents after.0 s }
+    ensures collections { (c : Content) (s : State) → Represents c s → (after : Content × Report) → IsTurn c Gc after → Represents after.0 s }
 {}
 
 /// A step is refused memory exactly where the object that it would make has more words than the space has left, when the words of all

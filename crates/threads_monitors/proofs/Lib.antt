@@ -1,2 +1,4 @@
 pub mod Rows
+pub mod Replacing
+pub mod Upward
 pub mod Memories

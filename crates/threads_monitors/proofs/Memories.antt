@@ -1,17 +1,24 @@
 -- What each call makes of a memory: what callers see after it, and that it is sound again.
-use Rattle.std.proofs.Common.{◌≡◌, ℕ, zero, suc, ◌+◌, ◌-◌, ◌*◌, ◌<◌, ◌≤◌, List, [], ◌∷◌, ◌++◌, length, take, drop, set, refl, sym, ap, subst, ◌∙◌, arith, length-append, append-nil}
-use Rattle.std.specs.Prelude.{reverse, map, Option, None}
+use Rattle.std.proofs.Common.{◌≡◌, ℕ, zero, suc, ◌+◌, ◌-◌, ◌*◌, ◌<◌, ◌≤◌, List, [], ◌∷◌, ◌++◌, length, take, drop, set, get_or, refl, sym, ap, subst, ◌∙◌, arith, length-append, append-nil}
+use Rattle.std.specs.Prelude.{reverse, map, Option, Some, None, option_map, slice_get, All, IfSome}
 use Rattle.std.proofs.Math.ListN.{length-set}
-use Rattle.std.proofs.lemmas.List.{reverse-append, length-reverse, length-take-le, length-map}
+use Rattle.std.proofs.lemmas.List.{reverse-append, reverse-reverse, length-reverse, length-take-le, length-map}
+use Rattle.std.proofs.lemmas.List.Elements.{All-head, All-tail}
+use Rattle.std.proofs.Math.Seq.{take-append_seam}
 use Rattle.std.specs.List.{insert}
 use Rattle.std.proofs.lemmas.Nat.{mul-le}
+use Rattle.std.proofs.lemmas.Option.{slice_get_read}
+use Rattle.cil_model.proofs.Lists.{get_before, last_is_there}
 use Rattle.object_memory.specs.declared.addresses.Addr.{Addr}
 use Rattle.object_memory.specs.declared.values.Value.{Value}
 use Rattle.object_memory.specs.declared.values.ValueKind.{ValueKind}
 use Rattle.threads_monitors.specs.declared.frames.Activation.{Activation}
 use Rattle.threads_monitors.specs.Frames.{Frame, Frames, size, zero_value, new_frame, with_place, with_stack, with_argument, with_local, with_call, returned}
-use Rattle.threads_monitors.specs.Activations.{Lays, Fit, IsSound, shown, activations}
+use Rattle.threads_monitors.specs.Activations.{Lays, Fit, IsSound, shown, activation, activations, row, lowest, with_constructed}
+use Rattle.threads_monitors.specs.Roots.{values_of, reference_in, frames_upward, roots, with_reference, frame_with_references, with_references}
 use Rattle.threads_monitors.proofs.Rows as rows
+use Rattle.threads_monitors.proofs.Replacing as replacing
+use Rattle.threads_monitors.proofs.Upward as upward
 
 -- a memory that shows these frames, and is sound
 pub record Holds (values : List Value) (running : Activation) (below : List Activation) (depth room capacity most_below : ℕ) (frames : Frames) : Type 0 where
@@ -34,10 +41,6 @@ holds values running below depth room capacity most_below f fs l fit few large d
         deep = deep;
       };
     }
-
-length-activations : (fs : List Frame) → length (activations fs) ≡ length fs
-length-activations [] = refl
-length-activations (f ∷ fs) = ap suc (length-activations fs)
 
 -- room for the first frame
 pub room_at_first : (depth room n : ℕ) → 0 < depth → n ≤ room → n ≤ depth * room
@@ -79,7 +82,7 @@ module _ (values : List Value) (running : Activation) (below : List Activation) 
 
   -- as many frames as activations
   pub count_below : length fs ≡ length below
-  count_below = sym (length-activations fs) ∙ ap length (sym s.lays.below_are) ∙ length-reverse below
+  count_below = sym (upward.length-activations fs) ∙ ap length (sym s.lays.below_are) ∙ length-reverse below
 
   -- room for so many values more in the running frame
   pub has_room : (n : ℕ) → size f + n ≤ room → length values + n ≤ capacity
@@ -194,3 +197,83 @@ module _ (values : List Value) (running : Activation) (below : List Activation) 
           subst (λ x. Holds (take running.arguments values) next rest depth room capacity most_below x) (sym (returned_is (g ∷ gs) g gs here refl))
           (holds (take running.arguments values) next rest depth room capacity most_below g gs
           (rows.back values running next (reverse rest) f g gs laid) fit.1 (omega (arith, long, s.few)) s.large s.deep)
+
+  -- ---- the references
+
+  -- the activations from the first frame on
+  upward_is : reverse (activations (f ∷ fs)) ≡ below ++ running ∷ []
+  upward_is =
+      ap reverse (ap (λ a. a ∷ activations fs) (sym s.lays.running_is) ∙ ap (λ xs. running ∷ xs) (sym s.lays.below_are))
+      ∙ reverse-append (running ∷ []) (reverse below)
+      ∙ ap (λ xs. xs ++ running ∷ []) (reverse-reverse below)
+
+  -- an activation, and what callers see of its frame
+  pub record IsActivationAt (n : ℕ) (a : Activation) : Type 0 where
+    pub begins : a.arguments ≡ length (row (lowest n (f ∷ fs)))
+    pub constructed : option_map (λ (x : Frame). x.constructed) (slice_get (frames_upward m) n) ≡ Some a.constructed
+
+  activation_at : (n : ℕ) (a : Activation) → slice_get (below ++ running ∷ []) n ≡ Some a → IsActivationAt n a
+  activation_at n a e =
+      let there = ap (λ xs. slice_get xs n) upward_is ∙ e in
+      record { begins = upward.begins_there (f ∷ fs) n a there; constructed = upward.constructed_there (f ∷ fs) n a there }
+
+  pub below_at : (n : ℕ) (a : Activation) → n < length below → a ≡ get_or below n a → IsActivationAt n a
+  below_at n a less is = activation_at n a (get_before below (running ∷ []) n a (slice_get_read below (length below) n a refl less is))
+
+  pub last_at : (n : ℕ) → n ≡ length below → IsActivationAt n running
+  last_at n last = activation_at n running (ap (slice_get (below ++ running ∷ [])) last ∙ last_is_there below running)
+
+  pub ends_at : (n : ℕ) → n ≡ length below + 1 → length values ≡ length (row (lowest n (f ∷ fs)))
+  ends_at n all =
+      let every : n ≡ length (f ∷ fs) = omega (arith, all, count_below) in
+      ap length s.lays.values_are
+      ∙ ap (λ gs. length (row gs)) (sym (upward.lowest_all (f ∷ fs)))
+      ∙ ap (λ k. length (row (lowest k (f ∷ fs)))) (sym every)
+
+  pub part_at : (n : ℕ) → n ≤ length fs → option_map values_of (slice_get (frames_upward m) n) ≡ Some (take (length (row (lowest (n + 1) (f ∷ fs))) - length (row (lowest n (f ∷ fs)))) (drop (length (row (lowest n (f ∷ fs)))) values))
+  part_at n few =
+      let part = upward.part_is (f ∷ fs) n (omega (arith, few)) in
+      part ∙ ap (λ xs. Some (take (length (row (lowest (n + 1) (f ∷ fs))) - length (row (lowest n (f ∷ fs)))) (drop (length (row (lowest n (f ∷ fs)))) xs))) (sym s.lays.values_are)
+
+  pub part_within : (n : ℕ) → n ≤ length fs → (length (row (lowest n (f ∷ fs))) ≤ length (row (lowest (n + 1) (f ∷ fs)))) × (length (row (lowest (n + 1) (f ∷ fs))) ≤ length values)
+  part_within n few =
+      let less : n < length (f ∷ fs) = omega (arith, few) in
+      (upward.in_order (f ∷ fs) n less, subst (λ xs. length (row (lowest (n + 1) (f ∷ fs))) ≤ length xs) (sym s.lays.values_are) (upward.within_row (f ∷ fs) n less))
+
+  -- what holds of the roots holds of each reference in the memory
+  pub record Reaches (P : Addr → Type 0) : Type 0 where
+    pub in_values : All (λ v. IfSome (reference_in v) P) values
+    pub in_running : IfSome running.constructed P
+    pub in_below : All (λ (a : Activation). IfSome a.constructed P) below
+
+  pub reaches : (P : Addr → Type 0) → All P (roots m) → Reaches P
+  reaches P h =
+      let apart = replacing.roots_apart P (f ∷ fs) h in
+      let there = replacing.all_where_some P reference_in (row (f ∷ fs)) apart.0 in
+      let made = replacing.all_where_some P (λ (a : Activation). a.constructed) (activations (f ∷ fs)) apart.1 in
+      let holds_of : Activation → Type 0 = λ a. IfSome a.constructed P in
+      record {
+        in_values = subst (All (λ v. IfSome (reference_in v) P)) (sym s.lays.values_are) there;
+        in_running = subst holds_of (sym s.lays.running_is) (All-head holds_of (activation fs f) (activations fs) made);
+        in_below = replacing.all_from_reverse holds_of below (subst (All holds_of) (sym s.lays.below_are) (All-tail holds_of (activation fs f) (activations fs) made));
+      }
+
+  pub after_replacing : (g : Addr → Addr) → Holds (map (with_reference g) values) (with_constructed g running) (map (with_constructed g) below) depth room capacity most_below (with_references g m)
+  after_replacing g =
+      let order = replacing.map-reverse (with_constructed g) below in
+      let count = length-map below (with_constructed g) in
+      holds (map (with_reference g) values) (with_constructed g running) (map (with_constructed g) below) depth room capacity most_below (frame_with_references g f) (map (frame_with_references g) fs)
+      (subst (λ b. Lays (map (with_reference g) values) (with_constructed g running) b (frame_with_references g f) (map (frame_with_references g) fs)) order
+      (replacing.lays_replaced g values running (reverse below) f fs s.lays))
+      (replacing.fit_replaced g room (f ∷ fs) s.fit) (omega (arith, count, s.few)) s.large s.deep
+
+  -- the same where these lists were written over the old ones, which are as long
+  pub after_writing : (g : Addr → Addr) (values' : List Value) (running' : Activation) (below' : List Activation) (n k : ℕ)
+      → values' ≡ map (with_reference g) values → running' ≡ with_constructed g running → below' ≡ map (with_constructed g) below → n ≡ length values → k ≡ length below
+      → Holds (take n (values' ++ drop (length values') values)) running' (take k (below' ++ drop (length below') below)) depth room capacity most_below (with_references g m)
+  after_writing g values' running' below' n k values_are running_is below_are long deep =
+      rw (values_are, running_is, below_are, written values (with_reference g) n long, written below (with_constructed g) k deep) (after_replacing g)
+    where
+      written : {X : Type 0} (xs : List X) (h : X → X) (n : ℕ) → n ≡ length xs → take n (map h xs ++ drop (length (map h xs)) xs) ≡ map h xs
+      written xs h n long =
+          ap (λ k. take k (map h xs ++ drop (length (map h xs)) xs)) (long ∙ sym (length-map xs h)) ∙ take-append_seam (map h xs) (drop (length (map h xs)) xs)

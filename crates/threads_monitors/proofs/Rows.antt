@@ -13,7 +13,8 @@ use Rattle.object_memory.specs.declared.values.Value.{Value}
 use Rattle.object_memory.specs.declared.values.ValueKind.{ValueKind}
 use Rattle.threads_monitors.specs.declared.frames.Activation.{Activation}
 use Rattle.threads_monitors.specs.Frames.{Frame, size, zero_value, new_frame}
-use Rattle.threads_monitors.specs.Activations.{own, row, activation, activations, frame_of, frames_of, Lays, Fit}
+use Rattle.threads_monitors.specs.Roots.{values_of}
+use Rattle.threads_monitors.specs.Activations.{row, activation, activations, frame_of, frames_of, Lays, Fit}
 
 -- ---- what lies in a row
 
@@ -21,33 +22,33 @@ module _ (fs : List Frame) (f : Frame) where
   base : ℕ
   base = length (row fs)
 
-  there : (n : ℕ) → drop (length (row fs) + n) (row fs ++ own f) ≡ drop n (own f)
-  there n = drop-append-add (row fs) (own f) n
+  there : (n : ℕ) → drop (length (row fs) + n) (row fs ++ values_of f) ≡ drop n (values_of f)
+  there n = drop-append-add (row fs) (values_of f) n
 
-  arguments_there : take (length (row fs) + length f.arguments - length (row fs)) (drop (length (row fs)) (row fs ++ own f)) ≡ f.arguments
+  arguments_there : take (length (row fs) + length f.arguments - length (row fs)) (drop (length (row fs)) (row fs ++ values_of f)) ≡ f.arguments
   arguments_there =
       let many : length (row fs) + length f.arguments - length (row fs) ≡ length f.arguments = omega arith in
-      rw (drop-append_seam (row fs) (own f), many) (take-append_seam f.arguments (f.locals ++ reverse f.stack))
+      rw (drop-append_seam (row fs) (values_of f), many) (take-append_seam f.arguments (f.locals ++ reverse f.stack))
 
-  locals_there : take (length (row fs) + (length f.arguments + length f.locals) - (length (row fs) + length f.arguments)) (drop (length (row fs) + length f.arguments) (row fs ++ own f)) ≡ f.locals
+  locals_there : take (length (row fs) + (length f.arguments + length f.locals) - (length (row fs) + length f.arguments)) (drop (length (row fs) + length f.arguments) (row fs ++ values_of f)) ≡ f.locals
   locals_there =
       let many : length (row fs) + (length f.arguments + length f.locals) - (length (row fs) + length f.arguments) ≡ length f.locals = omega arith in
       rw (there (length f.arguments), many, drop-append_seam f.arguments (f.locals ++ reverse f.stack)) (take-append_seam f.locals (reverse f.stack))
 
-  stack_there : reverse (drop (length (row fs) + (length f.arguments + length f.locals)) (row fs ++ own f)) ≡ f.stack
+  stack_there : reverse (drop (length (row fs) + (length f.arguments + length f.locals)) (row fs ++ values_of f)) ≡ f.stack
   stack_there =
       rw (there (length f.arguments + length f.locals), drop-append-add f.arguments (f.locals ++ reverse f.stack) (length f.locals), drop-append_seam f.locals (reverse f.stack))
       (reverse-reverse f.stack)
 
-  frame_there : frame_of (row fs ++ own f) (activation fs f) ≡ f
+  frame_there : frame_of (row fs ++ values_of f) (activation fs f) ≡ f
   frame_there = rw (arguments_there, locals_there, stack_there) refl
 
 frames_there : (fs : List Frame) → frames_of (row fs) (activations fs) ≡ fs
 frames_there [] = refl
-frames_there (f ∷ fs) = rw (frame_there fs f, take-append_seam (row fs) (own f), frames_there fs) refl
+frames_there (f ∷ fs) = rw (frame_there fs f, take-append_seam (row fs) (values_of f), frames_there fs) refl
 
-length-own : (f : Frame) → length (own f) ≡ size f
-length-own f =
+length-values_of : (f : Frame) → length (values_of f) ≡ size f
+length-values_of f =
     let outer = length-append f.arguments (f.locals ++ reverse f.stack) in
     let inner = length-append f.locals (reverse f.stack) in
     let stack = length-reverse f.stack in
@@ -56,12 +57,12 @@ length-own f =
 length-row : (room : ℕ) (fs : List Frame) → Fit room fs → length (row fs) ≤ length fs * room
 length-row room [] fit = omega arith
 length-row room (f ∷ fs) fit =
-    let both = length-append (row fs) (own f) in
-    let own_size = length-own f in
+    let both = length-append (row fs) (values_of f) in
+    let own_length = length-values_of f in
     let rest = length-row room fs fit.1 in
     let first = fit.0 in
     let more : length (f ∷ fs) * room ≡ room + length fs * room = omega arith in
-    omega (arith, both, own_size, rest, first, more)
+    omega (arith, both, own_length, rest, first, more)
 
 -- ---- the frames that a memory shows
 
@@ -70,7 +71,7 @@ module _ (values : List Value) (running : Activation) (below : List Activation) 
   running_shown = rw (l.values_are, l.running_is) (frame_there fs f)
 
   pub below_shown : frames_of (take running.arguments values) below ≡ fs
-  below_shown = rw (l.values_are, l.running_is, l.below_are, take-append_seam (row fs) (own f)) (frames_there fs)
+  below_shown = rw (l.values_are, l.running_is, l.below_are, take-append_seam (row fs) (values_of f)) (frames_there fs)
 
   pub lays_shown : Lays values running below (frame_of values running) (frames_of (take running.arguments values) below)
   lays_shown = rw (running_shown, below_shown) l
@@ -82,18 +83,18 @@ module _ (values : List Value) (running : Activation) (below : List Activation) 
       subst (λ gs. Fit room gs) (sym both) fit
 
   pub length_values : length values ≡ length (row fs) + size f
-  length_values = ap length l.values_are ∙ length-append (row fs) (own f) ∙ ap (λ n. length (row fs) + n) (length-own f)
+  length_values = ap length l.values_are ∙ length-append (row fs) (values_of f) ∙ ap (λ n. length (row fs) + n) (length-values_of f)
 
   -- ---- the running frame
 
   pub pushed : (v : Value) → Lays (values ++ v ∷ []) running below (record f { stack = v ∷ f.stack }) fs
   pushed v =
       let stack : reverse (v ∷ f.stack) ≡ reverse f.stack ++ v ∷ [] = reverse-append (v ∷ []) f.stack in
-      let grown : own f ++ v ∷ [] ≡ own (record f { stack = v ∷ f.stack }) =
+      let grown : values_of f ++ v ∷ [] ≡ values_of (record f { stack = v ∷ f.stack }) =
       append_assoc f.arguments (f.locals ++ reverse f.stack) (v ∷ [])
       ∙ ap (λ xs. f.arguments ++ xs) (append_assoc f.locals (reverse f.stack) (v ∷ []) ∙ ap (λ xs. f.locals ++ xs) (sym stack)) in
       record {
-        values_are = ap (λ xs. xs ++ v ∷ []) l.values_are ∙ append_assoc (row fs) (own f) (v ∷ []) ∙ ap (λ xs. row fs ++ xs) grown;
+        values_are = ap (λ xs. xs ++ v ∷ []) l.values_are ∙ append_assoc (row fs) (values_of f) (v ∷ []) ∙ ap (λ xs. row fs ++ xs) grown;
         running_is = l.running_is;
         below_are = l.below_are;
       }
@@ -135,7 +136,7 @@ module _ (values : List Value) (running : Activation) (below : List Activation) 
     none_left : length head - length head ≡ 0
     none_left = omega arith
 
-    row_then : insert values (length values - n) v ≡ row fs ++ own (record f { stack = take n f.stack ++ v ∷ drop n f.stack })
+    row_then : insert values (length values - n) v ≡ row fs ++ values_of (record f { stack = take n f.stack ++ v ∷ drop n f.stack })
     row_then =
         ap (λ xs. insert xs (length values - n) v) split_there
         ∙ ap (λ k. insert (head ++ above) k v) place_there
@@ -157,7 +158,7 @@ module _ (values : List Value) (running : Activation) (below : List Activation) 
   topped x s e =
       let stack : reverse f.stack ≡ reverse s ++ x ∷ [] = ap reverse e ∙ reverse-append (x ∷ []) s in
       let without : List Value = f.arguments ++ (f.locals ++ reverse s) in
-      let grown : own f ≡ without ++ x ∷ [] =
+      let grown : values_of f ≡ without ++ x ∷ [] =
       ap (λ xs. f.arguments ++ (f.locals ++ xs)) stack
       ∙ ap (λ xs. f.arguments ++ xs) (sym (append_assoc f.locals (reverse s) (x ∷ [])))
       ∙ sym (append_assoc f.arguments (f.locals ++ reverse s) (x ∷ [])) in
@@ -185,7 +186,7 @@ module _ (values : List Value) (running : Activation) (below : List Activation) 
   argument_read i d less =
       slice_get-get_or f.arguments i d less
       ∙ ap Some (sym (get_or-append f.arguments (f.locals ++ reverse f.stack) d i less)
-      ∙ sym (get_or-append-add (row fs) (own f) i d)
+      ∙ sym (get_or-append-add (row fs) (values_of f) i d)
       ∙ ap (λ xs. get_or xs (length (row fs) + i) d) (sym l.values_are)
       ∙ ap (λ n. get_or values n d) (sym (argument_place i less)))
 
@@ -199,8 +200,8 @@ module _ (values : List Value) (running : Activation) (below : List Activation) 
         values_are =
             ap (λ n. set values n v) (argument_place i less)
             ∙ ap (λ xs. set xs (length (row fs) + i) v) l.values_are
-            ∙ set-append_right (row fs) (own f) (length (row fs)) (length (row fs) + i) v refl (omega arith)
-            ∙ ap (λ n. row fs ++ set (own f) n v) near
+            ∙ set-append_right (row fs) (values_of f) (length (row fs)) (length (row fs) + i) v refl (omega arith)
+            ∙ ap (λ n. row fs ++ set (values_of f) n v) near
             ∙ ap (λ xs. row fs ++ xs) (set-append_left f.arguments (f.locals ++ reverse f.stack) i v less);
         running_is = l.running_is ∙ ap (λ n. record (activation fs f) { locals = length (row fs) + n; stack = length (row fs) + (n + length f.locals) }) (sym (length-set f.arguments i v));
         below_are = l.below_are;
@@ -214,7 +215,7 @@ module _ (values : List Value) (running : Activation) (below : List Activation) 
       slice_get-get_or f.locals i d less
       ∙ ap Some (sym (get_or-append f.locals (reverse f.stack) d i less)
       ∙ sym (get_or-append-add f.arguments (f.locals ++ reverse f.stack) i d)
-      ∙ sym (get_or-append-add (row fs) (own f) (length f.arguments + i) d)
+      ∙ sym (get_or-append-add (row fs) (values_of f) (length f.arguments + i) d)
       ∙ ap (λ xs. get_or xs (length (row fs) + (length f.arguments + i)) d) (sym l.values_are)
       ∙ ap (λ n. get_or values n d) (sym (local_place i)))
 
@@ -230,8 +231,8 @@ module _ (values : List Value) (running : Activation) (below : List Activation) 
         values_are =
             ap (λ n. set values n v) (local_place i)
             ∙ ap (λ xs. set xs (length (row fs) + (arguments + i)) v) l.values_are
-            ∙ set-append_right (row fs) (own f) (length (row fs)) (length (row fs) + (arguments + i)) v refl (omega arith)
-            ∙ ap (λ n. row fs ++ set (own f) n v) near
+            ∙ set-append_right (row fs) (values_of f) (length (row fs)) (length (row fs) + (arguments + i)) v refl (omega arith)
+            ∙ ap (λ n. row fs ++ set (values_of f) n v) near
             ∙ ap (λ xs. row fs ++ xs) (set-append_right f.arguments (f.locals ++ reverse f.stack) arguments (arguments + i) v refl (omega arith)
             ∙ ap (λ n. f.arguments ++ set (f.locals ++ reverse f.stack) n v) nearer
             ∙ ap (λ xs. f.arguments ++ xs) (set-append_left f.locals (reverse f.stack) i v less));
@@ -272,12 +273,12 @@ module _ (values : List Value) (running : Activation) (below : List Activation) 
       let zeros : List Value = map zero_value kinds in
       let stack : reverse f.stack ≡ reverse (drop n f.stack) ++ arguments =
       ap reverse (sym (take-append-drop n f.stack)) ∙ reverse-append (take n f.stack) (drop n f.stack) in
-      let own_split : own f ≡ own caller ++ arguments =
+      let own_split : values_of f ≡ values_of caller ++ arguments =
       ap (λ xs. f.arguments ++ (f.locals ++ xs)) stack
       ∙ ap (λ xs. f.arguments ++ xs) (sym (append_assoc f.locals (reverse (drop n f.stack)) arguments))
       ∙ sym (append_assoc f.arguments (f.locals ++ reverse (drop n f.stack)) arguments) in
       let split : values ≡ row (caller ∷ fs) ++ arguments =
-      l.values_are ∙ ap (λ xs. row fs ++ xs) own_split ∙ sym (append_assoc (row fs) (own caller) arguments) in
+      l.values_are ∙ ap (λ xs. row fs ++ xs) own_split ∙ sym (append_assoc (row fs) (values_of caller) arguments) in
       let many : length arguments ≡ n = length-reverse (take n f.stack) ∙ length-take-le n f.stack less in
       let long : length values ≡ length (row (caller ∷ fs)) + length arguments = ap length split ∙ length-append (row (caller ∷ fs)) arguments in
       let from : length values - n ≡ length (row (caller ∷ fs)) = omega (arith, long, many) in
@@ -302,5 +303,5 @@ back values running next below f g fs l =
     let values_are : take running.arguments values ≡ row (g ∷ fs) =
     ap (λ (a : Activation). take a.arguments values) l.running_is
     ∙ ap (take (length (row (g ∷ fs)))) l.values_are
-    ∙ take-append_seam (row (g ∷ fs)) (own f) in
+    ∙ take-append_seam (row (g ∷ fs)) (values_of f) in
     record { values_are = values_are; running_is = cc; below_are = cc }

@@ -1,17 +1,15 @@
 -- How the frames of a thread lie in its memory: all their values in one row, the lowest frame's first. No caller reads this.
-use Rattle.std.specs.Prelude.{◌≡◌, ◌≤◌, ℕ, ◌+◌, ◌-◌, ◌*◌, List, [], ◌∷◌, ◌++◌, length, reverse, take, drop}
+use Rattle.std.specs.Prelude.{◌≡◌, ◌≤◌, ℕ, ◌+◌, ◌-◌, ◌*◌, List, [], ◌∷◌, ◌++◌, length, reverse, take, drop, option_map}
+use Rattle.object_memory.specs.declared.addresses.Addr.{Addr}
 use Rattle.object_memory.specs.declared.values.Value.{Value}
 use Rattle.threads_monitors.specs.declared.frames.Activation.{Activation}
 use Rattle.threads_monitors.specs.Frames.{Frame, Frames, size}
+use Rattle.threads_monitors.specs.Roots.{values_of}
 
--- a frame's values in the row
-abbrev pub own : Frame → List Value
-own f = f.arguments ++ (f.locals ++ reverse f.stack)
-
--- those of all frames, the running one's last
+-- the values of all frames, the running one's last
 abbrev pub row : List Frame → List Value
 row [] = []
-row (f ∷ fs) = row fs ++ own f
+row (f ∷ fs) = row fs ++ values_of f
 
 -- where a frame's values lie, above those of the frames below it
 abbrev pub activation : List Frame → Frame → Activation
@@ -49,6 +47,14 @@ pub record Lays (values : List Value) (running : Activation) (below : List Activ
   pub values_are : values ≡ row (f ∷ fs)
   pub running_is : running ≡ activation fs f
   pub below_are : below ≡ activations fs
+
+-- the lowest frames, so many of them
+abbrev pub lowest : ℕ → List Frame → List Frame
+lowest n fs = drop (length fs - n) fs
+
+-- another address in the place of the object that a constructor makes
+abbrev pub with_constructed : (Addr → Addr) → Activation → Activation
+with_constructed g a = record a { constructed = option_map g a.constructed }
 
 -- no frame has more values than the room for one
 abbrev pub Fit : ℕ → List Frame → Type 0

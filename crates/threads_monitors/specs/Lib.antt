@@ -1,4 +1,5 @@
 pub mod Frames
+pub mod Roots
 pub mod Monitors
 pub mod Activations
 pub mod Threads

@@ -4,7 +4,8 @@ use Rattle.std.specs.Option.{option_map_or}
 use Rattle.object_memory.specs.declared.addresses.Addr.{Addr}
 use Rattle.object_memory.specs.declared.monitors.Monitor.{Monitor}
 use Rattle.object_memory.specs.declared.monitors.Monitor.TheVariants.{Free, Held}
-use Rattle.object_memory.specs.Objects.{Objects, monitor_at, with_monitor}
+use Rattle.object_memory.specs.Objects.{Objects, monitor_at}
+use Rattle.barriers.specs.Barriers.{stored_monitor}
 use Rattle.threads_monitors.specs.declared.effects.Effect.{Effect}
 use Rattle.threads_monitors.specs.declared.effects.Effect.TheVariants.{GoesOn, Blocks, Raises}
 use Rattle.cil_model.specs.declared.reports.Fault.TheVariants.{ArgumentNull, SynchronizationLock}
@@ -26,7 +27,7 @@ left thread (Held owner count) = if owner == thread then Some (if nat_le count 1
 
 -- the objects with the monitor at an address as it is now; as they were where there is none, with an effect of its own
 abbrev pub with_monitor_or : Objects → Addr → Effect → Option Monitor → Objects × Effect
-with_monitor_or o a otherwise m = option_map_or (λ m'. (with_monitor o a m', GoesOn)) m (o, otherwise)
+with_monitor_or o a otherwise m = option_map_or (λ m'. (stored_monitor o a m', GoesOn)) m (o, otherwise)
 
 -- the objects after an entry, which another's monitor blocks
 abbrev pub with_entry : Objects → Addr → ℕ → Objects × Effect

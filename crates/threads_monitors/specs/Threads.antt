@@ -10,7 +10,8 @@ use Rattle.cil_model.specs.declared.reports.Report.{Report}
 use Rattle.cil_model.specs.declared.reports.Report.TheVariants.{Ran, Blocked, Ended as HasEnded, Absent}
 use Rattle.object_memory.specs.declared.addresses.Addr.{Addr}
 use Rattle.object_memory.specs.declared.values.Value.{Value}
-use Rattle.object_memory.specs.Objects.{Objects, object_slots, with_slot}
+use Rattle.object_memory.specs.Objects.{Objects, object_slots}
+use Rattle.barriers.specs.Barriers.{stored_int}
 use Rattle.threads_monitors.specs.Frames.{Frames, new_frame}
 use Rattle.threads_monitors.specs.declared.effects.Effect.{Effect}
 use Rattle.threads_monitors.specs.declared.effects.Effect.TheVariants.{GoesOn, Returns, Blocks, Raises}
@@ -92,7 +93,7 @@ start_fault threads o a =
 -- the threads and objects after a start of this thread: it has the next number, which its object tells
 abbrev pub with_start : List Thread → Objects → Addr → Thread → List Thread × Objects × Effect
 with_start threads o a thread =
-    option_map_or (λ f. (threads, o, Raises f)) (start_fault threads o a) (threads ++ thread ∷ [], with_slot o a 0 (length threads + 1), GoesOn)
+    option_map_or (λ f. (threads, o, Raises f)) (start_fault threads o a) (threads ++ thread ∷ [], stored_int o a 0 (length threads + 1), GoesOn)
 
 -- a thread that is live is waited for, the joining one itself too
 abbrev pub wait_for : List Thread → Option ℕ → Effect

@@ -1,7 +1,11 @@
 // The frames of a thread.
 
 ghost use Rattle.std.specs.Prelude.{◌≡◌, ◌<◌, ◌≤◌, ◌+◌, ◌*◌, ◌^◌, ◌∷◌, ◌++◌, [], length, map, slice_get, None, Some, IfOk, ◌==◌, vec_len, vec_capacity};
+ghost use Rattle.std.specs.Prelude.{◌-◌, All, IfSome, drop, option_map, take};
 ghost use Rattle.threads_monitors.specs.Frames.{zero_value};
+ghost use Rattle.threads_monitors.specs.Roots.{AnswersAt, IsAnswer, reference_in, with_reference};
+ghost use Rattle.threads_monitors.specs.Activations.{with_constructed};
+ghost use Rattle.object_memory.specs.declared.addresses.Addr.{Addr as AnyAddr};
 
 use cil_model::memory::NoMemory;
 use object_memory::{Addr, Value, ValueKind};
@@ -45,6 +49,9 @@ impl Model for FrameMemory {
 
 impl FrameMemory {
     ghost use Rattle.threads_monitors.specs.Frames.{size, new_frame, returned, with_argument, with_call, with_inserted, with_local, with_place, with_stack};
+    ghost use Rattle.threads_monitors.specs.Roots.{frames_upward, roots, values_of, with_references};
+    ghost use Rattle.threads_monitors.specs.Activations.{lowest, row};
+    ghost use Rattle.object_memory.specs.declared.values.Value.{Value};
 
     /// The memory of a thread that begins with a frame of the method, with these arguments and with zeros in locals of
     /// these kinds. There is room for `depth` frames, and in each for `room` values: arguments, locals and stack.
@@ -244,6 +251,68 @@ impl FrameMemory {
         self.values.truncate(self.running.arguments);
         self.running = self.below.pop().unwrap();
     }
+
+    /// What a frame holds: its arguments, its locals, and its stack upward. Frames count from the thread's first one.
+    ///
+    /// With `constructed_of` it tells the roots of a collection that a frame has; what a thread has are those of its frames
+    /// in their order.
+    pub fn values_of(&self, frame: usize) -> &[Value]
+        requires { frame ≤ length self.now.below }
+        ensures { option_map values_of (slice_get (frames_upward self.now) frame) ≡ Some result.now }
+    {
+        part(
+            &self.values,
+            self.activation(frame).arguments,
+            self.end_of(frame),
+        )
+    }
+
+    /// The object that the constructor makes which a frame runs for `newobj` (ECMA-335 III.4.21). None in any other frame.
+    /// Frames count from the thread's first one.
+    pub fn constructed_of(&self, frame: usize) -> Option<Addr>
+        requires { frame ≤ length self.now.below }
+        ensures { option_map (λ f. f.constructed) (slice_get (frames_upward self.now) frame) ≡ Some result }
+    {
+        self.activation(frame).constructed
+    }
+
+    /// The activation of a frame, the first one's at 0.
+    fn activation(&self, frame: usize) -> &Activation
+        requires { frame ≤ length self.now.below }
+        ensures begins { result.now.arguments ≡ length (row (lowest frame (self.now.running ∷ self.now.below))) }
+        ensures constructed { option_map (λ f. f.constructed) (slice_get (frames_upward self.now) frame) ≡ Some result.now.constructed }
+    {
+        match self.below.get(frame) {
+            Some(activation) => activation,
+            None => &self.running,
+        }
+    }
+
+    /// Where the values of a frame end in the row.
+    fn end_of(&self, frame: usize) -> usize
+        requires { frame ≤ length self.now.below }
+        ensures { result ≡ length (row (lowest (frame + 1) (self.now.running ∷ self.now.below))) }
+    {
+        if frame < self.below.len() {
+            self.activation(frame + 1).arguments
+        } else {
+            self.values.len()
+        }
+    }
+
+    /// Puts in the place of each reference that a frame holds what `change` answers for it. All else stays, and no memory
+    /// is taken.
+    ///
+    /// `change` is asked for these references alone, and may be asked for each of them oftener than once: so it has to
+    /// answer by a function of the address.
+    pub fn replace_references<F: Fn(Addr) -> Addr>(&mut self, change: F)
+        requires { (g : AnyAddr → AnyAddr) × AnswersAt (F.pre change) (F.post change) g (roots self.old) }
+        ensures { (g : AnyAddr → AnyAddr) → AnswersAt (F.pre change) (F.post change) g (roots self.old) → self.new ≡ with_references g self.old }
+    {
+        replace_in_values(&mut self.values, &change);
+        replace_in_activations(&mut self.below, &change);
+        self.running = replace_in_activation(self.running, &change);
+    }
 }
 
 /// 0 of the kind, or null: what a location holds at first (ECMA-335 I.12.3.2.2).
@@ -277,5 +346,56 @@ fn push_values(values: &mut Vec<Value>, more: &[Value])
 {
     for value in more {
         values.push_reserved(*value);
+    }
+}
+
+/// The values of a row from one place on to another.
+fn part(row: &[Value], start: usize, end: usize) -> &[Value]
+    requires order { start ≤ end }
+    requires within { end ≤ length row.now }
+    ensures { result.now ≡ take (end - start) (drop start row.now) }
+{
+    &row[start..end]
+}
+
+/// Puts in the place of each reference among the values what `change` answers for it.
+fn replace_in_values<F: Fn(Addr) -> Addr>(values: &mut [Value], change: &F)
+    requires { (g : AnyAddr → AnyAddr) × All (λ v. IfSome (reference_in v) (IsAnswer (F.pre change.now) (F.post change.now) g)) values.old }
+    ensures { (g : AnyAddr → AnyAddr) → All (λ v. IfSome (reference_in v) (IsAnswer (F.pre change.now) (F.post change.now) g)) values.old → values.new ≡ map (with_reference g) values.old }
+{
+    for value in values.iter_mut() {
+        *value = replace_in_value(*value, change);
+    }
+}
+
+/// The value, or where it is a reference what `change` answers for it.
+fn replace_in_value<F: Fn(Addr) -> Addr>(value: Value, change: &F) -> Value
+    requires { IfSome (reference_in value) (F.pre change.now) }
+    ensures { (g : AnyAddr → AnyAddr) → IfSome (reference_in value) (IsAnswer (F.pre change.now) (F.post change.now) g) → result ≡ with_reference g value }
+{
+    match value {
+        Value::Ref(address) => Value::Ref(change(address)),
+        Value::Int32(_) | Value::Int64(_) | Value::Native(_) => value,
+    }
+}
+
+/// Puts in the place of the object that a constructor makes, in each activation, what `change` answers for it.
+fn replace_in_activations<F: Fn(Addr) -> Addr>(activations: &mut [Activation], change: &F)
+    requires { (g : AnyAddr → AnyAddr) × All (λ a. IfSome a.constructed (IsAnswer (F.pre change.now) (F.post change.now) g)) activations.old }
+    ensures { (g : AnyAddr → AnyAddr) → All (λ a. IfSome a.constructed (IsAnswer (F.pre change.now) (F.post change.now) g)) activations.old → activations.new ≡ map (with_constructed g) activations.old }
+{
+    for activation in activations.iter_mut() {
+        *activation = replace_in_activation(*activation, change);
+    }
+}
+
+/// The activation, with what `change` answers for the object that its constructor makes.
+fn replace_in_activation<F: Fn(Addr) -> Addr>(activation: Activation, change: &F) -> Activation
+    requires { IfSome activation.constructed (F.pre change.now) }
+    ensures { (g : AnyAddr → AnyAddr) → IfSome activation.constructed (IsAnswer (F.pre change.now) (F.post change.now) g) → result ≡ with_constructed g activation }
+{
+    Activation {
+        constructed: activation.constructed.map(change),
+        ..activation
     }
 }

@@ -4,6 +4,7 @@
 
 mod effects;
 mod frames;
+pub mod laws;
 mod monitors;
 mod threads;
 

@@ -22,7 +22,7 @@ pub fn enter(heap: &mut Heap, object: Addr, thread: u8) -> Effect
     }
     match once_more(heap.monitor(object), thread) {
         Some(monitor) => {
-            heap.set_monitor(object, monitor);
+            barriers::store_monitor(heap, object, monitor);
             Effect::GoesOn
         }
         None => Effect::Blocks,
@@ -40,7 +40,7 @@ pub fn exit(heap: &mut Heap, object: Addr, thread: u8) -> Effect
     }
     match once_less(heap.monitor(object), thread) {
         Some(monitor) => {
-            heap.set_monitor(object, monitor);
+            barriers::store_monitor(heap, object, monitor);
             Effect::GoesOn
         }
         None => Effect::Raises(Fault::SynchronizationLock),

@@ -176,7 +176,7 @@ pub fn start(
     threads.reserve(1)?;
     let thread = Thread::new(alloc, beginning, &[Value::Ref(object)])?;
     threads.push_reserved(thread);
-    heap.set_slot(object, THREAD_SLOT, threads.len() as u64);
+    barriers::store_int(heap, object, THREAD_SLOT, threads.len() as u64);
     Ok(Effect::GoesOn)
 }
 

@@ -1,7 +1,7 @@
 //! Calls that no command makes: those of the library `call_trials`, and orders whose outputs fail.
 
 use call_trials::{LIMITS, SUM, calls};
-use driver::drive;
+use driver::{Device, drive};
 use orders::Order;
 use std::alloc::Global;
 use std::io;
@@ -35,16 +35,16 @@ fn tell(rt: &HostRuntime, name: &str, is_as_expected: bool) -> io::Result<usize>
 }
 
 /// Whether the status is 5 where an output takes less than is to be written: of a trace the first line, and of a refusal nothing.
-fn tells_of_outputs(threads: &(impl Threads + Wait), alloc: Global) -> bool {
+fn tells_of_outputs(threads: &(impl Threads + Wait + Sync), alloc: Global) -> bool {
     let trace = Order::Trace {
         file: "",
         schedule: "",
         limits: LIMITS,
         explain: false,
     };
-    let mut page = Cursor::new([0; 40]);
-    let mut none = Cursor::new([0; 0]);
-    let mut err = Vec::new(alloc);
+    let mut page = Device::new(Cursor::new([0; 40]));
+    let mut none = Device::new(Cursor::new([0; 0]));
+    let mut err = Device::new(Vec::new(alloc));
     let mut record = Vec::new(alloc);
     let (source, schedule) = (SUM.as_bytes(), b"s0*3");
     let traced = drive(
@@ -69,8 +69,9 @@ fn tells_of_outputs(threads: &(impl Threads + Wait), alloc: Global) -> bool {
     );
     traced == 5
         && refused == 5
-        && err.as_slice() == b"device\n".as_slice()
+        && err.into_inner().as_slice() == b"device\n".as_slice()
         && page
+            .into_inner()
             .get_ref()
             .as_slice()
             .starts_with(b"1\ts0\tran\tP::Main+0  ldc.i4 2\t1\t1\t0\n")

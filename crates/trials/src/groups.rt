@@ -16,7 +16,7 @@ const MEMORY: &[u8] = b"--- err\nmemory\n--- status 5\n";
 /// Does all cases of a group, says how many are as expected, and answers how many are not.
 pub fn try_group(
     rt: &HostRuntime,
-    threads: &(impl Threads + Wait),
+    threads: &(impl Threads + Wait + Sync),
     group: &str,
 ) -> io::Result<usize> {
     let table = fs::read_to_string(rt, format!(in rt.alloc(); "{group}.txt")?.as_str())?;
@@ -33,7 +33,11 @@ pub fn try_group(
 }
 
 /// Does the case of a block of text, and answers whether it is as expected. A block that is no case is not.
-fn try_block(rt: &HostRuntime, threads: &(impl Threads + Wait), block: &str) -> io::Result<bool> {
+fn try_block(
+    rt: &HostRuntime,
+    threads: &(impl Threads + Wait + Sync),
+    block: &str,
+) -> io::Result<bool> {
     match case_of(block) {
         Some(case) => try_case(rt, threads, &case),
         None => {
@@ -46,7 +50,7 @@ fn try_block(rt: &HostRuntime, threads: &(impl Threads + Wait), block: &str) -> 
 /// Does a case, and answers whether it is as expected: as the text of the case, or as that of the file that it names by `= FILE`.
 fn try_case(
     rt: &HostRuntime,
-    threads: &(impl Threads + Wait),
+    threads: &(impl Threads + Wait + Sync),
     case: &Case<'_>,
 ) -> io::Result<bool> {
     let came = outcome(rt, threads, case)?;

@@ -8,9 +8,11 @@ mod calls;
 mod cases;
 mod groups;
 mod outcomes;
+mod records;
 mod reports;
 mod texts;
 
+use driver::Device;
 use machine_comparison::{try_programs, try_schedules};
 use source_runs::{Failure, report};
 use std::io;
@@ -19,7 +21,7 @@ use std::sync::Wait;
 use std::thread::Threads;
 
 /// The groups of cases. Those of `NAME` stand in the file `NAME.txt`.
-const GROUPS: [&str; 9] = [
+const GROUPS: [&str; 10] = [
     "command_line",
     "commands",
     "schedules",
@@ -29,6 +31,7 @@ const GROUPS: [&str; 9] = [
     "traces",
     "deadlocks",
     "examples",
+    "threads",
 ];
 
 /// The status is 0 where all is as expected, 1 where something differs, and 5 where a file is not read or memory is wanted.
@@ -38,7 +41,7 @@ fn main(rt: HostRuntime) -> ExitCode {
         Ok(_) => 1,
         Err(failure) => {
             let errors = rt.stderr();
-            report(failure, &mut io::writer(&errors))
+            report(failure, &mut Device::new(io::writer(&errors)))
         }
     };
     ExitCode::from(status)

@@ -2,10 +2,11 @@
 
 use crate::answers::answer;
 use crate::cases::Case;
+use crate::records::add_record;
 use crate::reports::{add_difference, add_run};
 use crate::texts::{expanded, limits_of, words_of};
 use command_line::{LineFault, Unread, order};
-use driver::drive;
+use driver::{Device, drive};
 use orders::{Order, read_source, read_text};
 use source_runs::{Failure, report};
 use std::fs::File;
@@ -25,7 +26,7 @@ pub struct Files {
 /// behind them that the case wants.
 pub fn outcome(
     rt: &HostRuntime,
-    threads: &(impl Threads + Wait),
+    threads: &(impl Threads + Wait + Sync),
     case: &Case<'_>,
 ) -> io::Result<Vec<u8>> {
     let alloc = rt.alloc();
@@ -43,9 +44,9 @@ pub fn outcome(
         }
         Err(LineFault::Bad(text)) => add_end(&mut out, text.as_bytes(), 2)?,
         Err(LineFault::Memory) => {
-            let mut err = Vec::new(alloc);
+            let mut err = Device::new(Vec::new(alloc));
             let status = report(Failure::Memory, &mut err);
-            add_end(&mut out, err.as_slice(), status)?;
+            add_end(&mut out, err.into_inner().as_slice(), status)?;
         }
     }
     Ok(out)
@@ -69,6 +70,19 @@ fn limited<'a>(order: Order<'a>, limits: Option<&str>) -> Order<'a> {
             limits,
             explain,
         },
+        Order::Threads {
+            file,
+            workers,
+            record,
+            explain,
+            ..
+        } => Order::Threads {
+            file,
+            workers,
+            record,
+            limits,
+            explain,
+        },
         other => other,
     }
 }
@@ -82,9 +96,10 @@ fn add_end(out: &mut Vec<u8>, err: &[u8], status: u8) -> io::Result<()> {
 
 /// Adds what a file that is not read is told as.
 fn add_unread(rt: &HostRuntime, unread: &Unread<'_>, out: &mut Vec<u8>) -> io::Result<()> {
-    let mut err = Vec::new(rt.alloc());
-    let status = report(Failure::from(unread.error), &mut err);
+    let mut device = Device::new(Vec::new(rt.alloc()));
+    let status = report(Failure::from(unread.error), &mut device);
     let text = unread.told(rt.alloc())?;
+    let mut err = device.into_inner();
     err.extend_from_slice(text.as_bytes())?;
     add_end(out, err.as_slice(), status)
 }
@@ -92,7 +107,7 @@ fn add_unread(rt: &HostRuntime, unread: &Unread<'_>, out: &mut Vec<u8>) -> io::R
 /// Carries out an order on its files, and adds what comes of it.
 fn carry_out(
     rt: &HostRuntime,
-    threads: &(impl Threads + Wait),
+    threads: &(impl Threads + Wait + Sync),
     case: &Case<'_>,
     order: &Order<'_>,
     out: &mut Vec<u8>,
@@ -101,7 +116,8 @@ fn carry_out(
         Ok(files) => files,
         Err(unread) => return add_unread(rt, &unread, out),
     };
-    add_driven(rt, threads, order, &files, out)?;
+    let record = add_driven(rt, threads, order, &files, out)?;
+    add_record(rt, threads, case, order, &files, record, out)?;
     if case.wanted.contains("\n--- answer ") {
         let answer = answer(rt.alloc(), order, &files)?;
         writeln!(out, "--- answer {answer}")?;
@@ -147,15 +163,15 @@ fn schedule_of(rt: &HostRuntime, case: &Case<'_>, file: &str) -> io::Result<Vec<
     }
 }
 
-/// Adds what the order prints on both outputs, and its status.
-fn add_driven(
+/// Adds what the order prints on both outputs, and its status, and answers its record.
+pub fn add_driven(
     rt: &HostRuntime,
-    threads: &(impl Threads + Wait),
+    threads: &(impl Threads + Wait + Sync),
     order: &Order<'_>,
     files: &Files,
     out: &mut Vec<u8>,
-) -> io::Result<()> {
-    let mut err = Vec::new(rt.alloc());
+) -> io::Result<Vec<u8>> {
+    let mut err = Device::new(Vec::new(rt.alloc()));
     let mut record = Vec::new(rt.alloc());
     let status = drive(
         threads,
@@ -163,9 +179,10 @@ fn add_driven(
         order,
         files.source.as_slice(),
         files.schedule.as_slice(),
-        out,
+        &mut Device::new(&mut *out),
         &mut err,
         &mut record,
     );
-    add_end(out, err.as_slice(), status)
+    add_end(out, err.into_inner().as_slice(), status)?;
+    Ok(record)
 }

@@ -3,6 +3,7 @@
 use crate::outcomes::Files;
 use cil_model::limits::Limits;
 use cil_model::reports::{End, Report};
+use driver::Device;
 use machine_comparison::difference;
 use orders::Order;
 use schedule_text::read_schedule;
@@ -22,7 +23,7 @@ pub fn add_run(
     out: &mut Vec<u8>,
 ) -> io::Result<()> {
     if let Err(failure) = add_events(waits, alloc, order, files, out) {
-        report(failure, out);
+        report(failure, &mut Device::new(&mut *out));
     }
     Ok(())
 }
@@ -56,7 +57,7 @@ pub fn add_difference(
         Ok(None) => Ok(()),
         Ok(Some(told)) => writeln!(out, "--- the plain machine differs at {told}"),
         Err(failure) => {
-            report(failure, out);
+            report(failure, &mut Device::new(&mut *out));
             Ok(())
         }
     }

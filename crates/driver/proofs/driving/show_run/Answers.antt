@@ -14,7 +14,7 @@ pub returns-clause-done : goal.returns-clause-done
 returns-clause-done g c =
     let outcome = c.in_ok-outcome.outcome in
     if_ok c.show.result c.show.ensures.shown (λ status shown.
-    has_run c.args.source.now c.args.limits c.args.text.now c.args.explain (events_of outcome.history.entries) (reports_of outcome.history.entries) outcome.machine (g.W.Write.contents c.args.out.now) (g.W.Write.contents c.show.new.out) (g.E.Write.contents c.args.err.now) (g.E.Write.contents c.show.new.err) status
+    has_run c.args.source.now c.args.limits c.args.text.now c.args.explain (events_of outcome.history.entries) (reports_of outcome.history.entries) outcome.machine (g.W.Output.contents c.args.out.now) (g.W.Output.contents c.show.new.out) (g.E.Output.contents c.args.err.now) (g.E.Output.contents c.show.new.err) status
     c.in_ok-outcome.ensures.ran shown)
 
 pub returns-clause-failed : goal.returns-clause-failed
@@ -29,5 +29,5 @@ pub returns-clause-in_part : goal.returns-clause-in_part
 returns-clause-in_part g c =
     let outcome = c.in_ok-outcome.outcome in
     on_err_of c.show.result c.show.ensures.begun (λ shown.
-    inr (run_in_part c.args.source.now c.args.limits c.args.text.now c.args.explain (events_of outcome.history.entries) (reports_of outcome.history.entries) outcome.machine (g.W.Write.contents c.args.out.now) (g.W.Write.contents c.show.new.out)
-    (g.E.Write.contents c.args.err.now) (g.E.Write.contents c.show.new.err) c.in_ok-outcome.ensures.ran shown))
+    inr (run_in_part c.args.source.now c.args.limits c.args.text.now c.args.explain (events_of outcome.history.entries) (reports_of outcome.history.entries) outcome.machine (g.W.Output.contents c.args.out.now) (g.W.Output.contents c.show.new.out)
+    (g.E.Output.contents c.args.err.now) (g.E.Output.contents c.show.new.err) c.in_ok-outcome.ensures.ran shown))

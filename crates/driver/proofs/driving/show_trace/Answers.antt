@@ -26,8 +26,8 @@ pub returns-in_err-write_trace-clause-in_part : goal.returns-in_err-write_trace-
 returns-in_err-write_trace-clause-in_part g c =
     let machine = c.in_ok-machine.machine in
     let after = c.write_trace.new.machine in
-    let begun = g.W.Write.contents c.args.out.now in
-    let between = g.W.Write.contents c.write_trace.new.out in
+    let begun = g.W.Output.contents c.args.out.now in
+    let between = g.W.Output.contents c.write_trace.new.out in
     let traced = subst (λ es. IsTracedInPart machine es after begun between) c.as_slice.ensures.value c.in_err-write_trace.ensures.stopped in
     let cut : IsTraceInPart c.args.source.now c.args.limits c.args.text.now begun between = record { events = c.in_ok-machine.events.items; begins = machine; ready = c.in_ok-machine.ensures.opened; after = after; traced = traced } in
     on_err c.from_residual-in_err-write_trace.result (inr (inl (cut, refl)))
@@ -36,12 +36,12 @@ pub returns-clause-done : goal.returns-clause-done
 returns-clause-done g c =
     let machine = c.in_ok-machine.machine in
     let after = c.write_trace.new.machine in
-    let begun = g.W.Write.contents c.args.out.now in
-    let between = g.W.Write.contents c.write_trace.new.out in
+    let begun = g.W.Output.contents c.args.out.now in
+    let between = g.W.Output.contents c.write_trace.new.out in
     let traced = c.in_ok-write_trace.ensures.traced in
     if_ok c.show.result c.show.ensures.shown (λ status shown.
-    has_traced c.args.source.now c.args.limits c.args.text.now c.args.explain c.in_ok-machine.events.items machine after traced.0 begun between (g.W.Write.contents c.show.new.out)
-    (g.E.Write.contents c.args.err.now) (g.E.Write.contents c.show.new.err) status c.in_ok-machine.ensures.opened
+    has_traced c.args.source.now c.args.limits c.args.text.now c.args.explain c.in_ok-machine.events.items machine after traced.0 begun between (g.W.Output.contents c.show.new.out)
+    (g.E.Output.contents c.args.err.now) (g.E.Output.contents c.show.new.err) status c.in_ok-machine.ensures.opened
     (subst (λ es. IsTraced machine es after traced.0 begun between) c.as_slice.ensures.value traced.1) c.in_ok-write_trace.ensures.same.1 shown)
 
 pub returns-clause-failed : goal.returns-clause-failed
@@ -56,10 +56,10 @@ pub returns-clause-in_part : goal.returns-clause-in_part
 returns-clause-in_part g c =
     let machine = c.in_ok-machine.machine in
     let after = c.write_trace.new.machine in
-    let begun = g.W.Write.contents c.args.out.now in
-    let between = g.W.Write.contents c.write_trace.new.out in
+    let begun = g.W.Output.contents c.args.out.now in
+    let between = g.W.Output.contents c.write_trace.new.out in
     let traced = c.in_ok-write_trace.ensures.traced in
     on_err_of c.show.result c.show.ensures.begun (λ shown.
-    inr (inr (traced_in_part c.args.source.now c.args.limits c.args.text.now c.args.explain c.in_ok-machine.events.items machine after traced.0 begun between (g.W.Write.contents c.show.new.out)
-    (g.E.Write.contents c.args.err.now) (g.E.Write.contents c.show.new.err) c.in_ok-machine.ensures.opened
+    inr (inr (traced_in_part c.args.source.now c.args.limits c.args.text.now c.args.explain c.in_ok-machine.events.items machine after traced.0 begun between (g.W.Output.contents c.show.new.out)
+    (g.E.Output.contents c.args.err.now) (g.E.Output.contents c.show.new.err) c.in_ok-machine.ensures.opened
     (subst (λ es. IsTraced machine es after traced.0 begun between) c.as_slice.ensures.value traced.1) c.in_ok-write_trace.ensures.same.1 shown)))

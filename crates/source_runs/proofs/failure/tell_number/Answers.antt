@@ -12,13 +12,13 @@ returns-in_err-write_whole-clause-begun g c =
 pub returns-in_err-write_whole-2-clause-begun : goal.returns-in_err-write_whole-2-clause-begun
 returns-in_err-write_whole-2-clause-begun g c =
     let digits : c.as_bytes.result.now ≡ decimal c.args.number = c.as_bytes.ensures.value ∙ c.format.ensures.text in
-    let begun = subst (AppendsBeginning (g.E.Write.contents c.write_whole.new.out) (g.E.Write.contents c.write_whole-2.new.out)) digits c.in_err-write_whole-2.ensures.begun in
+    let begun = subst (AppendsBeginning (g.E.Output.contents c.write_whole.new.self) (g.E.Output.contents c.write_whole-2.new.self)) digits c.in_err-write_whole-2.ensures.begun in
     on_err c.from_residual-in_err-write_whole-2.result
     (begins_second _ _ _ (codes "error ") (decimal c.args.number ++ 10 ∷ []) c.in_ok-write_whole.ensures.taken (begins_first _ _ (decimal c.args.number) (10 ∷ []) begun))
 
 pub returns-clause-begun : goal.returns-clause-begun
 returns-clause-begun g c =
     let digits : c.as_bytes.result.now ≡ decimal c.args.number = c.as_bytes.ensures.value ∙ c.format.ensures.text in
-    let taken = subst (Appends (g.E.Write.contents c.write_whole.new.out) (g.E.Write.contents c.write_whole-2.new.out)) digits c.in_ok-write_whole-2.ensures.taken in
+    let taken = subst (Appends (g.E.Output.contents c.write_whole.new.self) (g.E.Output.contents c.write_whole-2.new.self)) digits c.in_ok-write_whole-2.ensures.taken in
     on_err_of c.write_whole-3.result c.write_whole-3.ensures.begun (λ begun.
     begins_second _ _ _ (codes "error ") (decimal c.args.number ++ 10 ∷ []) c.in_ok-write_whole.ensures.taken (begins_second _ _ _ (decimal c.args.number) (10 ∷ []) taken begun))

@@ -3,7 +3,7 @@ use Rattle.std.specs.List.{zip}
 use Rattle.cil_model.specs.declared.trees.Tree.{Tree}
 use Rattle.cil_model.specs.Sources.{HasTree}
 use Rattle.reference_machine.specs.Runs.{step_reports}
-use Rattle.shared_machine.specs.simulation.Runs.{IsRunOf}
+use Rattle.workers.specs.shared_machine.simulation.Runs.{IsRunOf}
 use Rattle.source_runs.proofs.laws.a_run_is_one.Goals as goal
 
 same_tree : (t u : Tree) → HasTree t ≡ HasTree u → t ≡ u
@@ -11,9 +11,11 @@ same_tree t u e = cc
 
 pub returns : goal.returns
 returns c = λ source limits text events events' reports reports' s s' h h'.
-    let tree : h.tree ≡ h'.tree = same_tree h.tree h'.tree (c.answers_are_unique.ensures source (HasTree h.tree) (HasTree h'.tree) h.is_accepted.read h'.is_accepted.read) in
+    let k = h.by_events in
+    let k' = h'.by_events in
+    let tree : k.tree ≡ k'.tree = same_tree k.tree k'.tree (c.answers_are_unique.ensures source (HasTree k.tree) (HasTree k'.tree) k.is_accepted.read k'.is_accepted.read) in
     let list : events ≡ events' = c.one_answer.ensures.one_list text events events' h.are_read h'.are_read in
-    let other : IsRunOf h.tree limits events reports' s' =
-    subst (λ t. IsRunOf t limits events reports' s') (sym tree) (subst (λ es. IsRunOf h'.tree limits es reports' s') (sym list) h'.is_run) in
-    let one = c.the_run_is_one.ensures h.tree limits events reports reports' h.is_run.each other.each s s' h.is_run.is_after other.is_after in
+    let other : IsRunOf k.tree limits events reports' s' =
+    subst (λ t. IsRunOf t limits events reports' s') (sym tree) (subst (λ es. IsRunOf k'.tree limits es reports' s') (sym list) k'.is_run) in
+    let one = c.the_run_is_one.ensures k.tree limits events reports reports' k.is_run.each other.each s s' k.is_run.is_after other.is_after in
     (list, one.0 ∙ ap (λ es. step_reports (zip es reports')) list, one.1)

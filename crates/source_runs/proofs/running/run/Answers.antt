@@ -1,4 +1,4 @@
-use Rattle.shared_machine.specs.Histories.{reports_of}
+use Rattle.workers.specs.shared_machine.Histories.{reports_of}
 use Rattle.source_runs.proofs.RunLemmas.{made_in_range, ran}
 use Rattle.source_runs.proofs.running.run.Goals as goal
 

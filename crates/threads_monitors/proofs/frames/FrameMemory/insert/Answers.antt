@@ -1,5 +1,5 @@
-use Rattle.std.proofs.Common.{arith, refl, ap, sym, subst, ◌∙◌, ◌≡◌, ◌-◌, ◌+◌, ◌<◌, ◌≤◌, if◌then◌else◌, List, length}
-use Rattle.std.specs.Prelude.{vec_capacity, vec_len}
+use Rattle.std.proofs.Common.{arith, ap, sym, subst, ◌∙◌, ◌≡◌, ◌-◌, length}
+use Rattle.std.specs.Prelude.{vec_capacity}
 use Rattle.std.specs.Result.{is_ok}
 use Rattle.std.specs.List.{insert}
 use Rattle.threads_monitors.specs.Activations.{IsSound}

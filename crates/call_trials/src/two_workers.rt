@@ -1,0 +1,166 @@
+//! Two workers of a shared machine, in threads of their own.
+
+ghost use Rattle.std.specs.Prelude.{◌≡◌, IfOk, IfSome};
+ghost use Rattle.source_runs.specs.shared_machine.Codes.{add};
+ghost use Rattle.source_runs.specs.shared_machine.Histories.{count_of, events_of, reports_of};
+ghost use Rattle.source_runs.specs.shared_machine.Worlds.{AgreesWith, HasRun, IfDid, added, fresh};
+
+use cil_model::events::Event;
+use source_runs::{Answer, Machine, Opening, Outcome, Shared, stop};
+use std::alloc::{AllocError, Global};
+use std::sync::Wait;
+use std::thread::{Threads, join};
+use worker_counts::{Blank, Ticket};
+
+/// The first two tickets.
+fn two<M: Opening>(mut tickets: Vec<Ticket<M>>) -> Option<(Ticket<M>, Ticket<M>)>
+    requires { tickets.items ≡ fresh 2 }
+    ensures { IfSome result (λ t. (t.0 ≡ record { worker = 0; count = 0 }) × (t.1 ≡ record { worker = 1; count = 0 })) }
+{
+    let other = tickets.pop()?;
+    let one = tickets.pop()?;
+    Some((one, other))
+}
+
+/// Puts a machine under a lock for two workers, with their tickets.
+fn open_both<M: Opening>(
+    alloc: Global,
+    blank: Blank,
+    core: Machine,
+) -> Result<Option<(Shared<M>, Ticket<M>, Ticket<M>)>, AllocError>
+    requires book { blank.table.shared.table_id ≡ M.table }
+    requires core { core ≡ M.opening }
+    requires workers { M.workers ≡ 2 }
+    ensures { IfOk result (λ made. IfSome made (λ m. (m.1 ≡ record { worker = 0; count = 0 }) × (m.2 ≡ record { worker = 1; count = 0 }))) }
+{
+    let (shared, tickets) = Shared::<M>::new(alloc, blank, core, 2)?;
+    match two(tickets) {
+        None => Ok(None),
+        Some((one, other)) => Ok(Some((shared, one, other))),
+    }
+}
+
+/// Ends a run with the tickets of both workers. None where one is missing.
+fn finish_both<M: Opening>(
+    alloc: Global,
+    shared: Shared<M>,
+    one: Ticket<M>,
+    other: Ticket<M>,
+) -> Result<Option<Outcome>, AllocError>
+    ensures ran { IfOk result (λ end. IfSome end (λ o. HasRun M.opening (events_of o.history.entries) (reports_of o.history.entries) o.machine)) }
+    ensures one { IfOk result (λ end. IfSome end (λ o. AgreesWith o.history.entries one)) }
+    ensures other { IfOk result (λ end. IfSome end (λ o. AgreesWith o.history.entries other)) }
+{
+    let mut tickets = Vec::new(alloc);
+    tickets.push(one)?;
+    tickets.push(other)?;
+    match shared.finish(tickets) {
+        Ok(outcome) => Ok(Some(outcome)),
+        Err(_) => Ok(None),
+    }
+}
+
+/// Two threads act once each, and the run ends. Whatever the schedule, each worker's entries in the history are those that its ticket had
+/// and the event that it asked for, with the report that it was answered.
+///
+/// Only want of memory is an error. None where a worker's ticket is missing.
+fn act_both<M: Opening + Send + Sync, R: Threads + Wait + Sync>(
+    rt: &R,
+    alloc: Global,
+    shared: Shared<M>,
+    one: Ticket<M>,
+    other: Ticket<M>,
+    first: Event,
+    second: Event,
+) -> Result<Option<(Answer, Answer, Outcome)>, AllocError>
+    ensures ran { IfOk result (λ end. IfSome end (λ x. HasRun M.opening (events_of x.2.history.entries) (reports_of x.2.history.entries) x.2.machine)) }
+    ensures one { IfOk result (λ end. IfSome end (λ x. IfDid x.0 (λ report. count_of one.worker x.2.history.entries ≡ add one.count first report))) }
+    ensures other { IfOk result (λ end. IfSome end (λ x. IfDid x.1 (λ report. count_of other.worker x.2.history.entries ≡ add other.count second report))) }
+{
+    let lock = &shared;
+    let ((answer, one), (other_answer, other)) = join(
+        rt,
+        move || -> (Answer, Ticket<M>)
+            ensures did { IfDid result.0 (λ report. result.1 ≡ added one first report) }
+        { lock.act(rt, alloc, one, first) },
+        move || -> (Answer, Ticket<M>)
+            ensures did { IfDid result.0 (λ report. result.1 ≡ added other second report) }
+        { lock.act(rt, alloc, other, second) },
+    );
+    match finish_both(alloc, shared, one, other)? {
+        None => Ok(None),
+        Some(outcome) => Ok(Some((answer, other_answer, outcome))),
+    }
+}
+
+/// The same from the opening on: each worker has done one event.
+pub fn run_both<M: Opening + Send + Sync, R: Threads + Wait + Sync>(
+    rt: &R,
+    alloc: Global,
+    blank: Blank,
+    core: Machine,
+    first: Event,
+    second: Event,
+) -> Result<Option<(Answer, Answer, Outcome)>, AllocError>
+    requires book { blank.table.shared.table_id ≡ M.table }
+    requires core { core ≡ M.opening }
+    requires workers { M.workers ≡ 2 }
+    ensures ran { IfOk result (λ end. IfSome end (λ x. HasRun M.opening (events_of x.2.history.entries) (reports_of x.2.history.entries) x.2.machine)) }
+    ensures one { IfOk result (λ end. IfSome end (λ x. IfDid x.0 (λ report. count_of 0 x.2.history.entries ≡ add 0 first report))) }
+    ensures other { IfOk result (λ end. IfSome end (λ x. IfDid x.1 (λ report. count_of 1 x.2.history.entries ≡ add 0 second report))) }
+{
+    let Some((shared, one, other)) = open_both::<M>(alloc, blank, core)? else {
+        return Ok(None);
+    };
+    act_both(rt, alloc, shared, one, other, first, second)
+}
+
+/// Two threads act often, each with its own event, the stop mark is set, and the run ends.
+pub fn act_many<M: Opening + Send + Sync, R: Threads + Wait + Sync>(
+    rt: &R,
+    alloc: Global,
+    blank: Blank,
+    core: Machine,
+    events: (Event, Event),
+    times: u32,
+) -> Result<Option<Outcome>, AllocError>
+    requires book { blank.table.shared.table_id ≡ M.table }
+    requires core { core ≡ M.opening }
+    requires workers { M.workers ≡ 2 }
+{
+    let Some((shared, one, other)) = open_both::<M>(alloc, blank, core)? else {
+        return Ok(None);
+    };
+    let lock = &shared;
+    let (one, other) = join(
+        rt,
+        move || act_often(rt, alloc, lock, one, events.0, times),
+        move || act_often(rt, alloc, lock, other, events.1, times),
+    );
+    mark(rt, &shared);
+    finish_both(alloc, shared, one, other)
+}
+
+/// Does the same event again and again, each time under a lock of its own. The ticket that comes back is the same worker's.
+fn act_often<M: Opening, R: Wait>(
+    rt: &R,
+    alloc: Global,
+    shared: &Shared<M>,
+    mut ticket: Ticket<M>,
+    event: Event,
+    times: u32,
+) -> Ticket<M>
+    ensures { result.worker ≡ ticket.worker }
+{
+    for _time in 0..times {
+        let (_answer, next) = shared.act(rt, alloc, ticket, event);
+        ticket = next;
+    }
+    ticket
+}
+
+/// Sets the stop mark, under a lock of its own.
+fn mark<M: Opening, R: Wait>(rt: &R, shared: &Shared<M>) {
+    let mut world = shared.lock(rt);
+    stop(&mut *world);
+}

@@ -1,0 +1,5 @@
+use Rattle.simulation.proofs.CountedSteps.{step_counted}
+use Rattle.simulation.proofs.counts.steps_keep_counts.Goals as goal
+
+pub returns : goal.returns
+returns c = step_counted

@@ -1,0 +1,5 @@
+use Rattle.simulation.proofs.FieldSizes.{class_number_small}
+use Rattle.simulation.proofs.sizes.classes_are_few.Goals as goal
+
+pub returns : goal.returns
+returns c = class_number_small

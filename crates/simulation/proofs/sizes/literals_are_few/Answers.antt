@@ -1,0 +1,5 @@
+use Rattle.simulation.proofs.MethodSizes.{literals_few}
+use Rattle.simulation.proofs.sizes.literals_are_few.Goals as goal
+
+pub returns : goal.returns
+returns c = literals_few

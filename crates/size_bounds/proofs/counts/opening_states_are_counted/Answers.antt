@@ -1,5 +1,0 @@
-use Rattle.size_bounds.proofs.CountedOpenings.{opening_counted}
-use Rattle.size_bounds.proofs.counts.opening_states_are_counted.Goals as goal
-
-pub returns : goal.returns
-returns c = opening_counted

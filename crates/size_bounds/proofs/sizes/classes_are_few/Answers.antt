@@ -1,5 +1,0 @@
-use Rattle.size_bounds.proofs.FieldSizes.{class_number_small}
-use Rattle.size_bounds.proofs.sizes.classes_are_few.Goals as goal
-
-pub returns : goal.returns
-returns c = class_number_small

@@ -1,0 +1,68 @@
+//! From the bytes of a source to what workers leave of its run.
+
+ghost use Rattle.std.specs.Prelude.{◌≡◌, ◌≤◌, All, IfErr, IfOk};
+ghost use Rattle.std.specs.List.{count_by};
+ghost use Rattle.source_runs.specs.Runs.{HasRunTo, IsNotRun, IsNotRunWithin, IsRun};
+ghost use Rattle.workers.specs.shared_machine.simulation.threads_monitors.Threads.{is_live};
+ghost use Rattle.workers.specs.shared_machine.Histories.{events_of, reports_of};
+ghost use Rattle.workers.specs.shared_machine.declared.shared.TheConstants.{MOST_WORKERS};
+ghost use Rattle.workers.specs.Work.{IsOwnOf};
+
+use crate::failure::Failure;
+use crate::running::accept;
+use cil_model::limits::Limits;
+use std::alloc::Global;
+use std::marker::Brand;
+use std::sync::Wait;
+use std::thread::Threads;
+use verifier::Verified;
+use worker_counts::Blank;
+use workers::{Gate, Machine, Outcome, run_together};
+
+/// Runs a source by so many workers, 1 to 16, each in a thread of its own, until no thread of the program is live, as `run_together` does,
+/// and answers the machine after that with the history. A pass of a worker is told to `gate`.
+///
+/// Whatever the order in which the workers got the lock, the run is that of the history's events: as `run_events` runs them, the reference
+/// machine's run over the steps among them is never stuck, with these reports, and the machine stands for the state that it comes to. So
+/// whoever replays them gets the same bytes and ends. Each entry is an event of its worker's own, of a thread that a machine can have. No
+/// thread is live at the end.
+///
+/// Faults are looked for in this order: the source (`accept`), the limits (`OutOfRange(401)`), memory before the first event, or where it
+/// had workers stop while a thread was live (`Memory`).
+pub fn run_threads<R: Threads + Wait + Sync, G: Gate + Sync>(
+    rt: &R,
+    alloc: Global,
+    source: &[u8],
+    limits: Limits,
+    workers: u8,
+    gate: &G,
+) -> Result<Outcome, Failure>
+    requires { (1 ≤ workers) × (workers ≤ MOST_WORKERS) }
+    ensures ran { IfOk result (λ outcome. HasRunTo source.now limits (events_of outcome.history.entries) (reports_of outcome.history.entries) outcome.machine) }
+    ensures own { IfOk result (λ outcome. All (IsOwnOf workers) outcome.history.entries) }
+    ensures ended { IfOk result (λ outcome. count_by is_live outcome.machine.threads ≡ 0) }
+    ensures refused { IfErr result (IsNotRun source.now limits) }
+{
+    let verified = accept(alloc, source)?;
+    run(rt, alloc, verified, limits, workers, gate)
+}
+
+/// The machine of a program after workers ran it.
+fn run<R: Threads + Wait + Sync, G: Gate + Sync>(
+    rt: &R,
+    alloc: Global,
+    program: Verified,
+    limits: Limits,
+    workers: u8,
+    gate: &G,
+) -> Result<Outcome, Failure>
+    requires { (1 ≤ workers) × (workers ≤ MOST_WORKERS) }
+    ensures ran { IfOk result (λ outcome. IsRun program limits (events_of outcome.history.entries) (reports_of outcome.history.entries) outcome.machine) }
+    ensures own { IfOk result (λ outcome. All (IsOwnOf workers) outcome.history.entries) }
+    ensures ended { IfOk result (λ outcome. count_by is_live outcome.machine.threads ≡ 0) }
+    ensures refused { IfErr result (IsNotRunWithin limits) }
+{
+    let machine = Machine::new(alloc, program, limits)?;
+    let blank = Blank::new(alloc)?;
+    Ok(run_together::<Brand, _, _>(rt, alloc, blank, machine, workers, gate)?)
+}

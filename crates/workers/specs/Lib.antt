@@ -1,0 +1,3 @@
+pub use Rattle.shared_machine.specs as shared_machine
+pub mod Records
+pub mod Work

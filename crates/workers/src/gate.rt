@@ -1,0 +1,15 @@
+//! Where a worker can be held.
+
+/// Is told when a worker begins a pass, and may hold it there. Another worker's passes go on meanwhile.
+pub trait Gate {
+    /// The worker of this number begins a pass. `turn` is the number of its passes before, from 0; it stays at 2^32 - 1 once it is there.
+    fn pass(&self, worker: u8, turn: u32);
+}
+
+/// A gate that holds nobody.
+#[derive(Clone, Copy, Debug)]
+pub struct OpenGate;
+
+impl Gate for OpenGate {
+    fn pass(&self, _worker: u8, _turn: u32) {}
+}
