@@ -14,7 +14,7 @@ use Rattle.cil_model.specs.declared.trees.Member.TheVariants.{Field as FieldMemb
 use Rattle.cil_model.specs.Declarations.{Declaration, built_ins, as_method, source_name}
 use Rattle.name_tables.proofs.Lists.{filter_map-take_more, map-take_more}
 use Rattle.name_tables.specs.Numbers.{source_entry}
-use Rattle.method_table.specs.AllMethods.{all_methods, owned_methods}
+use Rattle.interleaving_core.specs.simulation.loaded_program.AllMethods.{all_methods, owned_methods}
 use Rattle.event_trace.specs.Places.{built_in_method, method_by, methods_by, source_method}
 use Rattle.event_trace.specs.declared.method_places.MethodPlace.{MethodPlace}
 use Rattle.event_trace.specs.declared.method_places.MethodPlace.TheVariants.{BuiltIn, Source}

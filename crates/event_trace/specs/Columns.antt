@@ -12,7 +12,7 @@ use Rattle.cil_model.specs.declared.trees.Tree.{Tree}
 use Rattle.cil_model.specs.Bodies.{lines_of}
 use Rattle.cil_model.specs.ExceptionNames.{name_of as fault_text}
 use Rattle.object_memory.specs.Objects.{used_space}
-use Rattle.method_table.specs.AllMethods.{all_methods}
+use Rattle.interleaving_core.specs.simulation.loaded_program.AllMethods.{all_methods}
 use Rattle.interleaving_core.specs.simulation.MachineContents.{Content}
 use Rattle.interleaving_core.specs.Positions.{position_at}
 use Rattle.interleaving_core.specs.declared.positions.Position.{Position}

@@ -6,7 +6,7 @@ use Rattle.cil_model.specs.declared.trees.Class.{Class}
 use Rattle.cil_model.specs.declared.trees.Method.{Method}
 use Rattle.cil_model.specs.Declarations.{Declaration, as_method, source_name}
 use Rattle.name_tables.specs.BuiltInTable.{built_in_entry}
-use Rattle.method_table.specs.AllMethods.{all_methods}
+use Rattle.interleaving_core.specs.simulation.loaded_program.AllMethods.{all_methods}
 use Rattle.event_trace.specs.declared.owned_methods.Owner.{Owner}
 use Rattle.event_trace.specs.declared.owned_methods.Owner.TheVariants.{BuiltIn as BuiltInOwner, Source as SourceOwner}
 use Rattle.event_trace.specs.declared.owned_methods.OwnedMethod.{OwnedMethod}

@@ -8,7 +8,7 @@ ghost use Rattle.cil_model.specs.declared.trees.Class.{Class as AnyClass};
 ghost use Rattle.cil_model.specs.Declarations.{Declaration};
 ghost use Rattle.name_tables.specs.BuiltInTable.{built_in_entry};
 ghost use Rattle.name_tables.specs.Numbers.{source_entry};
-ghost use Rattle.method_table.specs.AllMethods.{all_methods, owned_methods};
+ghost use Rattle.interleaving_core.specs.simulation.loaded_program.AllMethods.{all_methods, owned_methods};
 ghost use Rattle.event_trace.specs.Places.{built_in_method, method_by, methods_by, owned, source_method};
 
 use crate::owned_methods::{OwnedMethod, Owner};

@@ -17,7 +17,7 @@ use Rattle.simulation.specs.cil_model.Fields.{FieldKey, same_key, keyed_fields, 
 use Rattle.simulation.specs.cil_model.Legality.{IsLegal}
 use Rattle.simulation.proofs.cil_model.CompleteLaws.{chain_of_base}
 use Rattle.simulation.proofs.cil_model.Lists.{none_is_some}
-use Rattle.simulation.proofs.cil_model.SameLaws.{either, if_false, same_class_equal, same_class_itself, same_text_itself, class_equivalence, never}
+use Rattle.simulation.proofs.cil_model.SameLaws.{either, same_class_equal, same_class_itself, same_text_itself, class_equivalence, never}
 use Rattle.simulation.specs.reference_machine.States.{entry_at}
 use Rattle.simulation.proofs.type_soundness.DeclaredFields.{entry_behind}
 

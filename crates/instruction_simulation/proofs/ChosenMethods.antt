@@ -20,7 +20,7 @@ use Rattle.simulation.proofs.cil_model.SameLaws.{never, both_second, same_signat
 use Rattle.simulation.proofs.reference_machine.MethodLaws.{IsDeclared, target_is_declared}
 use Rattle.simulation.specs.name_tables.Numbers.{class_number, method_at}
 use Rattle.simulation.proofs.name_tables.NumberLaws.{IsNumbered, numbered}
-use Rattle.simulation.proofs.method_table.FlatLaws.{numbered_at}
+use Rattle.simulation.proofs.loaded_program.FlatLaws.{numbered_at}
 use Rattle.instruction_simulation.proofs.ObjectClasses.{method_by}
 
 -- ---- what fills a slot

@@ -27,10 +27,10 @@ use Rattle.simulation.specs.resolved_code.Numbered.{class_name}
 use Rattle.simulation.specs.resolved_code.Resolved.{IsMethod}
 use Rattle.simulation.proofs.FieldSizes.{class_number_small, slots_few}
 use Rattle.simulation.proofs.MethodSizes.{arguments_few, locals_few}
-use Rattle.simulation.specs.method_table.AllMethods.{all_methods}
-use Rattle.simulation.specs.method_table.MethodNumbers.{number_of}
-use Rattle.simulation.specs.method_table.Prepared.{local_kinds}
-use Rattle.simulation.proofs.method_table.NumberLaws.{declared_is_numbered}
+use Rattle.simulation.specs.loaded_program.AllMethods.{all_methods}
+use Rattle.simulation.specs.loaded_program.MethodNumbers.{number_of}
+use Rattle.simulation.specs.loaded_program.Prepared.{local_kinds}
+use Rattle.simulation.proofs.loaded_program.NumberLaws.{declared_is_numbered}
 use Rattle.simulation.specs.interpreter.Calls.{class_in, slots_at}
 use Rattle.simulation.proofs.Zeros.{locals_low}
 use Rattle.simulation.proofs.cil_model.Lists.{none_is_some}

@@ -17,8 +17,8 @@ use Rattle.simulation.proofs.type_soundness.Running.{IsTypedEffect}
 use Rattle.simulation.specs.resolved_code.declared.operations.Operation.{Operation}
 use Rattle.simulation.specs.object_memory.declared.values.Value.{Value}
 use Rattle.simulation.specs.object_memory.Objects.{Objects}
-use Rattle.simulation.specs.method_table.MethodNumbers.{number_of}
-use Rattle.simulation.specs.method_table.Prepared.{local_kinds}
+use Rattle.simulation.specs.loaded_program.MethodNumbers.{number_of}
+use Rattle.simulation.specs.loaded_program.Prepared.{local_kinds}
 use Rattle.simulation.specs.threads_monitors.Frames.{Frames, with_place, with_call}
 use Rattle.simulation.specs.threads_monitors.declared.effects.Effect.TheVariants.{GoesOn, Raises}
 use Rattle.simulation.specs.instructions.Frames.{given}

@@ -26,7 +26,7 @@ use Rattle.simulation.proofs.type_soundness.StateChanges.{entry_typed}
 use Rattle.simulation.proofs.FieldSizes.{instance_slot_small}
 use Rattle.simulation.specs.resolved_code.Numbered.{class_name}
 use Rattle.simulation.specs.resolved_code.Resolved.{IsField}
-use Rattle.simulation.specs.method_table.Prepared.{kind_of_type}
+use Rattle.simulation.specs.loaded_program.Prepared.{kind_of_type}
 use Rattle.simulation.specs.interpreter.Operations.{small, slot_in, slot_at, held_at}
 use Rattle.instruction_simulation.proofs.Chains.{has_key, entry_of_first, chain_of_field, among_own, no_field_of_object, fields_begin, same_thread}
 use Rattle.instruction_simulation.proofs.Placed.{IsPlaced, placed, position_there, type_there}

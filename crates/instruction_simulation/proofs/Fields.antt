@@ -27,7 +27,7 @@ use Rattle.simulation.specs.object_memory.Objects.{Objects}
 use Rattle.simulation.specs.object_memory.Values.{value_word}
 use Rattle.simulation.specs.threads_monitors.Frames.{Frames, with_stack}
 use Rattle.simulation.specs.instructions.Frames.{given}
-use Rattle.simulation.specs.method_table.Prepared.{kind_of_type}
+use Rattle.simulation.specs.loaded_program.Prepared.{kind_of_type}
 use Rattle.simulation.specs.instructions.ObjectTurns.{object_of, load_slot, store_slot, load_field_turn, store_field_turn}
 use Rattle.simulation.specs.interpreter.Instructions.{operation_turn, of_objects}
 use Rattle.simulation.specs.interpreter.Operations.{held_at}

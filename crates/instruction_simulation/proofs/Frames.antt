@@ -21,7 +21,7 @@ use Rattle.simulation.specs.object_memory.declared.addresses.Addr.{Addr}
 use Rattle.simulation.specs.object_memory.declared.values.Value.{Value}
 use Rattle.simulation.specs.object_memory.declared.values.Value.TheVariants.{Ref}
 use Rattle.simulation.specs.object_memory.Objects.{Objects}
-use Rattle.simulation.specs.method_table.Prepared.{local_kinds}
+use Rattle.simulation.specs.loaded_program.Prepared.{local_kinds}
 use Rattle.simulation.specs.threads_monitors.Frames.{Frames, size, with_place, with_inserted, with_call}
 use Rattle.simulation.specs.threads_monitors.declared.effects.Effect.TheVariants.{GoesOn}
 use Rattle.simulation.specs.instructions.Calls.{Called, behind, is_full, entered, construct_turn}

@@ -1,8 +1,7 @@
 -- The length of an array, and new arrays.
-use Rattle.std.proofs.Common.{◌≡◌, ◌≤◌, ◌<◌, ◌+◌, ◌==◌, ◌^◌, ℕ, zero, suc, ℤ, pos, negsuc, Bool, true, false, if◌then◌else◌, List, [], ◌∷◌, length, replicate, Option, Some, None, option_map, refl, sym, ap, ◌∙◌, subst, arith, inl}
+use Rattle.std.proofs.Common.{◌≡◌, ◌≤◌, ◌<◌, ◌+◌, ◌^◌, ℕ, zero, suc, ℤ, pos, negsuc, Bool, true, false, if◌then◌else◌, List, ◌∷◌, length, replicate, Option, Some, None, option_map, refl, sym, ap, ◌∙◌, subst, arith, inl}
 use Rattle.std.specs.Prelude.{nat_lt}
 use Rattle.std.proofs.lemmas.Bool.Decides.{nat_tests}
-use Rattle.std.proofs.lemmas.List.Sums.{sum_by-cons}
 use Rattle.std.proofs.lemmas.Option.{same_Some}
 use Rattle.simulation.specs.cil_model.declared.instructions.Instruction.TheVariants as Named
 use Rattle.simulation.specs.cil_model.declared.limits.TheConstants.{MOST_WORDS, MOST_BRACKETS}
@@ -13,7 +12,6 @@ use Rattle.simulation.specs.cil_model.declared.types.DeclaredType.{DeclaredType}
 use Rattle.simulation.specs.cil_model.declared.types.Element.{Element}
 use Rattle.simulation.specs.cil_model.declared.types.Element.TheVariants.{Int32 as Int32Element, Int64 as Int64Element, Object as ObjectElement, String as StringElement, Class as ClassElement}
 use Rattle.simulation.specs.cil_model.Assignable.{is_reference}
-use Rattle.simulation.specs.cil_model.Fields.{FieldKey}
 use Rattle.simulation.specs.cil_model.Legality.{IsLegal}
 use Rattle.simulation.specs.reference_machine.Values.{ObjectName, Value as StateValue, Int32 as Int32Value, Native as NativeValue, Null, Reference, integer_zero, zero_of}
 use Rattle.simulation.specs.reference_machine.Arithmetic.{as_index}

@@ -25,7 +25,7 @@ use Rattle.simulation.specs.object_memory.declared.kinds.Kind.TheVariants.{Insta
 use Rattle.simulation.specs.object_memory.declared.values.Value.{Value}
 use Rattle.simulation.specs.object_memory.declared.values.Value.TheVariants.{Ref}
 use Rattle.simulation.specs.object_memory.Objects.{Objects, with_birth, free_space}
-use Rattle.simulation.specs.method_table.MethodNumbers.{number_of}
+use Rattle.simulation.specs.loaded_program.MethodNumbers.{number_of}
 use Rattle.simulation.specs.threads_monitors.Frames.{Frames, with_place, with_stack}
 use Rattle.simulation.specs.threads_monitors.declared.effects.Effect.TheVariants.{GoesOn, Raises}
 use Rattle.simulation.specs.instructions.Frames.{given}

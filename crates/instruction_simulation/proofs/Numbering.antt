@@ -5,10 +5,10 @@ use Rattle.simulation.specs.cil_model.declared.trees.Tree.{Tree}
 use Rattle.simulation.specs.cil_model.declared.trees.Method.{Method}
 use Rattle.simulation.specs.cil_model.Legality.{IsLegal}
 use Rattle.simulation.specs.name_tables.Numbers.{declarations, method_at}
-use Rattle.simulation.specs.method_table.AllMethods.{all_methods, first_numbers}
-use Rattle.simulation.specs.method_table.MethodNumbers.{number_of}
-use Rattle.simulation.proofs.method_table.FlatLaws.{first_is_there, number_behind}
-use Rattle.simulation.proofs.method_table.NumberLaws.{number_of_place}
+use Rattle.simulation.specs.loaded_program.AllMethods.{all_methods, first_numbers}
+use Rattle.simulation.specs.loaded_program.MethodNumbers.{number_of}
+use Rattle.simulation.proofs.loaded_program.FlatLaws.{first_is_there, number_behind}
+use Rattle.simulation.proofs.loaded_program.NumberLaws.{number_of_place}
 
 -- a method's number, at which it stands
 pub record IsNumbered (tree : Tree) (found : ClassName × Method) : Type 0 where

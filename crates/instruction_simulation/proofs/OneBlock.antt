@@ -1,5 +1,5 @@
 -- A heap of one block, with the static fields, is a memory as the laws of instructions need it.
-use Rattle.std.proofs.Common.{◌≡◌, ◌==◌, ℕ, Bool, true, false, List, length, replicate, Option, Some, None, slice_set, refl, sym, ap, ◌∙◌, subst}
+use Rattle.std.proofs.Common.{◌≡◌, ◌==◌, ℕ, Bool, true, false, List, replicate, Option, Some, None, refl, sym, ap, ◌∙◌, subst}
 use Rattle.std.specs.Option.{option_map_or}
 use Rattle.std.proofs.Math.ListN.{length-set}
 use Rattle.std.proofs.lemmas.Bool.{eqb-true, eq-eqb}
@@ -8,7 +8,7 @@ use Rattle.simulation.specs.cil_model.declared.trees.Tree.{Tree}
 use Rattle.simulation.specs.cil_model.Fields.{FieldKey}
 use Rattle.simulation.proofs.cil_model.SameLaws.{same_text_equal, same_text_itself, never}
 use Rattle.simulation.specs.reference_machine.Values.{ObjectName, Born, Literal, Value as StateValue, same_object}
-use Rattle.simulation.specs.reference_machine.States.{Contents, HeapObject, State, with_object, with_birth as with_state_birth}
+use Rattle.simulation.specs.reference_machine.States.{Contents, HeapObject, State, with_object}
 use Rattle.simulation.specs.object_memory.declared.addresses.Addr.{Addr}
 use Rattle.simulation.specs.object_memory.declared.kinds.Kind.{Kind}
 use Rattle.simulation.specs.object_memory.declared.monitors.Monitor.{Monitor}
@@ -17,7 +17,6 @@ use Rattle.simulation.specs.object_memory.Cells.{Cell, store_slot, store_monitor
 use Rattle.simulation.specs.object_memory.Values.{value_word}
 use Rattle.simulation.specs.object_memory.Objects.{Objects, object_cell, is_same_object, with_cell, with_literal_monitor, with_monitor, with_birth}
 use Rattle.simulation.proofs.object_memory.Spaces.{IsBorn, birth_there, refused_birth, slots_few}
-use Rattle.simulation.specs.Agreement.{Agree}
 use Rattle.simulation.specs.StandsFor.{Names, IsValue, IsOfContents, IsCell, IsHeap, IsMemory}
 use Rattle.simulation.proofs.AgreeLaws.{agree_weaken}
 use Rattle.simulation.proofs.Extending.{value_extends}

@@ -1,5 +1,5 @@
 -- The value in a word that holds it, read as of its kind.
-use Rattle.std.proofs.Common.{◌≡◌, ◌<◌, ◌%◌, ℕ, zero, suc, ℤ, pos, negsuc, Some, false, IsTrue, if◌then◌else◌, refl, sym, ap, ◌∙◌, subst, arith}
+use Rattle.std.proofs.Common.{◌≡◌, ◌<◌, ◌%◌, ℕ, zero, suc, ℤ, pos, negsuc, Some, IsTrue, if◌then◌else◌, refl, sym, ap, ◌∙◌, subst, arith}
 use Rattle.std.specs.Prelude.{FitsSigned}
 use Rattle.std.specs.Int.{w32, w64, cast_unsigned, cast_signed}
 use Rattle.std.proofs.lemmas.Int.{to_z-of_z}
@@ -20,7 +20,7 @@ use Rattle.simulation.specs.object_memory.declared.values.Value.TheVariants.{Int
 use Rattle.simulation.specs.object_memory.declared.values.ValueKind.{ValueKind}
 use Rattle.simulation.specs.object_memory.declared.values.ValueKind.TheVariants as Kind
 use Rattle.simulation.specs.object_memory.Values.{value_word, value_in}
-use Rattle.simulation.specs.method_table.Prepared.{kind_at, kind_of_type}
+use Rattle.simulation.specs.loaded_program.Prepared.{kind_at, kind_of_type}
 use Rattle.simulation.specs.StandsFor.{Names, IsValue, int32, int64, native, null_reference, reference, IsWord}
 use Rattle.simulation.proofs.cil_model.SameLaws.{never}
 

@@ -17,7 +17,7 @@ use Rattle.resolved_code.specs.declared.operations.Operation.TheVariants.{NoOper
 use Rattle.object_memory.specs.declared.addresses.Addr.{Addr}
 use Rattle.object_memory.specs.declared.values.Value.{Value}
 use Rattle.object_memory.specs.Objects.{Objects}
-use Rattle.method_table.specs.MethodNumbers.{number_of}
+use Rattle.step_simulation.specs.simulation.loaded_program.MethodNumbers.{number_of}
 use Rattle.threads_monitors.specs.Frames.{Frames}
 use Rattle.threads_monitors.specs.declared.effects.Effect.{Effect}
 use Rattle.threads_monitors.specs.declared.effects.Effect.TheVariants.{Raises}

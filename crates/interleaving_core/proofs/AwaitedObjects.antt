@@ -1,5 +1,5 @@
 -- What a thread is about to enter or to join is there, and what its instruction calls is known to the table.
-use Rattle.std.proofs.Common.{◌≡◌, ◌≢◌, ◌==◌, ◌<◌, ◌≤◌, ℕ, zero, suc, Bool, true, false, ◌||◌, if◌then◌else◌, List, [], ◌∷◌, length, Option, Some, None, option_map, option_and_then, slice_get, refl, sym, ap, ◌∙◌, subst}
+use Rattle.std.proofs.Common.{◌≡◌, ◌≢◌, ◌==◌, ◌<◌, ℕ, Bool, true, false, ◌||◌, if◌then◌else◌, List, [], ◌∷◌, length, Option, Some, None, option_map, option_and_then, slice_get, refl, sym, ap, ◌∙◌, subst}
 use Rattle.std.specs.Prelude.{IsSome}
 use Rattle.std.specs.Option.{option_map_or}
 use Rattle.std.proofs.lemmas.Bool.{eqb-true}
@@ -33,22 +33,18 @@ use Rattle.object_memory.specs.declared.addresses.Addr.{Addr}
 use Rattle.object_memory.specs.declared.monitors.Monitor.{Monitor}
 use Rattle.object_memory.specs.declared.values.Value.{Value}
 use Rattle.object_memory.specs.declared.values.Value.TheVariants.{Int32, Int64, Native, Ref}
-use Rattle.object_memory.specs.Cells.{Cell, cell_at, literal_number, null, slots_at}
-use Rattle.object_memory.specs.Objects.{Objects, monitor_at}
-use Rattle.method_table.specs.AllMethods.{all_methods}
-use Rattle.method_table.specs.MethodNumbers.{number_of}
+use Rattle.object_memory.specs.Cells.{Cell, cell_at, literal_number, null}
+use Rattle.object_memory.specs.Objects.{Objects, monitor_at, object_slots}
+use Rattle.step_simulation.specs.simulation.loaded_program.MethodNumbers.{number_of}
 use Rattle.threads_monitors.specs.Frames.{Frames, with_stack}
 use Rattle.threads_monitors.specs.Monitors.{with_entry}
-use Rattle.threads_monitors.specs.Threads.{is_live, is_live_at}
-use Rattle.threads_monitors.specs.declared.threads.Standing.TheVariants.{Live}
-use Rattle.threads_monitors.specs.declared.threads.Thread.{Thread}
 use Rattle.threads_monitors.specs.declared.effects.Effect.TheVariants.{Raises}
 use Rattle.step_simulation.specs.simulation.instructions.Calls.{call_turn}
 use Rattle.step_simulation.specs.simulation.instructions.Frames.{given}
 use Rattle.step_simulation.specs.simulation.instructions.ObjectTurns.{ObjectTurn, beside}
 use Rattle.step_simulation.specs.simulation.instructions.BuiltInTurns.{carried, is_countable, reference_from}
-use Rattle.step_simulation.specs.simulation.interpreter.Calls.{CallTurn, act_turn, beside_console, call_answer, called_as, chosen, chosen_at, chosen_by, class_at, class_of_kind, receiver, run_chosen, run_turn, top_reference, virtual_at}
-use Rattle.step_simulation.specs.simulation.interpreter.Instructions.{Answer, HasSmallConstant, IsAt, IsDone, MachineTurn, answer_of, line_at, method_of, of_calls, operation_turn}
+use Rattle.step_simulation.specs.simulation.interpreter.Calls.{CallTurn, act_turn, beside_console, call_answer, called_as, chosen, chosen_by, class_at, class_of_kind, receiver, run_chosen, run_turn, top_reference, virtual_at}
+use Rattle.step_simulation.specs.simulation.interpreter.Instructions.{Answer, HasSmallConstant, IsAt, IsDone, MachineTurn, answer_of, line_at, of_calls, operation_turn}
 use Rattle.step_simulation.specs.simulation.interpreter.declared.outcomes.Outcome.TheVariants.{Comes, Joins}
 use Rattle.step_simulation.specs.simulation.MachineContents.{Content}
 use Rattle.step_simulation.specs.simulation.Ready.{IsAnswerable, IsReady}
@@ -260,7 +256,7 @@ module _ (c : Content) (t left : ℕ) (m : Frames) (ready : IsReady c t m) (answ
             (by_monitor y (with_stack m rest) same (y.number == 0) (ap (λ (k : Addr). k.number == 0) same ∙ not_null_number x apart) (monitor_at c.objects y) there)
 
     -- and the slot that tells a thread, where it joins
-    joins : action_at c.tree m ≡ Some Join → 0 < length (slots_at c.objects.block x)
+    joins : action_at c.tree m ≡ Some Join → 0 < length (object_slots c.objects x)
     joins acts =
         let turn = turn_of Join acts in
         let answer : Answer = answer_of m c.objects c.statics c.printed (Joins x) in

@@ -75,10 +75,10 @@ module _ (c : Content) (t i : ℕ) (same : i ≡ t) (thread : Thread) (reads : t
         (h m (ap (λ (x : Thread). x.standing) is_thread) ∙ ap (λ (x : Thread). settled effect (record x { standing = Live (after_request effect m) })) is_thread)
 
   -- once its instruction is done
-  pub instructed : is_live_at c.threads t ≡ true → (new : Thread) (tree : Tree) (o : Objects) (before statics held : List Value) (printed : List ℕ) (outcome : Outcome) → tree ≡ c.tree → before ≡ c.statics → held ≡ statics
-      → ((m : Frames) → thread.standing ≡ Live m → (n : Frames) × (new ≡ record thread { standing = Live n }) × IsDone tree t m c.objects before c.printed (answer_of n o statics printed outcome))
-      → IsInstructed c t outcome (record c { threads = slice_set c.threads i new; objects = o; statics = held; printed = printed })
-  instructed live new tree o before statics held printed outcome same_tree same_statics kept does =
+  pub instructed : is_live_at c.threads t ≡ true → (new : Thread) (o : Objects) (statics : List Value) (printed : List ℕ) (outcome : Outcome)
+      → ((m : Frames) → thread.standing ≡ Live m → (n : Frames) × (new ≡ record thread { standing = Live n }) × IsDone c.tree t m c.objects c.statics c.printed (answer_of n o statics printed outcome))
+      → IsInstructed c t outcome (record c { threads = slice_set c.threads i new; objects = o; statics = statics; printed = printed })
+  instructed live new o statics printed outcome does =
       let there = live_there c.threads t live in
       let is_thread : thread ≡ live_thread there.0 there.1 = reached c.threads t i same thread reads (live_thread there.0 there.1) there.2 in
       let done = does there.1 (ap (λ (x : Thread). x.standing) is_thread) in
@@ -88,12 +88,10 @@ module _ (c : Content) (t i : ℕ) (same : i ≡ t) (thread : Thread) (reads : t
         frames = there.1;
         answer = answer_of done.0 o statics printed outcome;
         there = there.2;
-        done = subst (λ (x : Tree). IsDone x t there.1 c.objects c.statics c.printed (answer_of done.0 o statics printed outcome)) same_tree
-            (subst (λ (x : List Value). IsDone tree t there.1 c.objects x c.printed (answer_of done.0 o statics printed outcome)) same_statics done.2);
+        done = done.2;
         comes = refl;
-        is = ap (λ (k : ℕ). record c { threads = slice_set c.threads k new; objects = o; statics = held; printed = printed }) same
-            ∙ ap (λ (x : Thread). record c { threads = slice_set c.threads t x; objects = o; statics = held; printed = printed }) new_is
-            ∙ ap (λ (x : List Value). record c { threads = slice_set c.threads t (live_thread there.0 done.0); objects = o; statics = x; printed = printed }) kept;
+        is = ap (λ (k : ℕ). record c { threads = slice_set c.threads k new; objects = o; statics = statics; printed = printed }) same
+            ∙ ap (λ (x : Thread). record c { threads = slice_set c.threads t x; objects = o; statics = statics; printed = printed }) new_is;
       }
 
 -- ---- a start that nothing hinders

@@ -24,18 +24,21 @@ use Rattle.cil_model.proofs.Legal.{entry_alone}
 use Rattle.name_tables.specs.declared.lookups.MemberNumber.{MemberNumber}
 use Rattle.name_tables.specs.Numbers.{declarations, method_at, source_entry}
 use Rattle.resolved_code.proofs.ClassNumbers.{FoundAt, found_at, number_of_place as class_of_place}
-use Rattle.programs.specs.Contents.{IsEntryPoint}
+use Rattle.step_simulation.specs.simulation.programs.Contents.{IsEntryPoint}
 use Rattle.object_memory.specs.declared.addresses.Addr.{Addr}
 use Rattle.object_memory.specs.declared.values.Value.{Value}
 use Rattle.object_memory.specs.declared.values.Value.TheVariants.{Ref}
 use Rattle.object_memory.specs.Objects.{Objects, no_objects}
-use Rattle.method_table.specs.AllMethods.{all_methods}
-use Rattle.method_table.specs.MethodNumbers.{number_of}
-use Rattle.method_table.specs.Prepared.{kind_of_type}
-use Rattle.method_table.proofs.NumberLaws.{number_of_place}
+use Rattle.step_simulation.specs.simulation.loaded_program.AllMethods.{all_methods}
+use Rattle.step_simulation.specs.simulation.loaded_program.MethodNumbers.{number_of}
+use Rattle.step_simulation.specs.simulation.loaded_program.Prepared.{kind_of_type}
+use Rattle.step_simulation.proofs.simulation.loaded_program.NumberLaws.{number_of_place}
 use Rattle.threads_monitors.specs.Frames.{zero_value}
 use Rattle.threads_monitors.specs.declared.threads.Thread.{Thread}
-use Rattle.step_simulation.specs.simulation.interpreter.Calls.{chosen_at}
+use Rattle.step_simulation.specs.simulation.interpreter.Calls.{chosen, chosen_at, chosen_by, class_at}
+use Rattle.step_simulation.proofs.simulation.interpreter.Running.{there_is}
+use Rattle.step_simulation.specs.simulation.loaded_program.Loaded.{target_in}
+use Rattle.step_simulation.proofs.simulation.loaded_program.OperandLaws.{then_some}
 use Rattle.step_simulation.specs.simulation.Turns.{content_at, opening_content, run_member, thread_at, thread_for}
 use Rattle.interleaving_core.specs.Statics.{declared_fields, zeros_of}
 
@@ -131,3 +134,27 @@ module _ (tree : Tree) where
       by_chosen : (c : Option (ClassName × Method)) → IsSome (option_and_then (λ (e : ClassName × Method). option_map (thread_at limits e (Ref a ∷ [])) (number_of tree e)) c) → IsSome c
       by_chosen (Some e) h = refl
       by_chosen None h = h
+
+  -- the Run that is named, the object's class, and the method that is chosen
+  pub record Begun (o : Objects) (a : Addr) : Type 0 where
+    pub named : ClassName × Method
+    pub class : Option ℕ
+    pub run : ClassName × Method
+    pub named_is : method_at tree (run_member.class, run_member.place) ≡ Some named
+    pub class_is : class_at o a ≡ Some class
+    pub run_is : chosen_by tree named class ≡ Some run
+    pub chosen_is : chosen_at tree o a run_member ≡ Some run
+
+  pub begun : (limits : Limits) (o : Objects) (a : Addr) → IsSome (thread_for tree limits o a) → Begun o a
+  begun limits o a there =
+      let run = there_is (chosen_at tree o a run_member) (chosen_there limits o a there) in
+      let named = then_some (chosen tree o a) (method_at tree (run_member.class, run_member.place)) run.0 run.1 in
+      let class = then_some (chosen_by tree named.0) (class_at o a) run.0 named.2 in
+      record { named = named.0; class = class.0; run = run.0; named_is = named.1; class_is = class.1; run_is = class.2; chosen_is = run.1 }
+
+  -- it is the target of the Run that is named
+  pub target_of_run : (o : Objects) (a : Addr) (begun : Begun o a) (class : Option ℕ) → class_at o a ≡ Some class → (number : ℕ) → slice_get (all_methods tree) number ≡ Some begun.named → target_in tree number class ≡ Some begun.run
+  target_of_run o a begun class class_is number number_is =
+      let e = begun.class_is in
+      let same : begun.class ≡ class = cc in
+      ap (option_and_then (λ found. chosen_by tree found class)) number_is ∙ ap (chosen_by tree begun.named) (sym same) ∙ begun.run_is

@@ -1,5 +1,5 @@
 -- A machine that represents a state goes on to one that does.
-use Rattle.std.proofs.Common.{◌≡◌, ◌≤◌, ℕ, length, Some, Result, Ok, Err, sym, ap, ◌∙◌, subst}
+use Rattle.std.proofs.Common.{◌≡◌, ◌≤◌, length, Some, Result, Ok, Err, sym, ap, ◌∙◌, subst}
 use Rattle.std.specs.Prelude.{IfOk, IsTrue, OnErr}
 use Rattle.std.proofs.lemmas.Option.{same_Some}
 use Rattle.cil_model.specs.declared.events.Event.{Event}
@@ -12,7 +12,6 @@ use Rattle.cil_model.specs.Ranges.{are_in_range}
 use Rattle.cil_model.specs.Typings.{IsAccepted}
 use Rattle.reference_machine.specs.Runs.{opening}
 use Rattle.reference_machine.specs.States.{State}
-use Rattle.method_table.specs.Prepared.{IsMethodTable}
 use Rattle.step_simulation.specs.simulation.MachineContents.{Content}
 use Rattle.step_simulation.specs.simulation.StandsFor.{Represents}
 use Rattle.step_simulation.specs.simulation.Turns.{IsTurn, opening_content}
@@ -25,19 +24,17 @@ use Rattle.interleaving_core.proofs.Following.{SameProgram, turn_follows}
 -- what it does next has an answer
 pub can_go_on : (e : Engine) → IsSound e → CanGoOn e
 can_go_on e sound = record {
-  table = sound.table;
   limits = sound.represents.limits;
   ready = λ t left m there. thread_is_ready (content_of e) sound.state sound.represents t left m there;
   answerable = λ t left m there a done. asked_is_answerable (content_of e) sound.state sound.represents t left m there a done;
 }
 
-module _ (e e' : Engine) (sound : IsSound e) (event : Event) (table : IsMethodTable e'.program e'.table) where
+module _ (e e' : Engine) (sound : IsSound e) (event : Event) where
   -- after an event
   turned : (r : Report) → IsTurn (content_of e) event (content_of e', r) → IsSound e'
   turned r turn =
       let alike = turn_follows (content_of e) (content_of e', r) event turn sound.state sound.represents in
       record {
-        table = table;
         state = alike.state;
         represents = alike.represents;
         few = turn_few (content_of e) (content_of e', r) event turn sound.few;
@@ -46,7 +43,6 @@ module _ (e e' : Engine) (sound : IsSound e) (event : Event) (table : IsMethodTa
   -- and after one that changed nothing
   unchanged : content_of e' ≡ content_of e → IsSound e'
   unchanged same = record {
-    table = table;
     state = sound.state;
     represents = subst (λ c. Represents c sound.state) (sym same) sound.represents;
     few = subst (λ (c : Content). length c.threads ≤ MOST_THREADS) (sym same) sound.few;

@@ -1,5 +1,5 @@
 -- The two halves of a step of a thread make one turn of its machine.
-use Rattle.std.proofs.Common.{◌≡◌, ◌+◌, ℕ, zero, suc, true, false, List, [], ◌∷◌, ◌++◌, length, Option, Some, None, option_map, slice_get, slice_set, refl, sym, ap, ◌∙◌, subst}
+use Rattle.std.proofs.Common.{◌≡◌, ◌+◌, ℕ, true, false, List, [], ◌∷◌, ◌++◌, length, Option, Some, None, option_map, slice_get, refl, sym, ap, ◌∙◌, subst}
 use Rattle.std.specs.Option.{option_map_or}
 use Rattle.std.proofs.lemmas.Option.{same_Some}
 use Rattle.cil_model.specs.declared.events.Event.TheVariants.{Step}
@@ -17,7 +17,7 @@ use Rattle.threads_monitors.specs.declared.threads.Standing.{Standing}
 use Rattle.threads_monitors.specs.declared.threads.Standing.TheVariants.{Live, Ended}
 use Rattle.threads_monitors.specs.declared.threads.Thread.{Thread}
 use Rattle.step_simulation.specs.simulation.interpreter.declared.outcomes.Outcome.{Outcome}
-use Rattle.step_simulation.specs.simulation.interpreter.declared.outcomes.Outcome.TheVariants.{Comes, Starts, Joins}
+use Rattle.step_simulation.specs.simulation.interpreter.declared.outcomes.Outcome.TheVariants.{Starts}
 use Rattle.step_simulation.specs.simulation.MachineContents.{Content}
 use Rattle.step_simulation.specs.simulation.Turns.{IsStandingTurn, IsThreadTurn, IsTurn, finish, finished, left_by, live_thread, started, thread_for}
 use Rattle.step_simulation.specs.simulation.Ready.{CanFinish, IsAnswerable}

@@ -4,7 +4,6 @@ use Rattle.cil_model.specs.declared.limits.TheConstants.{MOST_THREADS}
 use Rattle.cil_model.specs.declared.reports.End.{End}
 use Rattle.cil_model.specs.Ranges.{are_in_range}
 use Rattle.reference_machine.specs.States.{State}
-use Rattle.method_table.specs.Prepared.{IsMethodTable}
 use Rattle.threads_monitors.specs.Frames.{Frames}
 use Rattle.threads_monitors.specs.Threads.{end_of}
 use Rattle.threads_monitors.specs.declared.threads.Standing.TheVariants.{Live}
@@ -15,26 +14,23 @@ use Rattle.step_simulation.specs.simulation.StandsFor.{Represents}
 use Rattle.step_simulation.specs.simulation.Ready.{IsReady, IsAnswerable}
 use Rattle.interleaving_core.specs.declared.engine.Engine.{Engine}
 
--- the content of an engine, without the tables that it runs by
+-- the content of an engine
 abbrev pub content_of : Engine → Content
-content_of e = record { tree = e.program; limits = e.limits; threads = e.threads.items; objects = e.heap; statics = e.statics.items; printed = e.console.items }
+content_of e = record { tree = e.program; limits = e.limits; threads = e.threads.items; objects = e.store.heap; statics = e.store.statics.items; printed = e.store.console.items }
 
 -- each live thread is ready, and what its instruction asks of other threads can be answered
 pub record CanGoOn (e : Engine) : Type 0 where
-  pub table : IsMethodTable e.program e.table
   pub limits : IsTrue (are_in_range e.limits)
   pub ready : (t left : ℕ) (m : Frames) → slice_get e.threads.items t ≡ Some (record { standing = Live m; steps_left = left }) → IsReady (content_of e) t m
   pub answerable : (t left : ℕ) (m : Frames) → slice_get e.threads.items t ≡ Some (record { standing = Live m; steps_left = left }) → (a : Answer) →
-      IsDone e.program t m e.heap e.statics.items e.console.items a → IsAnswerable (content_of e) t left a a.outcome
+      IsDone e.program t m e.store.heap e.store.statics.items e.store.console.items a → IsAnswerable (content_of e) t left a a.outcome
 
 -- how the thread of a number ended; none where it is live or was never started
 abbrev pub end_at : List Thread → ℕ → Option End
 end_at threads n = option_and_then end_of (slice_get threads n)
 
--- The table of methods is the program's, there are no more threads than there may be, and the content represents a state of the reference
--- machine
+-- there are no more threads than there may be, and the content represents a state of the reference machine
 pub record IsSound (e : Engine) : Type 0 where
-  pub table : IsMethodTable e.program e.table
   pub state : State
   pub represents : Represents (content_of e) state
   pub few : length e.threads.items ≤ MOST_THREADS

@@ -11,8 +11,8 @@ use Rattle.object_memory.specs.declared.addresses.Addr.{Addr}
 use Rattle.object_memory.specs.declared.monitors.Monitor.{Monitor as AnyMonitor}
 use Rattle.object_memory.specs.declared.monitors.Monitor.TheVariants.{Free, Held}
 use Rattle.object_memory.specs.declared.values.Value.{Value}
-use Rattle.object_memory.specs.Cells.{null, slots_at}
-use Rattle.object_memory.specs.Objects.{Objects, monitor_at}
+use Rattle.object_memory.specs.Cells.{null}
+use Rattle.object_memory.specs.Objects.{Objects, monitor_at, object_slots}
 use Rattle.threads_monitors.specs.Frames.{Frames}
 use Rattle.threads_monitors.specs.Threads.{is_live_at, thread_on}
 use Rattle.threads_monitors.specs.declared.threads.Standing.{Standing}
@@ -76,4 +76,4 @@ wait_at c t = option_and_then (λ (x : Thread). standing_wait c t x.standing) (s
 pub record HasObject (tree : Tree) (o : Objects) (m : Frames) : Type 0 where
   pub place : IsSome (line_at tree m)
   pub monitor : (op : Operation) → IsAt tree m op → action_at tree m ≡ Some Enter → (a : Addr) → top_reference m.running.stack ≡ Some a → a ≢ null → IsSome (monitor_at o a)
-  pub slot : (op : Operation) → IsAt tree m op → action_at tree m ≡ Some JoinAction → (a : Addr) → top_reference m.running.stack ≡ Some a → a ≢ null → 0 < length (slots_at o.block a)
+  pub slot : (op : Operation) → IsAt tree m op → action_at tree m ≡ Some JoinAction → (a : Addr) → top_reference m.running.stack ≡ Some a → a ≢ null → 0 < length (object_slots o a)

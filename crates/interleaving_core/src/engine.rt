@@ -11,7 +11,6 @@ ghost use Rattle.cil_model.specs.declared.events.Event.TheVariants.{Step as Step
 ghost use Rattle.threads_monitors.specs.Frames.{Frames};
 ghost use Rattle.threads_monitors.specs.Threads.{is_live, is_live_at, start_fault};
 ghost use Rattle.step_simulation.specs.simulation.interpreter.declared.outcomes.Outcome.TheVariants.{Starts as StartsOn, Joins as JoinsOn};
-ghost use Rattle.method_table.specs.Prepared.{IsMethodTable};
 ghost use Rattle.step_simulation.specs.simulation.interpreter.Instructions.{Prints};
 ghost use Rattle.step_simulation.specs.simulation.Ready.{CanFinish};
 ghost use Rattle.step_simulation.specs.simulation.Turns.{IsTurn, PrintsOrStarts, answered, counted, finish, live_thread, started, thread_for};
@@ -28,23 +27,20 @@ use cil_model::events::Event;
 use cil_model::limits::Limits;
 use cil_model::memory::NoMemory;
 use cil_model::reports::{End, Report};
-use method_table::MethodTable;
-use object_memory::{Addr, Heap, Value};
+use object_memory::Addr;
 use std::alloc::Global;
+use step_simulation::interpreter_code::loaded_code::LoadedProgram;
 use step_simulation::interpreter_code::outcomes::Outcome;
+use step_simulation::interpreter_code::stores::Store;
 use threads_monitors::{Effect, Standing, Thread, join, start, start_fault};
-use verifier::Verified;
 
-/// A program with its table of methods, and all that changes while it runs.
+/// A program, and all that changes while it runs.
 #[derive(Drop)]
 pub struct Engine {
-    pub program: Verified,
-    pub table: MethodTable,
+    pub program: LoadedProgram,
     pub limits: Limits,
     pub threads: Vec<Thread>,
-    pub heap: Heap,
-    pub statics: Vec<Value>,
-    pub console: Vec<u8>,
+    pub store: Store,
 }
 
 impl Engine {
@@ -52,7 +48,6 @@ impl Engine {
     pub fn step(&mut self, alloc: Global, event: Event) -> Result<Report, NoMemory>
         requires ready { CanGoOn self.old }
         ensures turns { IfOk result (λ report. IsTurn (content_of self.old) event (content_of self.new, report)) }
-        ensures table { IsMethodTable self.new.program self.new.table }
         ensures memory { OnErr result (PrintsOrStarts (content_of self.old) event) }
         ensures refused { OnErr result (content_of self.new ≡ content_of self.old) }
     {
@@ -69,7 +64,6 @@ impl Engine {
         requires ready { CanGoOn self.old }
         requires live { is_live_at self.old.threads.items number ≡ true }
         ensures turns { IfOk result (λ report. IsTurn (content_of self.old) (StepOf number) (content_of self.new, report)) }
-        ensures table { IsMethodTable self.new.program self.new.table }
         ensures memory { OnErr result (PrintsOrStarts (content_of self.old) (StepOf number)) }
         ensures refused { OnErr result (content_of self.new ≡ content_of self.old) }
     {
@@ -82,31 +76,24 @@ impl Engine {
         requires ready { CanGoOn self.old }
         requires live { is_live_at self.old.threads.items number ≡ true }
         ensures instructed { IfOk result (λ outcome. IsInstructed (content_of self.old) number outcome (content_of self.new)) }
-        ensures table { IsMethodTable self.new.program self.new.table }
-        ensures prints { OnErr result ((left : ℕ) (m : Frames) → slice_get self.old.threads.items number ≡ Some (live_thread left m) → Prints self.old.program number m self.old.heap self.old.statics.items self.old.console.items) }
+        ensures prints { OnErr result ((left : ℕ) (m : Frames) → slice_get self.old.threads.items number ≡ Some (live_thread left m) → Prints self.old.program number m self.old.store.heap self.old.store.statics.items self.old.store.console.items) }
         ensures refused { OnErr result (content_of self.new ≡ content_of self.old) }
     {
         instruct(
             &mut self.threads[usize::from(number)],
             number,
-            self.program.program(),
-            self.program.layout(),
-            &self.table,
-            &mut self.heap,
-            &mut self.statics,
-            &mut self.console,
+            &self.program,
+            &mut self.store,
         )
     }
 
     /// Counts the step of a live thread whose instruction came to this, and reports it. A start alone can be refused.
     fn finish(&mut self, alloc: Global, number: u8, outcome: Outcome) -> Result<Report, NoMemory>
-        requires table { IsMethodTable self.old.program self.old.table }
         requires limits { are_in_range self.old.limits ≡ true }
         requires live { is_live_at self.old.threads.items number ≡ true }
         requires can { (left : ℕ) (m : Frames) → slice_get self.old.threads.items number ≡ Some (live_thread left m) → CanFinish (content_of self.old) m outcome }
         ensures finished { IfOk result (λ report. (left : ℕ) (m : Frames) → slice_get self.old.threads.items number ≡ Some (live_thread left m) → finish (content_of self.old) number left m outcome ≡ Some (content_of self.new, report)) }
-        ensures table { IsMethodTable self.new.program self.new.table }
-        ensures free { OnErr result ((object : AnyAddr) × (outcome ≡ StartsOn object) × (start_fault self.old.threads.items self.old.heap object ≡ None)) }
+        ensures free { OnErr result ((object : AnyAddr) × (outcome ≡ StartsOn object) × (start_fault self.old.threads.items self.old.store.heap object ≡ None)) }
         ensures refused { OnErr result ((object : AnyAddr) × (outcome ≡ StartsOn object) × (content_of self.new ≡ content_of self.old)) }
     {
         match outcome {
@@ -118,13 +105,11 @@ impl Engine {
 
     /// Counts the step of a live thread that asked for a thread to start on an object, and reports it.
     fn finish_start(&mut self, alloc: Global, number: u8, object: Addr) -> Result<Report, NoMemory>
-        requires table { IsMethodTable self.old.program self.old.table }
         requires limits { are_in_range self.old.limits ≡ true }
         requires live { is_live_at self.old.threads.items number ≡ true }
         requires can { (left : ℕ) (m : Frames) → slice_get self.old.threads.items number ≡ Some (live_thread left m) → CanFinish (content_of self.old) m (StartsOn object) }
         ensures finished { IfOk result (λ report. (left : ℕ) (m : Frames) → slice_get self.old.threads.items number ≡ Some (live_thread left m) → finish (content_of self.old) number left m (StartsOn object) ≡ Some (content_of self.new, report)) }
-        ensures table { IsMethodTable self.new.program self.new.table }
-        ensures free { OnErr result (start_fault self.old.threads.items self.old.heap object ≡ None) }
+        ensures free { OnErr result (start_fault self.old.threads.items self.old.store.heap object ≡ None) }
         ensures refused { OnErr result (content_of self.new ≡ content_of self.old) }
     {
         let effect = self.start(alloc, object)?;
@@ -133,69 +118,58 @@ impl Engine {
 
     /// Counts the step of a live thread that asked for the end of another, and reports it.
     fn finish_join(&mut self, number: u8, object: Addr) -> Report
-        requires table { IsMethodTable self.old.program self.old.table }
         requires live { is_live_at self.old.threads.items number ≡ true }
         requires can { (left : ℕ) (m : Frames) → slice_get self.old.threads.items number ≡ Some (live_thread left m) → CanFinish (content_of self.old) m (JoinsOn object) }
-        ensures finished { (left : ℕ) (m : Frames) → slice_get self.old.threads.items number ≡ Some (live_thread left m) → finish (content_of self.old) number left m (JoinsOn object) ≡ Some (content_of self.new, result) }
-        ensures table { IsMethodTable self.new.program self.new.table }
+        ensures { (left : ℕ) (m : Frames) → slice_get self.old.threads.items number ≡ Some (live_thread left m) → finish (content_of self.old) number left m (JoinsOn object) ≡ Some (content_of self.new, result) }
     {
-        let effect = join(&self.threads, &self.heap, object);
+        let effect = join(&self.threads, &self.store.heap, object);
         self.answer(number, effect)
     }
 
     /// Counts a step of a live thread whose instruction came to this for the thread itself, and reports it.
     fn settle(&mut self, number: u8, effect: Effect) -> Report
-        requires table { IsMethodTable self.old.program self.old.table }
         requires live { is_live_at self.old.threads.items number ≡ true }
-        ensures counted { (left : ℕ) (m : Frames) → slice_get self.old.threads.items number ≡ Some (live_thread left m) → counted (content_of self.old) number left effect m ≡ (content_of self.new, result) }
-        ensures table { IsMethodTable self.new.program self.new.table }
+        ensures { (left : ℕ) (m : Frames) → slice_get self.old.threads.items number ≡ Some (live_thread left m) → counted (content_of self.old) number left effect m ≡ (content_of self.new, result) }
     {
         self.threads[usize::from(number)].settle(effect)
     }
 
     /// Counts the step of a live thread that asked for something of another thread, and reports it.
     fn answer(&mut self, number: u8, effect: Effect) -> Report
-        requires table { IsMethodTable self.old.program self.old.table }
         requires live { is_live_at self.old.threads.items number ≡ true }
         requires operand { (left : ℕ) (m : Frames) → slice_get self.old.threads.items number ≡ Some (live_thread left m) → 0 < length m.running.stack }
         requires behind { (left : ℕ) (m : Frames) → slice_get self.old.threads.items number ≡ Some (live_thread left m) → m.running.place < MOST_INSTRUCTIONS }
-        ensures answered { (left : ℕ) (m : Frames) → slice_get self.old.threads.items number ≡ Some (live_thread left m) → answered (content_of self.old) number left m effect ≡ (content_of self.new, result) }
-        ensures table { IsMethodTable self.new.program self.new.table }
+        ensures { (left : ℕ) (m : Frames) → slice_get self.old.threads.items number ≡ Some (live_thread left m) → answered (content_of self.old) number left m effect ≡ (content_of self.new, result) }
     {
         answer(&mut self.threads[usize::from(number)], effect)
     }
 
     /// Starts a thread on an object, or tells why there is none. `NoMemory` where there is none for its frames; nothing is changed then.
     fn start(&mut self, alloc: Global, object: Addr) -> Result<Effect, NoMemory>
-        requires table { IsMethodTable self.old.program self.old.table }
         requires limits { are_in_range self.old.limits ≡ true }
-        requires slot { object ≢ null → 0 < length (object_slots self.old.heap object) }
-        requires there { start_fault self.old.threads.items self.old.heap object ≡ None → IsSome (thread_for self.old.program self.old.limits self.old.heap object) }
-        ensures started { IfOk result (λ effect. Some (self.new.threads.items, self.new.heap, effect) ≡ started self.old.program self.old.limits self.old.threads.items self.old.heap object) }
-        ensures others { IfOk result (λ _. content_of self.new ≡ record (content_of self.old) { threads = self.new.threads.items; objects = self.new.heap }) }
-        ensures table { IsMethodTable self.new.program self.new.table }
-        ensures free { OnErr result (start_fault self.old.threads.items self.old.heap object ≡ None) }
+        requires slot { object ≢ null → 0 < length (object_slots self.old.store.heap object) }
+        requires there { start_fault self.old.threads.items self.old.store.heap object ≡ None → IsSome (thread_for self.old.program self.old.limits self.old.store.heap object) }
+        ensures started { IfOk result (λ effect. Some (self.new.threads.items, self.new.store.heap, effect) ≡ started self.old.program self.old.limits self.old.threads.items self.old.store.heap object) }
+        ensures others { IfOk result (λ _. content_of self.new ≡ record (content_of self.old) { threads = self.new.threads.items; objects = self.new.store.heap }) }
+        ensures free { OnErr result (start_fault self.old.threads.items self.old.store.heap object ≡ None) }
         ensures refused { OnErr result (content_of self.new ≡ content_of self.old) }
     {
-        if let Some(fault) = start_fault(&self.threads, &self.heap, object) {
+        if let Some(fault) = start_fault(&self.threads, &self.store.heap, object) {
             return Ok(Effect::Raises(fault));
         }
-        let beginning = beginning_on(
-            self.program.program(),
-            self.program.layout(),
-            &self.table,
-            self.limits,
-            &self.heap,
+        let beginning = beginning_on(&self.program, self.limits, &self.store.heap, object);
+        start(
+            alloc,
+            &mut self.threads,
+            &mut self.store.heap,
             object,
-        );
-        start(alloc, &mut self.threads, &mut self.heap, object, beginning)
+            beginning,
+        )
     }
 
     /// An acknowledgement of a thread. Nothing is posted until there is a collector, so it changes nothing.
     fn acknowledge(&mut self, thread: u8) -> Report
-        requires table { IsMethodTable self.old.program self.old.table }
-        ensures turns { IsTurn (content_of self.old) (AckOf thread) (content_of self.new, result) }
-        ensures table { IsMethodTable self.new.program self.new.table }
+        ensures { IsTurn (content_of self.old) (AckOf thread) (content_of self.new, result) }
     {
         if self.is_live(thread) {
             Report::NothingPosted
@@ -206,9 +180,7 @@ impl Engine {
 
     /// An event of the collector. There is none yet, so it waits.
     fn collect(&mut self) -> Report
-        requires table { IsMethodTable self.old.program self.old.table }
-        ensures turns { IsTurn (content_of self.old) GcOf (content_of self.new, result) }
-        ensures table { IsMethodTable self.new.program self.new.table }
+        ensures { IsTurn (content_of self.old) GcOf (content_of self.new, result) }
     {
         Report::Waiting
     }

@@ -141,7 +141,7 @@ impl Machine {
     pub fn console(&self) -> &[u8]
         ensures { result.now ≡ self.now.printed }
     {
-        self.engine.console.as_slice()
+        self.engine.store.console.as_slice()
     }
 
     /// How a thread ended. None where it is live or was never started.
@@ -216,7 +216,7 @@ impl Machine {
         ensures used { result ≡ (used_space self.now.objects, 0) }
         ensures space { whole_space self.now.objects ≡ self.now.limits.words }
     {
-        (self.engine.heap.used_words() as u32, 0)
+        (self.engine.store.heap.used_words() as u32, 0)
     }
 }
 

@@ -5,7 +5,6 @@ ghost use Rattle.std.specs.List.{flat_map};
 ghost use Rattle.cil_model.specs.Ranges.{are_in_range};
 ghost use Rattle.cil_model.specs.Typings.{IsAccepted};
 ghost use Rattle.cil_model.specs.Fields.{static_fields};
-ghost use Rattle.method_table.specs.Prepared.{IsMethodTable, kind_of_type};
 ghost use Rattle.object_memory.specs.Objects.{no_objects};
 ghost use Rattle.step_simulation.specs.simulation.Turns.{opening_content};
 ghost use Rattle.interleaving_core.specs.Views.{content_of};
@@ -16,11 +15,12 @@ use crate::engine::Engine;
 use cil_model::limits::{Limits, MOST_WORDS};
 use cil_model::memory::NoMemory;
 use cil_model::trees::{Class, ClassKind, Field};
-use method_table::{MethodTable, value_kind};
 use name_tables::classes::field_members;
 use object_memory::{Heap, Value};
 use space_block::Block;
 use std::alloc::Global;
+use step_simulation::interpreter_code::loaded_code::{LoadedProgram, value_kind};
+use step_simulation::interpreter_code::stores::Store;
 use threads_monitors::{Thread, zero_value};
 use verifier::Verified;
 
@@ -76,28 +76,25 @@ pub(crate) fn opened(alloc: Global, program: Verified, limits: Limits) -> Result
     requires limits { are_in_range limits ≡ true }
     ensures program { IfOk result (λ e. (e.program ≡ program) × (e.limits ≡ limits)) }
     ensures accepted { IfOk result (λ _. IsAccepted program) }
-    ensures table { IfOk result (λ e. IsMethodTable program e.table) }
     ensures alone { IfOk result (λ e. length e.threads.items ≡ 1) }
     ensures opening { IfOk result (λ e. opening_content program limits ≡ Some (content_of e)) }
 {
-    let table = MethodTable::new(alloc, program.program())?;
+    let (program, layout) = program.into_parts();
+    let program = LoadedProgram::new(alloc, program, layout)?;
     let statics = opening_statics(alloc, program.program().tree().classes.as_slice())?;
     let heap = opening_heap(alloc, limits.words, program.program().literals().len())?;
-    let entry = program.program().entry_point();
-    let first = Thread::new(
-        alloc,
-        beginning(program.program(), &table, limits, entry),
-        &[],
-    )?;
+    let entry = program.number(program.program().entry_point());
+    let first = Thread::new(alloc, beginning(&program, limits, entry), &[])?;
     let mut threads = Vec::new(alloc);
     threads.push(first)?;
     Ok(Engine {
         program,
-        table,
         limits,
         threads,
-        heap,
-        statics,
-        console: Vec::new(alloc),
+        store: Store {
+            heap,
+            statics,
+            console: Vec::new(alloc),
+        },
     })
 }

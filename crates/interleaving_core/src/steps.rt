@@ -3,50 +3,39 @@
 ghost use Rattle.std.specs.Prelude.{◌≡◌, ◌<◌, IsSome, IfOk, OnErr, length, true};
 ghost use Rattle.cil_model.specs.declared.limits.TheConstants.{MOST_INSTRUCTIONS};
 ghost use Rattle.resolved_code.specs.declared.operations.Operation.{Operation as AnyOperation};
-ghost use Rattle.class_layout.specs.Laid.{IsLayout};
-ghost use Rattle.method_table.specs.Prepared.{IsMethodTable};
 ghost use Rattle.threads_monitors.specs.Frames.{Frames};
 ghost use Rattle.threads_monitors.specs.Threads.{is_live, settled};
 ghost use Rattle.threads_monitors.specs.declared.threads.Standing.TheVariants.{Live};
 ghost use Rattle.step_simulation.specs.simulation.interpreter.Instructions.{HasSmallConstant, IsAt, IsDone, Prints, line_at, operation_turn, answer_of};
+ghost use Rattle.step_simulation.specs.simulation.interpreter.Stores.{HoldSame};
 ghost use Rattle.step_simulation.specs.simulation.Turns.{after_request};
 
 use cil_model::memory::NoMemory;
 use cil_model::reports::Report;
-use class_layout::Layout;
-use method_table::MethodTable;
-use object_memory::{Heap, Value};
-use programs::Program;
+use step_simulation::interpreter_code::loaded_code::LoadedProgram;
 use step_simulation::interpreter_code::outcomes::Outcome;
 use step_simulation::interpreter_code::places::instruction;
+use step_simulation::interpreter_code::stores::Store;
 use threads_monitors::{Effect, FrameMemory, Standing, Thread};
 
 /// The instruction at a live thread's place. `NoMemory` of a print alone, where nothing is changed.
 pub(crate) fn instruct(
     thread: &mut Thread,
     number: u8,
-    program: &Program,
-    layout: &Layout,
-    table: &MethodTable,
-    heap: &mut Heap,
-    statics: &mut [Value],
-    console: &mut Vec<u8>,
+    program: &LoadedProgram,
+    store: &mut Store,
 ) -> Result<Outcome, NoMemory>
-    requires layout { IsLayout program.now layout.now }
-    requires table { IsMethodTable program.now table.now }
     requires live { is_live thread.old ≡ true }
     requires place { (m : Frames) → thread.old.standing ≡ Live m → IsSome (line_at program.now m) }
-    requires there { (m : Frames) → thread.old.standing ≡ Live m → (op : AnyOperation) → IsAt program.now m op → HasSmallConstant op → IsSome (operation_turn program.now number op m heap.old statics.old console.old.items) }
-    ensures done { IfOk result (λ outcome. (m : Frames) → thread.old.standing ≡ Live m → (n : Frames) × (thread.new ≡ record thread.old { standing = Live n }) × IsDone program.now number m heap.old statics.old console.old.items (answer_of n heap.new statics.new console.new.items outcome)) }
-    ensures prints { OnErr result ((m : Frames) → thread.old.standing ≡ Live m → Prints program.now number m heap.old statics.old console.old.items) }
-    ensures refused { OnErr result ((thread.new ≡ thread.old) × (heap.new ≡ heap.old) × (statics.new ≡ statics.old) × (console.new.items ≡ console.old.items)) }
+    requires there { (m : Frames) → thread.old.standing ≡ Live m → (op : AnyOperation) → IsAt program.now m op → HasSmallConstant op → IsSome (operation_turn program.now number op m store.old.heap store.old.statics.items store.old.console.items) }
+    ensures done { IfOk result (λ outcome. (m : Frames) → thread.old.standing ≡ Live m → (n : Frames) × (thread.new ≡ record thread.old { standing = Live n }) × IsDone program.now number m store.old.heap store.old.statics.items store.old.console.items (answer_of n store.new.heap store.new.statics.items store.new.console.items outcome)) }
+    ensures prints { OnErr result ((m : Frames) → thread.old.standing ≡ Live m → Prints program.now number m store.old.heap store.old.statics.items store.old.console.items) }
+    ensures refused { OnErr result ((thread.new ≡ thread.old) × HoldSame store.old store.new) }
 {
     let Standing::Live(frames) = &mut thread.standing else {
         unreachable!()
     };
-    instruction(
-        program, layout, table, number, frames, heap, statics, console,
-    )
+    instruction(program, number, frames, store)
 }
 
 /// Takes the operand of what was asked for, once that is done, and goes on to the instruction behind. Otherwise all stays.

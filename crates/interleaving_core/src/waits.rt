@@ -3,27 +3,22 @@
 ghost use Rattle.std.specs.Prelude.{◌≡◌, ◌≢◌, ◌<◌, ◌≤◌, IsSome, length, option_map, true};
 ghost use Rattle.cil_model.specs.declared.limits.TheConstants.{MOST_THREADS};
 ghost use Rattle.resolved_code.specs.declared.operations.Operation.{Operation as AnyOperation};
-ghost use Rattle.object_memory.specs.Cells.{null, slots_at};
-ghost use Rattle.object_memory.specs.Objects.{monitor_at};
-ghost use Rattle.method_table.specs.Prepared.{IsMethodTable, action_named};
-ghost use Rattle.step_simulation.specs.simulation.interpreter.Calls.{class_at, top_reference};
+ghost use Rattle.object_memory.specs.Cells.{null};
+ghost use Rattle.object_memory.specs.Objects.{monitor_at, object_slots};
+ghost use Rattle.step_simulation.specs.simulation.loaded_program.Prepared.{action_named};
+ghost use Rattle.step_simulation.specs.simulation.interpreter.Calls.{top_reference};
 ghost use Rattle.step_simulation.specs.simulation.interpreter.Instructions.{IsAt, line_at};
-ghost use Rattle.threads_monitors.specs.Threads.{is_live_at, thread_on};
 ghost use Rattle.interleaving_core.specs.Views.{content_of};
-ghost use Rattle.interleaving_core.specs.Waits.{HasObject, action_at, called_member, class_of_object, join_wait, monitor_wait, wait_in};
+ghost use Rattle.interleaving_core.specs.Waits.{HasObject, action_at, called_member, join_wait, monitor_wait, wait_in};
 
 use crate::engine::Engine;
-use method_table::{Action, MethodTable};
 use name_tables::lookups::MemberNumber;
-use name_tables::numbers::STRING;
-use object_memory::{Addr, Heap, Kind, Monitor, Value};
-use programs::Program;
+use object_memory::{Addr, Heap, Monitor, Value};
 use resolved_code::operations::Operation;
+use step_simulation::interpreter_code::calls::class_number;
+use step_simulation::interpreter_code::loaded_code::{Action, LoadedProgram};
 use step_simulation::interpreter_code::places::operation_at;
-use threads_monitors::{FrameMemory, Thread};
-
-/// The slot of a `Cilvm.Thread` that tells the thread which was started on it: its number and one, or 0 (this profile).
-const THREAD_SLOT: u32 = 0;
+use threads_monitors::{FrameMemory, Thread, is_live, thread_on};
 
 /// What a live thread waits for whose next step is blocked.
 #[derive(Clone, Copy, Debug, PartialEq, Eq)]
@@ -53,15 +48,14 @@ fn called_member(operation: &Operation) -> Option<MemberNumber>
 }
 
 /// The built-in member that the running frame is about to call, by what it does. None where its next instruction calls no such member.
-fn action_at(program: &Program, table: &MethodTable, frames: &FrameMemory) -> Option<Action>
-    requires table { IsMethodTable program.now table.now }
+fn action_at(program: &LoadedProgram, frames: &FrameMemory) -> Option<Action>
     requires place { IsSome (line_at program.now frames.now) }
     ensures action { option_map action_named result ≡ action_at program.now frames.now }
     ensures at { (operation : AnyOperation) × IsAt program.now frames.now operation }
 {
-    let operation = operation_at(program, table, frames);
+    let operation = operation_at(program, frames);
     let method = called_member(operation)?;
-    table.method(table.number(method))?.action
+    program.method(program.number(method)).action
 }
 
 /// The topmost value of the running frame's stack, where it is a reference. None where there is none.
@@ -77,20 +71,6 @@ fn top_reference(frames: &FrameMemory) -> Option<Addr>
     }
 }
 
-/// The number of an object's class. None of an array.
-fn class_of_object(heap: &Heap, object: Addr) -> Option<usize>
-    requires { IsSome (class_at heap.now object) }
-    ensures { result ≡ class_of_object heap.now object }
-{
-    match object.literal_number() {
-        Some(_) => Some(STRING),
-        None => match heap.kind(object) {
-            Kind::Instance(class) => Some(usize::from(class)),
-            Kind::Array(_) => None,
-        },
-    }
-}
-
 /// What a thread waits for that is about to enter the monitor of an object. None where the monitor is free or the thread's own, and of
 /// null.
 fn monitor_wait(heap: &Heap, thread: u8, object: Addr) -> Option<Wait>
@@ -102,32 +82,17 @@ fn monitor_wait(heap: &Heap, thread: u8, object: Addr) -> Option<Wait>
     }
     match heap.monitor(object) {
         Monitor::Held { owner, .. } if owner != thread => Some(Wait::Monitor {
-            class: class_of_object(heap, object),
+            class: class_number(heap, object),
             owner,
         }),
         _ => None,
     }
 }
 
-/// The thread that was started on an object. None where none was.
-fn thread_on(heap: &Heap, object: Addr) -> Option<u64>
-    requires { 0 < length (slots_at heap.now.block object) }
-    ensures { result ≡ thread_on heap.now object }
-{
-    heap.slot(object, THREAD_SLOT).checked_sub(1)
-}
-
-/// Whether the thread of a number was started and has not ended.
-fn is_live(threads: &[Thread], number: u64) -> bool
-    ensures { result ≡ is_live_at threads.now number }
-{
-    threads.get(number as usize).is_some_and(Thread::is_live)
-}
-
 /// What a thread waits for that is about to wait for the end of the thread of an object. None where none was started on it or that has
 /// ended, and of null.
 fn join_wait(threads: &[Thread], heap: &Heap, object: Addr) -> Option<Wait>
-    requires slot { object ≢ null → 0 < length (slots_at heap.now.block object) }
+    requires slot { object ≢ null → 0 < length (object_slots heap.now object) }
     requires few { length threads.now ≤ MOST_THREADS }
     ensures { result ≡ join_wait threads.now heap.now object }
 {
@@ -144,15 +109,14 @@ fn join_wait(threads: &[Thread], heap: &Heap, object: Addr) -> Option<Wait>
 
 /// What a live thread with these frames waits for.
 pub(crate) fn wait_in(engine: &Engine, thread: u8, frames: &FrameMemory) -> Option<Wait>
-    requires table { IsMethodTable engine.now.program engine.now.table }
-    requires object { HasObject engine.now.program engine.now.heap frames.now }
+    requires object { HasObject engine.now.program engine.now.store.heap frames.now }
     requires few { length engine.now.threads.items ≤ MOST_THREADS }
     ensures { result ≡ wait_in (content_of engine.now) thread frames.now }
 {
-    let program = engine.program.program();
-    match action_at(program, &engine.table, frames)? {
-        Action::Enter => monitor_wait(&engine.heap, thread, top_reference(frames)?),
-        Action::Join => join_wait(&engine.threads, &engine.heap, top_reference(frames)?),
+    let heap = &engine.store.heap;
+    match action_at(&engine.program, frames)? {
+        Action::Enter => monitor_wait(heap, thread, top_reference(frames)?),
+        Action::Join => join_wait(&engine.threads, heap, top_reference(frames)?),
         _ => None,
     }
 }

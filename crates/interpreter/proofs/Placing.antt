@@ -1,5 +1,5 @@
 -- The resolved instruction at a frame's place.
-use Rattle.std.proofs.Common.{◌≡◌, ◌<◌, ℕ, zero, suc, List, [], ◌∷◌, length, Option, Some, None, option_and_then, refl, sym, ap, ◌∙◌, subst, arith}
+use Rattle.std.proofs.Common.{◌≡◌, [], Option, Some, None, option_map, option_and_then, Bor, refl, sym, ap, ◌∙◌, subst}
 use Rattle.std.specs.Prelude.{IsSome, is_some, slice_get}
 use Rattle.std.specs.Option.{option_map_or}
 use Rattle.cil_model.specs.declared.types.ClassName.{ClassName}
@@ -9,10 +9,15 @@ use Rattle.cil_model.specs.declared.trees.Line.{Line}
 use Rattle.cil_model.specs.declared.trees.Method.{Method}
 use Rattle.cil_model.specs.Bodies.{code_of, lines_of}
 use Rattle.cil_model.proofs.Lists.{none_is_some}
-use Rattle.resolved_code.specs.Resolved.{IsOperation, IsBody, BothAlike}
+use Rattle.name_tables.specs.declared.lookups.MemberNumber.{MemberNumber}
+use Rattle.name_tables.specs.Numbers.{method_at}
+use Rattle.resolved_code.specs.Resolved.{IsOperation, IsBody, IsResolvedMethod, BothAlike}
 use Rattle.resolved_code.specs.declared.classes.Body.{Body}
+use Rattle.resolved_code.specs.declared.classes.ResolvedMethod.{ResolvedMethod}
 use Rattle.resolved_code.specs.declared.operations.Operation.{Operation}
+use Rattle.programs.specs.Contents.{IsMethodOf}
 use Rattle.programs.proofs.MemberLaws.{alike_at}
+use Rattle.loaded_program.proofs.OperandLaws.{alike_both, alike_none}
 use Rattle.threads_monitors.specs.Frames.{Frames}
 use Rattle.interpreter.specs.Instructions.{IsAt, method_of, line_at}
 
@@ -21,6 +26,23 @@ alike_some : {X Y : Type 0} (R : X → Y → Type 0) (x : Option X) (y : Option 
 alike_some R (Some x) (Some y) a alike e = let same : x ≡ a = cc in (y, refl, subst (λ z. R z y) same alike)
 alike_some R (Some x) None a alike e = elim alike [ ]
 alike_some R None y a alike e = none_is_some a e
+
+-- the resolved method of a number that a method has
+module _ (tree t : Tree) (same : t ≡ tree) (n : MemberNumber) (found : ClassName × Method) (there : method_at tree (n.class, n.place) ≡ Some found) (result : Option (Bor ResolvedMethod)) where
+  abbrev resolves : ClassName × Method → ResolvedMethod → Type 0
+  resolves named method = IsResolvedMethod tree named.1 method
+
+  abbrev read : Option ResolvedMethod
+  read = option_map (λ (r : Bor ResolvedMethod). r.now) result
+
+  told : IsMethodOf t n read → BothAlike resolves (method_at tree (n.class, n.place)) read
+  told is = subst (λ (x : Tree). IsMethodOf x n read) same is
+
+  pub method_is_there : IsMethodOf t n read → result ≡ None → ⊥
+  method_is_there is none = alike_none resolves (method_at tree (n.class, n.place)) read found (told is) there (ap (option_map (λ (r : Bor ResolvedMethod). r.now)) none)
+
+  pub method_is_resolved : IsMethodOf t n read → (method : Bor ResolvedMethod) → result ≡ Some method → IsResolvedMethod tree found.1 method.now
+  method_is_resolved is method some = alike_both resolves (method_at tree (n.class, n.place)) read found method.now (told is) there (ap (option_map (λ (r : Bor ResolvedMethod). r.now)) some)
 
 module _ (tree : Tree) (m : Frames) where
   -- the method and the line

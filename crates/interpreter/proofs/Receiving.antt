@@ -1,52 +1,96 @@
--- The object on which a virtual call is made.
-use Rattle.std.proofs.Common.{◌≡◌, ◌==◌, ℕ, Bool, true, false, if◌then◌else◌, List, Option, Some, None, length, refl, ap, ◌∙◌}
-use Rattle.std.specs.Prelude.{IsSome, is_some}
+-- The object on which a virtual call is made, and the method that it runs.
+use Rattle.std.proofs.Common.{◌≡◌, ◌==◌, ℕ, Bool, true, false, if◌then◌else◌, List, Option, Some, option_and_then, ap, sym, ◌∙◌, subst}
+use Rattle.std.specs.Prelude.{IsSome, is_some, slice_get}
 use Rattle.cil_model.specs.declared.types.ClassName.{ClassName}
 use Rattle.cil_model.specs.declared.trees.Tree.{Tree}
 use Rattle.cil_model.specs.declared.trees.Method.{Method}
 use Rattle.cil_model.specs.declared.reports.Fault.TheVariants.{NullReference}
-use Rattle.cil_model.specs.Bodies.{argument_types}
-use Rattle.name_tables.specs.declared.lookups.MemberNumber.{MemberNumber}
-use Rattle.name_tables.specs.Numbers.{method_at}
 use Rattle.object_memory.specs.declared.addresses.Addr.{Addr}
 use Rattle.object_memory.specs.Objects.{Objects}
+use Rattle.loaded_program.specs.AllMethods.{all_methods}
+use Rattle.loaded_program.specs.Loaded.{target_in}
+use Rattle.loaded_program.proofs.OperandLaws.{then_some}
 use Rattle.threads_monitors.specs.Frames.{Frames}
 use Rattle.threads_monitors.specs.declared.effects.Effect.TheVariants.{Raises}
 use Rattle.instructions.specs.Frames.{given}
 use Rattle.interpreter.specs.declared.outcomes.Outcome.TheVariants.{Comes}
-use Rattle.interpreter.specs.Calls.{CallTurn, receiver, run_chosen, virtual_at, call_answer}
+use Rattle.interpreter.specs.Calls.{CallTurn, call_answer, chosen, chosen_by, class_at, receiver, run_turn}
+use Rattle.interpreter.specs.Linked.{call_numbered, virtual_numbered}
+use Rattle.interpreter.proofs.Running.{given_some}
 
-module _ (tree : Tree) (thread : ℕ) (n : MemberNumber) (m : Frames) (o : Objects) (console : List ℕ) where
+module _ (tree : Tree) (thread number operands : ℕ) (m : Frames) (o : Objects) (console : List ℕ) where
   abbrev pub null_raised : CallTurn
   null_raised = Some (call_answer m o console (Comes (Raises NullReference)))
 
-  abbrev pub received : Addr → CallTurn
-  received a = if a.number == 0 then null_raised else run_chosen tree thread a n m o console
+  abbrev runs : ClassName × Method → CallTurn
+  runs run = run_turn tree thread run m o console
+
+  abbrev pub received : ClassName × Method → Addr → CallTurn
+  received found a = if a.number == 0 then null_raised else given (chosen tree o a found) runs
 
   -- the method that is named, and the object
   pub record Receiving : Type 0 where
     pub found : ClassName × Method
     pub object : Addr
-    pub found_is : method_at tree (n.class, n.place) ≡ Some found
-    pub object_is : receiver m.running.stack (length (argument_types found.1 found.0)) ≡ Some object
-    pub whole : virtual_at tree thread n m o console ≡ received object
+    pub found_is : slice_get (all_methods tree) number ≡ Some found
+    pub object_is : receiver m.running.stack operands ≡ Some object
+    pub whole : virtual_numbered tree thread number operands m o console ≡ received found object
 
-  pub receiving : IsSome (virtual_at tree thread n m o console) → Receiving
-  receiving there = by_found (method_at tree (n.class, n.place)) refl
-    where
-      by_object : (f : ClassName × Method) (a : Option Addr) → method_at tree (n.class, n.place) ≡ Some f → receiver m.running.stack (length (argument_types f.1 f.0)) ≡ a → virtual_at tree thread n m o console ≡ given a received → Receiving
-      by_object f None at is whole = absurd (cc (ap is_some whole, there))
-      by_object f (Some a) at is whole = record { found = f; object = a; found_is = at; object_is = is; whole = whole }
+  pub receiving : IsSome (virtual_numbered tree thread number operands m o console) → Receiving
+  receiving there =
+      let found = given_some (slice_get (all_methods tree) number) (λ found. given (receiver m.running.stack operands) (received found)) there in
+      let object = given_some (receiver m.running.stack operands) (received found.0) (subst IsSome found.2 there) in
+      record { found = found.0; object = object.0; found_is = found.1; object_is = object.1; whole = found.2 ∙ object.2 }
 
-      by_found : (f : Option (ClassName × Method)) → method_at tree (n.class, n.place) ≡ f → Receiving
-      by_found None at = absurd (cc (ap is_some (ap (λ x. given x (λ (f : ClassName × Method). given (receiver m.running.stack (length (argument_types f.1 f.0))) received)) at), there))
-      by_found (Some f) at =
-          by_object f (receiver m.running.stack (length (argument_types f.1 f.0))) at refl
-          (ap (λ x. given x (λ (f : ClassName × Method). given (receiver m.running.stack (length (argument_types f.1 f.0))) received)) at)
+  module _ (there : IsSome (virtual_numbered tree thread number operands m o console)) (a : Addr) (is : receiver m.running.stack operands ≡ Some a) where
+    abbrev call : Receiving
+    call = receiving there
 
-  -- null, or an object
-  pub on_null : (a : Addr) → virtual_at tree thread n m o console ≡ received a → (a.number == 0) ≡ true → virtual_at tree thread n m o console ≡ null_raised
-  on_null a whole null = whole ∙ ap (λ (b : Bool). if b then null_raised else run_chosen tree thread a n m o console) null
+    same : virtual_numbered tree thread number operands m o console ≡ received call.found a
+    same =
+        let e = call.object_is in
+        let one : call.object ≡ a = cc in
+        call.whole ∙ ap (received call.found) one
 
-  pub on_object : (a : Addr) → virtual_at tree thread n m o console ≡ received a → (a.number == 0) ≡ false → virtual_at tree thread n m o console ≡ run_chosen tree thread a n m o console
-  on_object a whole there = whole ∙ ap (λ (b : Bool). if b then null_raised else run_chosen tree thread a n m o console) there
+    -- null
+    pub on_null : (a.number == 0) ≡ true → virtual_numbered tree thread number operands m o console ≡ null_raised
+    on_null null = same ∙ ap (λ (b : Bool). if b then null_raised else given (chosen tree o a call.found) runs) null
+
+    -- or an object: its class, and the method that runs on objects of that
+    pub record Choosing : Type 0 where
+      pub class : Option ℕ
+      pub run : ClassName × Method
+      pub class_is : class_at o a ≡ Some class
+      pub run_is : target_in tree number class ≡ Some run
+      pub whole : virtual_numbered tree thread number operands m o console ≡ runs run
+
+    pub choosing : (a.number == 0) ≡ false → Choosing
+    choosing object =
+        let whole : virtual_numbered tree thread number operands m o console ≡ given (chosen tree o a call.found) runs =
+        same ∙ ap (λ (b : Bool). if b then null_raised else given (chosen tree o a call.found) runs) object in
+        let run = given_some (chosen tree o a call.found) runs (subst IsSome whole there) in
+        let class = then_some (chosen_by tree call.found) (class_at o a) run.0 run.1 in
+        record {
+          class = class.0;
+          run = run.0;
+          class_is = class.1;
+          run_is = ap (option_and_then (λ found. chosen_by tree found class.0)) call.found_is ∙ class.2;
+          whole = whole ∙ run.2;
+        }
+
+    -- which the target is
+    pub target_runs : (object : (a.number == 0) ≡ false) (class : Option ℕ) (target : ℕ) → class_at o a ≡ Some class → slice_get (all_methods tree) target ≡ target_in tree number class
+        → virtual_numbered tree thread number operands m o console ≡ call_numbered tree thread target m o console
+    target_runs object class target class_is target_is =
+        let choice = choosing object in
+        let e = choice.class_is in
+        let one : choice.class ≡ class = cc in
+        let there : slice_get (all_methods tree) target ≡ Some choice.run = target_is ∙ ap (target_in tree number) (sym one) ∙ choice.run_is in
+        choice.whole ∙ sym (ap (λ x. given x runs) there)
+
+    pub target_there : (object : (a.number == 0) ≡ false) (class : Option ℕ) → class_at o a ≡ Some class → IsSome (target_in tree number class)
+    target_there object class class_is =
+        let choice = choosing object in
+        let e = choice.class_is in
+        let one : choice.class ≡ class = cc in
+        ap is_some (ap (target_in tree number) (sym one) ∙ choice.run_is)

@@ -1,41 +1,27 @@
 -- What runs for a method of a number, by what the method table knows of it.
-use Rattle.std.proofs.Common.{◌≡◌, ℕ, List, Option, Some, None, option_map, refl, ap, ◌∙◌, subst}
-use Rattle.std.specs.Prelude.{IsSome, length}
+use Rattle.std.proofs.Common.{◌≡◌, ℕ, List, Option, Some, None, option_map, refl, ap, ◌∙◌}
+use Rattle.std.specs.Prelude.{IsSome, length, slice_get}
 use Rattle.cil_model.specs.Bodies.{argument_types}
 use Rattle.object_memory.specs.declared.values.ValueKind.{ValueKind}
-use Rattle.method_table.specs.Prepared.{IsTableMethod}
-use Rattle.method_table.specs.declared.methods.TableMethod.{TableMethod}
+use Rattle.loaded_program.specs.Prepared.{IsTableMethod}
+use Rattle.loaded_program.specs.declared.methods.TableMethod.{TableMethod}
 use Rattle.std.specs.Option.{option_map_or}
 use Rattle.cil_model.specs.declared.types.ClassName.{ClassName}
 use Rattle.cil_model.specs.declared.trees.Tree.{Tree}
 use Rattle.cil_model.specs.declared.trees.Method.{Method}
 use Rattle.reference_machine.specs.BuiltIn.{Action, action_of}
-use Rattle.name_tables.specs.declared.lookups.MemberNumber.{MemberNumber}
-use Rattle.name_tables.specs.Numbers.{method_at}
-use Rattle.resolved_code.specs.Resolved.{BothAlike}
+pub use Rattle.loaded_program.proofs.OperandLaws.{alike_both, alike_none}
 use Rattle.object_memory.specs.Objects.{Objects}
-use Rattle.method_table.specs.MethodNumbers.{number_of}
+use Rattle.loaded_program.specs.AllMethods.{all_methods}
+use Rattle.loaded_program.specs.MethodNumbers.{number_of}
 use Rattle.threads_monitors.specs.Frames.{Frames}
 use Rattle.instructions.specs.Frames.{Turn, given}
 use Rattle.instructions.specs.ObjectTurns.{beside}
-use Rattle.instructions.specs.Calls.{call_turn}
-use Rattle.interpreter.specs.Calls.{beside_console, act_turn, called_as, run_turn, run_at}
+use Rattle.instructions.specs.Calls.{call_turn, new_object_turn, new_plain_object_turn}
+use Rattle.interpreter.specs.Calls.{beside_console, act_turn, called_as, made, run_turn}
+use Rattle.interpreter.specs.Linked.{call_numbered, made_numbered}
 
 -- ---- options
-
-module _ {X Y : Type 0} (R : X → Y → Type 0) where
-  pub alike_both : (x : Option X) (y : Option Y) (a : X) (b : Y) → BothAlike R x y → x ≡ Some a → y ≡ Some b → R a b
-  alike_both (Some x) (Some y) a b alike e f =
-      let first : x ≡ a = cc in
-      let second : y ≡ b = cc in
-      subst (λ z. R a z) second (subst (λ z. R z y) first alike)
-  alike_both None y a b alike e f = absurd (cc e)
-  alike_both (Some x) None a b alike e f = absurd (cc f)
-
-  pub alike_none : (x : Option X) (y : Option Y) (a : X) → BothAlike R x y → x ≡ Some a → y ≡ None → ⊥
-  alike_none (Some x) None a alike e f = alike
-  alike_none (Some x) (Some y) a alike e f = absurd (cc f)
-  alike_none None y a alike e f = absurd (cc e)
 
 pub there_is : {X : Type 0} (o : Option X) → IsSome o → (x : X) × (o ≡ Some x)
 there_is (Some x) there = (x, refl)
@@ -44,6 +30,11 @@ there_is None there = absurd cc
 pub mapped_there : {X Y : Type 0} (f : X → Y) (o : Option X) → IsSome (option_map f o) → IsSome o
 mapped_there f (Some x) there = refl
 mapped_there f None there = there
+
+-- what is given goes on
+pub given_some : {X R : Type 0} (o : Option X) (go : X → Option R) → IsSome (given o go) → (x : X) × (o ≡ Some x) × (given o go ≡ go x)
+given_some (Some x) go there = (x, refl, refl)
+given_some None go there = absurd cc
 
 pub given_there : {X R : Type 0} (o : Option X) (go : X → Option R) → IsSome (given o go) → IsSome o
 given_there (Some x) go there = refl
@@ -58,20 +49,35 @@ called_alike tree found entry k locals known same =
     ap (λ (x : ℕ). record { method = k; arguments = x; locals = locals }) known.arguments
     ∙ ap (λ (x : List ValueKind). record { method = k; arguments = length (argument_types found.1 found.0); locals = x }) (same ∙ known.locals)
 
-module _ (tree : Tree) (thread : ℕ) (n : MemberNumber) (found : ClassName × Method) (at : method_at tree (n.class, n.place) ≡ Some found) (m : Frames) (o : Objects) (console : List ℕ) where
-  runs_found : run_at tree thread n m o console ≡ run_turn tree thread found m o console
+module _ (tree : Tree) (thread n : ℕ) (found : ClassName × Method) (at : slice_get (all_methods tree) n ≡ Some found) (m : Frames) (o : Objects) (console : List ℕ) where
+  pub runs_found : call_numbered tree thread n m o console ≡ run_turn tree thread found m o console
   runs_found = ap (λ x. given x (λ f. run_turn tree thread f m o console)) at
 
-  pub run_acts : (a : Action) → action_of found.0 found.1 ≡ Some a → run_at tree thread n m o console ≡ act_turn tree thread a m o console
+  pub run_acts : (a : Action) → action_of found.0 found.1 ≡ Some a → call_numbered tree thread n m o console ≡ act_turn tree thread a m o console
   run_acts a is =
       runs_found
       ∙ ap (λ x. option_map_or (λ b. act_turn tree thread b m o console) x (given (number_of tree found) (λ k. beside_console console (beside o (call_turn (called_as found k) m))))) is
 
-  pub run_calls : (k : ℕ) → action_of found.0 found.1 ≡ None → number_of tree found ≡ Some k → run_at tree thread n m o console ≡ beside_console console (beside o (call_turn (called_as found k) m))
-  run_calls k is numbered =
+  pub run_calls : action_of found.0 found.1 ≡ None → number_of tree found ≡ Some n → call_numbered tree thread n m o console ≡ beside_console console (beside o (call_turn (called_as found n) m))
+  run_calls is numbered =
       runs_found
       ∙ ap (λ x. option_map_or (λ b. act_turn tree thread b m o console) x (given (number_of tree found) (λ k. beside_console console (beside o (call_turn (called_as found k) m))))) is
       ∙ ap (λ x. given x (λ k. beside_console console (beside o (call_turn (called_as found k) m)))) numbered
 
   pub call_there : (t : Turn) → IsSome (beside_console console (beside o t)) → IsSome t
   call_there t there = mapped_there _ t (mapped_there _ (beside o t) there)
+
+  module _ (class slots : ℕ) where
+    made_found : made_numbered tree class slots n m o ≡ made tree class slots found m o
+    made_found = ap (λ x. given x (λ f. made tree class slots f m o)) at
+
+    pub made_plain : (a : Action) → action_of found.0 found.1 ≡ Some a → made_numbered tree class slots n m o ≡ new_plain_object_turn class slots m o
+    made_plain a is =
+        made_found
+        ∙ ap (λ x. option_map_or (λ b. new_plain_object_turn class slots m o) x (given (number_of tree found) (λ k. new_object_turn class slots (called_as found k) m o))) is
+
+    pub made_called : action_of found.0 found.1 ≡ None → number_of tree found ≡ Some n → made_numbered tree class slots n m o ≡ new_object_turn class slots (called_as found n) m o
+    made_called is numbered =
+        made_found
+        ∙ ap (λ x. option_map_or (λ b. new_plain_object_turn class slots m o) x (given (number_of tree found) (λ k. new_object_turn class slots (called_as found k) m o))) is
+        ∙ ap (λ x. given x (λ k. new_object_turn class slots (called_as found k) m o)) numbered

@@ -1,20 +1,16 @@
 -- What runs for calls, newobj and ret, and for the built-in members (III.3.19, III.4.2, III.4.21, III.3.57, Partition IV). A rule has no
 -- answer where it is not that rule's instruction, or where an operand is missing or of another kind.
-use Rattle.std.specs.Prelude.{ℕ, zero, suc, ◌==◌, ◌^◌, Bool, false, if◌then◌else◌, nat_lt, is_some, List, ◌∷◌, length, Option, Some, None, option_map, option_and_then, slice_get}
+use Rattle.std.specs.Prelude.{ℕ, zero, suc, ◌==◌, Bool, false, if◌then◌else◌, nat_lt, is_some, List, ◌∷◌, length, Option, Some, None, option_map, option_and_then, slice_get}
 use Rattle.std.specs.Option.{option_map_or}
 use Rattle.cil_model.specs.declared.types.ClassName.{ClassName}
 use Rattle.cil_model.specs.declared.trees.Tree.{Tree}
 use Rattle.cil_model.specs.declared.trees.Method.{Method}
 use Rattle.cil_model.specs.declared.reports.Fault.TheVariants.{NullReference}
 use Rattle.cil_model.specs.Bodies.{argument_types}
-use Rattle.cil_model.specs.Chains.{is_virtual}
-use Rattle.cil_model.specs.Fields.{slot_types}
-use Rattle.cil_model.specs.Slots.{target}
 use Rattle.cil_model.specs.Mentions.{literals_of}
 use Rattle.reference_machine.specs.BuiltIn.{Action, Construct, Write, Enter, Exit, Start, Join, action_of}
 use Rattle.name_tables.specs.declared.lookups.MemberNumber.{MemberNumber}
 use Rattle.name_tables.specs.Numbers.{method_at}
-use Rattle.resolved_code.specs.Numbered.{class_name}
 use Rattle.resolved_code.specs.declared.operations.Operation.{Operation}
 use Rattle.resolved_code.specs.declared.operations.Operation.TheVariants.{Call, CallVirtual, NewObject, Return}
 use Rattle.object_memory.specs.declared.addresses.Addr.{Addr}
@@ -24,17 +20,18 @@ use Rattle.object_memory.specs.declared.values.Value.{Value}
 use Rattle.object_memory.specs.declared.values.Value.TheVariants.{Ref}
 use Rattle.object_memory.specs.Cells.{Cell, literal_number}
 use Rattle.object_memory.specs.Objects.{Objects, object_cell}
-use Rattle.method_table.specs.AllMethods.{all_methods}
-use Rattle.method_table.specs.MethodNumbers.{number_of}
-use Rattle.method_table.specs.Prepared.{local_kinds}
+use Rattle.loaded_program.specs.AllMethods.{all_methods}
+use Rattle.loaded_program.specs.MethodNumbers.{number_of}
+use Rattle.loaded_program.specs.Prepared.{local_kinds}
 use Rattle.threads_monitors.specs.Frames.{Frames}
 use Rattle.threads_monitors.specs.declared.effects.Effect.{Effect}
 use Rattle.threads_monitors.specs.declared.effects.Effect.TheVariants.{Raises}
+pub use Rattle.loaded_program.specs.Operands.{class_in, slots_at}
+pub use Rattle.loaded_program.specs.Loaded.{chosen_by}
 use Rattle.instructions.specs.Frames.{Turn, given, with_top, onward}
 use Rattle.instructions.specs.ObjectTurns.{ObjectTurn, beside}
 use Rattle.instructions.specs.Calls.{Called, call_turn, new_object_turn, new_plain_object_turn, return_turn}
 use Rattle.instructions.specs.BuiltInTurns.{enter_turn, exit_turn, write_turn}
-use Rattle.interpreter.specs.Operations.{small}
 use Rattle.interpreter.specs.declared.outcomes.Outcome.{Outcome}
 use Rattle.interpreter.specs.declared.outcomes.Outcome.TheVariants.{Comes, Starts, Joins}
 
@@ -105,11 +102,7 @@ class_of_kind (Array a) = None
 abbrev pub class_at : Objects → Addr → Option (Option ℕ)
 class_at o a = option_map_or (λ n. Some (Some 1)) (literal_number a) (option_map (λ (c : Cell). class_of_kind c.kind) (object_cell o a))
 
--- the method that runs for an object: the target for its class; on an array one that isn't virtual runs itself
-abbrev pub chosen_by : Tree → ClassName × Method → Option ℕ → Option (ClassName × Method)
-chosen_by tree found (Some n) = option_and_then (λ d. target tree d found.0 found.1) (class_name tree n)
-chosen_by tree found None = if is_virtual found.1.kind then None else Some found
-
+-- the method that runs for an object
 abbrev pub chosen : Tree → Objects → Addr → ClassName × Method → Option (ClassName × Method)
 chosen tree o a found = option_and_then (chosen_by tree found) (class_at o a)
 
@@ -136,14 +129,6 @@ virtual_at tree thread n m o console =
     given (method_at tree (n.class, n.place)) (λ found.
     given (receiver m.running.stack (length (argument_types found.1 found.0))) (λ a.
     if a.number == 0 then Some (call_answer m o console (Comes (Raises NullReference))) else run_chosen tree thread a n m o console))
-
--- the number of a member's class, of 16 bits
-abbrev pub class_in : MemberNumber → Option ℕ
-class_in n = if nat_lt n.class (2 ^ 16) then Some n.class else None
-
--- how many slots the objects of its class have
-abbrev pub slots_at : Tree → MemberNumber → Option ℕ
-slots_at tree n = option_and_then (λ c. small (length (slot_types tree c))) (class_name tree n.class)
 
 -- an object, at once where its constructor is built in (III.4.21)
 abbrev pub made : Tree → ℕ → ℕ → ClassName × Method → Frames → Objects → ObjectTurn

@@ -1,16 +1,16 @@
 -- What one instruction of a thread does to all that it may change.
-use Rattle.std.specs.Prelude.{◌≡◌, ◌<◌, ℕ, nat_lt, Bool, false, List, length, Option, Some, option_map, option_and_then, slice_get, FitsSigned}
+use Rattle.std.specs.Prelude.{◌≡◌, ◌<◌, ℕ, nat_lt, Bool, false, List, length, Option, Some, option_map, option_and_then, slice_get}
 use Rattle.std.specs.Option.{option_map_or}
-use Rattle.std.specs.Int.{w32, w64}
 use Rattle.cil_model.specs.declared.types.ClassName.{ClassName}
 use Rattle.cil_model.specs.declared.trees.Line.{Line}
 use Rattle.cil_model.specs.declared.trees.Method.{Method}
 use Rattle.cil_model.specs.Bodies.{lines_of}
 use Rattle.resolved_code.specs.Resolved.{IsOperation}
-use Rattle.method_table.specs.AllMethods.{all_methods}
+use Rattle.loaded_program.specs.AllMethods.{all_methods}
 use Rattle.cil_model.specs.declared.trees.Tree.{Tree}
 use Rattle.resolved_code.specs.declared.operations.Operation.{Operation}
 use Rattle.resolved_code.specs.declared.operations.Operation.TheVariants.{NoOperation, LoadInt32, LoadInt64, LoadNull, LoadString, LoadArgument, StoreArgument, LoadLocal, StoreLocal, Duplicate, Pop, Binary, Unary, Shift, Compare, ConvertInt32, ConvertInt64, Branch, BranchTrue, BranchFalse, BranchCompare, Switch, LoadField, StoreField, LoadStaticField, StoreStaticField, NewArray, LoadLength, LoadElementInt32, LoadElementInt64, LoadElementReference, StoreElementInt32, StoreElementInt64, StoreElementReference, CastClass, IsInstance, Call, CallVirtual, NewObject, Return}
+pub use Rattle.loaded_program.specs.Operands.{HasSmallConstant}
 use Rattle.object_memory.specs.declared.values.Value.{Value}
 use Rattle.object_memory.specs.Objects.{Objects}
 use Rattle.threads_monitors.specs.Frames.{Frames}
@@ -110,12 +110,6 @@ method_of tree m = slice_get (all_methods tree) m.running.method
 -- its line
 abbrev pub line_at : Tree → Frames → Option Line
 line_at tree m = option_and_then (λ (found : ClassName × Method). slice_get (lines_of found.1) m.running.place) (method_of tree m)
-
--- the integer of a constant has the bits of its size (III.3.40)
-abbrev pub HasSmallConstant : Operation → Type 0
-HasSmallConstant (LoadInt32 z) = FitsSigned w32 z
-HasSmallConstant (LoadInt64 z) = FitsSigned w64 z
-HasSmallConstant _ = Unit {0}
 
 -- a resolved instruction that stands for the one there
 pub record IsAt (tree : Tree) (m : Frames) (op : Operation) : Type 0 where

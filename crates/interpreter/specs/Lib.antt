@@ -3,9 +3,11 @@ pub use Rattle.reference_machine.specs as reference_machine
 pub use Rattle.name_tables.specs as name_tables
 pub use Rattle.resolved_code.specs as resolved_code
 pub use Rattle.object_memory.specs as object_memory
-pub use Rattle.method_table.specs as method_table
+pub use Rattle.loaded_program.specs as loaded_program
 pub use Rattle.threads_monitors.specs as threads_monitors
 pub use Rattle.instructions.specs as instructions
 pub mod Operations
 pub mod Calls
 pub mod Instructions
+pub mod Linked
+pub mod Stores

@@ -1,61 +1,21 @@
 -- What runs for each resolved instruction (III.3, III.4). A rule has no answer where it is not that rule's instruction, or where an operand
 -- is missing or of another kind: no verified program comes there.
-use Rattle.std.specs.Prelude.{ℕ, ◌^◌, if◌then◌else◌, nat_lt, List, Option, Some, None, option_map, option_and_then}
-use Rattle.cil_model.specs.declared.types.ClassName.{ClassName}
+use Rattle.std.specs.Prelude.{if◌then◌else◌, nat_lt, List, Option, None, option_map}
 use Rattle.cil_model.specs.declared.trees.Tree.{Tree}
-use Rattle.cil_model.specs.declared.trees.Field.{Field}
-use Rattle.cil_model.specs.Fields.{FieldKey, instance_slot, static_slot}
-use Rattle.name_tables.specs.declared.lookups.MemberNumber.{MemberNumber}
-use Rattle.name_tables.specs.Numbers.{field_at}
 use Rattle.resolved_code.specs.declared.operations.Operation.{Operation}
 use Rattle.resolved_code.specs.declared.operations.Operation.TheVariants.{NoOperation, LoadInt32, LoadInt64, LoadNull, LoadString, LoadArgument, StoreArgument, LoadLocal, StoreLocal, Duplicate, Pop, Binary, Unary, Shift, Compare, ConvertInt32, ConvertInt64, Branch, BranchTrue, BranchFalse, BranchCompare, Switch, LoadField, StoreField, LoadStaticField, StoreStaticField, NewArray, LoadLength, LoadElementInt32, LoadElementInt64, LoadElementReference, StoreElementInt32, StoreElementInt64, StoreElementReference, CastClass, IsInstance}
-use Rattle.object_memory.specs.declared.values.ValueKind.{ValueKind}
-use Rattle.method_table.specs.Prepared.{kind_of_type}
 use Rattle.object_memory.specs.declared.addresses.TheConstants.{FIRST_LITERAL}
 use Rattle.object_memory.specs.declared.values.Value.TheVariants.{Int32, Int64, Ref}
 use Rattle.object_memory.specs.Cells.{null, literal}
-use Rattle.object_memory.specs.declared.kinds.ArrayElement.{ArrayElement}
-use Rattle.object_memory.specs.declared.kinds.ElementType.{ElementType}
-use Rattle.object_memory.specs.declared.kinds.ElementType.TheVariants.{Int32 as HeldInt32, Int64 as HeldInt64, Object as HeldObject, String as HeldString, Class as HeldClass}
 use Rattle.object_memory.specs.declared.values.Value.{Value}
 use Rattle.object_memory.specs.declared.values.ValueKind.TheVariants.{Int32 as Int32Kind, Int64 as Int64Kind, Ref as RefKind}
 use Rattle.object_memory.specs.Objects.{Objects}
-use Rattle.resolved_code.specs.declared.types.NumberedElement.{NumberedElement}
-use Rattle.resolved_code.specs.declared.types.NumberedElement.TheVariants.{Int32 as NumberedInt32, Int64 as NumberedInt64, Object as NumberedObject, String as NumberedString, Class as NumberedClass}
-use Rattle.resolved_code.specs.declared.types.NumberedType.{NumberedType}
+pub use Rattle.loaded_program.specs.Operands.{small, key_at, slot_in, slot_at, static_in, static_at, held_at, element_held, array_held}
 use Rattle.instructions.specs.ObjectTurns.{ObjectTurn, load_field_turn, store_field_turn, load_length_turn, load_element_turn, store_element_turn, new_array_turn, load_static_turn, store_static_turn}
 use Rattle.instructions.specs.TypeTurns.{cast_class_turn, is_instance_turn, store_reference_turn}
 use Rattle.threads_monitors.specs.declared.effects.Effect.{Effect}
 use Rattle.threads_monitors.specs.Frames.{Frames}
 use Rattle.instructions.specs.Frames.{Turn, given, jump, onward, leaves, argument_turn, local_turn, store_argument_turn, store_local_turn, duplicate_turn, pop_turn, binary_turn, unary_turn, shift_turn, compare_turn, convert_32_turn, convert_64_turn, branch_true_turn, branch_false_turn, branch_compare_turn, switch_turn}
-
--- ---- operands
-
--- a number of 32 bits
-abbrev pub small : ℕ → Option ℕ
-small n = if nat_lt n (2 ^ 32) then Some n else None
-
--- the key of a field
-abbrev pub key_at : ClassName × Field → FieldKey
-key_at found = record { declared_in = found.0; name = found.1.name }
-
--- the slot of an instance field
-abbrev pub slot_in : Tree → ClassName × Field → Option ℕ
-slot_in tree found = if found.1.is_static then None else option_and_then small (instance_slot tree (key_at found))
-
-abbrev pub slot_at : Tree → MemberNumber → Option ℕ
-slot_at tree n = option_and_then (slot_in tree) (field_at tree (n.class, n.place))
-
--- the number of a static field
-abbrev pub static_in : Tree → ClassName × Field → Option ℕ
-static_in tree found = if found.1.is_static then option_and_then small (static_slot tree (key_at found)) else None
-
-abbrev pub static_at : Tree → MemberNumber → Option ℕ
-static_at tree n = option_and_then (static_in tree) (field_at tree (n.class, n.place))
-
--- what a field holds
-abbrev pub held_at : Tree → MemberNumber → Option ValueKind
-held_at tree n = option_map (λ (found : ClassName × Field). kind_of_type found.1.field_type) (field_at tree (n.class, n.place))
 
 -- ---- instructions that change frames alone
 
@@ -98,17 +58,6 @@ branch_rule (Switch places) m o = switch_turn places m
 branch_rule _ m o = None
 
 -- ---- instructions on objects
-
--- what an array of these elements is made by: a class's number of 16 bits, and few brackets
-abbrev pub element_held : NumberedElement → Option ElementType
-element_held NumberedInt32 = Some HeldInt32
-element_held NumberedInt64 = Some HeldInt64
-element_held NumberedObject = Some HeldObject
-element_held NumberedString = Some HeldString
-element_held (NumberedClass n) = if nat_lt n (2 ^ 16) then Some (HeldClass n) else None
-
-abbrev pub array_held : NumberedType → Option ArrayElement
-array_held t = if nat_lt t.brackets 256 then option_map (λ e. record { element = e; brackets = t.brackets }) (element_held t.element) else None
 
 -- fields (III.4.10, III.4.28)
 abbrev pub field_rule : Tree → Operation → Frames → Objects → ObjectTurn

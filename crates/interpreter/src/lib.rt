@@ -1,12 +1,10 @@
-//! Which function runs for each resolved instruction.
+//! Which function runs for each instruction of a loaded program.
 #![tactic(auto)]
 
-pub mod births;
 pub mod calls;
-pub mod dispatch;
-pub mod frame_operations;
-pub mod object_operations;
-pub mod operands;
+mod execution;
 pub mod outcomes;
 pub mod places;
-pub mod targets;
+pub mod stores;
+
+pub use loaded_program as loaded_code;

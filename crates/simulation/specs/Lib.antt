@@ -3,8 +3,9 @@ pub use Rattle.interpreter.specs.reference_machine as reference_machine
 pub use Rattle.type_soundness.specs as type_soundness
 pub use Rattle.interpreter.specs.name_tables as name_tables
 pub use Rattle.interpreter.specs.resolved_code as resolved_code
+pub use Rattle.programs.specs as programs
 pub use Rattle.interpreter.specs.object_memory as object_memory
-pub use Rattle.interpreter.specs.method_table as method_table
+pub use Rattle.interpreter.specs.loaded_program as loaded_program
 pub use Rattle.interpreter.specs.threads_monitors as threads_monitors
 pub use Rattle.interpreter.specs.instructions as instructions
 pub use Rattle.interpreter.specs as interpreter

@@ -28,7 +28,7 @@ use Rattle.interpreter.specs.object_memory.declared.values.Value.TheVariants.{In
 use Rattle.interpreter.specs.object_memory.Cells.{Cell, literal, literal_number, null}
 use Rattle.interpreter.specs.object_memory.Objects.{Objects, IsWithinSpace, AreOfOneObject, object_cell, used_space, whole_space}
 use Rattle.interpreter.specs.object_memory.Values.{value_word}
-use Rattle.interpreter.specs.method_table.AllMethods.{all_methods}
+use Rattle.interpreter.specs.loaded_program.AllMethods.{all_methods}
 use Rattle.interpreter.specs.instructions.TypeTurns.{held_type}
 use Rattle.interpreter.specs.threads_monitors.Frames.{Frame, Frames}
 use Rattle.interpreter.specs.threads_monitors.declared.threads.Standing.{Standing}

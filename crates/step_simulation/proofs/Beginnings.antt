@@ -8,7 +8,7 @@ use Rattle.instruction_simulation.specs.simulation.cil_model.declared.types.Clas
 use Rattle.instruction_simulation.specs.simulation.cil_model.Bodies.{code_of}
 use Rattle.instruction_simulation.specs.simulation.reference_machine.Values.{Value as StateValue}
 use Rattle.instruction_simulation.specs.simulation.reference_machine.Effects.{new_frame}
-use Rattle.instruction_simulation.specs.simulation.method_table.AllMethods.{all_methods}
+use Rattle.instruction_simulation.specs.simulation.loaded_program.AllMethods.{all_methods}
 use Rattle.instruction_simulation.specs.simulation.object_memory.declared.values.Value.{Value}
 use Rattle.instruction_simulation.specs.simulation.Agreement.{Agree}
 use Rattle.instruction_simulation.specs.simulation.StandsFor.{Names, IsValue, IsThread}

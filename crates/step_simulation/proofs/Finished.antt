@@ -1,5 +1,5 @@
 -- What a step leaves, by what its instruction comes to.
-use Rattle.std.proofs.Common.{◌≡◌, ◌⊎◌, ◌<◌, ◌≤◌, ◌+◌, ◌==◌, ℕ, zero, suc, Bool, true, false, nat_le, if◌then◌else◌, is_some, List, [], ◌∷◌, ◌++◌, length, Option, Some, None, option_map, option_and_then, slice_get, slice_set, refl, inl, inr, sym, ap, ◌∙◌, subst, arith, ◌-◌}
+use Rattle.std.proofs.Common.{◌≡◌, ◌⊎◌, ◌<◌, ◌≤◌, ◌+◌, ◌==◌, ℕ, Bool, true, false, nat_le, if◌then◌else◌, is_some, List, [], ◌∷◌, ◌++◌, length, Option, Some, None, option_map, option_and_then, slice_get, refl, inl, inr, sym, ap, ◌∙◌, subst, arith, ◌-◌}
 use Rattle.std.proofs.lemmas.Bool.Decides.{nat_tests}
 use Rattle.std.proofs.lemmas.List.{length-append, length-set}
 use Rattle.std.specs.Option.{option_map_or}
@@ -15,7 +15,7 @@ use Rattle.instruction_simulation.specs.simulation.cil_model.declared.types.Clas
 use Rattle.instruction_simulation.specs.simulation.object_memory.declared.addresses.Addr.{Addr}
 use Rattle.instruction_simulation.specs.simulation.object_memory.declared.values.Value.TheVariants.{Ref}
 use Rattle.instruction_simulation.specs.simulation.object_memory.Objects.{Objects, with_slot, whole_space}
-use Rattle.instruction_simulation.specs.simulation.method_table.MethodNumbers.{number_of}
+use Rattle.instruction_simulation.specs.simulation.loaded_program.MethodNumbers.{number_of}
 use Rattle.instruction_simulation.specs.simulation.threads_monitors.Frames.{Frames}
 use Rattle.instruction_simulation.specs.simulation.threads_monitors.Threads.{join_effect, start_fault, thread_on, with_start, is_live_at, wait_for}
 use Rattle.instruction_simulation.specs.simulation.threads_monitors.declared.effects.Effect.{Effect}

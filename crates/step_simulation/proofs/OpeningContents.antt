@@ -18,9 +18,9 @@ use Rattle.instruction_simulation.specs.simulation.reference_machine.Runs.{openi
 use Rattle.instruction_simulation.proofs.simulation.type_soundness.Openings.{opens, opening_typed}
 use Rattle.instruction_simulation.proofs.simulation.type_soundness.SourceLaws.{kept_from, source_is_declared}
 use Rattle.instruction_simulation.proofs.simulation.CountedOpenings.{opening_counted}
-use Rattle.instruction_simulation.specs.simulation.method_table.AllMethods.{all_methods}
-use Rattle.instruction_simulation.specs.simulation.method_table.MethodNumbers.{number_of}
-use Rattle.instruction_simulation.proofs.simulation.method_table.NumberLaws.{declared_is_numbered}
+use Rattle.instruction_simulation.specs.simulation.loaded_program.AllMethods.{all_methods}
+use Rattle.instruction_simulation.specs.simulation.loaded_program.MethodNumbers.{number_of}
+use Rattle.instruction_simulation.proofs.simulation.loaded_program.NumberLaws.{declared_is_numbered}
 use Rattle.instruction_simulation.specs.simulation.object_memory.declared.monitors.Monitor.TheVariants.{Free}
 use Rattle.instruction_simulation.specs.simulation.object_memory.Objects.{no_objects}
 use Rattle.instruction_simulation.specs.simulation.MachineContents.{Content}

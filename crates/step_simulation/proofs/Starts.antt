@@ -1,5 +1,5 @@
 -- A thread starts another alike on both machines.
-use Rattle.std.proofs.Common.{◌≡◌, ◌==◌, if◌then◌else◌, ℕ, Bool, true, false, is_some, List, [], ◌∷◌, ◌++◌, length, Option, Some, None, option_map, option_and_then, slice_get, refl, ap, ◌∙◌, subst}
+use Rattle.std.proofs.Common.{◌≡◌, ◌==◌, if◌then◌else◌, ℕ, Bool, true, false, is_some, List, [], ◌∷◌, length, Option, Some, None, option_map, option_and_then, slice_get, refl, ap, ◌∙◌, subst}
 use Rattle.std.specs.Prelude.{nat_le}
 use Rattle.instruction_simulation.specs.simulation.cil_model.declared.limits.TheConstants.{MOST_THREADS}
 use Rattle.instruction_simulation.specs.simulation.cil_model.declared.reports.Fault.{Fault}
@@ -18,9 +18,9 @@ use Rattle.instruction_simulation.specs.simulation.reference_machine.Effects.{Ef
 use Rattle.instruction_simulation.specs.simulation.reference_machine.BuiltIn.{with_thread, begin, start}
 use Rattle.instruction_simulation.specs.simulation.type_soundness.TypedStates.{AreTypedFrames}
 use Rattle.instruction_simulation.proofs.simulation.type_soundness.Running.{IsTypedEffect}
-use Rattle.instruction_simulation.specs.simulation.method_table.AllMethods.{all_methods}
-use Rattle.instruction_simulation.specs.simulation.method_table.MethodNumbers.{number_of}
-use Rattle.instruction_simulation.proofs.simulation.method_table.NumberLaws.{declared_is_numbered}
+use Rattle.instruction_simulation.specs.simulation.loaded_program.AllMethods.{all_methods}
+use Rattle.instruction_simulation.specs.simulation.loaded_program.MethodNumbers.{number_of}
+use Rattle.instruction_simulation.proofs.simulation.loaded_program.NumberLaws.{declared_is_numbered}
 use Rattle.instruction_simulation.specs.simulation.object_memory.declared.addresses.Addr.{Addr}
 use Rattle.instruction_simulation.specs.simulation.object_memory.declared.values.Value.TheVariants.{Ref}
 use Rattle.instruction_simulation.specs.simulation.threads_monitors.Frames.{Frames}

@@ -1,5 +1,5 @@
 -- Each step of a thread comes to the same on both machines.
-use Rattle.std.proofs.Common.{◌≡◌, ◌-◌, if◌then◌else◌, is_none, ℕ, zero, suc, Bool, false, List, [], ◌∷◌, Option, Some, None, slice_get, slice_set, refl, sym, ap, ◌∙◌, subst}
+use Rattle.std.proofs.Common.{◌≡◌, ◌-◌, if◌then◌else◌, is_none, ℕ, Bool, false, List, Option, Some, None, slice_get, slice_set, refl, sym, ap, ◌∙◌, subst}
 use Rattle.std.specs.Option.{option_map_or}
 use Rattle.std.proofs.lemmas.Option.{same_Some}
 use Rattle.std.proofs.lemmas.List.{set-set}

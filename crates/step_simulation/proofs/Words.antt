@@ -1,5 +1,5 @@
 -- The heap has as many words after an instruction as before.
-use Rattle.std.proofs.Common.{◌≡◌, ℕ, ◌+◌, ℤ, pos, negsuc, Bool, true, false, nat_le, ◌==◌, ◌||◌, is_some, slice_get, if◌then◌else◌, List, [], ◌∷◌, ◌++◌, length, Option, Some, None, option_map, refl, sym, subst}
+use Rattle.std.proofs.Common.{◌≡◌, ℕ, ℤ, pos, negsuc, Bool, true, false, ◌==◌, ◌||◌, is_some, slice_get, if◌then◌else◌, List, [], ◌∷◌, length, Option, Some, None, option_map, refl, sym, subst}
 use Rattle.std.specs.Prelude.{IfSome}
 use Rattle.std.specs.Option.{option_map_or}
 use Rattle.instruction_simulation.specs.simulation.cil_model.declared.types.ClassName.{ClassName}
@@ -27,7 +27,7 @@ use Rattle.instruction_simulation.specs.simulation.object_memory.Cells.{literal_
 use Rattle.instruction_simulation.proofs.simulation.object_memory.Spaces.{birth_space}
 use Rattle.instruction_simulation.specs.simulation.object_memory.Objects.{Objects, monitor_at, with_birth, with_cell, with_literal_monitor, with_monitor, with_slot, whole_space}
 use Rattle.instruction_simulation.specs.simulation.object_memory.Values.{value_in, value_word}
-use Rattle.instruction_simulation.specs.simulation.method_table.MethodNumbers.{number_of}
+use Rattle.instruction_simulation.specs.simulation.loaded_program.MethodNumbers.{number_of}
 use Rattle.instruction_simulation.specs.simulation.threads_monitors.Frames.{Frames, with_stack}
 use Rattle.instruction_simulation.specs.simulation.threads_monitors.Monitors.{with_entry, with_exit, with_monitor_or}
 use Rattle.instruction_simulation.specs.simulation.threads_monitors.declared.effects.Effect.{Effect}

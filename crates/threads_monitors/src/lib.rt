@@ -11,4 +11,4 @@ mod threads;
 pub use effects::Effect;
 pub use frames::{FrameMemory, zero_value};
 pub use monitors::{enter, exit};
-pub use threads::{Beginning, Standing, Thread, join, start, start_fault};
+pub use threads::{Beginning, Standing, Thread, is_live, join, start, start_fault, thread_on};

@@ -126,7 +126,7 @@ fn report_of(effect: Effect) -> Report
 }
 
 /// The thread that was started on an object. None where none was.
-fn thread_on(heap: &Heap, object: Addr) -> Option<u64>
+pub fn thread_on(heap: &Heap, object: Addr) -> Option<u64>
     requires there { 0 < length (object_slots heap.now object) }
     ensures { result ≡ thread_on heap.now object }
 {
@@ -197,7 +197,7 @@ pub fn join(threads: &[Thread], heap: &Heap, object: Addr) -> Effect
 }
 
 /// Whether the thread of a number was started and has not ended.
-fn is_live(threads: &[Thread], number: u64) -> bool
+pub fn is_live(threads: &[Thread], number: u64) -> bool
     ensures { result ≡ is_live_at threads.now number }
 {
     threads.get(number as usize).is_some_and(Thread::is_live)

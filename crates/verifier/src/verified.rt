@@ -56,6 +56,20 @@ impl Verified {
         &self.layout
     }
 
+    /// The program and its layout, without the typings. Takes no memory.
+    pub fn into_parts(self) -> (Program, Layout)
+        ensures program { result.0 ≡ self }
+        ensures layout { IsLayout self result.1 }
+        ensures accepted { IsAccepted self }
+    {
+        let Verified {
+            program,
+            layout,
+            ..
+        } = self;
+        (program, layout)
+    }
+
     /// The typing of a method by its number among those of the source, from 0 in source order: the stack before each instruction, the
     /// top first; none at an instruction that control never reaches. None exactly where no method has the number.
     pub fn typing(&self, method: usize) -> Option<&Typing>

@@ -4,7 +4,7 @@ use Rattle.std.specs.Prelude.{slice_get}
 use Rattle.std.proofs.lemmas.List.{take_all}
 use Rattle.std.proofs.lemmas.Option.{slice_get_read}
 use Rattle.name_tables.specs.Numbers.{source_entry}
-use Rattle.method_table.specs.AllMethods.{owned_methods}
+use Rattle.interleaving_core.specs.simulation.loaded_program.AllMethods.{owned_methods}
 use Rattle.event_trace.proofs.PlaceLaws.{Stand, class_more}
 use Rattle.event_trace.proofs.method_places.add_classes.Goals as goal
 

@@ -4,7 +4,7 @@ use Rattle.cil_model.specs.declared.types.ClassName.{ClassName}
 use Rattle.cil_model.specs.declared.trees.Tree.{Tree}
 use Rattle.cil_model.specs.Declarations.{Declaration}
 use Rattle.name_tables.specs.Numbers.{source_entry}
-use Rattle.method_table.specs.AllMethods.{owned_methods}
+use Rattle.interleaving_core.specs.simulation.loaded_program.AllMethods.{owned_methods}
 use Rattle.event_trace.proofs.PlaceLaws.{Stand}
 use Rattle.event_trace.proofs.method_places.add_classes.Given as goal
 

@@ -1,14 +1,29 @@
-use Rattle.std.proofs.Common.{Some, [], ◌∷◌, ap, sym, ◌∙◌}
+use Rattle.std.proofs.Common.{◌≡◌, Some, [], ◌∷◌, ap, sym, ◌∙◌, subst, slice_get}
+use Rattle.std.specs.Prelude.{is_some}
+use Rattle.cil_model.specs.Legality.{IsLegal}
 use Rattle.object_memory.specs.declared.values.Value.TheVariants.{Ref}
-use Rattle.step_simulation.specs.simulation.interpreter.Calls.{chosen_at}
-use Rattle.step_simulation.proofs.simulation.interpreter.Running.{there_is}
-use Rattle.step_simulation.specs.simulation.Turns.{run_member}
-use Rattle.interleaving_core.proofs.OpeningLaws.{chosen_there, thread_for_chosen}
+use Rattle.step_simulation.specs.simulation.loaded_program.AllMethods.{all_methods}
+use Rattle.interleaving_core.proofs.OpeningLaws.{begun, target_of_run, thread_for_chosen}
 use Rattle.interleaving_core.proofs.beginnings.beginning_on.Goals as goal
+
+pub class_number-class-requires : goal.class_number-class-requires
+class_number-class-requires c = ap is_some (begun c.args.program.now c.args.limits c.args.heap.now c.args.object c.requires.there).class_is
+
+pub target-method-requires : goal.target-method-requires
+target-method-requires c =
+    let run = begun c.args.program.now c.args.limits c.args.heap.now c.args.object c.requires.there in
+    ap is_some (target_of_run c.args.program.now c.args.heap.now c.args.object run c.class_number-class.result c.class_number-class.ensures c.number.result (c.number.ensures run.named run.named_is))
+
+pub beginning-requires-clause-there : goal.beginning-requires-clause-there
+beginning-requires-clause-there c =
+    let run = begun c.args.program.now c.args.limits c.args.heap.now c.args.object c.requires.there in
+    ap is_some (c.target-method.ensures ∙ target_of_run c.args.program.now c.args.heap.now c.args.object run c.class_number-class.result c.class_number-class.ensures c.number.result (c.number.ensures run.named run.named_is))
 
 pub returns-clause-begins : goal.returns-clause-begins
 returns-clause-begins c =
     let tree = c.args.program.now in
-    let found = there_is (chosen_at tree c.args.heap.now c.args.object run_member) (chosen_there tree c.args.limits c.args.heap.now c.args.object c.requires.there) in
-    let begins = c.beginning.ensures.begins found.0 (c.chosen-method.ensures ∙ found.1) in
-    thread_for_chosen tree c.requires.layout.legal c.args.limits c.args.heap.now c.args.object found.0 c.beginning.result.method found.1 begins.0 ∙ ap Some (sym (begins.1 (Ref c.args.object ∷ [])))
+    let legal : IsLegal tree = subst IsLegal c.program.ensures c.tree-legal.ensures.legal in
+    let run = begun tree c.args.limits c.args.heap.now c.args.object c.requires.there in
+    let there : slice_get (all_methods tree) c.target-method.result ≡ Some run.run =
+    c.target-method.ensures ∙ target_of_run tree c.args.heap.now c.args.object run c.class_number-class.result c.class_number-class.ensures c.number.result (c.number.ensures run.named run.named_is) in
+    thread_for_chosen tree legal c.args.limits c.args.heap.now c.args.object run.run c.target-method.result run.chosen_is there ∙ ap Some (sym (c.beginning.ensures.begins run.run there (Ref c.args.object ∷ [])))

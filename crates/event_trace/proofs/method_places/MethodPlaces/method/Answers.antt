@@ -1,7 +1,7 @@
 use Rattle.std.proofs.Common.{◌≡◌, ◌∙◌, Some, ap, map, sym}
 use Rattle.std.specs.Prelude.{option_and_then, slice_get}
 use Rattle.name_tables.specs.BuiltInTable.{built_in_entry}
-use Rattle.method_table.specs.AllMethods.{all_methods}
+use Rattle.interleaving_core.specs.simulation.loaded_program.AllMethods.{all_methods}
 use Rattle.event_trace.specs.Places.{method_by}
 use Rattle.event_trace.proofs.PlaceLaws.{at_number}
 use Rattle.event_trace.proofs.method_places.MethodPlaces.method.Goals as goal

@@ -2,7 +2,7 @@ use Rattle.std.proofs.Common.{ap, map, subst, sym}
 use Rattle.std.specs.List.{flat_map}
 use Rattle.name_tables.specs.BuiltInTable.{built_in_entry}
 use Rattle.name_tables.specs.Numbers.{source_entry}
-use Rattle.method_table.specs.AllMethods.{owned_methods}
+use Rattle.interleaving_core.specs.simulation.loaded_program.AllMethods.{owned_methods}
 use Rattle.event_trace.proofs.PlaceLaws.{Stand, all_placed}
 use Rattle.event_trace.proofs.method_places.MethodPlaces.new.Goals as goal
 

@@ -15,6 +15,6 @@ answer-requires-clause-behind c m e =
     c.requires.behind c.index_mut.result.now.steps_left m
     (reached_with c.args.self.now.threads.items c.args.number c.from.result c.from.ensures c.index_mut.result.now c.index_mut.ensures.value c.requires.live m e)
 
-pub returns-clause-answered : goal.returns-clause-answered
-returns-clause-answered c left m there =
+pub returns : goal.returns
+returns c left m there =
     answered_is (content_of c.args.self.now) c.args.number c.from.result c.from.ensures c.index_mut.result.now c.index_mut.ensures.value left m there c.answer.new.thread c.answer.result c.args.effect c.answer.ensures

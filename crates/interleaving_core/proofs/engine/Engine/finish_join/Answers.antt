@@ -12,7 +12,7 @@ answer-requires-clause-operand c left m is = (c.requires.can left m is).operand
 pub answer-requires-clause-behind : goal.answer-requires-clause-behind
 answer-requires-clause-behind c left m is = (c.requires.can left m is).behind
 
-pub returns-clause-finished : goal.returns-clause-finished
-returns-clause-finished c left m there =
+pub returns : goal.returns
+returns c left m there =
     join_finished (content_of c.args.self.now) c.args.number left m c.args.object (content_of c.answer.new.self, c.answer.result) c.join-effect.result c.deref.result.now c.join-effect.ensures c.deref.ensures.value
-    (c.answer.ensures.answered left m there)
+    (c.answer.ensures left m there)

@@ -13,25 +13,25 @@ start-requires-clause-there c = (of_live (content_of c.args.self.now) c.args.num
 
 pub answer-requires-clause-live : goal.answer-requires-clause-live
 answer-requires-clause-live c =
-    live_after c.args.self.now.program c.args.self.now.limits c.args.self.now.threads.items c.args.self.now.heap c.args.object c.args.number c.requires.live
-    (c.start.new.self.threads.items, c.start.new.self.heap, c.in_ok-effect.effect) c.in_ok-effect.ensures.started
+    live_after c.args.self.now.program c.args.self.now.limits c.args.self.now.threads.items c.args.self.now.store.heap c.args.object c.args.number c.requires.live
+    (c.start.new.self.threads.items, c.start.new.self.store.heap, c.in_ok-effect.effect) c.in_ok-effect.ensures.started
 
 pub answer-requires-clause-operand : goal.answer-requires-clause-operand
 answer-requires-clause-operand c left m is =
     (c.requires.can left m
-    (started_back c.args.self.now.program c.args.self.now.limits c.args.self.now.threads.items c.args.self.now.heap c.args.object c.args.number c.requires.live
-    (c.start.new.self.threads.items, c.start.new.self.heap, c.in_ok-effect.effect) c.in_ok-effect.ensures.started (live_thread left m) is)).0.operand
+    (started_back c.args.self.now.program c.args.self.now.limits c.args.self.now.threads.items c.args.self.now.store.heap c.args.object c.args.number c.requires.live
+    (c.start.new.self.threads.items, c.start.new.self.store.heap, c.in_ok-effect.effect) c.in_ok-effect.ensures.started (live_thread left m) is)).0.operand
 
 pub answer-requires-clause-behind : goal.answer-requires-clause-behind
 answer-requires-clause-behind c left m is =
     (c.requires.can left m
-    (started_back c.args.self.now.program c.args.self.now.limits c.args.self.now.threads.items c.args.self.now.heap c.args.object c.args.number c.requires.live
-    (c.start.new.self.threads.items, c.start.new.self.heap, c.in_ok-effect.effect) c.in_ok-effect.ensures.started (live_thread left m) is)).0.behind
+    (started_back c.args.self.now.program c.args.self.now.limits c.args.self.now.threads.items c.args.self.now.store.heap c.args.object c.args.number c.requires.live
+    (c.start.new.self.threads.items, c.start.new.self.store.heap, c.in_ok-effect.effect) c.in_ok-effect.ensures.started (live_thread left m) is)).0.behind
 
 pub returns-clause-finished : goal.returns-clause-finished
 returns-clause-finished c left m there =
-    start_finished (content_of c.args.self.now) c.args.number left m c.args.object (content_of c.answer.new.self, c.answer.result) (c.start.new.self.threads.items, c.start.new.self.heap, c.in_ok-effect.effect)
+    start_finished (content_of c.args.self.now) c.args.number left m c.args.object (content_of c.answer.new.self, c.answer.result) (c.start.new.self.threads.items, c.start.new.self.store.heap, c.in_ok-effect.effect)
     (content_of c.start.new.self) c.in_ok-effect.ensures.started c.in_ok-effect.ensures.others
-    (c.answer.ensures.answered left m
-    (started_keeps c.args.self.now.program c.args.self.now.limits c.args.self.now.threads.items c.args.self.now.heap c.args.object c.args.number (live_thread left m)
-    (c.start.new.self.threads.items, c.start.new.self.heap, c.in_ok-effect.effect) there c.in_ok-effect.ensures.started))
+    (c.answer.ensures left m
+    (started_keeps c.args.self.now.program c.args.self.now.limits c.args.self.now.threads.items c.args.self.now.store.heap c.args.object c.args.number (live_thread left m)
+    (c.start.new.self.threads.items, c.start.new.self.store.heap, c.in_ok-effect.effect) there c.in_ok-effect.ensures.started))

@@ -1,6 +1,5 @@
-use Rattle.std.proofs.Common.{◌≡◌, ◌∙◌, arith, subst, sym, true}
+use Rattle.std.proofs.Common.{◌≡◌, ◌∙◌, arith, sym, true}
 use Rattle.cil_model.specs.Ranges.{are_in_range}
-use Rattle.method_table.specs.Prepared.{IsMethodTable}
 use Rattle.interleaving_core.specs.Views.{content_of}
 use Rattle.interleaving_core.proofs.Sound.{opened_represents}
 use Rattle.interleaving_core.proofs.machine.Machine.new.Goals as goal
@@ -11,7 +10,6 @@ invariant_of-result c =
     let in_range : are_in_range c.args.limits ≡ true = sym c.are_in_range.ensures ∙ c.if-not-are_in_range.false in
     let first = opened_represents c.args.program c.args.limits c.in_ok-opened.ensures.accepted in_range (content_of e) c.in_ok-opened.ensures.opening in
     record {
-      table = subst (λ t. IsMethodTable t e.table) (sym c.in_ok-opened.ensures.program.0) c.in_ok-opened.ensures.table;
       state = first.0;
       represents = first.2;
       few = omega (arith, c.in_ok-opened.ensures.alone);

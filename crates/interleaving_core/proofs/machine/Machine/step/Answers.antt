@@ -11,7 +11,7 @@ pub step-requires : goal.step-requires
 step-requires c = record { ready = can_go_on c.self.inside.engine c.self.invariant }
 
 pub invariant_of-self : goal.invariant_of-self
-invariant_of-self c = sound_after c.self.inside.engine c.step.new.self c.self.invariant c.args.event c.step.ensures.table c.step.result c.step.ensures.turns c.step.ensures.refused
+invariant_of-self c = sound_after c.self.inside.engine c.step.new.self c.self.invariant c.args.event c.step.result c.step.ensures.turns c.step.ensures.refused
 
 pub returns-clause-follows : goal.returns-clause-follows
 returns-clause-follows c =

@@ -1,0 +1,34 @@
+-- The linked instruction at a frame's place does what the resolved one does.
+use Rattle.std.proofs.Common.{◌≡◌, ℕ, List, sym, subst}
+use Rattle.std.specs.Prelude.{IsSome}
+use Rattle.cil_model.specs.declared.trees.Tree.{Tree}
+use Rattle.resolved_code.specs.declared.operations.Operation.{Operation}
+use Rattle.object_memory.specs.declared.values.Value.{Value}
+use Rattle.object_memory.specs.Objects.{Objects}
+use Rattle.loaded_program.specs.declared.instructions.LinkedInstruction.{LinkedInstruction}
+use Rattle.loaded_program.specs.Loaded.{IsLinkedAt}
+use Rattle.threads_monitors.specs.Frames.{Frames}
+use Rattle.interpreter.specs.Instructions.{HasSmallConstant, IsAt, operation_turn}
+use Rattle.interpreter.specs.Linked.{linked_turn}
+use Rattle.interpreter.proofs.Linking.{linked_does}
+
+-- what is linked at a method and a place, where the frame is there
+pub linked_here : (tree : Tree) (m : Frames) (method place : ℕ) (l : LinkedInstruction) → method ≡ m.running.method → place ≡ m.running.place → IsLinkedAt tree method place l → IsLinkedAt tree m.running.method m.running.place l
+linked_here tree m method place l same_method same_place at = subst (λ k. IsLinkedAt tree m.running.method k l) same_place (subst (λ k. IsLinkedAt tree k place l) same_method at)
+
+module _ (tree : Tree) (m : Frames) (l : LinkedInstruction) (at : IsLinkedAt tree m.running.method m.running.place l) where
+  abbrev pub resolved : Operation
+  resolved = at.linked.operation
+
+  pub is_at : IsAt tree m resolved
+  is_at = record { found = at.found; line = at.line; found_is = at.found_is; line_is = at.line_is; stands = at.linked.stands }
+
+  pub is_small : HasSmallConstant resolved
+  is_small = at.linked.links.constant
+
+  module _ (thread : ℕ) (o : Objects) (ss : List Value) (c : List ℕ) (there : (op : Operation) → IsAt tree m op → HasSmallConstant op → IsSome (operation_turn tree thread op m o ss c)) where
+    pub does_the_same : linked_turn tree thread l m o ss c ≡ operation_turn tree thread resolved m o ss c
+    does_the_same = linked_does tree thread at.found m o ss c at.found_is resolved l at.linked.links.is (there resolved is_at is_small)
+
+    pub has_answer : IsSome (linked_turn tree thread l m o ss c)
+    has_answer = subst IsSome (sym does_the_same) (there resolved is_at is_small)

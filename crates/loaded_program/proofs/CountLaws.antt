@@ -1,0 +1,49 @@
+-- A legal tree has few methods.
+use Rattle.std.proofs.Common.{◌≡◌, ◌<◌, ◌+◌, ◌^◌, List, [], ◌∷◌, ◌++◌, length, map, refl, ap, ◌∙◌, arith, length-append}
+use Rattle.std.specs.List.{flat_map, sum_by}
+use Rattle.std.proofs.lemmas.List.{length-map}
+use Rattle.std.proofs.lemmas.List.Sums.{sum_by-cons}
+use Rattle.std.proofs.lemmas.Grind.{flat_map-append}
+use Rattle.cil_model.specs.declared.types.ClassName.{ClassName}
+use Rattle.cil_model.specs.declared.trees.Tree.{Tree}
+use Rattle.cil_model.specs.declared.trees.Class.{Class}
+use Rattle.cil_model.specs.Declarations.{Declaration, built_ins, source_name, method_members}
+use Rattle.cil_model.specs.Legality.{IsLegal}
+use Rattle.name_tables.specs.Numbers.{source_entry}
+use Rattle.resolved_code.specs.Resolved.{AllAlike, IsResolvedMethod, IsResolvedClass}
+use Rattle.resolved_code.specs.declared.classes.ResolvedClass.{ResolvedClass}
+use Rattle.resolved_code.proofs.AlikeLaws.{alike_length}
+use Rattle.programs.proofs.Limits.{source_methods_few}
+use Rattle.loaded_program.specs.AllMethods.{owned_methods, all_methods}
+use Rattle.loaded_program.proofs.FlatLaws.{owned_count}
+
+-- the methods of the source's classes
+source_counted : (cs : List Class) → length (flat_map owned_methods (map source_entry cs)) ≡ length (flat_map method_members cs)
+source_counted [] = refl
+source_counted (c ∷ cs) =
+    let first : length (owned_methods (source_entry c) ++ flat_map owned_methods (map source_entry cs)) ≡ length (owned_methods (source_entry c)) + length (flat_map owned_methods (map source_entry cs)) =
+    length-append (owned_methods (source_entry c)) (flat_map owned_methods (map source_entry cs)) in
+    let second : length (method_members c ++ flat_map method_members cs) ≡ length (method_members c) + length (flat_map method_members cs) = length-append (method_members c) (flat_map method_members cs) in
+    let own : length (owned_methods (source_entry c)) ≡ length (method_members c) = length-map (method_members c) (λ m. (source_name c, m)) in
+    omega (arith, first, second, own, source_counted cs)
+
+module _ (tree : Tree) where
+  -- with the built-in ones they are fewer than there are flat numbers
+  pub methods_few : IsLegal tree → length (all_methods tree) < 2 ^ 32
+  methods_few legal =
+      let built_in : length (flat_map owned_methods built_ins) ≡ 10 = refl in
+      let both : length (all_methods tree) ≡ length (flat_map owned_methods built_ins) + length (flat_map owned_methods (map source_entry tree.classes)) =
+      ap length (flat_map-append owned_methods built_ins (map source_entry tree.classes)) ∙ length-append (flat_map owned_methods built_ins) (flat_map owned_methods (map source_entry tree.classes)) in
+      omega (arith, built_in, both, source_counted tree.classes, source_methods_few tree legal)
+
+  -- classes by number have as many methods as those that they stand for
+  pub methods_counted : (es : List (ClassName × Declaration)) (rs : List ResolvedClass) → AllAlike (λ (e : ClassName × Declaration) r. IsResolvedClass tree e.1 r) es rs → sum_by (λ r. length r.methods) rs ≡ length (flat_map owned_methods es)
+  methods_counted [] [] h = refl
+  methods_counted (e ∷ es) (r ∷ rs) h =
+      let same : length e.1.methods ≡ length r.methods = alike_length (IsResolvedMethod tree) e.1.methods r.methods h.0.methods in
+      let own : length (owned_methods e) ≡ length e.1.methods = owned_count e in
+      let both : length (owned_methods e ++ flat_map owned_methods es) ≡ length (owned_methods e) + length (flat_map owned_methods es) = length-append (owned_methods e) (flat_map owned_methods es) in
+      let sum : sum_by (λ (c : ResolvedClass). length c.methods) (r ∷ rs) ≡ length r.methods + sum_by (λ (c : ResolvedClass). length c.methods) rs = sum_by-cons (λ (c : ResolvedClass). length c.methods) r rs in
+      omega (arith, same, own, both, sum, methods_counted es rs h.1)
+  methods_counted [] (r ∷ rs) h = absurd h
+  methods_counted (e ∷ es) [] h = absurd h

@@ -1,0 +1,154 @@
+-- Linked methods.
+use Rattle.std.proofs.Common.{◌≡◌, ◌<◌, ℕ, zero, suc, if◌then◌else◌, List, [], ◌∷◌, length, Option, Some, None, slice_get, refl, sym, ap, subst, ◌∙◌, arith}
+use Rattle.std.specs.Prelude.{IsSome}
+use Rattle.cil_model.specs.declared.types.ClassName.{ClassName}
+use Rattle.cil_model.specs.declared.trees.Tree.{Tree}
+use Rattle.cil_model.specs.declared.trees.Line.{Line}
+use Rattle.cil_model.specs.declared.trees.Method.{Method}
+use Rattle.cil_model.specs.declared.trees.MethodKind.{MethodKind}
+use Rattle.cil_model.specs.declared.trees.MethodKind.TheVariants as NamedKind
+use Rattle.cil_model.specs.declared.trees.Code.{Code}
+use Rattle.cil_model.specs.Bodies.{code_of, lines_of}
+use Rattle.std.specs.Option.{option_map_or}
+use Rattle.resolved_code.specs.Resolved.{AllAlike, IsOperation, IsResolvedKind}
+use Rattle.resolved_code.specs.declared.classes.ResolvedKind.{ResolvedKind}
+use Rattle.resolved_code.specs.declared.classes.ResolvedKind.TheVariants as KindOf
+use Rattle.resolved_code.specs.declared.operations.Operation.{Operation}
+use Rattle.loaded_program.specs.declared.instructions.LinkedInstruction.{LinkedInstruction}
+use Rattle.std.proofs.lemmas.Option.{same_Some, slice_get_within}
+use Rattle.cil_model.proofs.Lists.{none_is_some}
+use Rattle.cil_model.specs.Chains.{is_interface}
+use Rattle.cil_model.specs.Declarations.{Declaration}
+use Rattle.cil_model.specs.Slots.{target, class_target, interface_target}
+use Rattle.name_tables.specs.Numbers.{declarations}
+use Rattle.resolved_code.specs.Numbered.{class_name}
+use Rattle.loaded_program.specs.AllMethods.{all_methods}
+use Rattle.loaded_program.specs.declared.linked_methods.LinkedMethod.{LinkedMethod}
+use Rattle.loaded_program.specs.declared.linked_methods.Targets.{Targets}
+use Rattle.loaded_program.specs.declared.linked_methods.Targets.TheVariants.{Itself, ByClass}
+use Rattle.loaded_program.specs.Loaded.{AreTargets, IsLinkedAt, IsLinkedMethod, IsLinkedOperation, IsLinkedLine, IsTarget, chosen_by, has_value, line_in, operations_of, target_in, target_number}
+use Rattle.loaded_program.proofs.OperandLaws.{map_some, then_some}
+
+-- the item of the second list at a place of the first
+pub alike_from : {X Y : Type 0} (R : X → Y → Type 0) (xs : List X) (ys : List Y) (n : ℕ) (x : X) → AllAlike R xs ys → slice_get xs n ≡ Some x → (y : Y) × (slice_get ys n ≡ Some y) × R x y
+alike_from R [] ys n x alike at = absurd (cc at)
+alike_from R (z ∷ xs) [] n x alike at = absurd alike
+alike_from R (z ∷ xs) (y ∷ ys) zero x alike at = let same : z ≡ x = cc in (y, refl, subst (λ w. R w y) same alike.0)
+alike_from R (z ∷ xs) (y ∷ ys) (suc n) x alike at = alike_from R xs ys n x alike.1 at
+
+-- the lines of what a method is
+abbrev lines_in : MethodKind → List Line
+lines_in k = option_map_or (λ (code : Code). code.lines) (code_of k) []
+
+lines_alike : (tree : Tree) (k : MethodKind) (r : ResolvedKind) → IsResolvedKind tree k r → AllAlike (λ (line : Line) operation. IsOperation tree (lines_in k) line.instruction operation) (lines_in k) (operations_of r)
+lines_alike tree (NamedKind.Static code) (KindOf.Static body) is = is.operations
+lines_alike tree (NamedKind.Instance code) (KindOf.Instance body) is = is.operations
+lines_alike tree (NamedKind.Virtual b code) (KindOf.Virtual d body) is = is.1.operations
+lines_alike tree (NamedKind.Abstract b) (KindOf.Abstract d) is = tt
+lines_alike tree (NamedKind.Static code) (KindOf.Instance body) is = elim is [ ]
+lines_alike tree (NamedKind.Static code) (KindOf.Virtual d body) is = elim is [ ]
+lines_alike tree (NamedKind.Static code) (KindOf.Abstract d) is = elim is [ ]
+lines_alike tree (NamedKind.Instance code) (KindOf.Static body) is = elim is [ ]
+lines_alike tree (NamedKind.Instance code) (KindOf.Virtual d body) is = elim is [ ]
+lines_alike tree (NamedKind.Instance code) (KindOf.Abstract d) is = elim is [ ]
+lines_alike tree (NamedKind.Virtual b code) (KindOf.Static body) is = elim is [ ]
+lines_alike tree (NamedKind.Virtual b code) (KindOf.Instance body) is = elim is [ ]
+lines_alike tree (NamedKind.Virtual b code) (KindOf.Abstract d) is = elim is [ ]
+lines_alike tree (NamedKind.Abstract b) (KindOf.Static body) is = elim is [ ]
+lines_alike tree (NamedKind.Abstract b) (KindOf.Instance body) is = elim is [ ]
+lines_alike tree (NamedKind.Abstract b) (KindOf.Virtual d body) is = elim is [ ]
+
+-- the lines of a method, linked
+module _ (tree : Tree) (found : ClassName × Method) where
+  through : (lines : List Line) (operations : List Operation) (code : List LinkedInstruction) → AllAlike (λ (line : Line) operation. IsOperation tree (lines_of found.1) line.instruction operation) lines operations
+      → AllAlike (IsLinkedOperation tree (has_value found)) operations code → AllAlike (IsLinkedLine tree found) lines code
+  through [] [] [] resolved linked = tt
+  through (line ∷ lines) (operation ∷ operations) (l ∷ code) resolved linked =
+      (record { operation = operation; stands = resolved.0; links = linked.0 }, through lines operations code resolved.1 linked.1)
+  through [] (operation ∷ operations) code resolved linked = absurd resolved
+  through (line ∷ lines) [] code resolved linked = absurd resolved
+  through [] [] (l ∷ code) resolved linked = absurd linked
+  through (line ∷ lines) (operation ∷ operations) [] resolved linked = absurd linked
+
+  pub linked_lines : (r : ResolvedKind) (code : List LinkedInstruction) → IsResolvedKind tree found.1.kind r → AllAlike (IsLinkedOperation tree (has_value found)) (operations_of r) code → AllAlike (IsLinkedLine tree found) (lines_of found.1) code
+  linked_lines r code is linked = through (lines_of found.1) (operations_of r) code (lines_alike tree found.1.kind r is) linked
+
+-- ---- what is found
+
+pub some_of : {X : Type 0} (o : Option X) → IsSome o → (x : X) × (o ≡ Some x)
+some_of (Some x) there = (x, refl)
+some_of None there = absurd cc
+
+pub there_at : {X : Type 0} (xs : List X) (n : ℕ) → n < length xs → (x : X) × (slice_get xs n ≡ Some x)
+there_at [] n within = absurd (omega arith)
+there_at (x ∷ xs) zero within = (x, refl)
+there_at (x ∷ xs) (suc n) within = there_at xs n (omega arith)
+
+-- the line at a place of a method, linked
+module _ (tree : Tree) (methods : List LinkedMethod) (linked : AllAlike (IsLinkedMethod tree) (all_methods tree) methods) (number : ℕ) where
+  pub method_found : (found : ClassName × Method) → slice_get (all_methods tree) number ≡ Some found → (method : LinkedMethod) × (slice_get methods number ≡ Some method) × IsLinkedMethod tree found method
+  method_found found at = alike_from (IsLinkedMethod tree) (all_methods tree) methods number found linked at
+
+  -- a method and its line
+  pub record Lined (place : ℕ) : Type 0 where
+    pub found : ClassName × Method
+    pub line : Line
+    pub found_is : slice_get (all_methods tree) number ≡ Some found
+    pub line_is : slice_get (lines_of found.1) place ≡ Some line
+
+  pub lined : (place : ℕ) → IsSome (line_in tree number place) → Lined place
+  lined place there =
+      let line = some_of (line_in tree number place) there in
+      let found = then_some (λ (found : ClassName × Method). slice_get (lines_of found.1) place) (slice_get (all_methods tree) number) line.0 line.1 in
+      record { found = found.0; line = line.0; found_is = found.1; line_is = found.2 }
+
+  pub is_linked_at : (place : ℕ) (here : Lined place) (method : LinkedMethod) (l : LinkedInstruction) → slice_get methods number ≡ Some method → slice_get method.code.items place ≡ Some l → IsLinkedAt tree number place l
+  is_linked_at place here method l method_is l_is =
+      let known = method_found here.found here.found_is in
+      let same : known.0 ≡ method = same_Some known.0 method (sym known.1 ∙ method_is) in
+      let code : AllAlike (IsLinkedLine tree here.found) (lines_of here.found.1) method.code.items = subst (λ (m : LinkedMethod). AllAlike (IsLinkedLine tree here.found) (lines_of here.found.1) m.code.items) same known.2.code in
+      let line = alike_from (IsLinkedLine tree here.found) (lines_of here.found.1) method.code.items place here.line code here.line_is in
+      record { found = here.found; line = here.line; found_is = here.found_is; line_is = here.line_is; linked = subst (IsLinkedLine tree here.found here.line) (same_Some line.0 l (sym line.1 ∙ l_is)) line.2 }
+
+  -- the place is within the code
+  pub within_code : (place : ℕ) (here : Lined place) (method : LinkedMethod) → slice_get methods number ≡ Some method → place < length method.code.items
+  within_code place here method method_is =
+      let known = method_found here.found here.found_is in
+      let same : known.0 ≡ method = same_Some known.0 method (sym known.1 ∙ method_is) in
+      let code : AllAlike (IsLinkedLine tree here.found) (lines_of here.found.1) method.code.items = subst (λ (m : LinkedMethod). AllAlike (IsLinkedLine tree here.found) (lines_of here.found.1) m.code.items) same known.2.code in
+      let line = alike_from (IsLinkedLine tree here.found) (lines_of here.found.1) method.code.items place here.line code here.line_is in
+      slice_get_within method.code.items place line.0 line.1
+
+  -- ---- targets
+
+  -- what is found runs
+  by_targets : (found : ClassName × Method) (class : Option ℕ) (targets : Targets) → slice_get (all_methods tree) number ≡ Some found → AreTargets tree found targets → (run : ClassName × Method) → chosen_by tree found class ≡ Some run
+      → (target : ℕ) × (target_number targets number class ≡ Some target) × (slice_get (all_methods tree) target ≡ Some run)
+  by_targets found None Itself at plain run e =
+      let same : found ≡ run = same_Some found run (sym (ap (λ b. if b then None else Some found) plain) ∙ e) in
+      (number, refl, at ∙ ap Some same)
+  by_targets found None (ByClass row) at targets run e = absurd (none_is_some run (sym (ap (λ b. if b then None else Some found) targets.0) ∙ e))
+  by_targets found (Some n) Itself at plain run e =
+      let class = then_some (λ d. target tree d found.0 found.1) (class_name tree n) run e in
+      let same : found ≡ run = same_Some found run (sym (ap (λ b. if b then (if is_interface tree found.0 then interface_target tree found.1.name found.1.signature class.0 found.0 else class_target tree found.1.name found.1.signature class.0 found.0) else Some found) plain) ∙ class.2) in
+      (number, refl, at ∙ ap Some same)
+  by_targets found (Some n) (ByClass row) at targets run e =
+      let class = then_some (λ d. target tree d found.0 found.1) (class_name tree n) run e in
+      let entry = map_some (λ (e : ClassName × Declaration). e.0) (slice_get (declarations tree) n) class.0 class.1 in
+      let known = alike_from (λ (e : ClassName × Declaration) number. IsTarget tree found e.0 number) (declarations tree) row.items n entry.0 targets.1 entry.1 in
+      (known.0, known.1, known.2 run (ap (λ d. target tree d found.0 found.1) entry.2 ∙ class.2))
+
+  pub record Targeted (class : Option ℕ) : Type 0 where
+    pub method : LinkedMethod
+    pub target : ℕ
+    pub method_is : slice_get methods number ≡ Some method
+    pub target_is : target_number method.targets number class ≡ Some target
+    pub runs : slice_get (all_methods tree) target ≡ target_in tree number class
+
+  pub targeted : (class : Option ℕ) → IsSome (target_in tree number class) → Targeted class
+  targeted class there =
+      let run = some_of (target_in tree number class) there in
+      let found = then_some (λ (found : ClassName × Method). chosen_by tree found class) (slice_get (all_methods tree) number) run.0 run.1 in
+      let method = method_found found.0 found.1 in
+      let target = by_targets found.0 class method.0.targets found.1 method.2.targets run.0 found.2 in
+      record { method = method.0; target = target.0; method_is = method.1; target_is = target.1; runs = target.2 ∙ sym run.1 }

@@ -1,0 +1,105 @@
+-- What a loaded program holds.
+use Rattle.std.specs.Prelude.{◌≡◌, ℕ, Bool, true, false, if◌then◌else◌, List, [], is_some, Option, Some, None, option_and_then, slice_get}
+use Rattle.cil_model.specs.declared.types.ClassName.{ClassName}
+use Rattle.cil_model.specs.declared.trees.Tree.{Tree}
+use Rattle.cil_model.specs.declared.trees.Line.{Line}
+use Rattle.cil_model.specs.declared.trees.Method.{Method}
+use Rattle.cil_model.specs.Bodies.{lines_of}
+use Rattle.cil_model.specs.Chains.{is_virtual}
+use Rattle.cil_model.specs.Declarations.{Declaration}
+use Rattle.cil_model.specs.Slots.{target}
+use Rattle.name_tables.specs.Numbers.{declarations}
+use Rattle.resolved_code.specs.Resolved.{AllAlike, IsOperation}
+use Rattle.resolved_code.specs.Numbered.{class_name}
+use Rattle.resolved_code.specs.declared.classes.ResolvedKind.{ResolvedKind}
+use Rattle.resolved_code.specs.declared.classes.ResolvedKind.TheVariants.{Static, Instance, Virtual, Abstract}
+use Rattle.resolved_code.specs.declared.operations.Operation.{Operation}
+use Rattle.class_layout.specs.declared.layout.Layout.{Layout}
+use Rattle.class_layout.specs.Laid.{IsLayout}
+use Rattle.loaded_program.specs.AllMethods.{all_methods}
+use Rattle.loaded_program.specs.declared.table.MethodTable.{MethodTable}
+use Rattle.loaded_program.specs.Prepared.{IsMethodTable}
+use Rattle.loaded_program.specs.declared.instructions.LinkedInstruction.{LinkedInstruction}
+use Rattle.loaded_program.specs.declared.linker.Linker.{Linker}
+use Rattle.loaded_program.specs.declared.linked_methods.LinkedMethod.{LinkedMethod}
+use Rattle.loaded_program.specs.declared.linked_methods.Targets.{Targets}
+use Rattle.loaded_program.specs.declared.linked_methods.Targets.TheVariants.{Itself, ByClass}
+use Rattle.loaded_program.specs.Operands.{HasSmallConstant}
+use Rattle.loaded_program.specs.Links.{IsLinked}
+
+-- what instructions are linked by is of one program
+pub record CanLink (linker : Linker) : Type 0 where
+  pub laid_out : IsLayout linker.program.now linker.layout.now
+  pub numbered : IsMethodTable linker.program.now linker.table.now
+
+-- the resolved instructions of a method; none where it has no code (II.15.4.2)
+abbrev pub operations_of : ResolvedKind → List Operation
+operations_of (Static body) = body.operations
+operations_of (Instance body) = body.operations
+operations_of (Virtual is_new_slot body) = body.operations
+operations_of (Abstract is_new_slot) = []
+
+-- whether a method returns a value (II.15.3)
+abbrev pub has_value : ClassName × Method → Bool
+has_value found = is_some found.1.signature.return_type
+
+-- a resolved instruction, linked
+pub record IsLinkedOperation (tree : Tree) (has_value : Bool) (operation : Operation) (linked : LinkedInstruction) : Type 0 where
+  pub constant : HasSmallConstant operation
+  pub is : IsLinked tree has_value operation linked
+
+-- the resolved instruction that stands for a line of a method, linked
+pub record IsLinkedLine (tree : Tree) (found : ClassName × Method) (line : Line) (linked : LinkedInstruction) : Type 0 where
+  pub operation : Operation
+  pub stands : IsOperation tree (lines_of found.1) line.instruction operation
+  pub links : IsLinkedOperation tree (has_value found) operation linked
+
+-- the number of the method that runs on objects of a class in the place of a method, where one does (II.10.3, II.12.2)
+abbrev pub IsTarget : Tree → ClassName × Method → ClassName → ℕ → Type 0
+IsTarget tree found class number = (run : ClassName × Method) → target tree class found.0 found.1 ≡ Some run → slice_get (all_methods tree) number ≡ Some run
+
+-- which method runs in the place of a method: itself where it is not virtual, else one for each class
+abbrev pub AreTargets : Tree → ClassName × Method → Targets → Type 0
+AreTargets tree found Itself = is_virtual found.1.kind ≡ false
+AreTargets tree found (ByClass row) = (is_virtual found.1.kind ≡ true) × AllAlike (λ (e : ClassName × Declaration) number. IsTarget tree found e.0 number) (declarations tree) row.items
+
+-- the number that is found there for a method, where it is called on an object of a class, or on an array, which has none
+abbrev pub target_number : Targets → ℕ → Option ℕ → Option ℕ
+target_number Itself method class = Some method
+target_number (ByClass row) method None = Some method
+target_number (ByClass row) method (Some n) = slice_get row.items n
+
+-- a method, linked
+pub record IsLinkedMethod (tree : Tree) (found : ClassName × Method) (method : LinkedMethod) : Type 0 where
+  pub code : AllAlike (IsLinkedLine tree found) (lines_of found.1) method.code.items
+  pub targets : AreTargets tree found method.targets
+
+-- a loaded program
+pub record IsLoaded (tree : Tree) (layout : Layout) (table : MethodTable) (methods : List LinkedMethod) : Type 0 where
+  pub laid_out : IsLayout tree layout
+  pub numbered : IsMethodTable tree table
+  pub linked : AllAlike (IsLinkedMethod tree) (all_methods tree) methods
+
+-- ---- what is found
+
+-- the line at a place of the method with a flat number
+abbrev pub line_in : Tree → ℕ → ℕ → Option Line
+line_in tree method place = option_and_then (λ (found : ClassName × Method). slice_get (lines_of found.1) place) (slice_get (all_methods tree) method)
+
+-- the linked instruction there
+pub record IsLinkedAt (tree : Tree) (method place : ℕ) (instruction : LinkedInstruction) : Type 0 where
+  pub found : ClassName × Method
+  pub line : Line
+  pub found_is : slice_get (all_methods tree) method ≡ Some found
+  pub line_is : slice_get (lines_of found.1) place ≡ Some line
+  pub linked : IsLinkedLine tree found line instruction
+
+-- the method that runs in the place of another on an object of the class of a number, or on an array, which has none: a method that is not virtual
+-- runs itself (III.4.2)
+abbrev pub chosen_by : Tree → ClassName × Method → Option ℕ → Option (ClassName × Method)
+chosen_by tree found (Some n) = option_and_then (λ d. target tree d found.0 found.1) (class_name tree n)
+chosen_by tree found None = if is_virtual found.1.kind then None else Some found
+
+-- the same of the method of a flat number
+abbrev pub target_in : Tree → ℕ → Option ℕ → Option (ClassName × Method)
+target_in tree method class = option_and_then (λ found. chosen_by tree found class) (slice_get (all_methods tree) method)

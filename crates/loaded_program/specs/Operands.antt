@@ -1,0 +1,72 @@
+-- What operands of resolved instructions come to: slots, numbers and kinds. None where an operand stands for nothing, or is no number of the
+-- size that a step takes: no verified program has such a one.
+use Rattle.std.specs.Prelude.{ℕ, ◌^◌, if◌then◌else◌, nat_lt, length, Option, Some, None, option_map, option_and_then, FitsSigned}
+use Rattle.std.specs.Int.{w32, w64}
+use Rattle.cil_model.specs.declared.types.ClassName.{ClassName}
+use Rattle.cil_model.specs.declared.trees.Tree.{Tree}
+use Rattle.cil_model.specs.declared.trees.Field.{Field}
+use Rattle.cil_model.specs.Fields.{FieldKey, instance_slot, static_slot, slot_types}
+use Rattle.name_tables.specs.declared.lookups.MemberNumber.{MemberNumber}
+use Rattle.name_tables.specs.Numbers.{field_at}
+use Rattle.resolved_code.specs.Numbered.{class_name}
+use Rattle.resolved_code.specs.declared.operations.Operation.{Operation}
+use Rattle.resolved_code.specs.declared.operations.Operation.TheVariants.{LoadInt32, LoadInt64}
+use Rattle.resolved_code.specs.declared.types.NumberedElement.{NumberedElement}
+use Rattle.resolved_code.specs.declared.types.NumberedElement.TheVariants.{Int32 as NumberedInt32, Int64 as NumberedInt64, Object as NumberedObject, String as NumberedString, Class as NumberedClass}
+use Rattle.resolved_code.specs.declared.types.NumberedType.{NumberedType}
+use Rattle.object_memory.specs.declared.kinds.ArrayElement.{ArrayElement}
+use Rattle.object_memory.specs.declared.kinds.ElementType.{ElementType}
+use Rattle.object_memory.specs.declared.kinds.ElementType.TheVariants.{Int32 as HeldInt32, Int64 as HeldInt64, Object as HeldObject, String as HeldString, Class as HeldClass}
+use Rattle.object_memory.specs.declared.values.ValueKind.{ValueKind}
+use Rattle.loaded_program.specs.Prepared.{kind_of_type}
+
+-- the integer of a constant has the bits of its size (III.3.40)
+abbrev pub HasSmallConstant : Operation → Type 0
+HasSmallConstant (LoadInt32 z) = FitsSigned w32 z
+HasSmallConstant (LoadInt64 z) = FitsSigned w64 z
+HasSmallConstant _ = Unit {0}
+
+-- a number of 32 bits
+abbrev pub small : ℕ → Option ℕ
+small n = if nat_lt n (2 ^ 32) then Some n else None
+
+-- the key of a field
+abbrev pub key_at : ClassName × Field → FieldKey
+key_at found = record { declared_in = found.0; name = found.1.name }
+
+-- the slot of an instance field
+abbrev pub slot_in : Tree → ClassName × Field → Option ℕ
+slot_in tree found = if found.1.is_static then None else option_and_then small (instance_slot tree (key_at found))
+
+abbrev pub slot_at : Tree → MemberNumber → Option ℕ
+slot_at tree n = option_and_then (slot_in tree) (field_at tree (n.class, n.place))
+
+-- the number of a static field
+abbrev pub static_in : Tree → ClassName × Field → Option ℕ
+static_in tree found = if found.1.is_static then option_and_then small (static_slot tree (key_at found)) else None
+
+abbrev pub static_at : Tree → MemberNumber → Option ℕ
+static_at tree n = option_and_then (static_in tree) (field_at tree (n.class, n.place))
+
+-- what a field holds
+abbrev pub held_at : Tree → MemberNumber → Option ValueKind
+held_at tree n = option_map (λ (found : ClassName × Field). kind_of_type found.1.field_type) (field_at tree (n.class, n.place))
+
+-- what an array of these elements is made by: a class's number of 16 bits, and few brackets
+abbrev pub element_held : NumberedElement → Option ElementType
+element_held NumberedInt32 = Some HeldInt32
+element_held NumberedInt64 = Some HeldInt64
+element_held NumberedObject = Some HeldObject
+element_held NumberedString = Some HeldString
+element_held (NumberedClass n) = if nat_lt n (2 ^ 16) then Some (HeldClass n) else None
+
+abbrev pub array_held : NumberedType → Option ArrayElement
+array_held t = if nat_lt t.brackets 256 then option_map (λ e. record { element = e; brackets = t.brackets }) (element_held t.element) else None
+
+-- the number of a member's class, of 16 bits
+abbrev pub class_in : MemberNumber → Option ℕ
+class_in n = if nat_lt n.class (2 ^ 16) then Some n.class else None
+
+-- how many slots the objects of its class have
+abbrev pub slots_at : Tree → MemberNumber → Option ℕ
+slots_at tree n = option_and_then (λ c. small (length (slot_types tree c))) (class_name tree n.class)

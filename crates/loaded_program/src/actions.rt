@@ -1,0 +1,64 @@
+// What the built-in members without code do (ECMA-335 Partition IV; Cilvm.Thread is this profile's).
+
+ghost use Rattle.std.specs.Prelude.{◌≡◌, Some, option_map};
+ghost use Rattle.cil_model.specs.declared.types.ClassName.{ClassName};
+ghost use Rattle.cil_model.specs.declared.trees.Method.{Method};
+ghost use Rattle.cil_model.specs.declared.trees.Tree.{Tree};
+ghost use Rattle.name_tables.specs.Numbers.{method_at};
+ghost use Rattle.reference_machine.specs.BuiltIn.{action_of};
+ghost use Rattle.loaded_program.specs.Prepared.{action_named};
+
+use name_tables::lookups::MemberNumber;
+use name_tables::numbers::{CONSOLE, MONITOR, OBJECT, THREAD};
+
+/// What a call of a built-in member without code does, in place of a frame.
+#[derive(Clone, Copy, Debug, PartialEq, Eq)]
+pub enum Action {
+    /// The constructors of `System.Object` and `Cilvm.Thread`, which do nothing.
+    Construct,
+    /// `System.Console::WriteLine`, of each of its three types.
+    Write,
+    /// `System.Threading.Monitor::Enter`
+    Enter,
+    /// `System.Threading.Monitor::Exit`
+    Exit,
+    /// `Cilvm.Thread::Start`
+    Start,
+    /// `Cilvm.Thread::Join`
+    Join,
+}
+
+fn monitor_action(place: usize) -> Option<Action>
+    ensures { (tree : Tree) (c : ClassName) (m : Method) → method_at tree (MONITOR, place) ≡ Some (c, m) → option_map action_named result ≡ action_of c m }
+{
+    match place {
+        0 => Some(Action::Enter),
+        1 => Some(Action::Exit),
+        _ => None,
+    }
+}
+
+fn thread_action(place: usize) -> Option<Action>
+    ensures { (tree : Tree) (c : ClassName) (m : Method) → method_at tree (THREAD, place) ≡ Some (c, m) → option_map action_named result ≡ action_of c m }
+{
+    match place {
+        0 => Some(Action::Construct),
+        2 => Some(Action::Start),
+        3 => Some(Action::Join),
+        _ => None,
+    }
+}
+
+/// What a call of a method does, by its number: the built-in classes and their members have fixed ones. None for a method with code
+/// of its own. Where no method has the number, any.
+pub(crate) fn action_at(member: MemberNumber) -> Option<Action>
+    ensures { (tree : Tree) (c : ClassName) (m : Method) → method_at tree (member.class, member.place) ≡ Some (c, m) → option_map action_named result ≡ action_of c m }
+{
+    match member.class {
+        OBJECT => Some(Action::Construct),
+        CONSOLE => Some(Action::Write),
+        MONITOR => monitor_action(member.place),
+        THREAD => thread_action(member.place),
+        _ => None,
+    }
+}

@@ -1,0 +1,203 @@
+// Instructions are linked one by one.
+
+ghost use Rattle.std.specs.Prelude.{◌≡◌, ℕ, Some, FitsSigned, IfOk, length, slice_get};
+ghost use Rattle.std.specs.Int.{w32, w64};
+ghost use Rattle.cil_model.specs.declared.types.ClassName.{ClassName};
+ghost use Rattle.cil_model.specs.declared.trees.Method.{Method};
+ghost use Rattle.cil_model.specs.Bodies.{argument_types};
+ghost use Rattle.object_memory.specs.declared.values.ValueKind.{ValueKind as AnyKind};
+ghost use Rattle.loaded_program.specs.AllMethods.{all_methods};
+ghost use Rattle.loaded_program.specs.declared.instructions.LinkedInstruction.{LinkedInstruction as AnyLinked};
+ghost use Rattle.loaded_program.specs.Operands.{HasSmallConstant, held_at, slot_at, slots_at, static_at};
+ghost use Rattle.loaded_program.specs.Links.{IsLinked, number_at, virtual_link};
+ghost use Rattle.loaded_program.specs.Loaded.{CanLink};
+
+use crate::instructions::LinkedInstruction;
+use crate::methods::numbered_kind;
+use crate::operands::{array_element, class_of, in_32_bits, literal_address};
+use crate::table::MethodTable;
+use cil_model::memory::NoMemory;
+use cil_model::sequences::Sequence;
+use class_layout::Layout;
+use name_tables::lookups::MemberNumber;
+use object_memory::ValueKind;
+use programs::Program;
+use resolved_code::operations::Operation;
+use std::alloc::Global;
+
+/// What the instructions of a program are linked by.
+#[derive(Drop)]
+pub(crate) struct Linker<'a> {
+    pub program: &'a Program,
+    pub layout: &'a Layout,
+    pub table: &'a MethodTable,
+}
+
+/// A number of 32 bits is one.
+fn has_32_bits(_number: i32)
+    ensures { FitsSigned w32 _number }
+{}
+
+/// A number of 64 bits is one.
+fn has_64_bits(_number: i64)
+    ensures { FitsSigned w64 _number }
+{}
+
+/// The integers of constants have the bits of their sizes.
+pub(crate) fn constants_are_small(operation: &Operation)
+    ensures { HasSmallConstant operation.now }
+{
+    match operation {
+        Operation::LoadInt32(number) => has_32_bits(*number),
+        Operation::LoadInt64(number) => has_64_bits(*number),
+        _ => (),
+    }
+}
+
+/// A copy of places. Fails for want of memory alone.
+fn copied(alloc: Global, places: &[usize]) -> Result<Sequence<usize>, NoMemory>
+    ensures { IfOk result (λ copy. copy ≡ places.now) }
+{
+    let mut copy = Vec::with_capacity(alloc, places.len())?;
+    copy.extend_from_slice(places)?;
+    Ok(Sequence::new(copy))
+}
+
+impl Linker<'_> {
+    /// The slot of an instance field, or the number of a static one. Any where it has none of 32 bits.
+    fn slot(&self, field: MemberNumber) -> u32
+        requires { CanLink self.now }
+        ensures instance { (n : ℕ) → slot_at self.now.program.now field ≡ Some n → result ≡ n }
+        ensures static_field { (n : ℕ) → static_at self.now.program.now field ≡ Some n → result ≡ n }
+    {
+        match self.layout.slot(field) {
+            Some(slot) => in_32_bits(slot),
+            None => u32::MAX,
+        }
+    }
+
+    /// What a field holds. Any where there is no such field.
+    fn kind(&self, field: MemberNumber) -> ValueKind
+        ensures { (kind : AnyKind) → held_at self.now.program.now field ≡ Some kind → result ≡ kind }
+    {
+        match self.program.field(field) {
+            Some(field) => numbered_kind(field.field_type),
+            None => ValueKind::Ref,
+        }
+    }
+
+    /// How many slots the objects of a member's class have. Any where it has none of 32 bits.
+    fn slots(&self, member: MemberNumber) -> u32
+        requires { CanLink self.now }
+        ensures { (n : ℕ) → slots_at self.now.program.now member ≡ Some n → result ≡ n }
+    {
+        in_32_bits(self.layout.slots(member.class))
+    }
+
+    /// The flat number of a method. Any where no method is there.
+    fn number(&self, member: MemberNumber) -> u32
+        requires { CanLink self.now }
+        ensures { (n : ℕ) → number_at self.now.program.now member ≡ Some n → result ≡ n }
+    {
+        self.table.number(member)
+    }
+
+    /// How many operands a call of a method takes, the object counted. Any where no method has the number.
+    fn operands(&self, number: u32) -> usize
+        requires { CanLink self.now }
+        ensures { (found : ClassName × Method) → slice_get (all_methods self.now.program.now) number ≡ Some found → result ≡ length (argument_types found.1 found.0) }
+    {
+        match self.table.method(number) {
+            Some(entry) => entry.arguments,
+            None => 0,
+        }
+    }
+
+    /// A virtual call of a method. Any where no method is there.
+    fn virtual_call(&self, member: MemberNumber) -> LinkedInstruction
+        requires { CanLink self.now }
+        ensures { (wanted : AnyLinked) → virtual_link self.now.program.now member ≡ Some wanted → result ≡ wanted }
+    {
+        let method = self.table.number(member);
+        LinkedInstruction::CallVirtual {
+            method,
+            operands: self.operands(method),
+        }
+    }
+
+    /// An instruction of a method that returns a value or none, linked. Where an operand stands for nothing, any. Fails for want of memory
+    /// alone.
+    pub fn link(
+        &self,
+        alloc: Global,
+        has_value: bool,
+        operation: &Operation,
+    ) -> Result<LinkedInstruction, NoMemory>
+        requires { CanLink self.now }
+        ensures { IfOk result (λ linked. IsLinked self.now.program.now has_value operation.now linked) }
+    {
+        match operation {
+            Operation::NoOperation => Ok(LinkedInstruction::NoOperation),
+            Operation::LoadInt32(number) => Ok(LinkedInstruction::LoadInt32(*number)),
+            Operation::LoadInt64(number) => Ok(LinkedInstruction::LoadInt64(*number)),
+            Operation::LoadNull => Ok(LinkedInstruction::LoadNull),
+            Operation::LoadString(number) => Ok(LinkedInstruction::LoadString(literal_address(
+                *number,
+            ))),
+            Operation::LoadArgument(index) => Ok(LinkedInstruction::LoadArgument(*index)),
+            Operation::StoreArgument(index) => Ok(LinkedInstruction::StoreArgument(*index)),
+            Operation::LoadLocal(index) => Ok(LinkedInstruction::LoadLocal(*index)),
+            Operation::StoreLocal(index) => Ok(LinkedInstruction::StoreLocal(*index)),
+            Operation::Duplicate => Ok(LinkedInstruction::Duplicate),
+            Operation::Pop => Ok(LinkedInstruction::Pop),
+            Operation::Binary(binary) => Ok(LinkedInstruction::Binary(*binary)),
+            Operation::Unary(unary) => Ok(LinkedInstruction::Unary(*unary)),
+            Operation::Shift(shift) => Ok(LinkedInstruction::Shift(*shift)),
+            Operation::Compare(comparison) => Ok(LinkedInstruction::Compare(*comparison)),
+            Operation::ConvertInt32 => Ok(LinkedInstruction::ConvertInt32),
+            Operation::ConvertInt64 => Ok(LinkedInstruction::ConvertInt64),
+            Operation::Branch(place) => Ok(LinkedInstruction::Branch(*place)),
+            Operation::BranchTrue(place) => Ok(LinkedInstruction::BranchTrue(*place)),
+            Operation::BranchFalse(place) => Ok(LinkedInstruction::BranchFalse(*place)),
+            Operation::BranchCompare(comparison, place) => Ok(LinkedInstruction::BranchCompare(
+                *comparison,
+                *place,
+            )),
+            Operation::Switch(places) => Ok(LinkedInstruction::Switch(copied(
+                alloc,
+                places.as_slice(),
+            )?)),
+            Operation::LoadField { field, .. } => Ok(LinkedInstruction::LoadField {
+                slot: self.slot(*field),
+                kind: self.kind(*field),
+            }),
+            Operation::StoreField { field, .. } => Ok(LinkedInstruction::StoreField {
+                slot: self.slot(*field),
+            }),
+            Operation::LoadStaticField(field) => Ok(LinkedInstruction::LoadStaticField(self.slot(
+                *field,
+            ))),
+            Operation::StoreStaticField(field) => Ok(LinkedInstruction::StoreStaticField(self.slot(
+                *field,
+            ))),
+            Operation::NewArray(held) => Ok(LinkedInstruction::NewArray(array_element(*held))),
+            Operation::LoadLength => Ok(LinkedInstruction::LoadLength),
+            Operation::LoadElementInt32 => Ok(LinkedInstruction::LoadElement(ValueKind::Int32)),
+            Operation::LoadElementInt64 => Ok(LinkedInstruction::LoadElement(ValueKind::Int64)),
+            Operation::LoadElementReference => Ok(LinkedInstruction::LoadElement(ValueKind::Ref)),
+            Operation::StoreElementInt32 => Ok(LinkedInstruction::StoreElement),
+            Operation::StoreElementInt64 => Ok(LinkedInstruction::StoreElement),
+            Operation::StoreElementReference => Ok(LinkedInstruction::StoreElementReference),
+            Operation::CastClass(to) => Ok(LinkedInstruction::CastClass(*to)),
+            Operation::IsInstance(to) => Ok(LinkedInstruction::IsInstance(*to)),
+            Operation::Call { method, .. } => Ok(LinkedInstruction::Call(self.number(*method))),
+            Operation::CallVirtual { method, .. } => Ok(self.virtual_call(*method)),
+            Operation::NewObject(constructor) => Ok(LinkedInstruction::NewObject {
+                class: class_of(*constructor),
+                slots: self.slots(*constructor),
+                method: self.number(*constructor),
+            }),
+            Operation::Return => Ok(LinkedInstruction::Return { has_value }),
+        }
+    }
+}

@@ -1,5 +1,0 @@
-pub mod ActionLaws
-pub mod FlatLaws
-pub mod NumberLaws
-pub mod ResolvedLaws
-pub mod CountLaws

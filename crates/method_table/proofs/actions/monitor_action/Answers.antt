@@ -1,9 +1,0 @@
-use Rattle.std.proofs.Common.{◌≡◌, arith}
-use Rattle.method_table.proofs.ActionLaws.{of_monitor}
-use Rattle.method_table.proofs.actions.monitor_action.Goals as goal
-
-pub returns-in_default : goal.returns-in_default
-returns-in_default c =
-    let a : (c.args.place ≡ 0 → ⊥) = λ e. omega arith in
-    let b : (c.args.place ≡ 1 → ⊥) = λ e. omega arith in
-    λ tree k m h. of_monitor tree k m c.args.place a b h

@@ -1,4 +1,0 @@
-pub mod AllMethods
-pub mod Numbered
-pub mod Prepared
-pub mod MethodNumbers
