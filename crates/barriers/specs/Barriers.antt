@@ -1,44 +1,164 @@
--- What stores, births and comparisons of references do to what the heap and the static fields hold (this profile). Each rule of an
--- instruction, a monitor or a start of a thread cites these. As long as there is one block and no collection, each is the plain one.
-use Rattle.std.specs.Prelude.{ℕ, Bool, List, Option, slice_set}
+-- What stores, births and comparisons of references do to what the heap and the static fields hold, by the phase that the thread has
+-- acknowledged (Hudson and Moss, "Sapphire"; this profile). Each rule of an instruction, a monitor or a start of a thread cites these.
+use Rattle.std.specs.Prelude.{◌≡◌, ◌<◌, ℕ, ◌==◌, if◌then◌else◌, Bool, true, false, List, length, Option, Some, IsSome, slice_set}
+use Rattle.std.specs.Option.{option_map_or}
+use Rattle.cil_model.specs.declared.phases.Phase.{Phase}
+use Rattle.cil_model.specs.declared.phases.Phase.TheVariants.{Idle, Mark, Allocate, Copy, PreFlip, HeapFlip, ThreadFlip, Reclaim}
 use Rattle.object_memory.specs.declared.addresses.Addr.{Addr}
 use Rattle.object_memory.specs.declared.kinds.Kind.{Kind}
 use Rattle.object_memory.specs.declared.monitors.Monitor.{Monitor}
 use Rattle.object_memory.specs.declared.values.Value.{Value}
-use Rattle.object_memory.specs.declared.values.Value.TheVariants.{Ref}
-use Rattle.object_memory.specs.Objects.{Objects, is_same_object, with_birth, with_monitor, with_slot}
+use Rattle.object_memory.specs.declared.values.Value.TheVariants.{Int32, Int64, Native, Ref}
+use Rattle.object_memory.specs.Cells.{Cell, literal_number, store_slot, store_monitor}
+use Rattle.object_memory.specs.Spaces.{IsThere, change_copies, forward, is_old, other_of}
+use Rattle.object_memory.specs.Objects.{Objects, object_cell, object_slots, with_birth, with_literal_monitor, with_mark, with_monitor, with_slot}
 use Rattle.object_memory.specs.Values.{value_word}
 
--- ---- stores
+-- ---- marks and forwards of values: integers have none
+
+-- the objects once the object of a reference is marked
+abbrev pub with_marked : Objects → Value → Objects
+with_marked o (Ref a) = (with_mark o a).0
+with_marked o (Int32 n) = o
+with_marked o (Int64 n) = o
+with_marked o (Native n) = o
+
+-- the reference of the other copy, in the place of an old object's
+abbrev pub forwarded : Objects → Value → Value
+forwarded o (Ref a) = Ref (forward o.spaces a)
+forwarded o (Int32 n) = Int32 n
+forwarded o (Int64 n) = Int64 n
+forwarded o (Native n) = Native n
+
+-- an integer, or a reference that is null, a literal's or an object's
+abbrev pub IsValueThere : Objects → Value → Type 0
+IsValueThere o (Ref a) = IsThere o.spaces a
+IsValueThere o (Int32 n) = Unit {0}
+IsValueThere o (Int64 n) = Unit {0}
+IsValueThere o (Native n) = Unit {0}
+
+-- ---- both copies
+
+-- A store that changes the old copy of an object in one way and the new one in another, through the address of either. An object of one copy
+-- has its own way.
+abbrev pub with_both : (Cell → Cell) → (Cell → Cell) → Objects → Addr → Objects
+with_both f g o a = record o { spaces = if is_old o.spaces a then change_copies f g o.spaces a else change_copies g f o.spaces a }
+
+abbrev pub with_both_slots : Objects → Addr → ℕ → (old new : Value) → Objects
+with_both_slots o a slot v w = with_both (store_slot slot (value_word v)) (store_slot slot (value_word w)) o a
+
+abbrev pub with_both_monitors : Objects → Addr → Monitor → Objects
+with_both_monitors o a m = with_both (store_monitor m) (store_monitor m) o a
+
+-- the other copy of an object, where it has one, has a slot of this number too
+abbrev pub IsOtherAlike : Objects → Addr → ℕ → Type 0
+IsOtherAlike o a slot = (b : Addr) → other_of (object_cell o a) ≡ Some b → slot < length (object_slots o b)
+
+-- the other copy of an object lies there, where it has one
+abbrev pub IsOtherThere : Objects → Addr → Type 0
+IsOtherThere o a = (b : Addr) → other_of (object_cell o a) ≡ Some b → IsSome (object_cell o b)
+
+-- ---- stores of values
 
 -- a value in a field or an element
-abbrev pub stored_value : Objects → Addr → ℕ → Value → Objects
-stored_value o a slot v = with_slot o a slot (value_word v)
+abbrev pub stored_value : Phase → Objects → Addr → ℕ → Value → Objects
+stored_value Idle o a slot v = with_slot o a slot (value_word v)
+stored_value Mark o a slot v = with_slot (with_marked o v) a slot (value_word v)
+stored_value Allocate o a slot v = with_slot o a slot (value_word v)
+stored_value Copy o a slot v = with_both_slots o a slot v (forwarded o v)
+stored_value PreFlip o a slot v = with_both_slots o a slot v (forwarded o v)
+stored_value HeapFlip o a slot v = with_both_slots o a slot v (forwarded o v)
+stored_value ThreadFlip o a slot v = with_both_slots o a slot v v
+stored_value Reclaim o a slot v = with_slot o a slot (value_word v)
+
+-- what is so where a thread stores it: a cycle is open, the value is one of this heap, and both copies have the slot
+abbrev pub IsStorable : Phase → Objects → Addr → ℕ → Value → Type 0
+IsStorable Idle o a slot v = Unit {0}
+IsStorable Mark o a slot v = (o.spaces.is_open ≡ true) × IsValueThere o v
+IsStorable Allocate o a slot v = Unit {0}
+IsStorable Copy o a slot v = IsValueThere o v × IsOtherAlike o a slot
+IsStorable PreFlip o a slot v = IsValueThere o v × IsOtherAlike o a slot
+IsStorable HeapFlip o a slot v = IsValueThere o v × IsOtherAlike o a slot
+IsStorable ThreadFlip o a slot v = IsOtherAlike o a slot
+IsStorable Reclaim o a slot v = Unit {0}
 
 -- a reference
-abbrev pub stored_ref : Objects → Addr → ℕ → Addr → Objects
-stored_ref o a slot reference = stored_value o a slot (Ref reference)
+abbrev pub stored_ref : Phase → Objects → Addr → ℕ → Addr → Objects
+stored_ref phase o a slot reference = stored_value phase o a slot (Ref reference)
+
+-- ---- stores of what is no reference
+
+-- whether a store reaches both copies of an object
+abbrev pub reaches_both : Phase → Bool
+reaches_both Idle = false
+reaches_both Mark = false
+reaches_both Allocate = false
+reaches_both Copy = true
+reaches_both PreFlip = true
+reaches_both HeapFlip = true
+reaches_both ThreadFlip = true
+reaches_both Reclaim = false
 
 -- a word that is no reference: an integer's, or the one that tells which thread was started on an object
-abbrev pub stored_int : Objects → Addr → (slot word : ℕ) → Objects
-stored_int o a slot word = with_slot o a slot word
+abbrev pub stored_int : Phase → Objects → Addr → (slot word : ℕ) → Objects
+stored_int phase o a slot word =
+    if reaches_both phase then with_both (store_slot slot word) (store_slot slot word) o a else with_slot o a slot word
 
--- the monitor of an object or a literal
-abbrev pub stored_monitor : Objects → Addr → Monitor → Objects
-stored_monitor o a m = with_monitor o a m
+-- the monitor of an object or a literal, which has no other copy
+abbrev pub stored_monitor : Phase → Objects → Addr → Monitor → Objects
+stored_monitor phase o a m =
+    if reaches_both phase then option_map_or (with_literal_monitor o m) (literal_number a) (with_both_monitors o a m) else with_monitor o a m
 
--- a static field, by its number
-abbrev pub stored_static : List Value → ℕ → Value → List Value
-stored_static statics number v = slice_set statics number v
+-- ---- static fields
+
+-- a static field, by its number, and what the objects are then
+abbrev pub stored_static : Phase → Objects → List Value → ℕ → Value → Objects × List Value
+stored_static Idle o statics number v = (o, slice_set statics number v)
+stored_static Mark o statics number v = (with_marked o v, slice_set statics number v)
+stored_static Allocate o statics number v = (o, slice_set statics number v)
+stored_static Copy o statics number v = (o, slice_set statics number v)
+stored_static PreFlip o statics number v = (o, slice_set statics number (forwarded o v))
+stored_static HeapFlip o statics number v = (o, slice_set statics number (forwarded o v))
+stored_static ThreadFlip o statics number v = (o, slice_set statics number v)
+stored_static Reclaim o statics number v = (o, slice_set statics number v)
+
+abbrev pub IsStaticStorable : Phase → Objects → Value → Type 0
+IsStaticStorable Idle o v = Unit {0}
+IsStaticStorable Mark o v = (o.spaces.is_open ≡ true) × IsValueThere o v
+IsStaticStorable Allocate o v = Unit {0}
+IsStaticStorable Copy o v = Unit {0}
+IsStaticStorable PreFlip o v = IsValueThere o v
+IsStaticStorable HeapFlip o v = IsValueThere o v
+IsStaticStorable ThreadFlip o v = Unit {0}
+IsStaticStorable Reclaim o v = Unit {0}
 
 -- ---- births
 
 -- the objects with one of so many slots more, and its address; as they were where it exceeds the room
-abbrev pub object_born : Objects → Kind → ℕ → Objects × Option Addr
-object_born o kind slots = with_birth o kind slots
+abbrev pub object_born : Phase → Objects → Kind → ℕ → Objects × Option Addr
+object_born phase o kind slots = with_birth phase o kind slots
 
 -- ---- references
 
--- two references are of one object, or both null (III.1.5, table 4)
-abbrev pub are_same : Objects → Addr → Addr → Bool
-are_same o a b = is_same_object o a b
+-- whether references are compared by their forwards: in the phases in which a thread may meet the addresses of both copies
+abbrev pub compares_forwards : Phase → Bool
+compares_forwards Idle = false
+compares_forwards Mark = false
+compares_forwards Allocate = false
+compares_forwards Copy = true
+compares_forwards PreFlip = true
+compares_forwards HeapFlip = true
+compares_forwards ThreadFlip = false
+compares_forwards Reclaim = false
+
+-- the address by which a reference is compared
+abbrev pub compared : Phase → Objects → Addr → Addr
+compared phase o a = if compares_forwards phase then forward o.spaces a else a
+
+-- two references are of one object, or both null
+abbrev pub AreOfOneObject : Phase → Objects → Addr → Addr → Type 0
+AreOfOneObject phase o a b = (compared phase o a).number ≡ (compared phase o b).number
+
+-- the test of it (III.1.5, table 4)
+abbrev pub are_same : Phase → Objects → Addr → Addr → Bool
+are_same phase o a b = (compared phase o a).number == (compared phase o b).number

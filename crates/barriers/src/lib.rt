@@ -1,5 +1,5 @@
-//! Where references are stored, made and compared. A collector that runs beside the program has its barriers here, at every store
-//! and birth of an instruction; without one each call is the plain one.
+//! Where references are stored, made and compared: the barriers of a collector that runs beside the program, by the phase that a thread
+//! has acknowledged. While no cycle is open each call is the plain one.
 #![tactic(auto)]
 
 mod births;

@@ -38,8 +38,8 @@ use Rattle.event_trace.specs.interleaving_core.declared.waits.Wait.{Wait}
 use Rattle.event_trace.specs.interleaving_core.declared.waits.Wait.TheVariants.{Monitor, Join}
 use Rattle.event_trace.proofs.interleaving_core.simulation.AgreeLaws.{agree_beyond, agree_get}
 use Rattle.event_trace.proofs.interleaving_core.simulation.Memories.{named_is_not_null}
-use Rattle.event_trace.proofs.interleaving_core.step_simulation.instruction_simulation.Monitors.{IsMonitorAt, monitor_there}
-use Rattle.event_trace.proofs.interleaving_core.step_simulation.instruction_simulation.OneBlock.{heap_reads, modelled, one_block}
+use Rattle.event_trace.proofs.interleaving_core.step_simulation.Monitors.{IsMonitorAt, monitor_there}
+use Rattle.event_trace.proofs.interleaving_core.step_simulation.OneBlock.{heap_reads, modelled, one_block}
 use Rattle.event_trace.proofs.interleaving_core.step_simulation.Joins.{lives_alike}
 use Rattle.event_trace.proofs.interleaving_core.step_simulation.ThreadObjects.{IsThreadObject, thread_object_is, thread_on_is}
 

@@ -3,6 +3,7 @@
 use Rattle.std.specs.Prelude.{ℕ, ◌+◌, ◌-◌, ◌==◌, Bool, true, false, ◌&&◌, if◌then◌else◌, nat_lt, nat_le, List, ◌∷◌, length, Option, Some, None}
 use Rattle.cil_model.specs.declared.limits.TheConstants.{MOST_INSTRUCTIONS}
 use Rattle.cil_model.specs.declared.reports.Fault.TheVariants.{OutOfMemory, StackOverflow}
+use Rattle.cil_model.specs.declared.phases.Phase.TheVariants.{Idle}
 use Rattle.object_memory.specs.declared.addresses.Addr.{Addr}
 use Rattle.object_memory.specs.declared.values.Value.{Value}
 use Rattle.object_memory.specs.declared.values.ValueKind.{ValueKind}
@@ -60,11 +61,11 @@ constructs callee m (o, Some a) = beside o (construct_turn callee a m)
 
 -- newobj (III.4.21) of a class with a constructor that has code: the depth is looked at before memory
 abbrev pub new_object_turn : ℕ → ℕ → Called → Frames → Objects → ObjectTurn
-new_object_turn class slots callee m o = if is_full m then Some (m, o, Raises StackOverflow) else constructs callee m (object_born o (Instance class) slots)
+new_object_turn class slots callee m o = if is_full m then Some (m, o, Raises StackOverflow) else constructs callee m (object_born Idle o (Instance class) slots)
 
 -- the same with a constructor that is built in, which is done at once
 abbrev pub new_plain_object_turn : ℕ → ℕ → Frames → Objects → ObjectTurn
-new_plain_object_turn class slots m o = born m (object_born o (Instance class) slots)
+new_plain_object_turn class slots m o = born m (object_born Idle o (Instance class) slots)
 
 -- ---- returns
 

@@ -12,6 +12,7 @@ use Rattle.cil_model.specs.declared.instructions.BranchComparison.TheVariants.{E
 use Rattle.cil_model.specs.declared.limits.TheConstants.{MOST_INSTRUCTIONS}
 use Rattle.cil_model.specs.declared.reports.Fault.{Fault}
 use Rattle.cil_model.specs.Bodies.{at_place}
+use Rattle.cil_model.specs.declared.phases.Phase.TheVariants.{Idle}
 use Rattle.object_memory.specs.declared.values.Value.{Value}
 use Rattle.object_memory.specs.declared.values.Value.TheVariants.{Int32, Int64, Native, Ref}
 use Rattle.object_memory.specs.Objects.{Objects}
@@ -102,7 +103,7 @@ same_reference _ same = None
 abbrev pub comparison : Objects → Comparison → Value → Value → Option Bool
 comparison o op (Int32 x) (Int32 y) = Some (compared op x y)
 comparison o op (Int64 x) (Int64 y) = Some (compared op x y)
-comparison o op (Ref a) (Ref b) = same_reference op (are_same o a b)
+comparison o op (Ref a) (Ref b) = same_reference op (are_same Idle o a b)
 comparison o op _ _ = None
 
 abbrev pub branch_reference : BranchComparison → Bool → Option Bool
@@ -113,7 +114,7 @@ branch_reference _ same = None
 abbrev pub branch_test : Objects → BranchComparison → Value → Value → Option Bool
 branch_test o op (Int32 x) (Int32 y) = branch_values op (Int32Value x) (Int32Value y)
 branch_test o op (Int64 x) (Int64 y) = branch_values op (Int64Value x) (Int64Value y)
-branch_test o op (Ref a) (Ref b) = branch_reference op (are_same o a b)
+branch_test o op (Ref a) (Ref b) = branch_reference op (are_same Idle o a b)
 branch_test o op _ _ = None
 
 -- ---- instructions

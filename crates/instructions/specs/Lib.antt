@@ -1,3 +1,4 @@
+pub use Rattle.barriers.specs as barriers
 pub mod Frames
 pub mod ObjectTurns
 pub mod Calls

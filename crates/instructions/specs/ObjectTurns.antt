@@ -1,7 +1,8 @@
 -- What instructions do to objects, arrays and static fields (III.4). A rule has no answer where an operand is missing or of another
 -- kind, or where there is no such object or slot: no verified program comes there.
-use Rattle.std.specs.Prelude.{ℕ, ◌==◌, ℤ, pos, negsuc, if◌then◌else◌, nat_lt, List, length, Option, Some, None, option_map, slice_get}
+use Rattle.std.specs.Prelude.{ℕ, ◌==◌, ℤ, pos, negsuc, if◌then◌else◌, nat_lt, List, length, Option, Some, None, option_map, slice_get, slice_set}
 use Rattle.cil_model.specs.declared.reports.Fault.TheVariants.{NullReference, IndexOutOfRange, Overflow, OutOfMemory}
+use Rattle.cil_model.specs.declared.phases.Phase.TheVariants.{Idle}
 use Rattle.object_memory.specs.declared.addresses.Addr.{Addr}
 use Rattle.object_memory.specs.declared.kinds.ArrayElement.{ArrayElement}
 use Rattle.object_memory.specs.declared.kinds.Kind.TheVariants.{Array}
@@ -11,7 +12,7 @@ use Rattle.object_memory.specs.declared.values.ValueKind.{ValueKind}
 use Rattle.object_memory.specs.Cells.{Cell}
 use Rattle.object_memory.specs.Objects.{Objects, object_cell}
 use Rattle.object_memory.specs.Values.{value_in}
-use Rattle.barriers.specs.Barriers.{object_born, stored_static, stored_value}
+use Rattle.barriers.specs.Barriers.{object_born, stored_value}
 use Rattle.threads_monitors.specs.Frames.{Frames}
 use Rattle.threads_monitors.specs.declared.effects.Effect.{Effect}
 use Rattle.threads_monitors.specs.declared.effects.Effect.TheVariants.{Raises}
@@ -53,7 +54,7 @@ load_slot kind slot a m o = given (slots_of o a) (λ slots. given (slice_get slo
 
 -- stores to a slot and goes on
 abbrev pub store_slot : Value → ℕ → Addr → Frames → Objects → ObjectTurn
-store_slot v slot a m o = given (slots_of o a) (λ slots. given (slice_get slots slot) (λ w. beside (stored_value o a slot v) (onward m)))
+store_slot v slot a m o = given (slots_of o a) (λ slots. given (slice_get slots slot) (λ w. beside (stored_value Idle o a slot v) (onward m)))
 
 -- ldfld (III.4.10)
 abbrev pub load_field_turn : ValueKind → ℕ → Frames → Objects → ObjectTurn
@@ -101,7 +102,7 @@ born m birth = beside birth.0 (leaves_born birth.1 m)
 -- of a length that isn't negative
 abbrev pub new_array_of : ArrayElement → ℤ → Frames → Objects → ObjectTurn
 new_array_of element (negsuc n) m o = Some (m, o, Raises Overflow)
-new_array_of element (pos n) m o = born m (object_born o (Array element) n)
+new_array_of element (pos n) m o = born m (object_born Idle o (Array element) n)
 
 -- newarr (III.4.20)
 abbrev pub new_array_turn : ArrayElement → Frames → Objects → ObjectTurn
@@ -113,7 +114,7 @@ new_array_turn element m o = with_top m (λ v n. index_of v (λ z. new_array_of 
 abbrev pub load_static_turn : ℕ → Frames → List Value → Turn
 load_static_turn number m statics = given (slice_get statics number) (λ v. leaves v m)
 
--- stsfld (III.4.30): the frames and the static fields after it
+-- stsfld (III.4.30): the frames and the static fields after it. While no cycle is open, the store is the plain one.
 abbrev pub store_static_turn : ℕ → Frames → List Value → Option (Frames × List Value × Effect)
 store_static_turn number m statics = with_top m (λ v n.
-    if nat_lt number (length statics) then option_map (λ (t : Frames × Effect). (t.0, stored_static statics number v, t.1)) (onward n) else None)
+    if nat_lt number (length statics) then option_map (λ (t : Frames × Effect). (t.0, slice_set statics number v, t.1)) (onward n) else None)

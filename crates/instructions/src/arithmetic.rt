@@ -5,6 +5,7 @@ ghost use Rattle.instructions.specs.Frames.{binary_turn, unary_turn, shift_turn,
 
 use crate::places::{leave, leave_result};
 use cil_model::instructions::{BinaryOperation, Comparison, ShiftOperation, UnaryOperation};
+use cil_model::phases::Phase;
 use int_ops::{Integer, sign_extended, truncated};
 use object_memory::{Heap, Value};
 use threads_monitors::{Effect, FrameMemory};
@@ -77,7 +78,7 @@ fn holds(heap: &Heap, operation: Comparison, first: Value, second: Value) -> boo
     match (first, second) {
         (Value::Int32(x), Value::Int32(y)) => Integer::compare(operation, x, y),
         (Value::Int64(x), Value::Int64(y)) => Integer::compare(operation, x, y),
-        (Value::Ref(x), Value::Ref(y)) => barriers::same(heap, x, y),
+        (Value::Ref(x), Value::Ref(y)) => barriers::same(heap, Phase::Idle, x, y),
         _ => unreachable!(),
     }
 }

@@ -5,6 +5,7 @@ ghost use Rattle.instructions.specs.ObjectTurns.{load_length_turn, load_element_
 
 use crate::fields::{load_slot, store_slot};
 use crate::places::leave;
+use cil_model::phases::Phase;
 use cil_model::reports::Fault;
 use object_memory::{Addr, ArrayElement, Heap, Kind, Value, ValueKind};
 use threads_monitors::{Effect, FrameMemory};
@@ -91,7 +92,12 @@ pub fn new_array(frames: &mut FrameMemory, heap: &mut Heap, element: ArrayElemen
     if length < 0 {
         return Effect::Raises(Fault::Overflow);
     }
-    let address = barriers::birth(heap, Kind::Array(element), length.cast_unsigned());
+    let address = barriers::birth(
+        heap,
+        Phase::Idle,
+        Kind::Array(element),
+        length.cast_unsigned(),
+    );
     leave_born(frames, address)
 }
 

@@ -5,6 +5,7 @@ ghost use Rattle.instructions.specs.Calls.{called, new_object_turn, new_plain_ob
 
 use crate::arrays::leave_born;
 use crate::calls::{Callee, construct};
+use cil_model::phases::Phase;
 use cil_model::reports::Fault;
 use object_memory::{Heap, Kind};
 use threads_monitors::{Effect, FrameMemory};
@@ -24,7 +25,7 @@ pub fn new_object(
     if frames.is_full() {
         return Effect::Raises(Fault::StackOverflow);
     }
-    match barriers::birth(heap, Kind::Instance(class), u64::from(slots)) {
+    match barriers::birth(heap, Phase::Idle, Kind::Instance(class), u64::from(slots)) {
         Some(object) => construct(frames, callee, object),
         None => Effect::Raises(Fault::OutOfMemory),
     }
@@ -35,6 +36,6 @@ pub fn new_plain_object(frames: &mut FrameMemory, heap: &mut Heap, class: u16, s
     requires { IsSome (new_plain_object_turn class slots frames.old heap.old) }
     ensures { Some (frames.new, heap.new, result) ≡ new_plain_object_turn class slots frames.old heap.old }
 {
-    let object = barriers::birth(heap, Kind::Instance(class), u64::from(slots));
+    let object = barriers::birth(heap, Phase::Idle, Kind::Instance(class), u64::from(slots));
     leave_born(frames, object)
 }

@@ -5,6 +5,7 @@ ghost use Rattle.instructions.specs.Frames.{branch_true_turn, branch_false_turn,
 
 use crate::places::{branch_if, go_on, jump};
 use cil_model::instructions::BranchComparison;
+use cil_model::phases::Phase;
 use int_ops::Integer;
 use object_memory::{Heap, Value};
 use threads_monitors::{Effect, FrameMemory};
@@ -65,8 +66,8 @@ fn is_taken(heap: &Heap, operation: BranchComparison, first: Value, second: Valu
         (Value::Int32(x), Value::Int32(y)) => Integer::branches(operation, x, y),
         (Value::Int64(x), Value::Int64(y)) => Integer::branches(operation, x, y),
         (Value::Ref(x), Value::Ref(y)) => match operation {
-            BranchComparison::Equal => barriers::same(heap, x, y),
-            BranchComparison::NotEqual => !barriers::same(heap, x, y),
+            BranchComparison::Equal => barriers::same(heap, Phase::Idle, x, y),
+            BranchComparison::NotEqual => !barriers::same(heap, Phase::Idle, x, y),
             _ => unreachable!(),
         },
         _ => unreachable!(),

@@ -4,6 +4,7 @@ ghost use Rattle.std.specs.Prelude.{◌≡◌, IsSome, Some};
 ghost use Rattle.instructions.specs.ObjectTurns.{load_field_turn, store_field_turn, load_slot, store_slot};
 
 use crate::places::{go_on, leave};
+use cil_model::phases::Phase;
 use cil_model::reports::Fault;
 use object_memory::{Addr, Heap, Value, ValueKind};
 use threads_monitors::{Effect, FrameMemory};
@@ -34,7 +35,7 @@ pub fn store_slot(
     requires { IsSome (store_slot value slot object frames.old heap.old) }
     ensures { Some (frames.new, heap.new, result) ≡ store_slot value slot object frames.old heap.old }
 {
-    barriers::store_value(heap, object, slot, value);
+    barriers::store_value(heap, Phase::Idle, object, slot, value);
     go_on(frames)
 }
 

@@ -15,11 +15,11 @@ pub fn load_static(frames: &mut FrameMemory, statics: &[Value], number: u32) -> 
     leave(frames, statics[number as usize])
 }
 
-/// `stsfld` (ECMA-335 III.4.30), by the number of the static field. The other ones stay.
+/// `stsfld` (ECMA-335 III.4.30), by the number of the static field. The other ones stay. While no cycle is open, the store is the plain one.
 pub fn store_static(frames: &mut FrameMemory, statics: &mut [Value], number: u32) -> Effect
     requires { IsSome (store_static_turn number frames.old statics.old) }
     ensures { Some (frames.new, statics.new, result) ≡ store_static_turn number frames.old statics.old }
 {
-    barriers::store_static(statics, number as usize, frames.pop());
+    statics[number as usize] = frames.pop();
     go_on(frames)
 }

@@ -33,8 +33,8 @@ use Rattle.object_memory.specs.declared.addresses.Addr.{Addr}
 use Rattle.object_memory.specs.declared.monitors.Monitor.{Monitor}
 use Rattle.object_memory.specs.declared.values.Value.{Value}
 use Rattle.object_memory.specs.declared.values.Value.TheVariants.{Int32, Int64, Native, Ref}
-use Rattle.object_memory.specs.Cells.{Cell, cell_at, literal_number, null}
-use Rattle.object_memory.specs.Objects.{Objects, monitor_at, object_slots}
+use Rattle.object_memory.specs.Cells.{Cell, literal_number, null}
+use Rattle.object_memory.specs.Objects.{Objects, monitor_at, object_cell, object_slots}
 use Rattle.step_simulation.specs.simulation.loaded_program.MethodNumbers.{number_of}
 use Rattle.threads_monitors.specs.Frames.{Frames, with_stack}
 use Rattle.threads_monitors.specs.Monitors.{with_entry}
@@ -275,7 +275,7 @@ module _ (c : Content) (t left : ℕ) (m : Frames) (ready : IsReady c t m) (answ
 
 -- where there is a monitor there is an object or a literal
 pub class_is_there : (o : Objects) (a : Addr) → IsSome (monitor_at o a) → IsSome (class_at o a)
-class_is_there o a there = by_literal (literal_number a) (cell_at o.block a) there
+class_is_there o a there = by_literal (literal_number a) (object_cell o a) there
   where
     by_literal : (n : Option ℕ) (cell : Option Cell) → IsSome (option_map_or (slice_get o.literals) n (option_map (λ (c : Cell). c.monitor) cell)) → IsSome (option_map_or (λ k. Some (Some 1)) n (option_map (λ (c : Cell). class_of_kind c.kind) cell))
     by_literal (Some n) cell h = refl

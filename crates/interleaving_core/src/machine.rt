@@ -216,7 +216,8 @@ impl Machine {
         ensures used { result ≡ (used_space self.now.objects, 0) }
         ensures space { whole_space self.now.objects ≡ self.now.limits.words }
     {
-        (self.engine.store.heap.used_words() as u32, 0)
+        let (words, _) = self.engine.store.heap.used_words();
+        (words as u32, 0)
     }
 }
 

@@ -1,38 +1,26 @@
 -- What the heap's methods read and write, in the terms of their contracts.
 use Rattle.std.proofs.Common.{◌≡◌, ◌≢◌, ℕ, suc, ◌+◌, ◌-◌, ◌<◌, ◌≤◌, Bool, true, false, List, [], ◌∷◌, ◌++◌, length, take, set, get_or, refl, sym, ap, subst, ◌∙◌, arith}
-use Rattle.std.specs.Prelude.{nat_le, nat_lt, slice_get, Option, Some, None, IsSome, option_map}
+use Rattle.std.specs.Prelude.{nat_lt, slice_get, Option, Some, None, IsSome, option_map}
 use Rattle.std.proofs.lemmas.List.{length-replicate}
 use Rattle.std.proofs.lemmas.Bool.Decides.{nat_tests}
 use Rattle.std.proofs.Math.ListN.{length-set}
-use Rattle.cil_model.specs.declared.limits.TheConstants.{MOST_WORDS}
 use Rattle.object_memory.specs.declared.addresses.Addr.{Addr}
-use Rattle.object_memory.specs.declared.addresses.TheConstants.{FIRST_LITERAL}
 use Rattle.object_memory.specs.declared.kinds.Kind.{Kind}
 use Rattle.object_memory.specs.declared.monitors.Monitor.{Monitor}
-use Rattle.object_memory.specs.Cells.{Cell, Cells, null, literal_number, size, used_words, free_words, first, new_cell, birth, addresses, cell_at, slots_at, change_at, store_slot, store_monitor, store_copies}
-use Rattle.object_memory.specs.Objects.{Objects}
-use Rattle.object_memory.specs.Words.{words_of, cells_of, IsTold, IsLaid, header_word, copies_word, is_marked_in, other_in, kind_in, slots_in, monitor_in, monitor_word}
+use Rattle.object_memory.specs.Cells.{next_address, Cell, Cells, size, used_words, free_words, new_cell, addresses, cell_in, slots_in, change_in, store_slot, store_monitor, store_copies, with_last}
+use Rattle.object_memory.specs.Words.{words_of, cells_of, IsTold, IsLaid, header_word, copies_word, is_marked_in, other_in, kind_in, count_in, monitor_in, monitor_word}
 use Rattle.object_memory.proofs.Walks.{cell_here, behind, next_from}
 use Rattle.object_memory.proofs.Tiles.{born, used_words_held, Lies, lies, Lays, word_read, word_written}
 
 -- the cells that contracts see
-abbrev pub shown : List ℕ → ℕ → Cells
-shown block used = record { start = first; cells = cells_of (take used block); words = length block }
-
--- what is the same of the cells is the same beside the literals
-module _ (literals : List Monitor) where
-  pub beside : {b c : Cells} → b ≡ c → ◌≡◌ {A = Objects} (record { block = b; literals = literals }) (record { block = c; literals = literals })
-  beside e = ap (λ x. record { block = x; literals = literals }) e
-
-  pub born_beside : {b c : Cells × Option Addr} → b ≡ c
-      → ◌≡◌ {A = Objects × Option Addr} (record { block = b.0; literals = literals }, b.1) (record { block = c.0; literals = literals }, c.1)
-  born_beside e = ap (λ x. (record { block = x.0; literals = literals }, x.1)) e
+abbrev pub shown : ℕ → List ℕ → ℕ → Cells
+shown start block used = record { start = start; cells = cells_of (take used block); words = length block }
 
 some_cell : (o : Option Cell) → IsSome o → (c : Cell) × (o ≡ Some c)
 some_cell None h = absurd cc
 some_cell (Some c) h = (c, refl)
 
-some_slots : (h : Cells) (a : Addr) (o : Option Cell) (i : ℕ) → cell_at h a ≡ o → i < length (slots_at h a) → IsSome (cell_at h a)
+some_slots : (h : Cells) (a : Addr) (o : Option Cell) (i : ℕ) → cell_in h a ≡ o → i < length (slots_in h a) → IsSome (cell_in h a)
 some_slots h a None i e less = let none = rw e at less in absurd (omega (arith, none))
 some_slots h a (Some c) i e less = rw e refl
 
@@ -47,116 +35,100 @@ told_slot c i w t = record { kind = rw length-set t.kind; slots = rw length-set 
 
 -- ---- births
 
-module _ (block : List ℕ) (used : ℕ) (laid : IsLaid block used) where
-  pub free_is : length block - used ≡ free_words (shown block used)
+module _ (start : ℕ) (block : List ℕ) (used : ℕ) (laid : IsLaid block used) where
+  pub free_is : length block - used ≡ free_words (shown start block used)
   free_is = ap (λ n. length block - n) (sym (used_words_held block used laid))
 
-  pub birth_refused : (k : Kind) (n : ℕ) → length block - used < 3 + n → ◌≡◌ {A = Cells × Option Addr} (shown block used, None) (birth (shown block used) k n)
-  birth_refused k n small =
-      let free = free_is in
-      let test : nat_le (3 + n) (free_words (shown block used)) ≡ false = grind (arith, nat_tests) in
-      rw test refl
+  -- there is room in the block where so many words are free
+  pub room_is : (n : ℕ) → 3 + n ≤ free_words (shown start block used) → used + (3 + n) ≤ length block
+  room_is n free = omega (arith, free, free_is, laid.inside)
 
-  module _ (k : Kind) (n w : ℕ) (word : w ≡ header_word k n) (kind : kind_in w ≡ k) (slots : slots_in w ≡ n) (room : used + (3 + n) ≤ length block) where
+  pub next_is : ◌≡◌ {A = Addr} (record { number = used + start }) (next_address (shown start block used))
+  next_is = let held = used_words_held block used laid in ap (λ (k : ℕ). record { number = k }) (omega (arith, held))
+
+  module _ (k : Kind) (n w : ℕ) (word : w ≡ header_word k n) (kind : kind_in w ≡ k) (slots : count_in w ≡ n) (room : used + (3 + n) ≤ length block) where
     told_new : IsTold (new_cell k n)
     told_new = record { kind = rw (length-replicate, ← word) kind; slots = rw (length-replicate, ← word) slots; marked = refl; other = refl; monitor = refl }
 
     pub birth_lays : Lays (set block used w) (used + (3 + n)) (cells_of (take used block) ++ new_cell k n ∷ [])
     birth_lays = rw word (born block used laid k n room told_new)
 
-    pub birth_done : (shown (set block used w) (used + (3 + n)), Some (record { number = used + 1 })) ≡ birth (shown block used) k n
-    birth_done =
-        let free = free_is in
-        let test : nat_le (3 + n) (free_words (shown block used)) ≡ true = grind (arith, nat_tests) in
-        let next : used + 1 ≡ first + used_words (cells_of (take used block)) = omega (arith, used_words_held block used laid) in
-        rw (test, birth_lays.cells, length-set, next) refl
+    pub birth_done : shown start (set block used w) (used + (3 + n)) ≡ with_last (shown start block used) (new_cell k n)
+    birth_done = rw (birth_lays.cells, length-set) refl
 
--- ---- where no cell lies
+-- ---- cells
 
-module _ (block : List ℕ) (used : ℕ) (laid : IsLaid block used) where
-  within : (a : Addr) → IsSome (cell_at (shown block used) a) → (0 < a.number) × (a.number ≤ used)
-  within a some =
-      let c = some_cell (cell_at (shown block used) a) some in
-      let l = lies block used laid a.number c.0 c.1 in
-      (omega (arith, l.place), omega (arith, l.below))
-
-  pub not_at_null : (a : Addr) → IsSome (cell_at (shown block used) a) → a ≢ null
-  not_at_null a some e = let number = ap (λ (x : Addr). x.number) e in absurd (omega (arith, number, (within a some).0))
-
-  pub not_at_literals : length block ≤ MOST_WORDS → (a : Addr) → IsSome (cell_at (shown block used) a) → literal_number a ≡ None
-  not_at_literals limit a some =
-      let inside = within a some in
-      let room = laid.inside in
-      let test : nat_lt a.number FIRST_LITERAL ≡ true = grind (arith, nat_tests) in
-      rw test refl
-
-module _ (block : List ℕ) (used : ℕ) (laid : IsLaid block used) (a : Addr) where
+module _ (start : ℕ) (block : List ℕ) (used : ℕ) (laid : IsLaid block used) (a : Addr) where
   abbrev h : Cells
-  h = shown block used
+  h = shown start block used
 
   abbrev place : ℕ
-  place = a.number - 1
+  place = a.number - start
 
   -- the cell at the address, and where it lies
   record Held : Type 0 where
     cell : Cell
-    at : cell_at h a ≡ Some cell
-    lies : Lies block used laid a.number cell
+    at : cell_in h a ≡ Some cell
+    lies : Lies block used laid start a.number cell
 
-  held : IsSome (cell_at h a) → Held
-  held some = let c = some_cell (cell_at h a) some in record { cell = c.0; at = c.1; lies = lies block used laid a.number c.0 c.1 }
+  held : IsSome (cell_in h a) → Held
+  held some = let c = some_cell (cell_in h a) some in record { cell = c.0; at = c.1; lies = lies block used laid start a.number c.0 c.1 }
 
   -- ---- the header words
 
-  pub header_inside : IsSome (cell_at h a) → (0 < a.number) × (place + 2 < length block)
+  pub header_inside : IsSome (cell_in h a) → (start ≤ a.number) × (place + 2 < length block)
   header_inside some =
       let c = held some in
       (omega (arith, c.lies.place), omega (arith, c.lies.place, c.lies.below, laid.inside))
 
+  -- its address is one of those of the block
+  pub own_range : IsSome (cell_in h a) → (start ≤ a.number) × (a.number < start + length block)
+  own_range some = let inside = header_inside some in (inside.0, omega (arith, inside.0, inside.1))
+
   header_read : (c : Held) → get_or block place 0 ≡ header_word c.cell.kind (length c.cell.slots)
   header_read c =
       let here : place ≡ place + 0 = omega arith in
-      ap (λ k. get_or block k 0) here ∙ word_read block used laid a.number 0 c.cell c.lies (omega arith)
+      ap (λ k. get_or block k 0) here ∙ word_read block used laid start a.number 0 c.cell c.lies (omega arith)
 
-  pub kind_read : IsSome (cell_at h a) → option_map (λ (c : Cell). c.kind) (cell_at h a) ≡ Some (kind_in (get_or block place 0))
+  pub kind_read : IsSome (cell_in h a) → option_map (λ (c : Cell). c.kind) (cell_in h a) ≡ Some (kind_in (get_or block place 0))
   kind_read some = let c = held some in rw (c.at, header_read c, c.lies.told.kind) refl
 
-  pub slots_read : IsSome (cell_at h a) → slots_in (get_or block place 0) ≡ length (slots_at h a)
+  pub slots_read : IsSome (cell_in h a) → count_in (get_or block place 0) ≡ length (slots_in h a)
   slots_read some = let c = held some in rw (c.at, header_read c) c.lies.told.slots
 
-  pub monitor_read : IsSome (cell_at h a) → option_map (λ (c : Cell). c.monitor) (cell_at h a) ≡ Some (monitor_in (get_or block (place + 2) 0))
+  pub monitor_read : IsSome (cell_in h a) → option_map (λ (c : Cell). c.monitor) (cell_in h a) ≡ Some (monitor_in (get_or block (place + 2) 0))
   monitor_read some =
       let c = held some in
-      let word = word_read block used laid a.number 2 c.cell c.lies (omega arith) in
+      let word = word_read block used laid start a.number 2 c.cell c.lies (omega arith) in
       rw (c.at, word, c.lies.told.monitor) refl
 
   copies_read : (c : Held) → get_or block (place + 1) 0 ≡ copies_word c.cell.marked c.cell.other
-  copies_read c = word_read block used laid a.number 1 c.cell c.lies (omega arith)
+  copies_read c = word_read block used laid start a.number 1 c.cell c.lies (omega arith)
 
-  pub marked_read : IsSome (cell_at h a) → option_map (λ (c : Cell). c.marked) (cell_at h a) ≡ Some (is_marked_in (get_or block (place + 1) 0))
+  pub marked_read : IsSome (cell_in h a) → option_map (λ (c : Cell). c.marked) (cell_in h a) ≡ Some (is_marked_in (get_or block (place + 1) 0))
   marked_read some = let c = held some in rw (c.at, copies_read c, c.lies.told.marked) refl
 
-  pub other_read : IsSome (cell_at h a) → option_map (λ (c : Cell). c.other) (cell_at h a) ≡ Some (other_in (get_or block (place + 1) 0))
+  pub other_read : IsSome (cell_in h a) → option_map (λ (c : Cell). c.other) (cell_in h a) ≡ Some (other_in (get_or block (place + 1) 0))
   other_read some = let c = held some in rw (c.at, copies_read c, c.lies.told.other) refl
 
   -- ---- the walk
 
-  pub cell_inside : IsSome (cell_at h a) → (0 < a.number) × (place + 3 + length (slots_at h a) ≤ used)
+  pub cell_inside : IsSome (cell_in h a) → (start ≤ a.number) × (place + 3 + length (slots_in h a) ≤ used)
   cell_inside some =
       let c = held some in
       (omega (arith, c.lies.place), rw c.at (omega (arith, c.lies.place, c.lies.below)))
 
-  pub next_here : IsSome (cell_at h a) → (n : ℕ) → slice_get (addresses h) n ≡ Some a → slice_get (addresses h) (n + 1) ≡ behind (first + used) a.number (3 + length (slots_at h a))
+  pub next_here : IsSome (cell_in h a) → (n : ℕ) → slice_get (addresses h) n ≡ Some a → slice_get (addresses h) (n + 1) ≡ behind (start + used) a.number (3 + length (slots_in h a))
   next_here some n e =
       let c = held some in
-      let cell : slice_get h.cells n ≡ Some c.cell = sym (cell_here first h.cells n a e) ∙ c.at in
+      let cell : slice_get h.cells n ≡ Some c.cell = sym (cell_here start h.cells n a e) ∙ c.at in
       let one : n + 1 ≡ suc n = omega arith in
-      let end : first + used_words h.cells ≡ first + used = ap (λ k. first + k) (used_words_held block used laid) in
-      let long : size c.cell ≡ 3 + length (slots_at h a) = rw c.at refl in
-      ap (slice_get (addresses h)) one ∙ next_from first h.cells n a c.cell e cell
-      ∙ ap (λ k. behind k a.number (size c.cell)) end ∙ ap (behind (first + used) a.number) long
+      let end : start + used_words h.cells ≡ start + used = ap (λ k. start + k) (used_words_held block used laid) in
+      let long : size c.cell ≡ 3 + length (slots_in h a) = rw c.at refl in
+      ap (slice_get (addresses h)) one ∙ next_from start h.cells n a c.cell e cell
+      ∙ ap (λ k. behind k a.number (size c.cell)) end ∙ ap (behind (start + used) a.number) long
 
-  module _ (some : IsSome (cell_at h a)) (p s : ℕ) (p_is : p ≡ place) (s_is : s ≡ length (slots_at h a)) where
+  module _ (some : IsSome (cell_in h a)) (p s : ℕ) (p_is : p ≡ place) (s_is : s ≡ length (slots_in h a)) where
     -- where the cell ends
     pub end_inside : p + 3 + s ≤ used
     end_inside = omega (arith, p_is, s_is, (cell_inside some).1)
@@ -165,34 +137,34 @@ module _ (block : List ℕ) (used : ℕ) (laid : IsLaid block used) (a : Addr) w
     pub next_none : p + 3 + s ≡ used → (n : ℕ) → slice_get (addresses h) n ≡ Some a → None ≡ slice_get (addresses h) (n + 1)
     next_none last n e =
         let inside = cell_inside some in
-        let test : nat_lt (a.number + (3 + length (slots_at h a))) (first + used) ≡ false = grind (arith, nat_tests) in
+        let test : nat_lt (a.number + (3 + length (slots_in h a))) (start + used) ≡ false = grind (arith, nat_tests) in
         sym (next_here some n e ∙ rw test refl)
 
-    pub next_some : p + 3 + s ≢ used → (n : ℕ) → slice_get (addresses h) n ≡ Some a → Some (record { number = p + 3 + s + 1 }) ≡ slice_get (addresses h) (n + 1)
+    pub next_some : p + 3 + s ≢ used → (n : ℕ) → slice_get (addresses h) n ≡ Some a → Some (record { number = p + 3 + s + start }) ≡ slice_get (addresses h) (n + 1)
     next_some more n e =
         let inside = cell_inside some in
-        let test : nat_lt (a.number + (3 + length (slots_at h a))) (first + used) ≡ true = grind (arith, nat_tests) in
-        let there : a.number + (3 + length (slots_at h a)) ≡ p + 3 + s + 1 = omega (arith, inside, p_is, s_is) in
+        let test : nat_lt (a.number + (3 + length (slots_in h a))) (start + used) ≡ true = grind (arith, nat_tests) in
+        let there : a.number + (3 + length (slots_in h a)) ≡ p + 3 + s + start = omega (arith, inside, p_is, s_is) in
         sym (next_here some n e ∙ rw test (ap (λ (k : ℕ). Some (record { number = k })) there))
 
   -- ---- the slots
 
-  slot_held : (i : ℕ) → i < length (slots_at h a) → Held
-  slot_held i less = held (some_slots h a (cell_at h a) i refl less)
+  slot_held : (i : ℕ) → i < length (slots_in h a) → Held
+  slot_held i less = held (some_slots h a (cell_in h a) i refl less)
 
-  pub slot_inside : (i : ℕ) → i < length (slots_at h a) → (0 < a.number) × (place + 3 + i < length block)
+  pub slot_inside : (i : ℕ) → i < length (slots_in h a) → (start ≤ a.number) × (place + 3 + i < length block)
   slot_inside i less =
       let c = slot_held i less in
       let own = rw c.at at less in
       (omega (arith, c.lies.place), omega (arith, c.lies.place, c.lies.below, laid.inside, own))
 
-  pub slot_read : (i : ℕ) → i < length (slots_at h a) → get_or block (place + 3 + i) 0 ≡ get_or (slots_at h a) i 0
+  pub slot_read : (i : ℕ) → i < length (slots_in h a) → get_or block (place + 3 + i) 0 ≡ get_or (slots_in h a) i 0
   slot_read i less =
       let c = slot_held i less in
       let own = rw c.at at less in
       let there : place + 3 + i ≡ place + (3 + i) = omega arith in
       ap (λ k. get_or block k 0) there
-      ∙ word_read block used laid a.number (3 + i) c.cell c.lies (omega (arith, own))
+      ∙ word_read block used laid start a.number (3 + i) c.cell c.lies (omega (arith, own))
       ∙ word_of_slot _ _ _ c.cell.slots i
       ∙ rw c.at refl
 
@@ -200,21 +172,21 @@ module _ (block : List ℕ) (used : ℕ) (laid : IsLaid block used) (a : Addr) w
 
   -- the block after a store
   pub record Stored (new : List ℕ) (f : Cell → Cell) : Type 0 where
-    pub view : shown new used ≡ change_at f h a
+    pub view : shown start new used ≡ change_in f h a
     pub still_laid : IsLaid new used
     pub long : length new ≡ length block
 
   stored : (j w : ℕ) (f : Cell → Cell) (c : Held) → j < size c.cell → set (words_of c.cell) j w ≡ words_of (f c.cell) → IsTold (f c.cell)
       → Stored (set block (place + j) w) f
   stored j w f c less e told =
-      let new = word_written block used laid a.number j w c.cell f c.lies less e told in
+      let new = word_written block used laid start a.number j w c.cell f c.lies less e told in
       record {
         view = rw (new.cells, length-set) refl;
         still_laid = new.laid;
         long = length-set block (place + j) w;
       }
 
-  pub slot_stored : (i w : ℕ) → i < length (slots_at h a) → Stored (set block (place + 3 + i) w) (store_slot i w)
+  pub slot_stored : (i w : ℕ) → i < length (slots_in h a) → Stored (set block (place + 3 + i) w) (store_slot i w)
   slot_stored i w less =
       let c = slot_held i less in
       let own = rw c.at at less in
@@ -222,14 +194,14 @@ module _ (block : List ℕ) (used : ℕ) (laid : IsLaid block used) (a : Addr) w
       subst (λ k. Stored (set block k w) (store_slot i w)) there
       (stored (3 + i) w (store_slot i w) c (omega (arith, own)) (rw length-set (slot_set _ _ _ c.cell.slots i w)) (told_slot c.cell i w c.lies.told))
 
-  pub monitor_stored : (m : Monitor) (w : ℕ) → w ≡ monitor_word m → monitor_in w ≡ m → IsSome (cell_at h a) → Stored (set block (place + 2) w) (store_monitor m)
+  pub monitor_stored : (m : Monitor) (w : ℕ) → w ≡ monitor_word m → monitor_in w ≡ m → IsSome (cell_in h a) → Stored (set block (place + 2) w) (store_monitor m)
   monitor_stored m w e back some =
       let c = held some in
       let told = c.lies.told in
       stored 2 w (store_monitor m) c (omega arith) (rw e refl)
       (record { kind = told.kind; slots = told.slots; marked = told.marked; other = told.other; monitor = rw (← e) back })
 
-  pub copies_stored : (b : Bool) (o : Option Addr) (w : ℕ) → w ≡ copies_word b o → is_marked_in w ≡ b → other_in w ≡ o → IsSome (cell_at h a)
+  pub copies_stored : (b : Bool) (o : Option Addr) (w : ℕ) → w ≡ copies_word b o → is_marked_in w ≡ b → other_in w ≡ o → IsSome (cell_in h a)
       → Stored (set block (place + 1) w) (store_copies b o)
   copies_stored b o w e marked other some =
       let c = held some in

@@ -1,6 +1,14 @@
 pub mod Tiles
 pub mod Heaps
-pub mod Addressed
 pub mod Walks
+pub mod Blocks
+pub mod TwoBlocks
+pub mod Rooms
+pub mod Births
+pub mod TwoCopies
+pub mod Places
+pub mod TwoHeld
+pub mod HeldBirths
 pub mod MonitorsAt
+pub mod Counts
 pub mod Spaces

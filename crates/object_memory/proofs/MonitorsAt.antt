@@ -8,9 +8,12 @@ use Rattle.object_memory.specs.declared.addresses.Addr.{Addr}
 use Rattle.object_memory.specs.declared.addresses.TheConstants.{FIRST_LITERAL}
 use Rattle.object_memory.specs.declared.kinds.Kind.{Kind}
 use Rattle.object_memory.specs.declared.monitors.Monitor.{Monitor}
-use Rattle.object_memory.specs.Cells.{Cell, size, cell_from, change_from, cell_at, change_at, null, literal, literal_number, store_slot, store_monitor, store_copies}
-use Rattle.object_memory.specs.Objects.{Objects, with_birth, with_cell, with_literal_monitor, with_slot, with_copies, monitor_at, with_monitor}
-use Rattle.object_memory.proofs.Addressed.{change_at_own, change_at_other, birth_keeps}
+use Rattle.object_memory.specs.Cells.{Cell, size, cell_from, change_from, null, literal, literal_number, store_slot, store_monitor, cell_in, change_in}
+use Rattle.object_memory.specs.Spaces.{AreSpaces, first_of, cell_at, change_at, place_of}
+use Rattle.object_memory.specs.Objects.{Objects, with_birth, with_cell, with_literal_monitor, with_slot, monitor_at, with_monitor}
+use Rattle.cil_model.specs.declared.phases.Phase.{Phase}
+use Rattle.object_memory.proofs.TwoBlocks.{change-own, change-other}
+use Rattle.object_memory.proofs.Births.{birth_at-kept}
 
 -- ---- addresses of literals
 
@@ -53,6 +56,13 @@ set_other (x ∷ xs) (suc n) (suc k) m ne = set_other xs n k m (λ e. ne (ap suc
 abbrev monitor_of : Option Cell → Option Monitor
 monitor_of o = option_map (λ (c : Cell). c.monitor) o
 
+-- in either block
+in_both : (x x' y y' : Option Cell) → monitor_of x' ≡ monitor_of x → monitor_of y' ≡ monitor_of y → monitor_of (first_of x' y') ≡ monitor_of (first_of x y)
+in_both None None y y' e e' = e'
+in_both None (Some c) y y' e e' = absurd cc
+in_both (Some c) None y y' e e' = absurd cc
+in_both (Some c) (Some d) y y' e e' = e
+
 module _ (f : Cell → Cell) (sizes : (c : Cell) → size (f c) ≡ size c) (monitors : (c : Cell) → (f c).monitor ≡ c.monitor) where
   kept : (at : ℕ) (cs : List Cell) (a b : ℕ) → monitor_of (cell_from at (change_from f at cs a) b) ≡ monitor_of (cell_from at cs b)
   kept at [] a b = refl
@@ -68,7 +78,8 @@ module _ (f : Cell → Cell) (sizes : (c : Cell) → size (f c) ≡ size c) (mon
 
   kept_at : (o : Objects) (a b : Addr) (n : Option ℕ) → literal_number b ≡ n → monitor_at (with_cell f o a) b ≡ monitor_at o b
   kept_at o a b (Some n) e = rw e refl
-  kept_at o a b None e = rw e (kept o.block.start o.block.cells a.number b.number)
+  kept_at o a b None e = rw e (in_both (cell_in o.spaces.old b) (cell_in (change_in f o.spaces.old a) b) (cell_in o.spaces.new b) (cell_in (change_in f o.spaces.new a) b)
+      (kept o.spaces.old.start o.spaces.old.cells a.number b.number) (kept o.spaces.new.start o.spaces.new.cells a.number b.number))
 
   cell_keeps_monitors : (o : Objects) (a b : Addr) → monitor_at (with_cell f o a) b ≡ monitor_at o b
   cell_keeps_monitors o a b = kept_at o a b (literal_number b) refl
@@ -76,22 +87,19 @@ module _ (f : Cell → Cell) (sizes : (c : Cell) → size (f c) ≡ size c) (mon
 pub slot_keeps_monitors : (o : Objects) (a b : Addr) (i w : ℕ) → monitor_at (with_slot o a i w) b ≡ monitor_at o b
 slot_keeps_monitors o a b i w = cell_keeps_monitors (store_slot i w) (λ c. ap (λ n. 3 + n) (length-set c.slots i w)) (λ c. refl) o a b
 
-pub copies_keep_monitors : (o : Objects) (a b : Addr) (marked : Bool) (other : Option Addr) → monitor_at (with_copies o a marked other) b ≡ monitor_at o b
-copies_keep_monitors o a b marked other = cell_keeps_monitors (store_copies marked other) (λ c. refl) (λ c. refl) o a b
-
 -- ---- the monitor that is stored, and all others
 
 module _ (o : Objects) (m : Monitor) where
-  some_own : (a : Addr) (c : Option Cell) → cell_at o.block a ≡ c → IsSome (monitor_of c) → monitor_of (cell_at (change_at (store_monitor m) o.block a) a) ≡ Some m
+  some_own : (a : Addr) (c : Option Cell) → cell_at o.spaces a ≡ c → IsSome (monitor_of c) → monitor_of (cell_at (change_at (store_monitor m) o.spaces a) a) ≡ Some m
   some_own a None e some = absurd cc
-  some_own a (Some c) e some = rw (change_at_own (store_monitor m) o.block a c e) refl
+  some_own a (Some c) e some = rw (change-own (store_monitor m) o.spaces a c e) refl
 
   own_by : (a : Addr) (n : Option ℕ) → literal_number a ≡ n
-      → IsSome (option_map_or (slice_get o.literals) n (monitor_of (cell_at o.block a)))
+      → IsSome (option_map_or (slice_get o.literals) n (monitor_of (cell_at o.spaces a)))
       → option_map_or (slice_get (option_map_or (with_literal_monitor o m) n (with_cell (store_monitor m) o a)).literals) n
-      (monitor_of (cell_at (option_map_or (with_literal_monitor o m) n (with_cell (store_monitor m) o a)).block a)) ≡ Some m
+      (monitor_of (cell_at (option_map_or (with_literal_monitor o m) n (with_cell (store_monitor m) o a)).spaces a)) ≡ Some m
   own_by a (Some n) e some = set_own o.literals n m some
-  own_by a None e some = some_own a (cell_at o.block a) refl some
+  own_by a None e some = some_own a (cell_at o.spaces a) refl some
 
   pub monitor_found : (a : Addr) → IsSome (monitor_at o a) → monitor_at (with_monitor o a m) a ≡ Some m
   monitor_found a some = own_by a (literal_number a) refl some
@@ -105,27 +113,27 @@ module _ (o : Objects) (m : Monitor) where
 
     others_by : (n k : Option ℕ) → literal_number a ≡ n → literal_number b ≡ k
         → option_map_or (slice_get (option_map_or (with_literal_monitor o m) n (with_cell (store_monitor m) o a)).literals) k
-        (monitor_of (cell_at (option_map_or (with_literal_monitor o m) n (with_cell (store_monitor m) o a)).block b))
-        ≡ option_map_or (slice_get o.literals) k (monitor_of (cell_at o.block b))
+        (monitor_of (cell_at (option_map_or (with_literal_monitor o m) n (with_cell (store_monitor m) o a)).spaces b))
+        ≡ option_map_or (slice_get o.literals) k (monitor_of (cell_at o.spaces b))
     others_by (Some n) (Some k) e f = set_other o.literals n k m (other_literal n k e f)
     others_by (Some n) None e f = refl
     others_by None (Some k) e f = refl
-    others_by None None e f = ap monitor_of (change_at_other (store_monitor m) (λ c. refl) o.block a b ne)
+    others_by None None e f = ap monitor_of (change-other (store_monitor m) (λ c. refl) o.spaces a b ne)
 
     pub monitors_stay : monitor_at (with_monitor o a m) b ≡ monitor_at o b
     monitors_stay = others_by (literal_number a) (literal_number b) refl refl
 
 -- ---- a birth
 
-module _ (o : Objects) (k : Kind) (n : ℕ) (m : Monitor) (a : Addr) where
-  born_cell : (c : Option Cell) → cell_at o.block a ≡ c → monitor_of c ≡ Some m → monitor_of (cell_at (with_birth o k n).0.block a) ≡ Some m
+module _ (o : Objects) (h : AreSpaces o.spaces) (k : Kind) (n : ℕ) (phase : Phase) (m : Monitor) (a : Addr) where
+  born_cell : (c : Option Cell) → cell_at o.spaces a ≡ c → monitor_of c ≡ Some m → monitor_of (cell_at (with_birth phase o k n).0.spaces a) ≡ Some m
   born_cell None e same = absurd cc
-  born_cell (Some c) e same = rw (birth_keeps o.block k n a c e) same
+  born_cell (Some c) e same = rw (birth_at-kept o.spaces h k n (place_of phase o.spaces.is_open) a c e) same
 
-  born_by : (l : Option ℕ) → literal_number a ≡ l → option_map_or (slice_get o.literals) l (monitor_of (cell_at o.block a)) ≡ Some m
-      → option_map_or (slice_get o.literals) l (monitor_of (cell_at (with_birth o k n).0.block a)) ≡ Some m
+  born_by : (l : Option ℕ) → literal_number a ≡ l → option_map_or (slice_get o.literals) l (monitor_of (cell_at o.spaces a)) ≡ Some m
+      → option_map_or (slice_get o.literals) l (monitor_of (cell_at (with_birth phase o k n).0.spaces a)) ≡ Some m
   born_by (Some l) e same = same
-  born_by None e same = born_cell (cell_at o.block a) refl same
+  born_by None e same = born_cell (cell_at o.spaces a) refl same
 
-  pub birth_keeps_monitors : monitor_at o a ≡ Some m → monitor_at (with_birth o k n).0 a ≡ Some m
+  pub birth_keeps_monitors : monitor_at o a ≡ Some m → monitor_at (with_birth phase o k n).0 a ≡ Some m
   birth_keeps_monitors same = born_by (literal_number a) refl same

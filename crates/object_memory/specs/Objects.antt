@@ -1,73 +1,90 @@
--- What a heap holds: the cells of its block, and the monitors of the literals, which lie in no block and take no words of it (this profile).
-use Rattle.std.specs.Prelude.{◌≡◌, ◌≤◌, ℕ, ◌==◌, List, replicate, Bool, Option, option_map, slice_get, slice_set}
+-- What a heap holds: the cells of its blocks, and the monitors of the literals, which lie in no block and take no words of one (this profile).
+use Rattle.std.specs.Prelude.{ℕ, List, [], replicate, Bool, false, Option, Some, None, option_map, slice_get, slice_set, is_some}
 use Rattle.std.specs.Option.{option_map_or}
-use Rattle.cil_model.specs.declared.limits.TheConstants.{MOST_WORDS}
+use Rattle.cil_model.specs.declared.phases.Phase.{Phase}
 use Rattle.object_memory.specs.declared.addresses.Addr.{Addr}
 use Rattle.object_memory.specs.declared.kinds.Kind.{Kind}
 use Rattle.object_memory.specs.declared.monitors.Monitor.{Monitor}
 use Rattle.object_memory.specs.declared.monitors.Monitor.TheVariants.{Free}
-use Rattle.object_memory.specs.Cells.{Cell, Cells, first, used_words, free_words, no_cells, literal_number, cell_at, change_at, slots_at, birth, store_slot, store_monitor, store_copies}
+use Rattle.object_memory.specs.declared.heap.Cycle.{Cycle}
+use Rattle.object_memory.specs.Cells.{Cell, Cells, used_words, free_words, no_cells, literal_number, store_slot, store_monitor}
+use Rattle.object_memory.specs.Spaces.{Spaces, AreSpaces, HasGreyRoom, other_start, cell_at, slots_at, change_at, Place, birth_at, birth, mark}
 
 -- the cells, and the monitor of each literal in the place of the literal's number
 pub record Objects : Type 0 where
-  pub block : Cells
+  pub spaces : Spaces
   pub literals : List Monitor
 
--- a block without cells, and so many literals, which nobody has entered
-abbrev pub no_objects : (words literals : ℕ) → Objects
-no_objects words literals = record { block = no_cells words; literals = replicate literals Free }
+-- ---- how a heap holds its blocks
+
+-- the second block and the grey list are there while a cycle is open; else the new block has no words
+abbrev pub new_of : Cells → Option Cycle → Cells
+new_of old None = record { start = other_start old.start; cells = []; words = 0 }
+new_of old (Some c) = c.to
+
+abbrev pub list_of : Option Cycle → List Addr
+list_of None = []
+list_of (Some c) = c.grey.waiting
+
+abbrev pub marked_of : Option Cycle → Bool
+marked_of None = false
+marked_of (Some c) = c.has_marked
+
+abbrev pub spaces_of : Cells → Option Cycle → Spaces
+spaces_of old cycle = record { old = old; new = new_of old cycle; grey = list_of cycle; has_marked = marked_of cycle; is_open = is_some cycle }
+
+-- while a cycle is open, the grey list has room
+abbrev pub HasRoomToMark : Cells → Option Cycle → Type 0
+HasRoomToMark old None = Unit {0}
+HasRoomToMark old (Some c) = HasGreyRoom old c.grey.spare
+
+pub record IsHeld (old : Cells) (cycle : Option Cycle) : Type 0 where
+  pub spaces : AreSpaces (spaces_of old cycle)
+  pub room : HasRoomToMark old cycle
 
 -- ---- what is there
 
+-- a block without cells, and so many literals, which nobody has entered
+abbrev pub no_objects : (words literals : ℕ) → Objects
+no_objects words literals = record { spaces = spaces_of (no_cells words) None; literals = replicate literals Free }
+
 -- the cell of the object at an address
 abbrev pub object_cell : Objects → Addr → Option Cell
-object_cell o a = cell_at o.block a
+object_cell o a = cell_at o.spaces a
 
 -- the words of its fields or elements
 abbrev pub object_slots : Objects → Addr → List ℕ
-object_slots o a = slots_at o.block a
+object_slots o a = slots_at o.spaces a
 
--- the words in which objects are born, those that objects take, and those that none takes
+-- the words of the old space, which is the only one between cycles; those that objects take there, and those that none takes
 abbrev pub whole_space : Objects → ℕ
-whole_space o = o.block.words
+whole_space o = o.spaces.old.words
 
 abbrev pub used_space : Objects → ℕ
-used_space o = used_words o.block.cells
+used_space o = used_words o.spaces.old.cells
 
 abbrev pub free_space : Objects → ℕ
-free_space o = free_words o.block
+free_space o = free_words o.spaces.old
 
--- objects lie from the first address on, within the space, which has no more words than there may be
-pub record IsWithinSpace (o : Objects) : Type 0 where
-  pub start : o.block.start ≡ first
-  pub within : used_space o ≤ whole_space o
-  pub words : whole_space o ≤ MOST_WORDS
+-- ---- births, marks and stores
 
--- ---- references
+-- a birth in a place
+abbrev pub with_birth_at : Place → Objects → Kind → ℕ → Objects × Option Addr
+with_birth_at p o k n = (record o { spaces = (birth_at p o.spaces k n).0 }, (birth_at p o.spaces k n).1)
 
--- two addresses are of one object, or both null: in one block they are the same
-abbrev pub AreOfOneObject : Objects → Addr → Addr → Type 0
-AreOfOneObject o a b = a.number ≡ b.number
+-- a birth by the own phase of the thread
+abbrev pub with_birth : Phase → Objects → Kind → ℕ → Objects × Option Addr
+with_birth f o k n = (record o { spaces = (birth f o.spaces k n).0 }, (birth f o.spaces k n).1)
 
--- the test of it (III.1.5, table 4)
-abbrev pub is_same_object : Objects → Addr → Addr → Bool
-is_same_object o a b = a.number == b.number
-
--- ---- births and stores
-
--- a birth in the block
-abbrev pub with_birth : Objects → Kind → ℕ → Objects × Option Addr
-with_birth o k n = (record o { block = (birth o.block k n).0 }, (birth o.block k n).1)
+abbrev pub with_mark : Objects → Addr → Objects × Bool
+with_mark o a = (record o { spaces = (mark o.spaces a).0 }, (mark o.spaces a).1)
 
 -- another cell in the place of the one at an address
 abbrev pub with_cell : (Cell → Cell) → Objects → Addr → Objects
-with_cell f o a = record o { block = change_at f o.block a }
+with_cell f o a = record o { spaces = change_at f o.spaces a }
 
 abbrev pub with_slot : Objects → Addr → (i w : ℕ) → Objects
 with_slot o a i w = with_cell (store_slot i w) o a
-
-abbrev pub with_copies : Objects → Addr → Bool → Option Addr → Objects
-with_copies o a marked other = with_cell (store_copies marked other) o a
 
 -- ---- monitors
 

@@ -1,6 +1,6 @@
 // Addresses of objects, and the number that stands for one in a word.
 
-ghost use Rattle.std.specs.Prelude.{◌≡◌, ◌-◌, ◌<◌, ◌==◌};
+ghost use Rattle.std.specs.Prelude.{◌≡◌, ◌-◌, ◌<◌, ◌≤◌, ◌==◌};
 
 /// As many addresses as there are: one for each number of 32 bits.
 pub const ADDRESSES: u64 = 4_294_967_296;
@@ -8,7 +8,7 @@ pub const ADDRESSES: u64 = 4_294_967_296;
 /// The number of the first literal's address. The addresses of a heap's objects have numbers below it.
 pub const FIRST_LITERAL: u32 = 2_147_483_648;
 
-/// Where an object is, or null. The objects of a heap have addresses, and so have the literals of a program. Whether two are of one object, `Heap::is_same_object` tells; nothing else can be done with them.
+/// Where an object is, or null. The objects of a heap have addresses, and so have the literals of a program. During a collection an object may have two; whether two addresses are of one object, a comparison of references tells, and nothing else can be done with them.
 #[derive(Clone, Copy, Debug, PartialEq, Eq)]
 pub struct Addr {
     pub(crate) number: u32,
@@ -51,11 +51,11 @@ impl Addr {
         self.number == 0
     }
 
-    /// Where the object's words begin in its block.
-    pub(crate) fn place(self) -> usize
-        requires { 0 < self.number }
-        ensures { result ≡ self.number - 1 }
+    /// Where the object's words begin in its block, whose first object has the address `start`.
+    pub(crate) fn place(self, start: u32) -> usize
+        requires { start ≤ self.number }
+        ensures { result ≡ self.number - start }
     {
-        self.number as usize - 1
+        (self.number - start) as usize
     }
 }

@@ -1,54 +1,54 @@
-// Objects in a block.
+// Objects in one block, or in two during a cycle.
 
 ghost use Rattle.cil_model.specs.declared.limits.TheConstants.{MOST_WORDS};
-ghost use Rattle.std.specs.Prelude.{◌≡◌, ◌≢◌, ℕ, ◌+◌, ◌<◌, ◌≤◌, length, replicate, slice_index, slice_get, Some, None, IfOk, IfSome, IsSome, option_map};
+ghost use Rattle.std.specs.Prelude.{◌≡◌, ◌≢◌, ℕ, ◌+◌, ◌*◌, ◌<◌, ◌≤◌, [], true, false, length, drop, replicate, slice_index, slice_get, Some, None, IfOk, IfSome, IsSome, option_map, vec_capacity};
 
 use crate::addresses::Addr;
-use crate::copies::Copies;
+use crate::grey::GreyList;
 use crate::kinds::Kind;
 use crate::monitors::Monitor;
+use crate::space::{FIRST, HEADER_WORDS, Space};
 use cil_model::limits::MOST_WORDS;
 use cil_model::memory::NoMemory;
+use cil_model::phases::Phase;
 use space_block::Block;
 use std::alloc::Global;
 use std::marker::Model;
+use std::mem;
 
-/// The words before an object's slots: what it is, what the collector notes at it, and its monitor.
-const HEADER_WORDS: usize = 3;
+/// What a heap has beside the old block while a cycle is open: the new block, the cells still to be scanned, and whether a
+/// cell was marked since the newest round began.
+#[derive(Drop)]
+struct Cycle {
+    to: Space,
+    grey: GreyList,
+    has_marked: bool,
+}
 
-/// Which of them tells the mark and the other copy.
-const COPIES_WORD: usize = 1;
-
-/// Which of them tells the monitor.
-const MONITOR_WORD: usize = 2;
-
-/// The objects of one block, in the order of their births, and the monitors of the program's literals, which lie in no
+/// The objects of one block, or of two while a cycle is open, and the monitors of the program's literals, which lie in no
 /// block. Contracts see cells and a list of monitors.
 #[derive(Drop)]
 pub struct Heap {
-    block: Block,
-    used: usize,
+    from: Space,
+    cycle: Option<Cycle>,
     literals: Vec<Monitor>,
 }
 
 impl Model for Heap {
-    ghost use Rattle.std.specs.Prelude.{◌≤◌, length, take};
-    ghost use Rattle.object_memory.specs.Cells.{first};
-    ghost use Rattle.object_memory.specs.Objects.{Objects};
-    ghost use Rattle.object_memory.specs.Words.{cells_of, IsLaid};
-    ghost use Rattle.cil_model.specs.declared.limits.TheConstants.{MOST_WORDS};
+    ghost use Rattle.object_memory.specs.Objects.{Objects, spaces_of, IsHeld};
 
     ghost Value = { Objects };
 
-    ghost view = { λ h. record { block = record { start = first; cells = cells_of (take h.used h.block); words = length h.block }; literals = h.literals.items } };
+    ghost view = { λ h. record { spaces = spaces_of h.from h.cycle; literals = h.literals.items } };
 
-    ghost invariant = { λ h. (length h.block ≤ MOST_WORDS) × IsLaid h.block h.used };
+    ghost invariant = { λ h. IsHeld h.from h.cycle };
 }
 
 impl Heap {
     ghost use Rattle.object_memory.specs.declared.addresses.Addr.{Addr};
-    ghost use Rattle.object_memory.specs.Cells.{null, free_words, used_words, literal_number, addresses, cell_at, slots_at, store_monitor};
-    ghost use Rattle.object_memory.specs.Objects.{no_objects, is_same_object, with_birth, with_cell, with_slot, with_copies, monitor_at, with_monitor};
+    ghost use Rattle.object_memory.specs.Cells.{null, literal_number, store_monitor, used_words, Cell, free_words, addresses, cell_in, slots_in};
+    ghost use Rattle.object_memory.specs.Spaces.{IsThere, cell_at, slots_at, is_old, forward, opened, closed, InOld, InBoth, Listed, InNew, is_within_cycle, room_at, room_for, with_shell, clear};
+    ghost use Rattle.object_memory.specs.Objects.{no_objects, with_mark, with_birth_at, with_birth, with_cell, with_slot, monitor_at, with_monitor};
 
     /// A heap without objects, in a block that holds zeros alone, beside so many literals, which nobody has entered.
     ///
@@ -61,145 +61,118 @@ impl Heap {
     {
         let monitors = vec![in alloc; Monitor::Free; literals as usize]?;
         Ok(Heap {
-            block,
-            used: 0,
+            from: Space::new(block, FIRST),
+            cycle: None,
             literals: monitors,
         })
     }
 
-    /// The words that no object takes.
-    pub fn free_words(&self) -> usize
-        ensures free { result ≡ free_words self.now.block }
-        ensures few { result ≤ MOST_WORDS }
-    {
-        self.block.len() - self.used
-    }
-
-    /// The words that objects take, their headers counted.
-    pub fn used_words(&self) -> usize
-        ensures used { result ≡ used_words self.now.block.cells }
-        ensures few { result ≤ MOST_WORDS }
-    {
-        self.used
-    }
-
     /// No object has the address of null or of a literal. It does nothing: its contract is the law.
     pub fn objects_are_told_apart(&self)
-        ensures null { (a : Addr) → IsSome (cell_at self.now.block a) → a ≢ null }
-        ensures literals { (a : Addr) → IsSome (cell_at self.now.block a) → literal_number a ≡ None }
+        ensures null { (a : Addr) → IsSome (cell_at self.now.spaces a) → a ≢ null }
+        ensures literals { (a : Addr) → IsSome (cell_at self.now.spaces a) → literal_number a ≡ None }
     {
-        let _block = &self.block;
+        let _from = &self.from;
     }
 
-    /// Whether two references are of one object, or both null (ECMA-335 III.1.5, table 4). An object of one block has one address.
-    pub fn is_same_object(&self, first: Addr, second: Addr) -> bool
-        ensures { result ≡ is_same_object self.now first second }
+    /// Whether a cycle is open.
+    pub fn is_open(&self) -> bool
+        ensures { result ≡ self.now.spaces.is_open }
     {
-        first.number == second.number
+        self.cycle.is_some()
     }
 
-    /// Makes an object with so many slots, which all hold 0 or null, at the front of what is free, and answers its
-    /// address. None exactly where its header and its slots exceed the free words; nothing is changed then.
-    pub fn birth(&mut self, kind: Kind, slots: u32) -> Option<Addr>
-        ensures birth { (self.new, result) ≡ with_birth self.old kind slots }
-        ensures no_literal { IfSome result (λ a. literal_number a ≡ None) }
+    /// The words that objects take in the old block, or the only one, and in the new one.
+    pub fn used_words(&self) -> (usize, usize)
+        ensures used { result ≡ (used_words self.now.spaces.old.cells, used_words self.now.spaces.new.cells) }
+        ensures few { (result.0 ≤ MOST_WORDS) × (result.1 ≤ MOST_WORDS) }
     {
-        let size = HEADER_WORDS + slots as usize;
-        if self.block.len() - self.used < size {
-            return None;
+        match &self.cycle {
+            None => (self.from.used_words(), 0),
+            Some(cycle) => (self.from.used_words(), cycle.to.used_words()),
         }
-        let place = self.used;
-        self.block.write(place, kind.header(slots));
-        self.used = place + size;
-        Some(Addr {
-            number: place as u32 + 1,
-        })
     }
 
-    /// The object that was born first, where a walk over all objects begins. None where there is no object.
-    pub fn first(&self) -> Option<Addr>
-        ensures { result ≡ slice_get (addresses self.now.block) 0 }
+    /// The free words of the old block, or the only one, and of the new one.
+    pub fn free_words(&self) -> (usize, usize)
+        ensures free { result ≡ (free_words self.now.spaces.old, free_words self.now.spaces.new) }
+        ensures few { (result.0 ≤ MOST_WORDS) × (result.1 ≤ MOST_WORDS) }
     {
-        if self.used == 0 {
-            return None;
+        match &self.cycle {
+            None => (self.from.free_words(), 0),
+            Some(cycle) => (self.from.free_words(), cycle.to.free_words()),
         }
-        Some(Addr { number: 1 })
     }
 
-    /// The object that was born next after this one, where a walk goes on. None where this one was born last. It takes
-    /// as long for each object.
-    pub fn next(&self, address: Addr) -> Option<Addr>
-        requires { IsSome (cell_at self.now.block address) }
-        ensures { (n : ℕ) → slice_get (addresses self.now.block) n ≡ Some address → result ≡ slice_get (addresses self.now.block) (n + 1) }
+    /// The words that a birth of a thread in this phase may take, its header counted.
+    pub fn room(&self, phase: Phase) -> usize
+        ensures room { result ≡ room_for phase self.now.spaces }
+        ensures few { result ≤ MOST_WORDS }
     {
-        let used = self.used;
-        let end = address.place() + HEADER_WORDS + self.slots(address) as usize;
-        if end == used {
-            return None;
+        let (old, new) = self.free_words();
+        match phase {
+            Phase::Idle | Phase::Mark => old,
+            Phase::Allocate | Phase::Copy | Phase::PreFlip | Phase::HeapFlip => old.min(new),
+            Phase::ThreadFlip => new,
+            Phase::Reclaim => { if self.is_open() { new } else { old } }
         }
-        Some(Addr {
-            number: end as u32 + 1,
-        })
     }
 
     /// What the object is.
     pub fn kind(&self, address: Addr) -> Kind
-        requires { IsSome (cell_at self.now.block address) }
-        ensures { option_map (λ c. c.kind) (cell_at self.now.block address) ≡ Some result }
+        requires { IsSome (cell_at self.now.spaces address) }
+        ensures { option_map (λ c. c.kind) (cell_at self.now.spaces address) ≡ Some result }
     {
-        Kind::told(self.block.read(address.place()))
+        self.space_of(address).kind(address)
     }
 
     /// The number of its fields or elements.
     pub fn slots(&self, address: Addr) -> u32
-        requires { IsSome (cell_at self.now.block address) }
-        ensures { result ≡ length (slots_at self.now.block address) }
+        requires { IsSome (cell_at self.now.spaces address) }
+        ensures { result ≡ length (slots_at self.now.spaces address) }
     {
-        Kind::slots_told(self.block.read(address.place()))
-    }
-
-    /// The word of a field or element. They count from 0.
-    pub fn slot(&self, address: Addr, index: u32) -> u64
-        requires { index < length (slots_at self.now.block address) }
-        ensures { result ≡ slice_index (slots_at self.now.block address) index }
-    {
-        self.block
-            .read(address.place() + HEADER_WORDS + index as usize)
-    }
-
-    /// Stores the word of a field or element. Nothing else changes.
-    pub fn set_slot(&mut self, address: Addr, index: u32, word: u64)
-        requires { index < length (slots_at self.old.block address) }
-        ensures { self.new ≡ with_slot self.old address index word }
-    {
-        self.block
-            .write(address.place() + HEADER_WORDS + index as usize, word);
+        self.space_of(address).slots(address)
     }
 
     /// Whether the collector has marked the object.
     pub fn is_marked(&self, address: Addr) -> bool
-        requires { IsSome (cell_at self.now.block address) }
-        ensures { option_map (λ c. c.marked) (cell_at self.now.block address) ≡ Some result }
+        requires { IsSome (cell_at self.now.spaces address) }
+        ensures { option_map (λ c. c.marked) (cell_at self.now.spaces address) ≡ Some result }
     {
-        Copies::told(self.block.read(address.place() + COPIES_WORD)).marked
+        self.space_of(address).is_marked(address)
     }
 
-    /// The address of the object's other copy, where it has one.
+    /// The other copy of an object, where it has one.
     pub fn other(&self, address: Addr) -> Option<Addr>
-        requires { IsSome (cell_at self.now.block address) }
-        ensures { option_map (λ c. c.other) (cell_at self.now.block address) ≡ Some result }
+        requires { IsSome (cell_at self.now.spaces address) }
+        ensures { option_map (λ c. c.other) (cell_at self.now.spaces address) ≡ Some result }
     {
-        Copies::told(self.block.read(address.place() + COPIES_WORD)).other
+        self.space_of(address).other(address)
     }
 
-    /// Sets whether the object is marked, and what its other copy is. Nothing else changes.
-    pub fn set_copies(&mut self, address: Addr, marked: bool, other: Option<Addr>)
-        requires { IsSome (cell_at self.old.block address) }
-        ensures { self.new ≡ with_copies self.old address marked other }
+    /// The word of a field or element. They count from 0.
+    pub fn slot(&self, address: Addr, index: u32) -> u64
+        requires { index < length (slots_at self.now.spaces address) }
+        ensures { result ≡ slice_index (slots_at self.now.spaces address) index }
     {
-        let copies = Copies { marked, other };
-        self.block
-            .write(address.place() + COPIES_WORD, copies.word());
+        self.space_of(address).slot(address, index)
+    }
+
+    /// Stores the word of a field or element. Nothing else changes.
+    pub fn set_slot(&mut self, address: Addr, index: u32, word: u64)
+        requires { index < length (slots_at self.old.spaces address) }
+        ensures { self.new ≡ with_slot self.old address index word }
+    {
+        match &mut self.cycle {
+            None => self.from.set_slot(address, index, word),
+            Some(cycle) => {
+                if self.from.spans(address) {
+                    self.from.set_slot(address, index, word);
+                } else {
+                    cycle.to.set_slot(address, index, word);
+                }
+            }
+        }
     }
 
     /// The monitor of an object or a literal.
@@ -224,18 +197,320 @@ impl Heap {
         }
     }
 
-    fn cell_monitor(&self, address: Addr) -> Monitor
-        requires { IsSome (cell_at self.now.block address) }
-        ensures { option_map (λ c. c.monitor) (cell_at self.now.block address) ≡ Some result }
+    /// The block in which an object lies.
+    fn space_of(&self, address: Addr) -> &Space
+        requires { IsSome (cell_at self.now.spaces address) }
+        ensures { cell_in result.now address ≡ cell_at self.now.spaces address }
     {
-        Monitor::told(self.block.read(address.place() + MONITOR_WORD))
+        match &self.cycle {
+            None => &self.from,
+            Some(cycle) => {
+                if self.from.spans(address) {
+                    &self.from
+                } else {
+                    &cycle.to
+                }
+            }
+        }
     }
 
-    fn set_cell_monitor(&mut self, address: Addr, monitor: Monitor)
-        requires { IsSome (cell_at self.old.block address) }
+    /// The monitor of an object.
+    fn cell_monitor(&self, address: Addr) -> Monitor
+        requires { IsSome (cell_at self.now.spaces address) }
+        ensures { option_map (λ c. c.monitor) (cell_at self.now.spaces address) ≡ Some result }
+    {
+        self.space_of(address).cell_monitor(address)
+    }
+
+    /// Sets the monitor of an object that is no literal. Nothing else changes.
+    pub fn set_cell_monitor(&mut self, address: Addr, monitor: Monitor)
+        requires { IsSome (cell_at self.old.spaces address) }
         ensures { self.new ≡ with_cell (store_monitor monitor) self.old address }
     {
-        self.block
-            .write(address.place() + MONITOR_WORD, monitor.word());
+        match &mut self.cycle {
+            None => self.from.set_cell_monitor(address, monitor),
+            Some(cycle) => {
+                if self.from.spans(address) {
+                    self.from.set_cell_monitor(address, monitor);
+                } else {
+                    cycle.to.set_cell_monitor(address, monitor);
+                }
+            }
+        }
+    }
+
+    /// Makes an object with so many slots, which all hold 0 or null, for a thread in this phase, and answers its address:
+    /// that of the old copy where it has two. None exactly where its header and its slots exceed the room; nothing is
+    /// changed then.
+    pub fn birth(&mut self, kind: Kind, slots: u32, phase: Phase) -> Option<Addr>
+        requires { is_within_cycle phase ≡ true → self.old.spaces.is_open ≡ true }
+        ensures birth { (self.new, result) ≡ with_birth phase self.old kind slots }
+        ensures no_literal { IfSome result (λ a. literal_number a ≡ None) }
+    {
+        let is_open = self.cycle.is_some();
+        match phase {
+            Phase::Idle => self.birth_in_old(kind, slots),
+            Phase::Mark => self.birth_listed(kind, slots),
+            Phase::Allocate | Phase::Copy | Phase::PreFlip | Phase::HeapFlip => {
+                self.birth_in_both(kind, slots)
+            }
+            Phase::ThreadFlip => self.birth_in_new(kind, slots),
+            Phase::Reclaim => {
+                if is_open {
+                    self.birth_in_new(kind, slots)
+                } else {
+                    self.birth_in_old(kind, slots)
+                }
+            }
+        }
+    }
+
+    /// Makes an object in the old block.
+    fn birth_in_old(&mut self, kind: Kind, slots: u32) -> Option<Addr>
+        ensures { (self.new, result) ≡ with_birth_at InOld self.old kind slots }
+    {
+        if self.from.free_words() < HEADER_WORDS + slots as usize {
+            return None;
+        }
+        Some(self.from.append(kind, slots))
+    }
+
+    /// Makes an object in the old block, marked and on the grey list.
+    fn birth_listed(&mut self, kind: Kind, slots: u32) -> Option<Addr>
+        requires { self.old.spaces.is_open ≡ true }
+        ensures { (self.new, result) ≡ with_birth_at Listed self.old kind slots }
+    {
+        if self.from.free_words() < HEADER_WORDS + slots as usize {
+            return None;
+        }
+        match &mut self.cycle {
+            None => unreachable!(),
+            Some(cycle) => {
+                let address = self.from.append(kind, slots);
+                self.from.set_copies(address, true, None);
+                cycle.grey.push(address);
+                Some(address)
+            }
+        }
+    }
+
+    /// Makes an object with two copies, both marked, and answers the address of the old one.
+    fn birth_in_both(&mut self, kind: Kind, slots: u32) -> Option<Addr>
+        ensures { (self.new, result) ≡ with_birth_at InBoth self.old kind slots }
+    {
+        if self.room_in_both() < HEADER_WORDS + slots as usize {
+            return None;
+        }
+        match &mut self.cycle {
+            None => None,
+            Some(cycle) => {
+                let address = self.from.append(kind, slots);
+                let copy = cycle.to.append(kind, slots);
+                self.from.set_copies(address, true, Some(copy));
+                cycle.to.set_copies(copy, true, Some(address));
+                Some(address)
+            }
+        }
+    }
+
+    /// Makes an object in the new block alone.
+    fn birth_in_new(&mut self, kind: Kind, slots: u32) -> Option<Addr>
+        requires { self.old.spaces.is_open ≡ true }
+        ensures { (self.new, result) ≡ with_birth_at InNew self.old kind slots }
+    {
+        match &mut self.cycle {
+            None => unreachable!(),
+            Some(cycle) => {
+                if cycle.to.free_words() < HEADER_WORDS + slots as usize {
+                    return None;
+                }
+                Some(cycle.to.append(kind, slots))
+            }
+        }
+    }
+
+    /// The free words of the block that has fewer of them. 0 where no cycle is open.
+    fn room_in_both(&self) -> usize
+        ensures { result ≡ room_at InBoth self.now.spaces }
+    {
+        match &self.cycle {
+            None => 0,
+            Some(cycle) => self.from.free_words().min(cycle.to.free_words()),
+        }
+    }
+
+    /// Begins a cycle, with a second block that holds zeros alone and an empty list that has room for every object.
+    pub fn open(&mut self, block: Block, grey: Vec<Addr>)
+        requires closed { self.old.spaces.is_open ≡ false }
+        requires zeros { block ≡ replicate (length block) 0 }
+        requires limit { length block ≤ MOST_WORDS }
+        requires long { self.old.spaces.old.words ≤ length block }
+        requires empty { grey.items ≡ [] }
+        requires room { self.old.spaces.old.words ≤ 3 * vec_capacity grey + 2 }
+        ensures { self.new ≡ record self.old { spaces = opened self.old.spaces (length block) } }
+    {
+        let start = self.from.other_start();
+        self.cycle = Some(Cycle {
+            to: Space::new(block, start),
+            grey: GreyList::new(grey),
+            has_marked: false,
+        });
+    }
+
+    /// Ends a cycle: the new block is the only one, the grey list goes, and the old block is handed out.
+    pub fn close(&mut self) -> Block
+        requires { self.old.spaces.is_open ≡ true }
+        ensures heap { self.new ≡ record self.old { spaces = closed self.old.spaces } }
+        ensures block { length result ≡ self.old.spaces.old.words }
+    {
+        match self.cycle.take() {
+            Some(cycle) => mem::replace(&mut self.from, cycle.to).into_block(),
+            None => unreachable!(),
+        }
+    }
+
+    /// Whether an object lies there, in the old block or the only one.
+    pub fn is_old(&self, address: Addr) -> bool
+        requires { IsThere self.now.spaces address }
+        ensures { result ≡ is_old self.now.spaces address }
+    {
+        self.from.spans(address)
+    }
+
+    /// The forward of an address: its other copy where it is that of an old object which has one, else itself.
+    pub fn forward(&self, address: Addr) -> Addr
+        requires { IsThere self.now.spaces address }
+        ensures { result ≡ forward self.now.spaces address }
+    {
+        if !self.is_old(address) {
+            return address;
+        }
+        self.from.other(address).unwrap_or(address)
+    }
+
+    /// Marks an old object that isn't marked, puts it on the grey list, and says whether it did. Null, literals and new
+    /// objects stay as they are.
+    pub fn mark(&mut self, address: Addr) -> bool
+        requires cell { IsThere self.old.spaces address }
+        requires open { self.old.spaces.is_open ≡ true }
+        ensures { (self.new, result) ≡ with_mark self.old address }
+    {
+        if !self.is_old(address) {
+            return false;
+        }
+        if self.from.is_marked(address) {
+            return false;
+        }
+        let other = self.from.other(address);
+        if let Some(cycle) = &mut self.cycle {
+            self.from.set_copies(address, true, other);
+            cycle.grey.push(address);
+            cycle.has_marked = true;
+        }
+        true
+    }
+
+    /// The object that has been on the grey list for longest. None where there is none, or no cycle is open.
+    pub fn grey_front(&self) -> Option<Addr>
+        ensures { result ≡ slice_get self.now.spaces.grey 0 }
+    {
+        match &self.cycle {
+            None => None,
+            Some(cycle) => cycle.grey.front(),
+        }
+    }
+
+    /// Takes that object off the grey list.
+    pub fn take_grey(&mut self)
+        ensures { self.new ≡ record self.old { spaces = record self.old.spaces { grey = drop 1 self.old.spaces.grey } } }
+    {
+        match &mut self.cycle {
+            None => {}
+            Some(cycle) => cycle.grey.take(),
+        }
+    }
+
+    /// Whether an object was marked since the newest round began. A birth doesn't count as marking.
+    pub fn has_marked(&self) -> bool
+        ensures { result ≡ self.now.spaces.has_marked }
+    {
+        match &self.cycle {
+            None => false,
+            Some(cycle) => cycle.has_marked,
+        }
+    }
+
+    /// Begins a round: nothing was marked since.
+    pub fn begin_round(&mut self)
+        ensures { self.new ≡ record self.old { spaces = record self.old.spaces { has_marked = false } } }
+    {
+        match &mut self.cycle {
+            None => {}
+            Some(cycle) => cycle.has_marked = false,
+        }
+    }
+
+    /// Makes the other copy of an old object that has none, with slots that all hold 0 or null.
+    pub fn shell(&mut self, address: Addr)
+        requires open { self.old.spaces.is_open ≡ true }
+        requires cell { IsSome (cell_in self.old.spaces.old address) }
+        requires room { 3 + length (slots_in self.old.spaces.old address) ≤ free_words self.old.spaces.new }
+        ensures { (c : Cell) → cell_in self.old.spaces.old address ≡ Some c → self.new ≡ record self.old { spaces = with_shell self.old.spaces address c } }
+    {
+        let kind = self.from.kind(address);
+        let slots = self.from.slots(address);
+        let marked = self.from.is_marked(address);
+        if let Some(cycle) = &mut self.cycle {
+            let copy = cycle.to.append(kind, slots);
+            cycle.to.set_copies(copy, false, Some(address));
+            self.from.set_copies(address, marked, Some(copy));
+        }
+    }
+
+    /// Takes the mark and the other copy off an object of the new block.
+    pub fn clear(&mut self, address: Addr)
+        requires { IsSome (cell_in self.old.spaces.new address) }
+        ensures { self.new ≡ record self.old { spaces = clear self.old.spaces address } }
+    {
+        match &mut self.cycle {
+            None => unreachable!(),
+            Some(cycle) => cycle.to.set_copies(address, false, None),
+        }
+    }
+
+    /// The object of the old block that was born first. None where there is none.
+    pub fn first_old(&self) -> Option<Addr>
+        ensures { result ≡ slice_get (addresses self.now.spaces.old) 0 }
+    {
+        self.from.first()
+    }
+
+    /// The object of the old block that was born next after this one.
+    pub fn next_old(&self, address: Addr) -> Option<Addr>
+        requires { IsSome (cell_in self.now.spaces.old address) }
+        ensures { (n : ℕ) → slice_get (addresses self.now.spaces.old) n ≡ Some address → result ≡ slice_get (addresses self.now.spaces.old) (n + 1) }
+    {
+        self.from.next(address)
+    }
+
+    /// The object of the new block that was born first. None where there is none.
+    pub fn first_new(&self) -> Option<Addr>
+        ensures { result ≡ slice_get (addresses self.now.spaces.new) 0 }
+    {
+        match &self.cycle {
+            None => None,
+            Some(cycle) => cycle.to.first(),
+        }
+    }
+
+    /// The object of the new block that was born next after this one.
+    pub fn next_new(&self, address: Addr) -> Option<Addr>
+        requires { IsSome (cell_in self.now.spaces.new address) }
+        ensures { (n : ℕ) → slice_get (addresses self.now.spaces.new) n ≡ Some address → result ≡ slice_get (addresses self.now.spaces.new) (n + 1) }
+    {
+        match &self.cycle {
+            None => None,
+            Some(cycle) => cycle.to.next(address),
+        }
     }
 }

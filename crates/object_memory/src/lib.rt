@@ -1,12 +1,14 @@
-//! Objects in a block of words: contracts see cells, and nobody above sees a place in the block.
+//! Objects in blocks of words: contracts see cells, and nobody above sees a place in a block.
 #![tactic(auto)]
 
 mod addresses;
 mod copies;
+mod grey;
 mod heap;
 mod kinds;
 pub mod laws;
 mod monitors;
+mod space;
 mod values;
 
 pub use addresses::Addr;

@@ -2,6 +2,7 @@
 -- instructions rest on this alone, so they hold of each memory that has it.
 use Rattle.std.specs.Prelude.{◌≡◌, ◌≤◌, ◌<◌, ◌+◌, ℕ, true, false, List, length, replicate, Option, Some, None, slice_get, slice_set}
 use Rattle.interpreter.specs.cil_model.declared.limits.TheConstants.{MOST_WORDS}
+use Rattle.interpreter.specs.cil_model.declared.phases.Phase.TheVariants.{Idle}
 use Rattle.interpreter.specs.cil_model.declared.trees.Tree.{Tree}
 use Rattle.interpreter.specs.cil_model.Fields.{FieldKey}
 use Rattle.interpreter.specs.cil_model.Mentions.{literals_of}
@@ -13,7 +14,8 @@ use Rattle.interpreter.specs.object_memory.declared.kinds.Kind.{Kind}
 use Rattle.interpreter.specs.object_memory.declared.monitors.Monitor.{Monitor}
 use Rattle.interpreter.specs.object_memory.declared.values.Value.{Value}
 use Rattle.interpreter.specs.object_memory.Cells.{Cell, null, literal, store_slot, store_monitor}
-use Rattle.interpreter.specs.object_memory.Objects.{Objects, object_cell, free_space, is_same_object, with_slot, with_monitor, with_birth}
+use Rattle.interpreter.specs.object_memory.Objects.{Objects, object_cell, free_space, with_slot, with_monitor, with_birth}
+use Rattle.interpreter.specs.instructions.barriers.Barriers.{are_same}
 use Rattle.interpreter.specs.object_memory.Values.{value_word}
 use Rattle.simulation.specs.Agreement.{Agree}
 use Rattle.simulation.specs.StandsFor.{Names, Extends, IsValue, IsMonitor, IsOfContents, IsCell, IsBornAt, IsLiteralAt}
@@ -53,10 +55,10 @@ pub record MemoryModel (tree : Tree) : Type 1 where
   pub statics : (name : Names) (o : Objects) (ss : List Value) (s : State) → Fits name o ss s → AreStatics name ss s.statics
   pub beside : (name : Names) (o : Objects) (ss : List Value) (s s' : State) → Fits name o ss s → IsBeside s s' → Fits name o ss s'
   -- comparing, of named addresses and null
-  pub same : (name : Names) (o : Objects) (ss : List Value) (s : State) → Fits name o ss s → (a b : Addr) (n k : ObjectName) → name a.number ≡ Some n → name b.number ≡ Some k → is_same_object o a b ≡ same_object n k
-  pub same_null : (name : Names) (o : Objects) (ss : List Value) (s : State) → Fits name o ss s → is_same_object o null null ≡ true
-  pub null_name : (name : Names) (o : Objects) (ss : List Value) (s : State) → Fits name o ss s → (b : Addr) (k : ObjectName) → name b.number ≡ Some k → is_same_object o null b ≡ false
-  pub name_null : (name : Names) (o : Objects) (ss : List Value) (s : State) → Fits name o ss s → (a : Addr) (n : ObjectName) → name a.number ≡ Some n → is_same_object o a null ≡ false
+  pub same : (name : Names) (o : Objects) (ss : List Value) (s : State) → Fits name o ss s → (a b : Addr) (n k : ObjectName) → name a.number ≡ Some n → name b.number ≡ Some k → are_same Idle o a b ≡ same_object n k
+  pub same_null : (name : Names) (o : Objects) (ss : List Value) (s : State) → Fits name o ss s → are_same Idle o null null ≡ true
+  pub null_name : (name : Names) (o : Objects) (ss : List Value) (s : State) → Fits name o ss s → (b : Addr) (k : ObjectName) → name b.number ≡ Some k → are_same Idle o null b ≡ false
+  pub name_null : (name : Names) (o : Objects) (ss : List Value) (s : State) → Fits name o ss s → (a : Addr) (n : ObjectName) → name a.number ≡ Some n → are_same Idle o a null ≡ false
   -- storing: a value to a slot, a word to a slot that holds none, a monitor of an object, one of a literal, a value to a static field
   pub slots : (name : Names) (o : Objects) (ss : List Value) (s : State) → Fits name o ss s →
       (a : Addr) (n : ℕ) → name a.number ≡ Some (Born n) → (cell : Cell) → object_cell o a ≡ Some cell →
@@ -80,10 +82,10 @@ pub record MemoryModel (tree : Tree) : Type 1 where
       Fits name o (slice_set ss n v) (record s { statics = entries })
   -- births: one that is refused changes nothing, and its object exceeds the room; any other makes an object of the next name
   pub refusals : (name : Names) (o : Objects) (ss : List Value) (s : State) → Fits name o ss s →
-      (k : Kind) (count : ℕ) (born : Objects) → ◌≡◌ {A = Objects × Option Addr} (with_birth o k count) (born, None) → (born ≡ o) × (free_space o < 3 + count)
+      (k : Kind) (count : ℕ) (born : Objects) → ◌≡◌ {A = Objects × Option Addr} (with_birth Idle o k count) (born, None) → (born ≡ o) × (free_space o < 3 + count)
   pub births : (name : Names) (o : Objects) (ss : List Value) (s : State) → Fits name o ss s →
       (k : Kind) (count : ℕ) (contents : Contents) → ((names : Names) → IsOfContents tree names k (replicate count 0) contents None) →
-      (born : Objects) (a : Addr) → with_birth o k count ≡ (born, Some a) → IsBirth Fits name ss s contents born a
+      (born : Objects) (a : Addr) → with_birth Idle o k count ≡ (born, Some a) → IsBirth Fits name ss s contents born a
 
 -- a memory with its static fields and printed bytes, as the instructions of a thread find it
 pub record IsModelled (tree : Tree) (model : MemoryModel tree) (name : Names) (o : Objects) (statics : List Value) (printed : List ℕ) (s : State) : Type 0 where

@@ -4,6 +4,7 @@ use Rattle.std.specs.Int.{w32, w64}
 use Rattle.interpreter.specs.cil_model.declared.limits.Limits.{Limits}
 use Rattle.interpreter.specs.cil_model.declared.trees.Tree.{Tree}
 use Rattle.interpreter.specs.cil_model.declared.types.ClassName.{ClassName}
+use Rattle.interpreter.specs.cil_model.declared.phases.Phase.TheVariants.{Idle}
 use Rattle.interpreter.specs.cil_model.declared.reports.End.{End}
 use Rattle.interpreter.specs.cil_model.Same.{same_text}
 use Rattle.interpreter.specs.cil_model.Chains.{is_thread_class}
@@ -26,9 +27,11 @@ use Rattle.interpreter.specs.object_memory.declared.monitors.Monitor.TheVariants
 use Rattle.interpreter.specs.object_memory.declared.values.Value.{Value}
 use Rattle.interpreter.specs.object_memory.declared.values.Value.TheVariants.{Int32, Int64, Native, Ref}
 use Rattle.interpreter.specs.object_memory.Cells.{Cell, literal, literal_number, null}
-use Rattle.interpreter.specs.object_memory.Objects.{Objects, IsWithinSpace, AreOfOneObject, object_cell, used_space, whole_space}
+use Rattle.interpreter.specs.object_memory.Objects.{Objects, object_cell, used_space, whole_space}
+use Rattle.interpreter.specs.object_memory.Spaces.{AreSpaces}
 use Rattle.interpreter.specs.object_memory.Values.{value_word}
 use Rattle.interpreter.specs.loaded_program.AllMethods.{all_methods}
+use Rattle.interpreter.specs.instructions.barriers.Barriers.{AreOfOneObject}
 use Rattle.interpreter.specs.instructions.TypeTurns.{held_type}
 use Rattle.interpreter.specs.threads_monitors.Frames.{Frame, Frames}
 use Rattle.interpreter.specs.threads_monitors.declared.threads.Standing.{Standing}
@@ -118,14 +121,14 @@ pub record IsLiteralAt (tree : Tree) (o : Objects) (s : State) (a : ℕ) (charac
   pub state_held : entry_at same_text characters s.literal_monitors ≡ Some state_monitor
   pub stands : IsMonitor monitor state_monitor
 
--- addresses of one name are of one object
+-- addresses of one name are of one object, for threads between cycles
 abbrev pub HasOneObject : Names → Objects → Type 0
-HasOneObject name o = (a b : ℕ) (n : ObjectName) → name a ≡ Some n → name b ≡ Some n → AreOfOneObject o (record { number = a }) (record { number = b })
+HasOneObject name o = (a b : ℕ) (n : ObjectName) → name a ≡ Some n → name b ≡ Some n → AreOfOneObject Idle o (record { number = a }) (record { number = b })
 
 -- Each named address has its object or its literal, and addresses of one name are of one object. The objects lie within their space, and
 -- are all that were born.
 pub record IsHeap (tree : Tree) (name : Names) (o : Objects) (s : State) : Type 0 where
-  pub inside : IsWithinSpace o
+  pub inside : AreSpaces o.spaces
   pub full : used_space o ≡ words_of_all tree s.objects
   pub null_unnamed : name 0 ≡ None
   pub small : (a : ℕ) (n : ObjectName) → name a ≡ Some n → a < ADDRESSES

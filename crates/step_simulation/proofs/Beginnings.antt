@@ -1,19 +1,19 @@
 -- A thread at the beginning of a method stands for one of the reference machine.
 use Rattle.std.proofs.Common.{◌≡◌, ◌≤◌, ℕ, List, [], ◌∷◌, Some, None, slice_get, refl}
-use Rattle.instruction_simulation.specs.simulation.cil_model.declared.limits.Limits.{Limits}
-use Rattle.instruction_simulation.specs.simulation.cil_model.declared.trees.Tree.{Tree}
-use Rattle.instruction_simulation.specs.simulation.cil_model.declared.trees.Method.{Method}
-use Rattle.instruction_simulation.specs.simulation.cil_model.declared.trees.Code.{Code}
-use Rattle.instruction_simulation.specs.simulation.cil_model.declared.types.ClassName.{ClassName}
-use Rattle.instruction_simulation.specs.simulation.cil_model.Bodies.{code_of}
-use Rattle.instruction_simulation.specs.simulation.reference_machine.Values.{Value as StateValue}
-use Rattle.instruction_simulation.specs.simulation.reference_machine.Effects.{new_frame}
-use Rattle.instruction_simulation.specs.simulation.loaded_program.AllMethods.{all_methods}
-use Rattle.instruction_simulation.specs.simulation.object_memory.declared.values.Value.{Value}
-use Rattle.instruction_simulation.specs.simulation.Agreement.{Agree}
-use Rattle.instruction_simulation.specs.simulation.StandsFor.{Names, IsValue, IsThread}
-use Rattle.instruction_simulation.specs.simulation.Turns.{thread_at}
-use Rattle.instruction_simulation.proofs.simulation.Zeros.{locals_stand}
+use Rattle.simulation.specs.cil_model.declared.limits.Limits.{Limits}
+use Rattle.simulation.specs.cil_model.declared.trees.Tree.{Tree}
+use Rattle.simulation.specs.cil_model.declared.trees.Method.{Method}
+use Rattle.simulation.specs.cil_model.declared.trees.Code.{Code}
+use Rattle.simulation.specs.cil_model.declared.types.ClassName.{ClassName}
+use Rattle.simulation.specs.cil_model.Bodies.{code_of}
+use Rattle.simulation.specs.reference_machine.Values.{Value as StateValue}
+use Rattle.simulation.specs.reference_machine.Effects.{new_frame}
+use Rattle.simulation.specs.loaded_program.AllMethods.{all_methods}
+use Rattle.simulation.specs.object_memory.declared.values.Value.{Value}
+use Rattle.simulation.specs.Agreement.{Agree}
+use Rattle.simulation.specs.StandsFor.{Names, IsValue, IsThread}
+use Rattle.simulation.specs.Turns.{thread_at}
+use Rattle.simulation.proofs.Zeros.{locals_stand}
 
 module _ (name : Names) where
   pub beginning_stands : (tree : Tree) (limits : Limits) → 1 ≤ limits.depth → (found : ClassName × Method) (code : Code) → code_of found.1.kind ≡ Some code → (n : ℕ) → slice_get (all_methods tree) n ≡ Some found →

@@ -4,36 +4,36 @@ use Rattle.std.proofs.lemmas.Bool.Decides.{nat_tests}
 use Rattle.std.proofs.lemmas.List.{length-append, length-set}
 use Rattle.std.specs.Option.{option_map_or}
 use Rattle.std.proofs.lemmas.Option.{same_Some}
-use Rattle.instruction_simulation.specs.simulation.cil_model.declared.events.Event.{Event}
-use Rattle.instruction_simulation.specs.simulation.cil_model.declared.events.Event.TheVariants.{Step, Ack, Gc}
-use Rattle.instruction_simulation.specs.simulation.cil_model.declared.limits.TheConstants.{MOST_THREADS}
-use Rattle.instruction_simulation.specs.simulation.cil_model.declared.reports.Fault.{Fault}
-use Rattle.instruction_simulation.specs.simulation.cil_model.declared.reports.Fault.TheVariants.{NullReference, ThreadState, TooManyThreads}
-use Rattle.instruction_simulation.specs.simulation.cil_model.declared.reports.Report.{Report}
-use Rattle.instruction_simulation.specs.simulation.cil_model.declared.trees.Method.{Method}
-use Rattle.instruction_simulation.specs.simulation.cil_model.declared.types.ClassName.{ClassName}
-use Rattle.instruction_simulation.specs.simulation.object_memory.declared.addresses.Addr.{Addr}
-use Rattle.instruction_simulation.specs.simulation.object_memory.declared.values.Value.TheVariants.{Ref}
-use Rattle.instruction_simulation.specs.simulation.object_memory.Objects.{Objects, with_slot, whole_space}
-use Rattle.instruction_simulation.specs.simulation.loaded_program.MethodNumbers.{number_of}
-use Rattle.instruction_simulation.specs.simulation.threads_monitors.Frames.{Frames}
-use Rattle.instruction_simulation.specs.simulation.threads_monitors.Threads.{join_effect, start_fault, thread_on, with_start, is_live_at, wait_for}
-use Rattle.instruction_simulation.specs.simulation.threads_monitors.declared.effects.Effect.{Effect}
-use Rattle.instruction_simulation.specs.simulation.threads_monitors.declared.effects.Effect.TheVariants.{GoesOn, Raises, Blocks}
-use Rattle.instruction_simulation.specs.simulation.threads_monitors.declared.threads.Standing.{Standing}
-use Rattle.instruction_simulation.specs.simulation.threads_monitors.declared.threads.Standing.TheVariants.{Live, Ended}
-use Rattle.instruction_simulation.specs.simulation.threads_monitors.declared.threads.Thread.{Thread}
-use Rattle.instruction_simulation.specs.simulation.interpreter.Calls.{chosen_at}
-use Rattle.instruction_simulation.specs.simulation.interpreter.Instructions.{IsDone, Answer}
-use Rattle.instruction_simulation.specs.simulation.interpreter.declared.outcomes.Outcome.{Outcome}
-use Rattle.instruction_simulation.specs.simulation.interpreter.declared.outcomes.Outcome.TheVariants.{Comes, Starts, Joins}
-use Rattle.instruction_simulation.specs.simulation.MachineContents.{Content}
-use Rattle.instruction_simulation.specs.simulation.Turns.{IsStandingTurn, IsThreadTurn, IsTurn, after_request, counted, finished, left_by, run_member, started, thread_at, thread_for}
-use Rattle.step_simulation.proofs.Words.{instruction_keeps_words}
-use Rattle.instruction_simulation.specs.simulation.reference_machine.Runs.{is_refusal}
-use Rattle.instruction_simulation.proofs.simulation.Instructions.{is_refused_effect, is_refused_fault, is_refused_outcome}
+use Rattle.simulation.specs.cil_model.declared.events.Event.{Event}
+use Rattle.simulation.specs.cil_model.declared.events.Event.TheVariants.{Step, Ack, Gc}
+use Rattle.simulation.specs.cil_model.declared.limits.TheConstants.{MOST_THREADS}
+use Rattle.simulation.specs.cil_model.declared.reports.Fault.{Fault}
+use Rattle.simulation.specs.cil_model.declared.reports.Fault.TheVariants.{NullReference, ThreadState, TooManyThreads}
+use Rattle.simulation.specs.cil_model.declared.reports.Report.{Report}
+use Rattle.simulation.specs.cil_model.declared.trees.Method.{Method}
+use Rattle.simulation.specs.cil_model.declared.types.ClassName.{ClassName}
+use Rattle.simulation.specs.object_memory.declared.addresses.Addr.{Addr}
+use Rattle.simulation.specs.object_memory.declared.values.Value.TheVariants.{Ref}
+use Rattle.simulation.specs.object_memory.Objects.{Objects, with_slot, whole_space}
+use Rattle.simulation.specs.loaded_program.MethodNumbers.{number_of}
+use Rattle.simulation.specs.threads_monitors.Frames.{Frames}
+use Rattle.simulation.specs.threads_monitors.Threads.{join_effect, start_fault, thread_on, with_start, is_live_at, wait_for}
+use Rattle.simulation.specs.threads_monitors.declared.effects.Effect.{Effect}
+use Rattle.simulation.specs.threads_monitors.declared.effects.Effect.TheVariants.{GoesOn, Raises, Blocks}
+use Rattle.simulation.specs.threads_monitors.declared.threads.Standing.{Standing}
+use Rattle.simulation.specs.threads_monitors.declared.threads.Standing.TheVariants.{Live, Ended}
+use Rattle.simulation.specs.threads_monitors.declared.threads.Thread.{Thread}
+use Rattle.simulation.specs.interpreter.Calls.{chosen_at}
+use Rattle.simulation.specs.interpreter.Instructions.{IsDone, Answer}
+use Rattle.simulation.specs.interpreter.declared.outcomes.Outcome.{Outcome}
+use Rattle.simulation.specs.interpreter.declared.outcomes.Outcome.TheVariants.{Comes, Starts, Joins}
+use Rattle.simulation.specs.MachineContents.{Content}
+use Rattle.simulation.specs.Turns.{IsStandingTurn, IsThreadTurn, IsTurn, after_request, counted, finished, left_by, run_member, started, thread_at, thread_for}
+use Rattle.step_simulation.proofs.HeapSizes.{instruction_keeps_words}
+use Rattle.simulation.specs.reference_machine.Runs.{is_refusal}
+use Rattle.simulation.proofs.Instructions.{is_refused_effect, is_refused_fault, is_refused_outcome}
 use Rattle.step_simulation.proofs.Settling.{refusal_of}
-use Rattle.instruction_simulation.proofs.simulation.cil_model.Lists.{none_is_some}
+use Rattle.simulation.proofs.cil_model.Lists.{none_is_some}
 
 -- a thread that has begun beside these has its whole budget, and there was room for its number
 pub record HasBegun (budget : ℕ) (before threads : List Thread) : Type 0 where

@@ -1,33 +1,33 @@
 -- A thread waits for another alike on both machines.
 use Rattle.std.proofs.Common.{◌≡◌, if◌then◌else◌, ℕ, Bool, true, false, is_none, List, ◌∷◌, drop, Option, Some, None, option_map, unwrap_or, slice_get, refl, inl, inr, sym, ap, ◌∙◌, subst}
 use Rattle.std.specs.Option.{option_map_or}
-use Rattle.instruction_simulation.specs.simulation.cil_model.declared.reports.End.{End}
-use Rattle.instruction_simulation.specs.simulation.cil_model.declared.reports.Fault.TheVariants.{NullReference, ThreadState}
-use Rattle.instruction_simulation.specs.simulation.reference_machine.Values.{Value as StateValue}
-use Rattle.instruction_simulation.specs.simulation.reference_machine.States.{Frame as StateFrame, Thread as StateThread, State, is_live, is_live_thread}
-use Rattle.instruction_simulation.specs.simulation.reference_machine.Effects.{Blocks as StateBlocks, Raises as StateRaises, onward}
-use Rattle.instruction_simulation.specs.simulation.reference_machine.BuiltIn.{Join, join}
-use Rattle.instruction_simulation.specs.simulation.resolved_code.declared.operations.Operation.{Operation}
-use Rattle.instruction_simulation.specs.simulation.object_memory.declared.addresses.Addr.{Addr}
-use Rattle.instruction_simulation.specs.simulation.threads_monitors.Frames.{Frames}
-use Rattle.instruction_simulation.specs.simulation.threads_monitors.Threads.{end_in, is_live as is_live_machine, is_live_at, thread_on, wait_for, join_effect}
-use Rattle.instruction_simulation.specs.simulation.threads_monitors.declared.effects.Effect.{Effect}
-use Rattle.instruction_simulation.specs.simulation.threads_monitors.declared.effects.Effect.TheVariants.{GoesOn, Blocks, Raises}
-use Rattle.instruction_simulation.specs.simulation.threads_monitors.declared.threads.Standing.{Standing}
-use Rattle.instruction_simulation.specs.simulation.threads_monitors.declared.threads.Standing.TheVariants.{Live, Ended}
-use Rattle.instruction_simulation.specs.simulation.threads_monitors.declared.threads.Thread.{Thread}
-use Rattle.instruction_simulation.specs.simulation.interpreter.declared.outcomes.Outcome.TheVariants.{Comes, Joins}
-use Rattle.instruction_simulation.specs.simulation.interpreter.Instructions.{HasSmallConstant, IsAt, answer_of}
-use Rattle.instruction_simulation.specs.simulation.MachineContents.{Content}
-use Rattle.instruction_simulation.specs.simulation.StandsFor.{IsThread, StandsAlike, Represents}
-use Rattle.instruction_simulation.specs.simulation.Turns.{after_request, counted}
-use Rattle.instruction_simulation.proofs.simulation.AgreeLaws.{agree_get, agree_beyond}
-use Rattle.instruction_simulation.proofs.simulation.Going.{next_alike}
-use Rattle.instruction_simulation.proofs.simulation.Instructions.{GoesAlike, ComesAlike, is_refused_effect}
+use Rattle.simulation.specs.cil_model.declared.reports.End.{End}
+use Rattle.simulation.specs.cil_model.declared.reports.Fault.TheVariants.{NullReference, ThreadState}
+use Rattle.simulation.specs.reference_machine.Values.{Value as StateValue}
+use Rattle.simulation.specs.reference_machine.States.{Frame as StateFrame, Thread as StateThread, State, is_live, is_live_thread}
+use Rattle.simulation.specs.reference_machine.Effects.{Blocks as StateBlocks, Raises as StateRaises, onward}
+use Rattle.simulation.specs.reference_machine.BuiltIn.{Join, join}
+use Rattle.simulation.specs.resolved_code.declared.operations.Operation.{Operation}
+use Rattle.simulation.specs.object_memory.declared.addresses.Addr.{Addr}
+use Rattle.simulation.specs.threads_monitors.Frames.{Frames}
+use Rattle.simulation.specs.threads_monitors.Threads.{end_in, is_live as is_live_machine, is_live_at, thread_on, wait_for, join_effect}
+use Rattle.simulation.specs.threads_monitors.declared.effects.Effect.{Effect}
+use Rattle.simulation.specs.threads_monitors.declared.effects.Effect.TheVariants.{GoesOn, Blocks, Raises}
+use Rattle.simulation.specs.threads_monitors.declared.threads.Standing.{Standing}
+use Rattle.simulation.specs.threads_monitors.declared.threads.Standing.TheVariants.{Live, Ended}
+use Rattle.simulation.specs.threads_monitors.declared.threads.Thread.{Thread}
+use Rattle.simulation.specs.interpreter.declared.outcomes.Outcome.TheVariants.{Comes, Joins}
+use Rattle.simulation.specs.interpreter.Instructions.{HasSmallConstant, IsAt, answer_of}
+use Rattle.simulation.specs.MachineContents.{Content}
+use Rattle.simulation.specs.StandsFor.{IsThread, StandsAlike, Represents}
+use Rattle.simulation.specs.Turns.{after_request, counted}
+use Rattle.simulation.proofs.AgreeLaws.{agree_get, agree_beyond}
+use Rattle.simulation.proofs.Going.{next_alike}
+use Rattle.simulation.proofs.Instructions.{GoesAlike, ComesAlike, is_refused_effect}
 use Rattle.step_simulation.proofs.Settling.{Follows, done, comes}
 use Rattle.step_simulation.proofs.ThreadObjects.{thread_on_is}
 use Rattle.step_simulation.proofs.Requests.{here, running, below, instruction, Asks, IsAskedOf, asked_of, rest_agrees, setting}
-use Rattle.instruction_simulation.proofs.OneBlock.{one_block}
+use Rattle.step_simulation.proofs.OneBlock.{one_block}
 
 -- ---- which threads live
 

@@ -4,20 +4,20 @@ use Rattle.std.specs.Prelude.{nat_lt}
 use Rattle.std.proofs.lemmas.Bool.Decides.{nat_tests}
 use Rattle.std.proofs.lemmas.List.{get_or-replicate, length-replicate}
 use Rattle.std.proofs.lemmas.Option.{slice_get-get_or, slice_get_within, same_Some}
-use Rattle.instruction_simulation.specs.simulation.cil_model.declared.limits.TheConstants.{MOST_METHODS, MOST_INSTRUCTIONS}
-use Rattle.instruction_simulation.specs.simulation.cil_model.declared.trees.Tree.{Tree}
-use Rattle.instruction_simulation.specs.simulation.cil_model.Legality.{IsLegal}
-use Rattle.instruction_simulation.specs.simulation.cil_model.Mentions.{each_once, literal_of, instructions_of_tree, literals_of}
-use Rattle.instruction_simulation.specs.simulation.cil_model.Same.{same_text}
-use Rattle.instruction_simulation.proofs.simulation.cil_model.Lists.{none_is_some}
-use Rattle.instruction_simulation.proofs.simulation.cil_model.SameLaws.{never, if_true, is_not, same_text_itself}
-use Rattle.instruction_simulation.specs.simulation.reference_machine.Values.{ObjectName, Literal}
-use Rattle.instruction_simulation.specs.simulation.reference_machine.States.{Free, entry_at}
-use Rattle.instruction_simulation.proofs.simulation.type_soundness.SourceLaws.{kept_from}
-use Rattle.instruction_simulation.proofs.simulation.MethodSizes.{literals_few}
-use Rattle.instruction_simulation.specs.simulation.object_memory.declared.addresses.TheConstants.{ADDRESSES, FIRST_LITERAL}
-use Rattle.instruction_simulation.specs.simulation.object_memory.Cells.{literal, literal_number}
-use Rattle.instruction_simulation.specs.simulation.StandsFor.{Names}
+use Rattle.simulation.specs.cil_model.declared.limits.TheConstants.{MOST_METHODS, MOST_INSTRUCTIONS}
+use Rattle.simulation.specs.cil_model.declared.trees.Tree.{Tree}
+use Rattle.simulation.specs.cil_model.Legality.{IsLegal}
+use Rattle.simulation.specs.cil_model.Mentions.{each_once, literal_of, instructions_of_tree, literals_of}
+use Rattle.simulation.specs.cil_model.Same.{same_text}
+use Rattle.simulation.proofs.cil_model.Lists.{none_is_some}
+use Rattle.simulation.proofs.cil_model.SameLaws.{never, if_true, is_not, same_text_itself}
+use Rattle.simulation.specs.reference_machine.Values.{ObjectName, Literal}
+use Rattle.simulation.specs.reference_machine.States.{Free, entry_at}
+use Rattle.simulation.proofs.type_soundness.SourceLaws.{kept_from}
+use Rattle.simulation.proofs.MethodSizes.{literals_few}
+use Rattle.simulation.specs.object_memory.declared.addresses.TheConstants.{ADDRESSES, FIRST_LITERAL}
+use Rattle.simulation.specs.object_memory.Cells.{literal, literal_number}
+use Rattle.simulation.specs.StandsFor.{Names}
 
 -- ---- lists in which nothing stands twice
 

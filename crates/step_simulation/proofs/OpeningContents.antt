@@ -1,33 +1,33 @@
 -- What a machine holds at first stands for the opening state.
-use Rattle.std.proofs.Common.{◌≡◌, ℕ, IsTrue, [], ◌∷◌, length, Option, Some, None, option_map, option_and_then, slice_get, refl, sym, ap, ◌∙◌, arith}
-use Rattle.instruction_simulation.specs.simulation.cil_model.declared.limits.Limits.{Limits}
-use Rattle.instruction_simulation.specs.simulation.cil_model.declared.trees.Code.{Code}
-use Rattle.instruction_simulation.specs.simulation.cil_model.declared.trees.Method.{Method}
-use Rattle.instruction_simulation.specs.simulation.cil_model.declared.trees.Tree.{Tree}
-use Rattle.instruction_simulation.specs.simulation.cil_model.declared.types.ClassName.{ClassName}
-use Rattle.instruction_simulation.specs.simulation.cil_model.Bodies.{code_of, entry_points, is_entry_point, source_methods}
-use Rattle.instruction_simulation.specs.simulation.cil_model.Chains.{methods_declared}
-use Rattle.instruction_simulation.specs.simulation.cil_model.Fields.{static_fields}
-use Rattle.instruction_simulation.specs.simulation.cil_model.Mentions.{literals_of}
-use Rattle.instruction_simulation.specs.simulation.cil_model.Ranges.{are_in_range}
-use Rattle.instruction_simulation.specs.simulation.cil_model.Typings.{IsAccepted}
-use Rattle.instruction_simulation.proofs.simulation.cil_model.Lists.{none_is_some}
-use Rattle.instruction_simulation.proofs.simulation.cil_model.Legal.{entry_alone}
-use Rattle.instruction_simulation.specs.simulation.reference_machine.States.{Free as IsFree, State}
-use Rattle.instruction_simulation.specs.simulation.reference_machine.Runs.{opening, opening_at}
-use Rattle.instruction_simulation.proofs.simulation.type_soundness.Openings.{opens, opening_typed}
-use Rattle.instruction_simulation.proofs.simulation.type_soundness.SourceLaws.{kept_from, source_is_declared}
-use Rattle.instruction_simulation.proofs.simulation.CountedOpenings.{opening_counted}
-use Rattle.instruction_simulation.specs.simulation.loaded_program.AllMethods.{all_methods}
-use Rattle.instruction_simulation.specs.simulation.loaded_program.MethodNumbers.{number_of}
-use Rattle.instruction_simulation.proofs.simulation.loaded_program.NumberLaws.{declared_is_numbered}
-use Rattle.instruction_simulation.specs.simulation.object_memory.declared.monitors.Monitor.TheVariants.{Free}
-use Rattle.instruction_simulation.specs.simulation.object_memory.Objects.{no_objects}
-use Rattle.instruction_simulation.specs.simulation.MachineContents.{Content}
-use Rattle.instruction_simulation.specs.simulation.StandsFor.{IsHeap, StandsBy, Represents}
-use Rattle.instruction_simulation.specs.simulation.Turns.{content_at, opening_content}
-use Rattle.instruction_simulation.proofs.simulation.LimitRanges.{budget_is_some, depth_is_some, words_are_few}
-use Rattle.instruction_simulation.proofs.simulation.Zeros.{fields_stand}
+use Rattle.std.proofs.Common.{◌≡◌, ◌⊎◌, inl, inr, ℕ, IsTrue, [], ◌∷◌, length, Option, Some, None, option_map, option_and_then, slice_get, refl, sym, ap, ◌∙◌, arith}
+use Rattle.simulation.specs.cil_model.declared.limits.Limits.{Limits}
+use Rattle.simulation.specs.cil_model.declared.trees.Code.{Code}
+use Rattle.simulation.specs.cil_model.declared.trees.Method.{Method}
+use Rattle.simulation.specs.cil_model.declared.trees.Tree.{Tree}
+use Rattle.simulation.specs.cil_model.declared.types.ClassName.{ClassName}
+use Rattle.simulation.specs.cil_model.Bodies.{code_of, entry_points, is_entry_point, source_methods}
+use Rattle.simulation.specs.cil_model.Chains.{methods_declared}
+use Rattle.simulation.specs.cil_model.Fields.{static_fields}
+use Rattle.simulation.specs.cil_model.Mentions.{literals_of}
+use Rattle.simulation.specs.cil_model.Ranges.{are_in_range}
+use Rattle.simulation.specs.cil_model.Typings.{IsAccepted}
+use Rattle.simulation.proofs.cil_model.Lists.{none_is_some}
+use Rattle.simulation.proofs.cil_model.Legal.{entry_alone}
+use Rattle.simulation.specs.reference_machine.States.{Free as IsFree, State}
+use Rattle.simulation.specs.reference_machine.Runs.{opening, opening_at}
+use Rattle.simulation.proofs.type_soundness.Openings.{opens, opening_typed}
+use Rattle.simulation.proofs.type_soundness.SourceLaws.{kept_from, source_is_declared}
+use Rattle.simulation.proofs.CountedOpenings.{opening_counted}
+use Rattle.simulation.specs.loaded_program.AllMethods.{all_methods}
+use Rattle.simulation.specs.loaded_program.MethodNumbers.{number_of}
+use Rattle.simulation.proofs.loaded_program.NumberLaws.{declared_is_numbered}
+use Rattle.simulation.specs.object_memory.declared.monitors.Monitor.TheVariants.{Free}
+use Rattle.simulation.specs.object_memory.Objects.{no_objects}
+use Rattle.simulation.specs.MachineContents.{Content}
+use Rattle.simulation.specs.StandsFor.{IsHeap, StandsBy, Represents}
+use Rattle.simulation.specs.Turns.{content_at, opening_content}
+use Rattle.simulation.proofs.LimitRanges.{budget_is_some, depth_is_some, words_are_few}
+use Rattle.simulation.proofs.Zeros.{fields_stand}
 use Rattle.step_simulation.proofs.Beginnings.{beginning_stands}
 use Rattle.step_simulation.proofs.LiteralNames.{same_for_each, free_first, literal_names, IsNamedLiteral, named_literal, literal_named, literals_small, literals_apart}
 
@@ -35,7 +35,11 @@ module _ (tree : Tree) (limits : Limits) (accepted : IsAccepted tree) (in_range 
   -- no object is there but the literals
   first_heap : (entry : ClassName × Method) (code : Code) → IsHeap tree (literal_names tree) (no_objects limits.words (length (literals_of tree))) (opening_at tree limits entry code)
   first_heap entry code = record {
-    inside = record { start = refl; within = omega arith; words = words_are_few limits in_range };
+    inside = record {
+      old = record { start = inl refl; fits = omega arith; few = words_are_few limits in_range };
+      new = record { start = inr refl; fits = omega arith; few = omega arith };
+      apart = refl;
+    };
     full = refl;
     null_unnamed = refl;
     small = literals_small tree accepted.legal;

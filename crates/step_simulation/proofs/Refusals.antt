@@ -4,34 +4,34 @@ use Rattle.std.specs.Prelude.{nat_le}
 use Rattle.std.proofs.lemmas.Bool.Decides.{nat_tests}
 use Rattle.std.proofs.lemmas.List.Sums.{sum_by_push}
 use Rattle.std.proofs.lemmas.Option.{same_Some}
-use Rattle.instruction_simulation.specs.simulation.cil_model.declared.events.Event.TheVariants.{Step}
-use Rattle.instruction_simulation.specs.simulation.cil_model.declared.reports.Report.{Report}
-use Rattle.instruction_simulation.specs.simulation.cil_model.declared.reports.Report.TheVariants.{Ran, Absent}
-use Rattle.instruction_simulation.specs.simulation.cil_model.declared.reports.Fault.TheVariants.{OutOfMemory}
-use Rattle.instruction_simulation.specs.simulation.cil_model.declared.trees.Tree.{Tree}
-use Rattle.instruction_simulation.specs.simulation.cil_model.declared.limits.Limits.{Limits}
-use Rattle.instruction_simulation.specs.simulation.reference_machine.Effects.{Effect as StateEffect, Raises as StateRaises}
-use Rattle.instruction_simulation.specs.simulation.reference_machine.Rooms.{ExceedsRoom, cell_words, words_of_all}
-use Rattle.instruction_simulation.specs.simulation.reference_machine.Runs.{is_refusal}
-use Rattle.instruction_simulation.specs.simulation.reference_machine.States.{Contents, Frame as StateFrame, HeapObject, State, Free, with_birth}
-use Rattle.instruction_simulation.specs.simulation.reference_machine.Steps.{Outcome, Answers, goes_on, settled, step}
-use Rattle.instruction_simulation.proofs.simulation.reference_machine.StepLaws.{same_after}
-use Rattle.instruction_simulation.proofs.simulation.reference_machine.UnrefusedLaws.{memory_is_refused}
-use Rattle.instruction_simulation.specs.simulation.threads_monitors.Frames.{Frames}
-use Rattle.instruction_simulation.specs.simulation.threads_monitors.declared.threads.Standing.{Standing}
-use Rattle.instruction_simulation.specs.simulation.threads_monitors.declared.threads.Standing.TheVariants.{Live, Ended}
-use Rattle.instruction_simulation.specs.simulation.threads_monitors.declared.threads.Thread.{Thread}
-use Rattle.instruction_simulation.specs.simulation.interpreter.Instructions.{IsDone, Answer}
-use Rattle.instruction_simulation.specs.simulation.MachineContents.{Content}
-use Rattle.instruction_simulation.specs.simulation.StandsFor.{Represents}
-use Rattle.instruction_simulation.specs.simulation.Turns.{IsStandingTurn, IsThreadTurn, IsTurn}
-use Rattle.instruction_simulation.proofs.simulation.Instructions.{ExceedsRoom as ExceedsFree, InstructionsAreAlike, is_refused_outcome}
+use Rattle.simulation.specs.cil_model.declared.events.Event.TheVariants.{Step}
+use Rattle.simulation.specs.cil_model.declared.reports.Report.{Report}
+use Rattle.simulation.specs.cil_model.declared.reports.Report.TheVariants.{Ran, Absent}
+use Rattle.simulation.specs.cil_model.declared.reports.Fault.TheVariants.{OutOfMemory}
+use Rattle.simulation.specs.cil_model.declared.trees.Tree.{Tree}
+use Rattle.simulation.specs.cil_model.declared.limits.Limits.{Limits}
+use Rattle.simulation.specs.reference_machine.Effects.{Effect as StateEffect, Raises as StateRaises}
+use Rattle.simulation.specs.reference_machine.Rooms.{ExceedsRoom, cell_words, words_of_all}
+use Rattle.simulation.specs.reference_machine.Runs.{is_refusal}
+use Rattle.simulation.specs.reference_machine.States.{Contents, Frame as StateFrame, HeapObject, State, Free, with_birth}
+use Rattle.simulation.specs.reference_machine.Steps.{Outcome, Answers, goes_on, settled, step}
+use Rattle.simulation.proofs.reference_machine.StepLaws.{same_after}
+use Rattle.simulation.proofs.reference_machine.UnrefusedLaws.{memory_is_refused}
+use Rattle.simulation.specs.threads_monitors.Frames.{Frames}
+use Rattle.simulation.specs.threads_monitors.declared.threads.Standing.{Standing}
+use Rattle.simulation.specs.threads_monitors.declared.threads.Standing.TheVariants.{Live, Ended}
+use Rattle.simulation.specs.threads_monitors.declared.threads.Thread.{Thread}
+use Rattle.simulation.specs.interpreter.Instructions.{IsDone, Answer}
+use Rattle.simulation.specs.MachineContents.{Content}
+use Rattle.simulation.specs.StandsFor.{Represents}
+use Rattle.simulation.specs.Turns.{IsStandingTurn, IsThreadTurn, IsTurn}
+use Rattle.simulation.proofs.Instructions.{ExceedsRoom as ExceedsFree, InstructionsAreAlike, is_refused_outcome}
 use Rattle.step_simulation.proofs.Finished.{finished_refusal, same_program}
 use Rattle.step_simulation.proofs.Settings.{setting_of, is_alive, is_running, does_alike}
 use Rattle.step_simulation.proofs.Settling.{done, step_is}
 use Rattle.step_simulation.proofs.Steps.{step_follows}
-use Rattle.instruction_simulation.proofs.simulation.cil_model.SameLaws.{never}
-use Rattle.instruction_simulation.proofs.OneBlock.{one_block}
+use Rattle.simulation.proofs.cil_model.SameLaws.{never}
+use Rattle.step_simulation.proofs.OneBlock.{one_block}
 
 -- ---- a test of room
 
@@ -100,7 +100,7 @@ module _ (each : InstructionsAreAlike) (c : Content) (s : State) (r : Represents
       let same = same_program c after (Step t) turn in
       let full : words_of_all c.tree s'.objects ≡ words_of_all after.0.tree s'.objects = ap (λ x. words_of_all x s'.objects) (sym same.0) in
       let limit : after.0.limits.words ≡ c.limits.words = ap (λ (l : Limits). l.words) same.1 in
-      omega (arith, full, limit, h.stands.by.memory.heap.full, h.stands.by.memory.heap.inside.within, h.space)
+      omega (arith, full, limit, h.stands.by.memory.heap.full, h.stands.by.memory.heap.inside.old.fits, h.space)
 
   exceeding_is_refused : ExceedsRoom c.tree c.limits s t → IsTrue (is_refusal after.1)
   exceeding_is_refused x = by_report (is_refusal after.1) refl (step_follows each c s r t after turn)

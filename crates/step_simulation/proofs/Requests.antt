@@ -2,37 +2,37 @@
 use Rattle.std.proofs.Common.{◌≡◌, ◌≢◌, ◌<◌, ◌+◌, ◌⊎◌, ◌==◌, ℕ, suc, true, false, List, [], ◌∷◌, length, drop, Some, option_map, unwrap_or, slice_get, refl, inl, inr, sym, ap, ◌∙◌, subst, arith}
 use Rattle.std.specs.Prelude.{nat_lt}
 use Rattle.std.proofs.lemmas.Bool.Decides.{nat_tests}
-use Rattle.instruction_simulation.specs.simulation.cil_model.declared.instructions.Instruction.{Instruction}
-use Rattle.instruction_simulation.specs.simulation.cil_model.declared.limits.TheConstants.{MOST_INSTRUCTIONS}
-use Rattle.instruction_simulation.specs.simulation.cil_model.declared.reports.Fault.TheVariants.{NullReference}
-use Rattle.instruction_simulation.specs.simulation.reference_machine.Values.{ObjectName, Born, Value as StateValue, Null, Reference}
-use Rattle.instruction_simulation.specs.simulation.reference_machine.States.{HeapObject, Frame as StateFrame, State}
-use Rattle.instruction_simulation.specs.simulation.reference_machine.Effects.{Setting, Effect as StateEffect, Raises as StateRaises, after, not_null}
-use Rattle.instruction_simulation.specs.simulation.reference_machine.BuiltIn.{Action, act, thread_object}
-use Rattle.instruction_simulation.proofs.simulation.type_soundness.Running.{IsTypedEffect}
-use Rattle.instruction_simulation.proofs.simulation.type_soundness.AllSteps.{instruction_typed}
-use Rattle.instruction_simulation.specs.simulation.resolved_code.declared.operations.Operation.{Operation}
-use Rattle.instruction_simulation.specs.simulation.object_memory.declared.addresses.Addr.{Addr}
-use Rattle.instruction_simulation.specs.simulation.object_memory.declared.values.Value.TheVariants.{Ref}
-use Rattle.instruction_simulation.specs.simulation.object_memory.Cells.{Cell, null}
-use Rattle.instruction_simulation.specs.simulation.object_memory.Objects.{object_slots}
-use Rattle.instruction_simulation.specs.simulation.threads_monitors.Frames.{Frames, with_place, with_stack}
-use Rattle.instruction_simulation.specs.simulation.threads_monitors.declared.effects.Effect.TheVariants.{GoesOn}
-use Rattle.instruction_simulation.specs.simulation.threads_monitors.declared.threads.Standing.TheVariants.{Live}
-use Rattle.instruction_simulation.specs.simulation.interpreter.Instructions.{HasSmallConstant, IsAt, Answer}
-use Rattle.instruction_simulation.specs.simulation.Agreement.{Agree}
-use Rattle.instruction_simulation.specs.simulation.MachineContents.{Content}
-use Rattle.instruction_simulation.specs.simulation.StandsFor.{IsValue, IsFrame, AreFrames, Represents}
-use Rattle.instruction_simulation.specs.simulation.Turns.{after_request}
-use Rattle.instruction_simulation.proofs.simulation.AgreeLaws.{agree_length, agree_drop}
-use Rattle.instruction_simulation.proofs.simulation.Going.{moved_frames, place_is_small}
-use Rattle.instruction_simulation.proofs.simulation.Instructions.{IsSetting, AsksFor}
-use Rattle.instruction_simulation.specs.simulation.Ready.{HasRequest}
+use Rattle.simulation.specs.cil_model.declared.instructions.Instruction.{Instruction}
+use Rattle.simulation.specs.cil_model.declared.limits.TheConstants.{MOST_INSTRUCTIONS}
+use Rattle.simulation.specs.cil_model.declared.reports.Fault.TheVariants.{NullReference}
+use Rattle.simulation.specs.reference_machine.Values.{ObjectName, Born, Value as StateValue, Null, Reference}
+use Rattle.simulation.specs.reference_machine.States.{HeapObject, Frame as StateFrame, State}
+use Rattle.simulation.specs.reference_machine.Effects.{Setting, Effect as StateEffect, Raises as StateRaises, after, not_null}
+use Rattle.simulation.specs.reference_machine.BuiltIn.{Action, act, thread_object}
+use Rattle.simulation.proofs.type_soundness.Running.{IsTypedEffect}
+use Rattle.simulation.proofs.type_soundness.AllSteps.{instruction_typed}
+use Rattle.simulation.specs.resolved_code.declared.operations.Operation.{Operation}
+use Rattle.simulation.specs.object_memory.declared.addresses.Addr.{Addr}
+use Rattle.simulation.specs.object_memory.declared.values.Value.TheVariants.{Ref}
+use Rattle.simulation.specs.object_memory.Cells.{Cell, null}
+use Rattle.simulation.specs.object_memory.Objects.{object_slots}
+use Rattle.simulation.specs.threads_monitors.Frames.{Frames, with_place, with_stack}
+use Rattle.simulation.specs.threads_monitors.declared.effects.Effect.TheVariants.{GoesOn}
+use Rattle.simulation.specs.threads_monitors.declared.threads.Standing.TheVariants.{Live}
+use Rattle.simulation.specs.interpreter.Instructions.{HasSmallConstant, IsAt, Answer}
+use Rattle.simulation.specs.Agreement.{Agree}
+use Rattle.simulation.specs.MachineContents.{Content}
+use Rattle.simulation.specs.StandsFor.{IsValue, IsFrame, AreFrames, Represents}
+use Rattle.simulation.specs.Turns.{after_request}
+use Rattle.simulation.proofs.AgreeLaws.{agree_length, agree_drop}
+use Rattle.simulation.proofs.Going.{moved_frames, place_is_small}
+use Rattle.simulation.proofs.Instructions.{IsSetting, AsksFor}
+use Rattle.simulation.specs.Ready.{HasRequest}
 use Rattle.step_simulation.proofs.Settings.{setting_of, is_alive, is_running, in_setting}
 use Rattle.step_simulation.proofs.Settling.{done}
 use Rattle.step_simulation.proofs.ThreadObjects.{reference_is, IsThreadObject, thread_object_is}
-use Rattle.instruction_simulation.proofs.simulation.Memories.{named_is_not_null}
-use Rattle.instruction_simulation.proofs.OneBlock.{one_block, heap_reads}
+use Rattle.simulation.proofs.Memories.{named_is_not_null}
+use Rattle.step_simulation.proofs.OneBlock.{one_block, heap_reads}
 
 module _ (c : Content) (s : State) (r : Represents c s) (t left : ℕ) (m : Frames) (there : slice_get c.threads t ≡ Some (record { standing = Live m; steps_left = left })) where
   abbrev pub here : Setting

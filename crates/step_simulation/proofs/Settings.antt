@@ -2,30 +2,30 @@
 use Rattle.std.proofs.Common.{◌≡◌, ℕ, Bool, false, List, [], ◌∷◌, Option, Some, None, option_map, option_and_then, slice_get, refl, sym, ap, ◌∙◌, subst}
 use Rattle.std.specs.Prelude.{IsSome}
 use Rattle.std.proofs.lemmas.Option.{same_Some}
-use Rattle.instruction_simulation.specs.simulation.cil_model.declared.instructions.Instruction.{Instruction}
-use Rattle.instruction_simulation.specs.simulation.cil_model.declared.reports.End.{End}
-use Rattle.instruction_simulation.specs.simulation.cil_model.declared.trees.Line.{Line}
-use Rattle.instruction_simulation.specs.simulation.cil_model.declared.trees.Method.{Method}
-use Rattle.instruction_simulation.specs.simulation.cil_model.declared.types.ClassName.{ClassName}
-use Rattle.instruction_simulation.specs.simulation.cil_model.Bodies.{lines_of}
-use Rattle.instruction_simulation.specs.simulation.reference_machine.States.{Frame as StateFrame, Thread as StateThread, State}
-use Rattle.instruction_simulation.specs.simulation.reference_machine.Effects.{Setting}
-use Rattle.instruction_simulation.specs.simulation.reference_machine.Steps.{instruction_at, execute}
-use Rattle.instruction_simulation.proofs.simulation.type_soundness.Running.{IsRunning, runs_at}
-use Rattle.instruction_simulation.specs.simulation.type_soundness.TypedStates.{AreTypedFrames}
-use Rattle.instruction_simulation.specs.simulation.resolved_code.Resolved.{IsOperation}
-use Rattle.instruction_simulation.specs.simulation.resolved_code.declared.operations.Operation.{Operation}
-use Rattle.instruction_simulation.specs.simulation.threads_monitors.Frames.{Frames}
-use Rattle.instruction_simulation.specs.simulation.threads_monitors.declared.threads.Standing.TheVariants.{Live}
-use Rattle.instruction_simulation.specs.simulation.interpreter.Instructions.{HasSmallConstant, IsAt, line_at, operation_turn}
-use Rattle.instruction_simulation.specs.simulation.MachineContents.{Content}
-use Rattle.instruction_simulation.specs.simulation.Ready.{IsReady}
-use Rattle.instruction_simulation.specs.simulation.StandsFor.{Names, IsFrame, AreFrames, IsThread, StandsAlike, Represents}
-use Rattle.instruction_simulation.proofs.simulation.AgreeLaws.{agree_at}
-use Rattle.instruction_simulation.proofs.simulation.Instructions.{IsSetting, DoesAlike, InstructionsAreAlike}
-use Rattle.instruction_simulation.proofs.simulation.LimitRanges.{budget_is_small}
-use Rattle.instruction_simulation.proofs.simulation.cil_model.Lists.{none_is_some}
-use Rattle.instruction_simulation.proofs.OneBlock.{one_block, modelled}
+use Rattle.simulation.specs.cil_model.declared.instructions.Instruction.{Instruction}
+use Rattle.simulation.specs.cil_model.declared.reports.End.{End}
+use Rattle.simulation.specs.cil_model.declared.trees.Line.{Line}
+use Rattle.simulation.specs.cil_model.declared.trees.Method.{Method}
+use Rattle.simulation.specs.cil_model.declared.types.ClassName.{ClassName}
+use Rattle.simulation.specs.cil_model.Bodies.{lines_of}
+use Rattle.simulation.specs.reference_machine.States.{Frame as StateFrame, Thread as StateThread, State}
+use Rattle.simulation.specs.reference_machine.Effects.{Setting}
+use Rattle.simulation.specs.reference_machine.Steps.{instruction_at, execute}
+use Rattle.simulation.proofs.type_soundness.Running.{IsRunning, runs_at}
+use Rattle.simulation.specs.type_soundness.TypedStates.{AreTypedFrames}
+use Rattle.simulation.specs.resolved_code.Resolved.{IsOperation}
+use Rattle.simulation.specs.resolved_code.declared.operations.Operation.{Operation}
+use Rattle.simulation.specs.threads_monitors.Frames.{Frames}
+use Rattle.simulation.specs.threads_monitors.declared.threads.Standing.TheVariants.{Live}
+use Rattle.simulation.specs.interpreter.Instructions.{HasSmallConstant, IsAt, line_at, operation_turn}
+use Rattle.simulation.specs.MachineContents.{Content}
+use Rattle.simulation.specs.Ready.{IsReady}
+use Rattle.simulation.specs.StandsFor.{Names, IsFrame, AreFrames, IsThread, StandsAlike, Represents}
+use Rattle.simulation.proofs.AgreeLaws.{agree_at}
+use Rattle.simulation.proofs.Instructions.{IsSetting, DoesAlike, InstructionsAreAlike}
+use Rattle.simulation.proofs.LimitRanges.{budget_is_small}
+use Rattle.simulation.proofs.cil_model.Lists.{none_is_some}
+use Rattle.step_simulation.proofs.OneBlock.{one_block, modelled}
 
 -- ---- a live thread
 

@@ -2,41 +2,41 @@
 use Rattle.std.proofs.Common.{◌≡◌, ◌-◌, ◌==◌, if◌then◌else◌, is_none, ℕ, zero, suc, Bool, false, List, [], ◌∷◌, Some, None, slice_get, slice_set, refl, sym, ap, ◌∙◌, subst, arith}
 use Rattle.std.proofs.lemmas.Bool.Decides.{nat_tests}
 use Rattle.std.specs.Option.{option_map_or}
-use Rattle.instruction_simulation.specs.simulation.cil_model.declared.reports.End.{End}
-use Rattle.instruction_simulation.specs.simulation.cil_model.declared.reports.End.TheVariants.{Done, Budget, Fault as ByFault}
-use Rattle.instruction_simulation.specs.simulation.cil_model.declared.reports.Fault.{Fault}
-use Rattle.instruction_simulation.specs.simulation.cil_model.declared.reports.Fault.TheVariants as Faults
-use Rattle.instruction_simulation.specs.simulation.cil_model.declared.reports.Report.{Report}
-use Rattle.instruction_simulation.specs.simulation.cil_model.declared.reports.Report.TheVariants.{Blocked, Ended as HasEnded, Absent}
-use Rattle.instruction_simulation.specs.simulation.reference_machine.States.{Frame as StateFrame, Thread as StateThread, State}
-use Rattle.instruction_simulation.specs.simulation.reference_machine.Effects.{Effect as StateEffect, Goes, Blocks as StateBlocks, Raises as StateRaises, given}
-use Rattle.instruction_simulation.specs.simulation.reference_machine.Steps.{Outcome, Answers, execute, effect_of, with_thread_at, ended_as, goes_on, settled as state_settled, step_of, step}
-use Rattle.instruction_simulation.specs.simulation.reference_machine.Runs.{is_refusal}
-use Rattle.instruction_simulation.specs.simulation.type_soundness.TypedStates.{IsTyped}
-use Rattle.instruction_simulation.proofs.simulation.type_soundness.WholeSteps.{step_typed}
-use Rattle.instruction_simulation.proofs.simulation.type_soundness.AllSteps.{instruction_typed}
-use Rattle.instruction_simulation.proofs.simulation.CountedSteps.{step_counted}
-use Rattle.instruction_simulation.specs.simulation.object_memory.declared.values.Value.{Value}
-use Rattle.instruction_simulation.specs.simulation.object_memory.Objects.{Objects, whole_space}
-use Rattle.instruction_simulation.specs.simulation.threads_monitors.Frames.{Frames}
-use Rattle.instruction_simulation.specs.simulation.threads_monitors.Threads.{end_after, report_of, standing_after}
-use Rattle.instruction_simulation.specs.simulation.threads_monitors.declared.effects.Effect.{Effect}
-use Rattle.instruction_simulation.specs.simulation.threads_monitors.declared.effects.Effect.TheVariants.{GoesOn, Returns, Blocks, Raises}
-use Rattle.instruction_simulation.specs.simulation.threads_monitors.declared.threads.Standing.TheVariants.{Live, Ended}
-use Rattle.instruction_simulation.specs.simulation.threads_monitors.declared.threads.Thread.{Thread}
-use Rattle.instruction_simulation.specs.simulation.Agreement.{Agree}
-use Rattle.instruction_simulation.specs.simulation.MachineContents.{Content}
-use Rattle.instruction_simulation.specs.simulation.StandsFor.{Names, AreFrames, IsThread, IsMemory, StandsBy, StandsFor, Represents}
-use Rattle.instruction_simulation.specs.simulation.Turns.{counted}
-use Rattle.instruction_simulation.proofs.simulation.AgreeLaws.{agree_set, agree_weaken}
-use Rattle.instruction_simulation.proofs.simulation.Extending.{thread_extends}
-use Rattle.instruction_simulation.proofs.simulation.Memories.{memory_beside}
-use Rattle.instruction_simulation.specs.simulation.interpreter.declared.outcomes.Outcome.TheVariants.{Comes}
-use Rattle.instruction_simulation.proofs.simulation.Instructions.{LeavesMemory, ComesAlike, is_refused_fault, is_refused_effect}
-use Rattle.instruction_simulation.proofs.simulation.LimitRanges.{budget_is_some}
+use Rattle.simulation.specs.cil_model.declared.reports.End.{End}
+use Rattle.simulation.specs.cil_model.declared.reports.End.TheVariants.{Done, Budget, Fault as ByFault}
+use Rattle.simulation.specs.cil_model.declared.reports.Fault.{Fault}
+use Rattle.simulation.specs.cil_model.declared.reports.Fault.TheVariants as Faults
+use Rattle.simulation.specs.cil_model.declared.reports.Report.{Report}
+use Rattle.simulation.specs.cil_model.declared.reports.Report.TheVariants.{Blocked, Ended as HasEnded, Absent}
+use Rattle.simulation.specs.reference_machine.States.{Frame as StateFrame, Thread as StateThread, State}
+use Rattle.simulation.specs.reference_machine.Effects.{Effect as StateEffect, Goes, Blocks as StateBlocks, Raises as StateRaises, given}
+use Rattle.simulation.specs.reference_machine.Steps.{Outcome, Answers, execute, effect_of, with_thread_at, ended_as, goes_on, settled as state_settled, step_of, step}
+use Rattle.simulation.specs.reference_machine.Runs.{is_refusal}
+use Rattle.simulation.specs.type_soundness.TypedStates.{IsTyped}
+use Rattle.simulation.proofs.type_soundness.WholeSteps.{step_typed}
+use Rattle.simulation.proofs.type_soundness.AllSteps.{instruction_typed}
+use Rattle.simulation.proofs.CountedSteps.{step_counted}
+use Rattle.simulation.specs.object_memory.declared.values.Value.{Value}
+use Rattle.simulation.specs.object_memory.Objects.{Objects, whole_space}
+use Rattle.simulation.specs.threads_monitors.Frames.{Frames}
+use Rattle.simulation.specs.threads_monitors.Threads.{end_after, report_of, standing_after}
+use Rattle.simulation.specs.threads_monitors.declared.effects.Effect.{Effect}
+use Rattle.simulation.specs.threads_monitors.declared.effects.Effect.TheVariants.{GoesOn, Returns, Blocks, Raises}
+use Rattle.simulation.specs.threads_monitors.declared.threads.Standing.TheVariants.{Live, Ended}
+use Rattle.simulation.specs.threads_monitors.declared.threads.Thread.{Thread}
+use Rattle.simulation.specs.Agreement.{Agree}
+use Rattle.simulation.specs.MachineContents.{Content}
+use Rattle.simulation.specs.StandsFor.{Names, AreFrames, IsThread, IsMemory, StandsBy, StandsFor, Represents}
+use Rattle.simulation.specs.Turns.{counted}
+use Rattle.simulation.proofs.AgreeLaws.{agree_set, agree_weaken}
+use Rattle.simulation.proofs.Extending.{thread_extends}
+use Rattle.simulation.proofs.Memories.{memory_beside}
+use Rattle.simulation.specs.interpreter.declared.outcomes.Outcome.TheVariants.{Comes}
+use Rattle.simulation.proofs.Instructions.{LeavesMemory, ComesAlike, is_refused_fault, is_refused_effect}
+use Rattle.simulation.proofs.LimitRanges.{budget_is_some}
 use Rattle.step_simulation.proofs.Settings.{setting_of, is_alive, is_running}
-use Rattle.instruction_simulation.proofs.OneBlock.{one_block, memory_of}
-use Rattle.instruction_simulation.specs.simulation.interpreter.Instructions.{Answer}
+use Rattle.step_simulation.proofs.OneBlock.{one_block, memory_of}
+use Rattle.simulation.specs.interpreter.Instructions.{Answer}
 
 -- a thread with a step left isn't spent
 some_left : (n : ℕ) → (suc n == 0) ≡ false

@@ -3,42 +3,42 @@ use Rattle.std.proofs.Common.{◌≡◌, ◌<◌, ◌+◌, if◌then◌else◌, 
 use Rattle.std.specs.Prelude.{IsSome}
 use Rattle.std.specs.Option.{option_map_or}
 use Rattle.std.proofs.lemmas.Option.{same_Some}
-use Rattle.instruction_simulation.specs.simulation.cil_model.declared.reports.Fault.{Fault}
-use Rattle.instruction_simulation.specs.simulation.cil_model.declared.reports.Fault.TheVariants.{NullReference}
-use Rattle.instruction_simulation.specs.simulation.cil_model.declared.reports.Report.{Report}
-use Rattle.instruction_simulation.specs.simulation.reference_machine.Values.{Born, Value as StateValue}
-use Rattle.instruction_simulation.specs.simulation.reference_machine.States.{HeapObject, State, with_object}
-use Rattle.instruction_simulation.specs.simulation.reference_machine.Effects.{Raises as StateRaises, new_frame, after}
-use Rattle.instruction_simulation.specs.simulation.reference_machine.BuiltIn.{Start, start}
-use Rattle.instruction_simulation.specs.simulation.reference_machine.Values.{Reference}
-use Rattle.instruction_simulation.specs.simulation.resolved_code.declared.operations.Operation.{Operation}
-use Rattle.instruction_simulation.specs.simulation.object_memory.declared.addresses.Addr.{Addr}
-use Rattle.instruction_simulation.specs.simulation.object_memory.declared.kinds.Kind.TheVariants.{Instance}
-use Rattle.instruction_simulation.specs.simulation.object_memory.declared.values.Value.TheVariants.{Ref}
-use Rattle.instruction_simulation.specs.simulation.object_memory.Cells.{store_slot}
-use Rattle.instruction_simulation.specs.simulation.object_memory.Objects.{Objects, with_slot}
-use Rattle.instruction_simulation.specs.simulation.threads_monitors.Frames.{Frames}
-use Rattle.instruction_simulation.specs.simulation.threads_monitors.Threads.{start_fault, with_start}
-use Rattle.instruction_simulation.specs.simulation.threads_monitors.declared.effects.Effect.{Effect}
-use Rattle.instruction_simulation.specs.simulation.threads_monitors.declared.effects.Effect.TheVariants.{GoesOn, Raises}
-use Rattle.instruction_simulation.specs.simulation.threads_monitors.declared.threads.Standing.TheVariants.{Live}
-use Rattle.instruction_simulation.specs.simulation.threads_monitors.declared.threads.Thread.{Thread}
-use Rattle.instruction_simulation.specs.simulation.interpreter.Instructions.{HasSmallConstant, IsAt, Answer, answer_of}
-use Rattle.instruction_simulation.specs.simulation.interpreter.declared.outcomes.Outcome.TheVariants.{Comes, Starts}
-use Rattle.instruction_simulation.specs.simulation.MachineContents.{Content}
-use Rattle.instruction_simulation.specs.simulation.StandsFor.{reference, thread_word, IsCell, IsOfContents, IsMemory, IsThread, StandsBy, Represents}
-use Rattle.instruction_simulation.specs.simulation.Turns.{after_request, counted, started, thread_at, thread_for}
-use Rattle.instruction_simulation.proofs.simulation.AgreeLaws.{agree_append, agree_length}
-use Rattle.instruction_simulation.proofs.simulation.Instructions.{is_refused_fault}
-use Rattle.instruction_simulation.proofs.simulation.LimitRanges.{depth_is_some}
-use Rattle.instruction_simulation.proofs.simulation.Memories.{memory_beside}
+use Rattle.simulation.specs.cil_model.declared.reports.Fault.{Fault}
+use Rattle.simulation.specs.cil_model.declared.reports.Fault.TheVariants.{NullReference}
+use Rattle.simulation.specs.cil_model.declared.reports.Report.{Report}
+use Rattle.simulation.specs.reference_machine.Values.{Born, Value as StateValue}
+use Rattle.simulation.specs.reference_machine.States.{HeapObject, State, with_object}
+use Rattle.simulation.specs.reference_machine.Effects.{Raises as StateRaises, new_frame, after}
+use Rattle.simulation.specs.reference_machine.BuiltIn.{Start, start}
+use Rattle.simulation.specs.reference_machine.Values.{Reference}
+use Rattle.simulation.specs.resolved_code.declared.operations.Operation.{Operation}
+use Rattle.simulation.specs.object_memory.declared.addresses.Addr.{Addr}
+use Rattle.simulation.specs.object_memory.declared.kinds.Kind.TheVariants.{Instance}
+use Rattle.simulation.specs.object_memory.declared.values.Value.TheVariants.{Ref}
+use Rattle.simulation.specs.object_memory.Cells.{store_slot}
+use Rattle.simulation.specs.object_memory.Objects.{Objects, with_slot}
+use Rattle.simulation.specs.threads_monitors.Frames.{Frames}
+use Rattle.simulation.specs.threads_monitors.Threads.{start_fault, with_start}
+use Rattle.simulation.specs.threads_monitors.declared.effects.Effect.{Effect}
+use Rattle.simulation.specs.threads_monitors.declared.effects.Effect.TheVariants.{GoesOn, Raises}
+use Rattle.simulation.specs.threads_monitors.declared.threads.Standing.TheVariants.{Live}
+use Rattle.simulation.specs.threads_monitors.declared.threads.Thread.{Thread}
+use Rattle.simulation.specs.interpreter.Instructions.{HasSmallConstant, IsAt, Answer, answer_of}
+use Rattle.simulation.specs.interpreter.declared.outcomes.Outcome.TheVariants.{Comes, Starts}
+use Rattle.simulation.specs.MachineContents.{Content}
+use Rattle.simulation.specs.StandsFor.{reference, thread_word, IsCell, IsOfContents, IsMemory, IsThread, StandsBy, Represents}
+use Rattle.simulation.specs.Turns.{after_request, counted, started, thread_at, thread_for}
+use Rattle.simulation.proofs.AgreeLaws.{agree_append, agree_length}
+use Rattle.simulation.proofs.Instructions.{is_refused_fault}
+use Rattle.simulation.proofs.LimitRanges.{depth_is_some}
+use Rattle.simulation.proofs.Memories.{memory_beside}
 use Rattle.step_simulation.proofs.Settling.{Follows, done, finish, comes}
 use Rattle.step_simulation.proofs.Beginnings.{beginning_stands}
 use Rattle.step_simulation.proofs.ThreadObjects.{IsThreadObject}
 use Rattle.step_simulation.proofs.Requests.{here, running, below, Asks, IsAskedOf, asked_of, popped_frames}
 use Rattle.step_simulation.proofs.Starts.{state_with, IsBegun, IsStarted, faulted, begun, is_started}
-use Rattle.instruction_simulation.proofs.simulation.cil_model.Lists.{none_is_some}
-use Rattle.instruction_simulation.proofs.OneBlock.{one_block, modelled, memory_of}
+use Rattle.simulation.proofs.cil_model.Lists.{none_is_some}
+use Rattle.step_simulation.proofs.OneBlock.{one_block, modelled, memory_of}
 
 module _ (c : Content) (s : State) (r : Represents c s) (t left : ℕ) (m : Frames) (there : slice_get c.threads t ≡ Some (record { standing = Live m; steps_left = left })) where
   -- what is asked of the one operand

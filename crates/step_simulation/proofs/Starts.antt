@@ -1,41 +1,41 @@
 -- A thread starts another alike on both machines.
 use Rattle.std.proofs.Common.{◌≡◌, ◌==◌, if◌then◌else◌, ℕ, Bool, true, false, is_some, List, [], ◌∷◌, length, Option, Some, None, option_map, option_and_then, slice_get, refl, ap, ◌∙◌, subst}
 use Rattle.std.specs.Prelude.{nat_le}
-use Rattle.instruction_simulation.specs.simulation.cil_model.declared.limits.TheConstants.{MOST_THREADS}
-use Rattle.instruction_simulation.specs.simulation.cil_model.declared.reports.Fault.{Fault}
-use Rattle.instruction_simulation.specs.simulation.cil_model.declared.reports.Fault.TheVariants.{NullReference, ThreadState, TooManyThreads}
-use Rattle.instruction_simulation.specs.simulation.cil_model.declared.trees.Method.{Method}
-use Rattle.instruction_simulation.specs.simulation.cil_model.declared.trees.Code.{Code}
-use Rattle.instruction_simulation.specs.simulation.cil_model.declared.types.ClassName.{ClassName}
-use Rattle.instruction_simulation.specs.simulation.cil_model.Bodies.{code_of}
-use Rattle.instruction_simulation.specs.simulation.cil_model.Chains.{methods_declared}
-use Rattle.instruction_simulation.specs.simulation.cil_model.Declarations.{thread_name, run_method}
-use Rattle.instruction_simulation.specs.simulation.cil_model.Slots.{target}
-use Rattle.instruction_simulation.specs.simulation.name_tables.Numbers.{method_at}
-use Rattle.instruction_simulation.specs.simulation.reference_machine.Values.{Born, Value as StateValue, Reference}
-use Rattle.instruction_simulation.specs.simulation.reference_machine.States.{Thread as StateThread, State, class_of}
-use Rattle.instruction_simulation.specs.simulation.reference_machine.Effects.{Effect as StateEffect, Raises as StateRaises, Sticks, given, new_frame, onward}
-use Rattle.instruction_simulation.specs.simulation.reference_machine.BuiltIn.{with_thread, begin, start}
-use Rattle.instruction_simulation.specs.simulation.type_soundness.TypedStates.{AreTypedFrames}
-use Rattle.instruction_simulation.proofs.simulation.type_soundness.Running.{IsTypedEffect}
-use Rattle.instruction_simulation.specs.simulation.loaded_program.AllMethods.{all_methods}
-use Rattle.instruction_simulation.specs.simulation.loaded_program.MethodNumbers.{number_of}
-use Rattle.instruction_simulation.proofs.simulation.loaded_program.NumberLaws.{declared_is_numbered}
-use Rattle.instruction_simulation.specs.simulation.object_memory.declared.addresses.Addr.{Addr}
-use Rattle.instruction_simulation.specs.simulation.object_memory.declared.values.Value.TheVariants.{Ref}
-use Rattle.instruction_simulation.specs.simulation.threads_monitors.Frames.{Frames}
-use Rattle.instruction_simulation.specs.simulation.threads_monitors.Threads.{start_fault, thread_on}
-use Rattle.instruction_simulation.specs.simulation.threads_monitors.declared.threads.Standing.TheVariants.{Live}
-use Rattle.instruction_simulation.specs.simulation.interpreter.Calls.{chosen, chosen_at, chosen_by}
-use Rattle.instruction_simulation.specs.simulation.MachineContents.{Content}
-use Rattle.instruction_simulation.specs.simulation.StandsFor.{IsThread, Represents}
-use Rattle.instruction_simulation.specs.simulation.Turns.{run_member, thread_at, thread_for}
-use Rattle.instruction_simulation.proofs.simulation.AgreeLaws.{agree_length}
-use Rattle.instruction_simulation.proofs.simulation.Instructions.{is_refused_fault}
+use Rattle.simulation.specs.cil_model.declared.limits.TheConstants.{MOST_THREADS}
+use Rattle.simulation.specs.cil_model.declared.reports.Fault.{Fault}
+use Rattle.simulation.specs.cil_model.declared.reports.Fault.TheVariants.{NullReference, ThreadState, TooManyThreads}
+use Rattle.simulation.specs.cil_model.declared.trees.Method.{Method}
+use Rattle.simulation.specs.cil_model.declared.trees.Code.{Code}
+use Rattle.simulation.specs.cil_model.declared.types.ClassName.{ClassName}
+use Rattle.simulation.specs.cil_model.Bodies.{code_of}
+use Rattle.simulation.specs.cil_model.Chains.{methods_declared}
+use Rattle.simulation.specs.cil_model.Declarations.{thread_name, run_method}
+use Rattle.simulation.specs.cil_model.Slots.{target}
+use Rattle.simulation.specs.name_tables.Numbers.{method_at}
+use Rattle.simulation.specs.reference_machine.Values.{Born, Value as StateValue, Reference}
+use Rattle.simulation.specs.reference_machine.States.{Thread as StateThread, State, class_of}
+use Rattle.simulation.specs.reference_machine.Effects.{Effect as StateEffect, Raises as StateRaises, Sticks, given, new_frame, onward}
+use Rattle.simulation.specs.reference_machine.BuiltIn.{with_thread, begin, start}
+use Rattle.simulation.specs.type_soundness.TypedStates.{AreTypedFrames}
+use Rattle.simulation.proofs.type_soundness.Running.{IsTypedEffect}
+use Rattle.simulation.specs.loaded_program.AllMethods.{all_methods}
+use Rattle.simulation.specs.loaded_program.MethodNumbers.{number_of}
+use Rattle.simulation.proofs.loaded_program.NumberLaws.{declared_is_numbered}
+use Rattle.simulation.specs.object_memory.declared.addresses.Addr.{Addr}
+use Rattle.simulation.specs.object_memory.declared.values.Value.TheVariants.{Ref}
+use Rattle.simulation.specs.threads_monitors.Frames.{Frames}
+use Rattle.simulation.specs.threads_monitors.Threads.{start_fault, thread_on}
+use Rattle.simulation.specs.threads_monitors.declared.threads.Standing.TheVariants.{Live}
+use Rattle.simulation.specs.interpreter.Calls.{chosen, chosen_at, chosen_by}
+use Rattle.simulation.specs.MachineContents.{Content}
+use Rattle.simulation.specs.StandsFor.{IsThread, Represents}
+use Rattle.simulation.specs.Turns.{run_member, thread_at, thread_for}
+use Rattle.simulation.proofs.AgreeLaws.{agree_length}
+use Rattle.simulation.proofs.Instructions.{is_refused_fault}
 use Rattle.step_simulation.proofs.Settling.{done}
 use Rattle.step_simulation.proofs.ThreadObjects.{IsThreadObject, thread_on_is, class_at_is, own_class_is}
 use Rattle.step_simulation.proofs.Requests.{here, running, below, done_typed}
-use Rattle.instruction_simulation.proofs.simulation.cil_model.Lists.{last_is_there}
+use Rattle.simulation.proofs.cil_model.Lists.{last_is_there}
 
 module _ (c : Content) (s : State) (r : Represents c s) (t left : ℕ) (m : Frames) (there : slice_get c.threads t ≡ Some (record { standing = Live m; steps_left = left })) where
   module _ (rest : List StateValue) (object : Addr) (number : ℕ) (x : IsThreadObject c.tree r.stands.name c.objects s object number) where

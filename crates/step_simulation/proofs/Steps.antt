@@ -3,36 +3,36 @@ use Rattle.std.proofs.Common.{◌≡◌, ◌-◌, if◌then◌else◌, is_none, 
 use Rattle.std.specs.Option.{option_map_or}
 use Rattle.std.proofs.lemmas.Option.{same_Some}
 use Rattle.std.proofs.lemmas.List.{set-set}
-use Rattle.instruction_simulation.specs.simulation.cil_model.declared.events.Event.TheVariants.{Step}
-use Rattle.instruction_simulation.specs.simulation.cil_model.declared.reports.End.{End}
-use Rattle.instruction_simulation.specs.simulation.cil_model.declared.reports.Report.{Report}
-use Rattle.instruction_simulation.specs.simulation.cil_model.declared.reports.Report.TheVariants.{Absent}
-use Rattle.instruction_simulation.specs.simulation.reference_machine.States.{Frame as StateFrame, Thread as StateThread, State}
-use Rattle.instruction_simulation.specs.simulation.reference_machine.Steps.{Answers, effect_of, settled, step, step_of}
-use Rattle.instruction_simulation.specs.simulation.reference_machine.Runs.{is_refusal}
-use Rattle.instruction_simulation.specs.simulation.object_memory.declared.addresses.Addr.{Addr}
-use Rattle.instruction_simulation.specs.simulation.threads_monitors.Frames.{Frames}
-use Rattle.instruction_simulation.specs.simulation.threads_monitors.declared.threads.Standing.{Standing}
-use Rattle.instruction_simulation.specs.simulation.threads_monitors.declared.threads.Standing.TheVariants.{Live, Ended}
-use Rattle.instruction_simulation.specs.simulation.threads_monitors.declared.threads.Thread.{Thread}
-use Rattle.instruction_simulation.specs.simulation.interpreter.Instructions.{IsDone, Answer, answer_of}
-use Rattle.instruction_simulation.specs.simulation.interpreter.declared.outcomes.Outcome.{Outcome}
-use Rattle.instruction_simulation.specs.simulation.interpreter.declared.outcomes.Outcome.TheVariants.{Comes, Starts, Joins}
-use Rattle.instruction_simulation.specs.simulation.reference_machine.BuiltIn.{Action, Start, Join, start, join}
-use Rattle.instruction_simulation.specs.simulation.MachineContents.{Content}
-use Rattle.instruction_simulation.specs.simulation.StandsFor.{IsThread, StandsAlike, Represents}
-use Rattle.instruction_simulation.specs.simulation.Turns.{IsStandingTurn, IsThreadTurn, IsTurn, finished}
-use Rattle.instruction_simulation.proofs.simulation.AgreeLaws.{agree_at, agree_get}
-use Rattle.instruction_simulation.proofs.simulation.Instructions.{InstructionsAreAlike, ComesAlike, is_refused_effect, is_refused_outcome}
-use Rattle.instruction_simulation.specs.simulation.Ready.{IsReady, IsAnswerable}
+use Rattle.simulation.specs.cil_model.declared.events.Event.TheVariants.{Step}
+use Rattle.simulation.specs.cil_model.declared.reports.End.{End}
+use Rattle.simulation.specs.cil_model.declared.reports.Report.{Report}
+use Rattle.simulation.specs.cil_model.declared.reports.Report.TheVariants.{Absent}
+use Rattle.simulation.specs.reference_machine.States.{Frame as StateFrame, Thread as StateThread, State}
+use Rattle.simulation.specs.reference_machine.Steps.{Answers, effect_of, settled, step, step_of}
+use Rattle.simulation.specs.reference_machine.Runs.{is_refusal}
+use Rattle.simulation.specs.object_memory.declared.addresses.Addr.{Addr}
+use Rattle.simulation.specs.threads_monitors.Frames.{Frames}
+use Rattle.simulation.specs.threads_monitors.declared.threads.Standing.{Standing}
+use Rattle.simulation.specs.threads_monitors.declared.threads.Standing.TheVariants.{Live, Ended}
+use Rattle.simulation.specs.threads_monitors.declared.threads.Thread.{Thread}
+use Rattle.simulation.specs.interpreter.Instructions.{IsDone, Answer, answer_of}
+use Rattle.simulation.specs.interpreter.declared.outcomes.Outcome.{Outcome}
+use Rattle.simulation.specs.interpreter.declared.outcomes.Outcome.TheVariants.{Comes, Starts, Joins}
+use Rattle.simulation.specs.reference_machine.BuiltIn.{Action, Start, Join, start, join}
+use Rattle.simulation.specs.MachineContents.{Content}
+use Rattle.simulation.specs.StandsFor.{IsThread, StandsAlike, Represents}
+use Rattle.simulation.specs.Turns.{IsStandingTurn, IsThreadTurn, IsTurn, finished}
+use Rattle.simulation.proofs.AgreeLaws.{agree_at, agree_get}
+use Rattle.simulation.proofs.Instructions.{InstructionsAreAlike, ComesAlike, is_refused_effect, is_refused_outcome}
+use Rattle.simulation.specs.Ready.{IsReady, IsAnswerable}
 use Rattle.step_simulation.proofs.Settings.{setting_of, is_alive, does_alike, live_is_ready}
 use Rattle.step_simulation.proofs.Settling.{Follows, done, comes}
 use Rattle.step_simulation.proofs.Requests.{here, running, below, Asks, asked_of, has_operand, place_below}
 use Rattle.step_simulation.proofs.Joins.{joins}
 use Rattle.step_simulation.proofs.StartSteps.{start_asked, starts, start_has_thread}
 use Rattle.step_simulation.proofs.Finished.{turn_keeps_words}
-use Rattle.instruction_simulation.proofs.simulation.cil_model.Lists.{none_is_some, set_itself}
-use Rattle.instruction_simulation.proofs.OneBlock.{one_block}
+use Rattle.simulation.proofs.cil_model.Lists.{none_is_some, set_itself}
+use Rattle.step_simulation.proofs.OneBlock.{one_block}
 
 -- ---- an instruction that asks something of other threads
 

@@ -2,28 +2,28 @@
 use Rattle.std.proofs.Common.{◌≡◌, ◌⊎◌, ℕ, Bool, true, false, if◌then◌else◌, List, [], ◌∷◌, ◌++◌, Option, Some, None, option_map, option_and_then, unwrap_or, slice_get, refl, inl, inr, ap, ◌∙◌, subst}
 use Rattle.std.specs.Prelude.{slice_index}
 use Rattle.std.specs.Option.{option_map_or}
-use Rattle.instruction_simulation.specs.simulation.cil_model.declared.trees.Tree.{Tree}
-use Rattle.instruction_simulation.specs.simulation.cil_model.declared.types.ClassName.{ClassName}
-use Rattle.instruction_simulation.specs.simulation.cil_model.Chains.{is_thread_class}
-use Rattle.instruction_simulation.specs.simulation.cil_model.Declarations.{string_name}
-use Rattle.instruction_simulation.specs.simulation.cil_model.Fields.{FieldKey}
-use Rattle.instruction_simulation.specs.simulation.reference_machine.Values.{ObjectName, Born, Literal, Value as StateValue, Null, Reference}
-use Rattle.instruction_simulation.specs.simulation.reference_machine.States.{Contents, Instance as IsInstance, Array as IsArray, HeapObject, Frame as StateFrame, State, object_at, class_of, class_of_contents}
-use Rattle.instruction_simulation.specs.simulation.reference_machine.Effects.{Setting, Effect as StateEffect, Sticks, given}
-use Rattle.instruction_simulation.specs.simulation.reference_machine.BuiltIn.{thread_object}
-use Rattle.instruction_simulation.proofs.simulation.type_soundness.Running.{IsTypedEffect}
-use Rattle.instruction_simulation.specs.simulation.resolved_code.Numbered.{class_name}
-use Rattle.instruction_simulation.specs.simulation.object_memory.declared.addresses.Addr.{Addr}
-use Rattle.instruction_simulation.specs.simulation.object_memory.declared.kinds.Kind.{Kind}
-use Rattle.instruction_simulation.specs.simulation.object_memory.declared.kinds.Kind.TheVariants.{Instance, Array}
-use Rattle.instruction_simulation.specs.simulation.object_memory.declared.values.Value.{Value}
-use Rattle.instruction_simulation.specs.simulation.object_memory.declared.values.Value.TheVariants.{Ref}
-use Rattle.instruction_simulation.specs.simulation.object_memory.Cells.{Cell, literal_number, null}
-use Rattle.instruction_simulation.specs.simulation.object_memory.Objects.{Objects, object_cell}
-use Rattle.instruction_simulation.specs.simulation.threads_monitors.Threads.{thread_told, thread_on}
-use Rattle.instruction_simulation.specs.simulation.interpreter.Calls.{class_at, class_of_kind}
-use Rattle.instruction_simulation.specs.simulation.Agreement.{Agree}
-use Rattle.instruction_simulation.specs.simulation.StandsFor.{Names, IsValue, int32, int64, native, null_reference, reference, IsWord, IsMonitor, thread_word, IsOfContents, IsBornAt, IsHeap}
+use Rattle.simulation.specs.cil_model.declared.trees.Tree.{Tree}
+use Rattle.simulation.specs.cil_model.declared.types.ClassName.{ClassName}
+use Rattle.simulation.specs.cil_model.Chains.{is_thread_class}
+use Rattle.simulation.specs.cil_model.Declarations.{string_name}
+use Rattle.simulation.specs.cil_model.Fields.{FieldKey}
+use Rattle.simulation.specs.reference_machine.Values.{ObjectName, Born, Literal, Value as StateValue, Null, Reference}
+use Rattle.simulation.specs.reference_machine.States.{Contents, Instance as IsInstance, Array as IsArray, HeapObject, Frame as StateFrame, State, object_at, class_of, class_of_contents}
+use Rattle.simulation.specs.reference_machine.Effects.{Setting, Effect as StateEffect, Sticks, given}
+use Rattle.simulation.specs.reference_machine.BuiltIn.{thread_object}
+use Rattle.simulation.proofs.type_soundness.Running.{IsTypedEffect}
+use Rattle.simulation.specs.resolved_code.Numbered.{class_name}
+use Rattle.simulation.specs.object_memory.declared.addresses.Addr.{Addr}
+use Rattle.simulation.specs.object_memory.declared.kinds.Kind.{Kind}
+use Rattle.simulation.specs.object_memory.declared.kinds.Kind.TheVariants.{Instance, Array}
+use Rattle.simulation.specs.object_memory.declared.values.Value.{Value}
+use Rattle.simulation.specs.object_memory.declared.values.Value.TheVariants.{Ref}
+use Rattle.simulation.specs.object_memory.Cells.{Cell, literal_number, null}
+use Rattle.simulation.specs.object_memory.Objects.{Objects, object_cell}
+use Rattle.simulation.specs.threads_monitors.Threads.{thread_told, thread_on}
+use Rattle.simulation.specs.interpreter.Calls.{class_at, class_of_kind}
+use Rattle.simulation.specs.Agreement.{Agree}
+use Rattle.simulation.specs.StandsFor.{Names, IsValue, int32, int64, native, null_reference, reference, IsWord, IsMonitor, thread_word, IsOfContents, IsBornAt, IsHeap}
 
 -- an address stands for null, or for the object that it names
 pub reference_is : (name : Names) (v : Value) (u : StateValue) → IsValue name v u → (a : Addr) → v ≡ Ref a → ((a ≡ null) × (u ≡ Null)) ⊎ ((n : ObjectName) × (u ≡ Reference n) × (name a.number ≡ Some n))

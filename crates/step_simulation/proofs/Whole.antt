@@ -1,45 +1,45 @@
 -- Each instruction does the same on a machine as on the reference machine; so does each step, from the opening on.
 use Rattle.std.proofs.Common.{◌≡◌, ℕ, IsTrue, List, Some, slice_get, ◌↔◌, sym, subst}
-use Rattle.instruction_simulation.specs.simulation.cil_model.declared.instructions.Instruction.{Instruction}
-use Rattle.instruction_simulation.specs.simulation.cil_model.declared.limits.Limits.{Limits}
-use Rattle.instruction_simulation.specs.simulation.cil_model.declared.trees.Tree.{Tree}
-use Rattle.instruction_simulation.specs.simulation.cil_model.Bodies.{lines_of}
-use Rattle.instruction_simulation.specs.simulation.cil_model.Ranges.{are_in_range}
-use Rattle.instruction_simulation.specs.simulation.cil_model.Typings.{IsAccepted}
-use Rattle.instruction_simulation.specs.simulation.reference_machine.States.{Frame as StateFrame, State}
-use Rattle.instruction_simulation.specs.simulation.reference_machine.Effects.{Setting}
-use Rattle.instruction_simulation.specs.simulation.reference_machine.Steps.{Answers, execute, step}
-use Rattle.instruction_simulation.specs.simulation.reference_machine.Runs.{is_refusal, opening}
-use Rattle.instruction_simulation.specs.simulation.cil_model.declared.events.Event.TheVariants.{Step, Ack, Gc}
-use Rattle.instruction_simulation.specs.simulation.cil_model.declared.reports.Report.{Report}
-use Rattle.instruction_simulation.specs.simulation.resolved_code.Resolved.{IsOperation, no_operation, load_int32, load_int64, load_null, load_string, load_argument, store_argument, load_local, store_local, duplicate, pop, binary, unary, shift, compare, convert_int32, convert_int64, branch, branch_true, branch_false, branch_compare, switch, load_field, store_field, load_static_field, store_static_field, new_array, load_length, load_element_int32, load_element_int64, load_element_reference, store_element_int32, store_element_int64, store_element_reference, cast_class, is_instance, call, call_virtual, new_object, return}
-use Rattle.instruction_simulation.specs.simulation.resolved_code.declared.operations.Operation.{Operation}
-use Rattle.instruction_simulation.specs.simulation.object_memory.declared.values.Value.{Value}
-use Rattle.instruction_simulation.specs.simulation.object_memory.Objects.{Objects}
-use Rattle.instruction_simulation.specs.simulation.threads_monitors.Frames.{Frames}
-use Rattle.instruction_simulation.specs.simulation.threads_monitors.declared.threads.Standing.TheVariants.{Live}
-use Rattle.instruction_simulation.specs.simulation.interpreter.Instructions.{IsDone, operation_turn, Answer}
-use Rattle.instruction_simulation.specs.simulation.MachineContents.{Content}
-use Rattle.instruction_simulation.specs.simulation.StandsFor.{Names, Represents}
-use Rattle.instruction_simulation.specs.simulation.Turns.{IsTurn, opening_content}
-use Rattle.instruction_simulation.proofs.simulation.MemoryModels.{MemoryModel}
-use Rattle.instruction_simulation.proofs.simulation.Instructions.{IsSetting, DoesAlike, InstructionsAreAlike}
-use Rattle.instruction_simulation.proofs.FrameInstructions.{no_operation_alike, load_int32_alike, load_int64_alike, load_null_alike, load_string_alike, load_argument_alike, store_argument_alike, load_local_alike, store_local_alike, duplicate_alike, pop_alike, binary_alike, unary_alike, shift_alike, compare_alike, convert_int32_alike, convert_int64_alike, branch_alike, branch_true_alike, branch_false_alike, branch_compare_alike, switch_alike}
-use Rattle.instruction_simulation.proofs.Fields.{load_field_alike, store_field_alike}
-use Rattle.instruction_simulation.proofs.Statics.{load_static_field_alike, store_static_field_alike}
-use Rattle.instruction_simulation.proofs.Lengths.{new_array_alike, load_length_alike}
-use Rattle.instruction_simulation.proofs.Arrays.{load_element_int32_alike, load_element_int64_alike, load_element_reference_alike, store_element_int32_alike, store_element_int64_alike}
-use Rattle.instruction_simulation.proofs.Casts.{cast_class_alike, is_instance_alike}
-use Rattle.instruction_simulation.proofs.Stores.{store_element_reference_alike}
-use Rattle.instruction_simulation.proofs.Running.{methods_run_alike}
-use Rattle.instruction_simulation.proofs.Calling.{call_alike}
-use Rattle.instruction_simulation.proofs.Returning.{return_alike}
-use Rattle.instruction_simulation.proofs.VirtualCalls.{call_virtual_alike}
-use Rattle.instruction_simulation.proofs.NewObjects.{new_object_alike}
-use Rattle.instruction_simulation.specs.simulation.Ready.{IsReady, IsAnswerable}
+use Rattle.simulation.specs.cil_model.declared.instructions.Instruction.{Instruction}
+use Rattle.simulation.specs.cil_model.declared.limits.Limits.{Limits}
+use Rattle.simulation.specs.cil_model.declared.trees.Tree.{Tree}
+use Rattle.simulation.specs.cil_model.Bodies.{lines_of}
+use Rattle.simulation.specs.cil_model.Ranges.{are_in_range}
+use Rattle.simulation.specs.cil_model.Typings.{IsAccepted}
+use Rattle.simulation.specs.reference_machine.States.{Frame as StateFrame, State}
+use Rattle.simulation.specs.reference_machine.Effects.{Setting}
+use Rattle.simulation.specs.reference_machine.Steps.{Answers, execute, step}
+use Rattle.simulation.specs.reference_machine.Runs.{is_refusal, opening}
+use Rattle.simulation.specs.cil_model.declared.events.Event.TheVariants.{Step, Ack, Gc}
+use Rattle.simulation.specs.cil_model.declared.reports.Report.{Report}
+use Rattle.simulation.specs.resolved_code.Resolved.{IsOperation, no_operation, load_int32, load_int64, load_null, load_string, load_argument, store_argument, load_local, store_local, duplicate, pop, binary, unary, shift, compare, convert_int32, convert_int64, branch, branch_true, branch_false, branch_compare, switch, load_field, store_field, load_static_field, store_static_field, new_array, load_length, load_element_int32, load_element_int64, load_element_reference, store_element_int32, store_element_int64, store_element_reference, cast_class, is_instance, call, call_virtual, new_object, return}
+use Rattle.simulation.specs.resolved_code.declared.operations.Operation.{Operation}
+use Rattle.simulation.specs.object_memory.declared.values.Value.{Value}
+use Rattle.simulation.specs.object_memory.Objects.{Objects}
+use Rattle.simulation.specs.threads_monitors.Frames.{Frames}
+use Rattle.simulation.specs.threads_monitors.declared.threads.Standing.TheVariants.{Live}
+use Rattle.simulation.specs.interpreter.Instructions.{IsDone, operation_turn, Answer}
+use Rattle.simulation.specs.MachineContents.{Content}
+use Rattle.simulation.specs.StandsFor.{Names, Represents}
+use Rattle.simulation.specs.Turns.{IsTurn, opening_content}
+use Rattle.simulation.proofs.MemoryModels.{MemoryModel}
+use Rattle.simulation.proofs.Instructions.{IsSetting, DoesAlike, InstructionsAreAlike}
+use Rattle.step_simulation.proofs.FrameInstructions.{no_operation_alike, load_int32_alike, load_int64_alike, load_null_alike, load_string_alike, load_argument_alike, store_argument_alike, load_local_alike, store_local_alike, duplicate_alike, pop_alike, binary_alike, unary_alike, shift_alike, compare_alike, convert_int32_alike, convert_int64_alike, branch_alike, branch_true_alike, branch_false_alike, branch_compare_alike, switch_alike}
+use Rattle.step_simulation.proofs.Fields.{load_field_alike, store_field_alike}
+use Rattle.step_simulation.proofs.Statics.{load_static_field_alike, store_static_field_alike}
+use Rattle.step_simulation.proofs.Lengths.{new_array_alike, load_length_alike}
+use Rattle.step_simulation.proofs.Arrays.{load_element_int32_alike, load_element_int64_alike, load_element_reference_alike, store_element_int32_alike, store_element_int64_alike}
+use Rattle.step_simulation.proofs.Casts.{cast_class_alike, is_instance_alike}
+use Rattle.step_simulation.proofs.Stores.{store_element_reference_alike}
+use Rattle.step_simulation.proofs.Running.{methods_run_alike}
+use Rattle.step_simulation.proofs.Calling.{call_alike}
+use Rattle.step_simulation.proofs.Returning.{return_alike}
+use Rattle.step_simulation.proofs.VirtualCalls.{call_virtual_alike}
+use Rattle.step_simulation.proofs.NewObjects.{new_object_alike}
+use Rattle.simulation.specs.Ready.{IsReady, IsAnswerable}
 use Rattle.step_simulation.proofs.OpeningContents.{opening_represents}
 use Rattle.step_simulation.proofs.Steps.{thread_ready, answerable, step_follows}
-use Rattle.instruction_simulation.specs.simulation.reference_machine.Rooms.{ExceedsRoom}
+use Rattle.simulation.specs.reference_machine.Rooms.{ExceedsRoom}
 use Rattle.step_simulation.proofs.Refusals.{refused_beyond_room}
 
 module _ (here : Setting) (model : MemoryModel here.tree) (name : Names) (m : Frames) (o : Objects) (statics : List Value) (printed : List ℕ) (s : State) (f : StateFrame) (below : List StateFrame) where

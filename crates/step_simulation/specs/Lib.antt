@@ -1,1 +1,1 @@
-pub use Rattle.instruction_simulation.specs.simulation as simulation
+pub use Rattle.simulation.specs as simulation

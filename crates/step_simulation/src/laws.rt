@@ -1,23 +1,23 @@
 // Laws of machines. Each function has an empty body, and its contract is the law.
 
 ghost use Rattle.std.specs.Prelude.{◌≡◌, ◌↔◌, ℕ, IsTrue, Some, slice_get};
-ghost use Rattle.instruction_simulation.specs.simulation.cil_model.declared.trees.Tree.{Tree};
-ghost use Rattle.instruction_simulation.specs.simulation.cil_model.declared.limits.Limits.{Limits};
-ghost use Rattle.instruction_simulation.specs.simulation.cil_model.declared.events.Event.TheVariants.{Step, Ack, Gc};
-ghost use Rattle.instruction_simulation.specs.simulation.cil_model.declared.reports.Report.{Report};
-ghost use Rattle.instruction_simulation.specs.simulation.cil_model.Ranges.{are_in_range};
-ghost use Rattle.instruction_simulation.specs.simulation.cil_model.Typings.{IsAccepted};
-ghost use Rattle.instruction_simulation.specs.simulation.reference_machine.Rooms.{ExceedsRoom};
-ghost use Rattle.instruction_simulation.specs.simulation.reference_machine.States.{State};
-ghost use Rattle.instruction_simulation.specs.simulation.reference_machine.Steps.{step, Answers};
-ghost use Rattle.instruction_simulation.specs.simulation.reference_machine.Runs.{is_refusal, opening};
-ghost use Rattle.instruction_simulation.specs.simulation.threads_monitors.Frames.{Frames};
-ghost use Rattle.instruction_simulation.specs.simulation.threads_monitors.declared.threads.Standing.TheVariants.{Live};
-ghost use Rattle.instruction_simulation.specs.simulation.interpreter.Instructions.{IsDone, Answer};
-ghost use Rattle.instruction_simulation.specs.simulation.MachineContents.{Content};
-ghost use Rattle.instruction_simulation.specs.simulation.StandsFor.{Represents};
-ghost use Rattle.instruction_simulation.specs.simulation.Turns.{IsTurn, opening_content};
-ghost use Rattle.instruction_simulation.specs.simulation.Ready.{IsReady, IsAnswerable};
+ghost use Rattle.simulation.specs.cil_model.declared.trees.Tree.{Tree};
+ghost use Rattle.simulation.specs.cil_model.declared.limits.Limits.{Limits};
+ghost use Rattle.simulation.specs.cil_model.declared.events.Event.TheVariants.{Step, Ack, Gc};
+ghost use Rattle.simulation.specs.cil_model.declared.reports.Report.{Report};
+ghost use Rattle.simulation.specs.cil_model.Ranges.{are_in_range};
+ghost use Rattle.simulation.specs.cil_model.Typings.{IsAccepted};
+ghost use Rattle.simulation.specs.reference_machine.Rooms.{ExceedsRoom};
+ghost use Rattle.simulation.specs.reference_machine.States.{State};
+ghost use Rattle.simulation.specs.reference_machine.Steps.{step, Answers};
+ghost use Rattle.simulation.specs.reference_machine.Runs.{is_refusal, opening};
+ghost use Rattle.simulation.specs.threads_monitors.Frames.{Frames};
+ghost use Rattle.simulation.specs.threads_monitors.declared.threads.Standing.TheVariants.{Live};
+ghost use Rattle.simulation.specs.interpreter.Instructions.{IsDone, Answer};
+ghost use Rattle.simulation.specs.MachineContents.{Content};
+ghost use Rattle.simulation.specs.StandsFor.{Represents};
+ghost use Rattle.simulation.specs.Turns.{IsTurn, opening_content};
+ghost use Rattle.simulation.specs.Ready.{IsReady, IsAnswerable};
 
 /// What a machine holds before its first event represents the opening state of its program.
 pub fn openings_represent()

@@ -1,6 +1,7 @@
 -- Who may enter and leave a monitor, and what it is then (I.12.6.5, this profile).
 use Rattle.std.specs.Prelude.{ℕ, ◌+◌, ◌-◌, ◌==◌, nat_le, if◌then◌else◌, Option, Some, None, option_and_then}
 use Rattle.std.specs.Option.{option_map_or}
+use Rattle.cil_model.specs.declared.phases.Phase.TheVariants.{Idle}
 use Rattle.object_memory.specs.declared.addresses.Addr.{Addr}
 use Rattle.object_memory.specs.declared.monitors.Monitor.{Monitor}
 use Rattle.object_memory.specs.declared.monitors.Monitor.TheVariants.{Free, Held}
@@ -27,7 +28,7 @@ left thread (Held owner count) = if owner == thread then Some (if nat_le count 1
 
 -- the objects with the monitor at an address as it is now; as they were where there is none, with an effect of its own
 abbrev pub with_monitor_or : Objects → Addr → Effect → Option Monitor → Objects × Effect
-with_monitor_or o a otherwise m = option_map_or (λ m'. (stored_monitor o a m', GoesOn)) m (o, otherwise)
+with_monitor_or o a otherwise m = option_map_or (λ m'. (stored_monitor Idle o a m', GoesOn)) m (o, otherwise)
 
 -- the objects after an entry, which another's monitor blocks
 abbrev pub with_entry : Objects → Addr → ℕ → Objects × Effect

@@ -7,6 +7,7 @@ ghost use Rattle.object_memory.specs.declared.monitors.Monitor.{Monitor};
 ghost use Rattle.threads_monitors.specs.Monitors.{entered, entries, left, with_entry, with_exit};
 
 use crate::effects::Effect;
+use cil_model::phases::Phase;
 use cil_model::reports::Fault;
 use object_memory::{Addr, Heap, Monitor};
 
@@ -22,7 +23,7 @@ pub fn enter(heap: &mut Heap, object: Addr, thread: u8) -> Effect
     }
     match once_more(heap.monitor(object), thread) {
         Some(monitor) => {
-            barriers::store_monitor(heap, object, monitor);
+            barriers::store_monitor(heap, Phase::Idle, object, monitor);
             Effect::GoesOn
         }
         None => Effect::Blocks,
@@ -40,7 +41,7 @@ pub fn exit(heap: &mut Heap, object: Addr, thread: u8) -> Effect
     }
     match once_less(heap.monitor(object), thread) {
         Some(monitor) => {
-            barriers::store_monitor(heap, object, monitor);
+            barriers::store_monitor(heap, Phase::Idle, object, monitor);
             Effect::GoesOn
         }
         None => Effect::Raises(Fault::SynchronizationLock),

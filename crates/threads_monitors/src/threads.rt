@@ -10,6 +10,7 @@ use crate::effects::Effect;
 use crate::frames::FrameMemory;
 use cil_model::limits::MOST_THREADS;
 use cil_model::memory::NoMemory;
+use cil_model::phases::Phase;
 use cil_model::reports::{End, Fault, Report};
 use object_memory::{Addr, Heap, Value, ValueKind};
 use std::alloc::Global;
@@ -176,7 +177,7 @@ pub fn start(
     threads.reserve(1)?;
     let thread = Thread::new(alloc, beginning, &[Value::Ref(object)])?;
     threads.push_reserved(thread);
-    barriers::store_int(heap, object, THREAD_SLOT, threads.len() as u64);
+    barriers::store_int(heap, Phase::Idle, object, THREAD_SLOT, threads.len() as u64);
     Ok(Effect::GoesOn)
 }
 

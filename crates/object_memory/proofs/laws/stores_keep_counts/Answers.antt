@@ -1,14 +1,11 @@
 use Rattle.std.proofs.Math.ListN.{length-set}
 use Rattle.std.proofs.Common.{refl}
-use Rattle.object_memory.specs.Cells.{store_slot, store_monitor, store_copies}
-use Rattle.object_memory.proofs.Addressed.{change_at_count}
+use Rattle.object_memory.specs.Cells.{store_slot, store_monitor}
+use Rattle.object_memory.proofs.Counts.{change-count}
 use Rattle.object_memory.proofs.laws.stores_keep_counts.Goals as goal
 
 pub returns-clause-slot : goal.returns-clause-slot
-returns-clause-slot c h a b i w = change_at_count (store_slot i w) (λ c. length-set c.slots i w) h a b
+returns-clause-slot c m a b i w = change-count (store_slot i w) (λ x. length-set x.slots i w) m a b
 
 pub returns-clause-monitor : goal.returns-clause-monitor
-returns-clause-monitor c h a b m = change_at_count (store_monitor m) (λ c. refl) h a b
-
-pub returns-clause-copies : goal.returns-clause-copies
-returns-clause-copies c h a b m o = change_at_count (store_copies m o) (λ c. refl) h a b
+returns-clause-monitor c m a b x = change-count (store_monitor x) (λ y. refl) m a b

@@ -1,8 +1,10 @@
-use Rattle.std.proofs.Math.ListN.{length-set}
-use Rattle.std.proofs.Common.{◌+◌, ap}
-use Rattle.object_memory.specs.Cells.{store_slot}
-use Rattle.object_memory.proofs.Addressed.{change_at_other}
+use Rattle.std.proofs.Common.{refl}
+use Rattle.object_memory.specs.Cells.{store_slot, store_monitor}
+use Rattle.object_memory.proofs.TwoBlocks.{change-other, slot_keeps}
 use Rattle.object_memory.proofs.laws.stores_keep_others.Goals as goal
 
 pub returns-clause-slot : goal.returns-clause-slot
-returns-clause-slot c h a b i w ne = change_at_other (store_slot i w) (λ c. ap (λ n. 3 + n) (length-set c.slots i w)) h a b ne
+returns-clause-slot c m a b i w ne = change-other (store_slot i w) (slot_keeps i w) m a b ne
+
+pub returns-clause-monitor : goal.returns-clause-monitor
+returns-clause-monitor c m a b x ne = change-other (store_monitor x) (λ y. refl) m a b ne

@@ -1,6 +1,6 @@
 use Rattle.std.proofs.Math.ListN.{length-set}
 use Rattle.std.proofs.Common.{◌+◌, ap, refl}
-use Rattle.object_memory.specs.Cells.{store_slot, store_monitor, store_copies}
+use Rattle.object_memory.specs.Cells.{store_slot, store_monitor}
 use Rattle.object_memory.proofs.Walks.{change_at_walk}
 use Rattle.object_memory.proofs.laws.walks_grow_by_births.Goals as goal
 
@@ -9,6 +9,3 @@ returns-clause-slot c h a i w = change_at_walk (store_slot i w) (λ c. ap (λ n.
 
 pub returns-clause-monitor : goal.returns-clause-monitor
 returns-clause-monitor c h a m = change_at_walk (store_monitor m) (λ c. refl) h a
-
-pub returns-clause-copies : goal.returns-clause-copies
-returns-clause-copies c h a b o = change_at_walk (store_copies b o) (λ c. refl) h a

@@ -1,4 +1,6 @@
-use Rattle.std.proofs.Common.{ap, ◌∙◌}
+use Rattle.std.proofs.Common.{ap, ◌∙◌, [], ◌∷◌}
+use Rattle.interleaving_core.specs.simulation.Runs.{FollowsReference}
+use Rattle.shared_machine.proofs.Answering.{did_is, nothing_did, follows_at}
 use Rattle.shared_machine.proofs.Histories.{sound_more, sound_at, history_is}
 use Rattle.shared_machine.proofs.world.perform.Goals as goal
 use Rattle.shared_machine.proofs.world.perform.Goals.{in-Ok, in-Err}
@@ -18,4 +20,12 @@ invariant_of-world-2 g c =
           (ap (λ x. x.core) is ∙ w.in-Err.ensures.refused)
           (ap (λ x. x.history.entries) is ∙ c.make_room.ensures.entries)
           (ap (λ x. x.book) is)
+    ]
+
+pub returns-clause-follows : goal.returns-clause-follows
+returns-clause-follows g c =
+    elim c.match-step.branch [
+      | in-Ok w ↦ did_is c.match-step.result w.in-Ok.report w.result-is (λ report. FollowsReference c.args.world.now.core c.match-step.world-inside.core ((c.args.event, report) ∷ []))
+          (follows_at c.world.inside.core c.args.world.now.core c.step.new.self c.match-step.world-inside.core ((c.args.event, w.in-Ok.report) ∷ []) (ap (λ x. x.core) c.world.view_is) (ap (λ x. x.core) w.world-inside-is) w.in-Ok.ensures.follows)
+      | in-Err w ↦ nothing_did c.match-step.result w.result-is (λ report. FollowsReference c.args.world.now.core c.match-step.world-inside.core ((c.args.event, report) ∷ []))
     ]

@@ -1,26 +1,44 @@
-use Rattle.std.proofs.Common.{arith}
-use Rattle.object_memory.proofs.Heaps.{beside, header_inside, monitor_stored}
+use Rattle.std.proofs.Common.{refl, subst}
+use Rattle.std.specs.Prelude.{Some, IsSome}
+use Rattle.object_memory.specs.Cells.{store_monitor}
+use Rattle.object_memory.specs.Objects.{IsHeld}
+use Rattle.object_memory.proofs.TwoHeld.{held_old, held_new, cells_spanned, changed_old, changed_new, none_old, beside}
 use Rattle.object_memory.proofs.heap.Heap.set_cell_monitor.Goals as goal
-
-pub place-requires : goal.place-requires
-place-requires c =
-    let given = rw (← c.self.view_is) at c.requires in
-    (header_inside c.self.inside.block c.self.inside.used c.self.invariant.1 c.args.address given).0
-
-pub write-requires : goal.write-requires
-write-requires c =
-    let given = rw (← c.self.view_is) at c.requires in
-    let inside = (header_inside c.self.inside.block c.self.inside.used c.self.invariant.1 c.args.address given).1 in
-    omega (arith, inside, c.place.ensures)
 
 pub invariant_of-self : goal.invariant_of-self
 invariant_of-self c =
-    let given = rw (← c.self.view_is) at c.requires in
-    let stored = monitor_stored c.self.inside.block c.self.inside.used c.self.invariant.1 c.args.address c.args.monitor c.word.result c.word.ensures.word c.word.ensures.inverse given in
-    rw (c.write.ensures, c.place.ensures) (rw stored.long c.self.invariant.0, stored.still_laid)
+    rw c.set_cell_monitor.ensures
+    (held_old (store_monitor c.args.monitor) (λ x. refl) (λ x. refl) c.self.inside.from c.self.inside.cycle c.args.address c.self.invariant)
 
-pub returns : goal.returns
-returns c =
+pub set_cell_monitor-requires-then-spans : goal.set_cell_monitor-requires-then-spans
+set_cell_monitor-requires-then-spans c =
     let given = rw (← c.self.view_is) at c.requires in
-    let stored = monitor_stored c.self.inside.block c.self.inside.used c.self.invariant.1 c.args.address c.args.monitor c.word.result c.word.ensures.word c.word.ensures.inverse given in
-    rw (← c.self.view_is, c.write.ensures, c.place.ensures) (beside c.self.inside.literals.items stored.view)
+    subst (λ o. IsSome o)
+    (cells_spanned c.self.inside.from c.self.inside.cycle c.in-Some.cycle c.args.address c.self.invariant c.in-Some.is (c.spans.ensures.range c.if-spans.true)) given
+
+pub invariant_of-self-then-spans : goal.invariant_of-self-then-spans
+invariant_of-self-then-spans c =
+    let held = subst (λ x. IsHeld c.self.inside.from x) c.in-Some.is c.self.invariant in
+    rw c.set_cell_monitor-then-spans.ensures
+    (held_old (store_monitor c.args.monitor) (λ x. refl) (λ x. refl) c.self.inside.from (Some c.in-Some.cycle) c.args.address held)
+
+pub invariant_of-self-else-spans : goal.invariant_of-self-else-spans
+invariant_of-self-else-spans c =
+    let held = subst (λ x. IsHeld c.self.inside.from x) c.in-Some.is c.self.invariant in
+    rw c.set_cell_monitor-else-spans.ensures
+    (held_new (store_monitor c.args.monitor) (λ x. refl) c.self.inside.from c.in-Some.cycle c.args.address held)
+
+pub returns-then-spans : goal.returns-then-spans
+returns-then-spans c =
+    let held = subst (λ x. IsHeld c.self.inside.from x) c.in-Some.is c.self.invariant in
+    let changed =
+    changed_old (store_monitor c.args.monitor) c.self.inside.from (Some c.in-Some.cycle) held c.args.address (λ x e. c.spans.ensures.range c.if-spans.true) in
+    rw (← c.self.view_is, c.set_cell_monitor-then-spans.ensures, c.in-Some.is)
+    (beside c.self.inside.literals.items changed)
+
+pub returns-else-spans : goal.returns-else-spans
+returns-else-spans c =
+    let none = none_old c.self.inside.from c.args.address c.spans.result c.if-spans.false c.spans.ensures.own in
+    let changed = changed_new (store_monitor c.args.monitor) c.self.inside.from c.in-Some.cycle c.args.address none in
+    rw (← c.self.view_is, c.set_cell_monitor-else-spans.ensures, c.in-Some.is)
+    (beside c.self.inside.literals.items changed)

@@ -1,0 +1,139 @@
+-- Walks over the cells of a block: places, the next cell, and the next one with a property.
+use Rattle.std.proofs.Common.{◌≡◌, ◌⊎◌, inl, inr, ℕ, ◌+◌, ◌<◌, ◌≤◌, Bool, true, false, List, [], ◌∷◌, ◌++◌, refl, sym, ap, ◌∙◌, arith, append_assoc, append-nil}
+use Rattle.std.specs.Prelude.{◌==◌, nat_lt, if◌then◌else◌, Some, None}
+use Rattle.std.proofs.lemmas.List.Sums.{sum_by-cons, sum_by-append}
+use Rattle.std.proofs.lemmas.Bool.Decides.{nat_tests}
+use Rattle.object_memory.specs.declared.addresses.Addr.{Addr}
+use Rattle.object_memory.specs.Cells.{Cell, Cells, size, used_words, cell_from, cell_in, with_last}
+use Rattle.object_memory.specs.Spaces.{IsPlace, found_from, found_in}
+use Rattle.object_memory.proofs.Blocks.{range_in, apart_in}
+
+-- ---- places
+
+pub IsPlace-start : (s : Cells) → IsPlace s s.start
+IsPlace-start s = record { before = []; after = s.cells; split = refl; at = omega arith }
+
+pub IsPlace-end : (s : Cells) → IsPlace s (s.start + used_words s.cells)
+IsPlace-end s = record { before = s.cells; after = []; split = sym (append-nil s.cells); at = refl }
+
+pub place-le-end : (s : Cells) (p : ℕ) → IsPlace s p → (s.start ≤ p) × (p ≤ s.start + used_words s.cells)
+place-le-end s p h =
+    let all = ap used_words h.split in
+    let both = sum_by-append size h.before h.after in
+    (omega (arith, h.at), omega (arith, h.at, all, both))
+
+-- a place stays one with one cell more
+pub IsPlace-last : (s : Cells) (c : Cell) (p : ℕ) → IsPlace s p → IsPlace (with_last s c) p
+IsPlace-last s c p h = record { before = h.before; after = h.after ++ c ∷ []; split = ap (λ cs. cs ++ c ∷ []) h.split ∙ append_assoc h.before h.after (c ∷ []); at = h.at }
+
+at_from : (at : ℕ) (before after : List Cell) (c : Cell) → cell_from at (before ++ c ∷ after) (at + used_words before) ≡ Some c
+at_from at [] after c = let test : (at + 0 == at) ≡ true = grind (arith, nat_tests) in rw test refl
+at_from at (d ∷ ds) after c =
+    let more = sum_by-cons size d ds in
+    let test : (at + used_words (d ∷ ds) == at) ≡ false = grind (arith, nat_tests) in
+    let place : at + used_words (d ∷ ds) ≡ at + size d + used_words ds = omega (arith, more) in
+    rw (test, place) (at_from (at + size d) ds after c)
+
+-- a place is that of a cell, and the next place is behind it; or it is the end
+pub data AtPlace (s : Cells) (p : ℕ) : Type 0 where
+  cell : (c : Cell) → cell_in s (record { number = p }) ≡ Some c → IsPlace s (p + size c) → AtPlace s p
+  end : p ≡ s.start + used_words s.cells → AtPlace s p
+
+at_by : (s : Cells) (p : ℕ) (before after : List Cell) → s.cells ≡ before ++ after → p ≡ s.start + used_words before → AtPlace s p
+at_by s p before [] split at =
+    let all : s.cells ≡ before = split ∙ append-nil before in
+    end (at ∙ ap (λ cs. s.start + used_words cs) (sym all))
+at_by s p before (c ∷ after) split at =
+    let there : cell_from s.start s.cells p ≡ Some c = rw (split, at) (at_from s.start before after c) in
+    let next : p + size c ≡ s.start + used_words (before ++ c ∷ []) = omega (arith, at, sum_by-append size before (c ∷ []), sum_by-cons size c []) in
+    cell c there (record { before = before ++ c ∷ []; after = after; split = split ∙ sym (append_assoc before (c ∷ []) after); at = next })
+
+pub at_place : (s : Cells) (p : ℕ) → IsPlace s p → AtPlace s p
+at_place s p h = at_by s p h.before h.after h.split h.at
+
+-- a cell below the place of another lies below it whole
+pub below_place : (s : Cells) (p : ℕ) → IsPlace s p → (a : Addr) (c : Cell) → cell_in s a ≡ Some c → a.number < p → a.number + size c ≤ p
+below_place s p h a c e less = elim (at_place s p h) [
+  | cell d there next ↦ apart_in s a (record { number = p }) c d e there less
+  | end is ↦ omega (arith, is, (range_in s a c e).1)
+]
+
+-- the cells below the next place are those below this one, and the one at it
+pub below_next : (s : Cells) (p : ℕ) (d : Cell) → cell_in s (record { number = p }) ≡ Some d → (a : Addr) (c : Cell) → cell_in s a ≡ Some c → a.number < p + size d → (a.number < p) ⊎ (a.number ≡ p)
+below_next s p d there a c e less = by_order (nat_lt p a.number) refl
+  where
+    by_order : (t : Bool) → nat_lt p a.number ≡ t → (a.number < p) ⊎ (a.number ≡ p)
+    by_order true test =
+        let over : p < a.number = grind (arith, nat_tests) in
+        absurd (omega (arith, less, apart_in s (record { number = p }) a d c there e over))
+    by_order false test = by_equal (a.number == p) refl
+      where
+        by_equal : (t : Bool) → (a.number == p) ≡ t → (a.number < p) ⊎ (a.number ≡ p)
+        by_equal true same = inr (grind (arith, nat_tests))
+        by_equal false same = inl (grind (arith, nat_tests))
+
+-- ---- the next cell with a property
+
+module _ (q : Cell → Bool) where
+  -- nothing is found behind all
+  none_behind : (at : ℕ) (cs : List Cell) (p : ℕ) → at + used_words cs ≤ p → found_from q at cs p ≡ None
+  none_behind at [] p far = refl
+  none_behind at (c ∷ cs) p far =
+      let more = sum_by-cons size c cs in
+      let test : nat_lt at p ≡ true = grind (arith, nat_tests) in
+      rw test (none_behind (at + size c) cs p (omega (arith, far, more)))
+
+  pub found_end : (s : Cells) → found_in q s (s.start + used_words s.cells) ≡ None
+  found_end s = none_behind s.start s.cells (s.start + used_words s.cells) (omega arith)
+
+  -- from below the first cell on, the place doesn't matter
+  early_from : (at : ℕ) (cs : List Cell) (p r : ℕ) → p ≤ at → r ≤ at → found_from q at cs p ≡ found_from q at cs r
+  early_from at [] p r hp hr = refl
+  early_from at (c ∷ cs) p r hp hr =
+      let test : nat_lt at p ≡ false = grind (arith, nat_tests) in
+      let test' : nat_lt at r ≡ false = grind (arith, nat_tests) in
+      rw (test, test') (ap (λ o. if q c then Some at else o) (early_from (at + size c) cs p r (omega (arith, hp)) (omega (arith, hr))))
+
+  here_from : (at : ℕ) (cs : List Cell) (p : ℕ) (c : Cell) → cell_from at cs p ≡ Some c → q c ≡ true → found_from q at cs p ≡ Some p
+  here_from at [] p c e holds = absurd cc
+  here_from at (d ∷ ds) p c e holds = by_test (p == at) refl e (here_from (at + size d) ds p c)
+    where
+      by_test : (t : Bool) → (p == at) ≡ t → (if t then Some d else cell_from (at + size d) ds p) ≡ Some c
+          → (cell_from (at + size d) ds p ≡ Some c → q c ≡ true → found_from q (at + size d) ds p ≡ Some p)
+          → found_from q at (d ∷ ds) p ≡ Some p
+      by_test true test g rest =
+          let same : d ≡ c = cc in
+          let here : at ≡ p = grind (arith, nat_tests) in
+          let before : nat_lt at p ≡ false = grind (arith, nat_tests) in
+          rw (before, same, holds) (ap Some here)
+      by_test false test g rest =
+          let r = range_in (record { start = at + size d; cells = ds; words = 0 }) (record { number = p }) c g in
+          let before : nat_lt at p ≡ true = (let low = r.0 in grind (arith, nat_tests)) in
+          rw before (rest g holds)
+
+  step_from : (at : ℕ) (cs : List Cell) (p : ℕ) (c : Cell) → cell_from at cs p ≡ Some c → q c ≡ false → found_from q at cs p ≡ found_from q at cs (p + size c)
+  step_from at [] p c e fails = absurd cc
+  step_from at (d ∷ ds) p c e fails = by_test (p == at) refl e (step_from (at + size d) ds p c)
+    where
+      by_test : (t : Bool) → (p == at) ≡ t → (if t then Some d else cell_from (at + size d) ds p) ≡ Some c
+          → (cell_from (at + size d) ds p ≡ Some c → q c ≡ false → found_from q (at + size d) ds p ≡ found_from q (at + size d) ds (p + size c))
+          → found_from q at (d ∷ ds) p ≡ found_from q at (d ∷ ds) (p + size c)
+      by_test true test g rest =
+          let same : d ≡ c = cc in
+          let long = ap size same in
+          let here : at ≡ p = grind (arith, nat_tests) in
+          let before : nat_lt at p ≡ false = grind (arith, nat_tests) in
+          let behind : nat_lt at (p + size c) ≡ true = grind (arith, nat_tests) in
+          rw (before, behind, same, fails) (early_from (at + size c) ds p (p + size c) (omega (arith, here)) (omega (arith, here)))
+      by_test false test g rest =
+          let r = range_in (record { start = at + size d; cells = ds; words = 0 }) (record { number = p }) c g in
+          let before : nat_lt at p ≡ true = (let low = r.0 in grind (arith, nat_tests)) in
+          let behind : nat_lt at (p + size c) ≡ true = (let low = r.0 in grind (arith, nat_tests)) in
+          rw (before, behind) (rest g fails)
+
+  -- a walk stops at a cell with the property, and goes on behind one without it
+  pub found_here : (s : Cells) (p : ℕ) (c : Cell) → cell_in s (record { number = p }) ≡ Some c → q c ≡ true → found_in q s p ≡ Some p
+  found_here s p c e holds = here_from s.start s.cells p c e holds
+
+  pub found_step : (s : Cells) (p : ℕ) (c : Cell) → cell_in s (record { number = p }) ≡ Some c → q c ≡ false → found_in q s p ≡ found_in q s (p + size c)
+  found_step s p c e fails = step_from s.start s.cells p c e fails

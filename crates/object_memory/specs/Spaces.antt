@@ -1,0 +1,263 @@
+-- The cells of two blocks: of the only one or the old one, and of the new one that they are copied into (this profile).
+use Rattle.std.specs.Prelude.{◌≡◌, ◌⊎◌, ◌≤◌, ℕ, ◌+◌, ◌-◌, nat_le, min, if◌then◌else◌, Bool, true, false, List, [], ◌∷◌, ◌++◌, length, sum_by, is_some, IsSome, ◌%◌, nat_lt, Option, Some, None, option_map, unwrap_or}
+use Rattle.cil_model.specs.declared.limits.TheConstants.{MOST_WORDS}
+use Rattle.cil_model.specs.declared.phases.Phase.{Phase}
+use Rattle.cil_model.specs.declared.phases.Phase.TheVariants.{Idle, Mark, Allocate, Copy, PreFlip, HeapFlip, ThreadFlip, Reclaim}
+use Rattle.object_memory.specs.declared.addresses.Addr.{Addr}
+use Rattle.object_memory.specs.declared.addresses.TheConstants.{ADDRESSES}
+use Rattle.object_memory.specs.declared.kinds.Kind.{Kind}
+use Rattle.object_memory.specs.Cells.{Cell, Cells, size, used_words, free_words, null, literal_number, first, next_address, store_copies, cell_in, change_in, empty_cell, with_last}
+
+-- Two blocks; the cells that are marked and still to be scanned, oldest first; whether a cell was marked since the newest round
+-- began; and whether the second block is held. Where it isn't, the new block has no words.
+pub record Spaces : Type 0 where
+  pub old : Cells
+  pub new : Cells
+  pub grey : List Addr
+  pub has_marked : Bool
+  pub is_open : Bool
+
+-- ---- addresses
+
+-- the address of the first cell of the second of two blocks: the addresses of both lie apart, and below those of literals
+abbrev pub second : ℕ
+second = first + MOST_WORDS
+
+-- the start of the other block
+abbrev pub other_start : ℕ → ℕ
+other_start s = first + second - s
+
+-- the cell at an address, in the block where one lies there
+abbrev pub first_of : {A : Type 0} → Option A → Option A → Option A
+first_of None y = y
+first_of (Some x) y = Some x
+
+abbrev pub cell_at : Spaces → Addr → Option Cell
+cell_at m a = first_of (cell_in m.old a) (cell_in m.new a)
+
+abbrev pub slots_at : Spaces → Addr → List ℕ
+slots_at m a = unwrap_or (option_map (λ (c : Cell). c.slots) (cell_at m a)) []
+
+-- another cell in the place of the one at an address
+abbrev pub change_at : (Cell → Cell) → Spaces → Addr → Spaces
+change_at f m a = record m { old = change_in f m.old a; new = change_in f m.new a }
+
+-- what an address of a reference is: null, a literal's, or a cell's
+abbrev pub IsThere : Spaces → Addr → Type 0
+IsThere m a = (a ≡ null) ⊎ (IsSome (literal_number a) ⊎ IsSome (cell_at m a))
+
+-- ---- what a heap is
+
+-- cells that fit their block, whose addresses are those of the first or of the second block
+pub record IsSpace (s : Cells) : Type 0 where
+  pub start : (s.start ≡ first) ⊎ (s.start ≡ second)
+  pub fits : used_words s.cells ≤ s.words
+  pub few : s.words ≤ MOST_WORDS
+
+-- two blocks with addresses of their own
+pub record AreSpaces (m : Spaces) : Type 0 where
+  pub old : IsSpace m.old
+  pub new : IsSpace m.new
+  pub apart : m.old.start + m.new.start ≡ first + second
+
+-- ---- cells at the end
+
+abbrev pub with_old : Spaces → Cell → Spaces
+with_old m c = record m { old = with_last m.old c }
+
+abbrev pub with_new : Spaces → Cell → Spaces
+with_new m c = record m { new = with_last m.new c }
+
+-- the grey list with one more
+abbrev pub with_grey : Spaces → Addr → Spaces
+with_grey m a = record m { grey = m.grey ++ a ∷ [] }
+
+-- ---- births
+
+-- in which block, by the own phase of the thread: in the old one, there and on the grey list, in both, or in the new one
+pub data Place : Type 0 where
+  InOld : Place
+  Listed : Place
+  InBoth : Place
+  InNew : Place
+
+-- A thread may be in the last phase when the cycle is over: the new block is the only one then.
+abbrev pub place_of : Phase → Bool → Place
+place_of Idle is_open = InOld
+place_of Mark is_open = Listed
+place_of Allocate is_open = InBoth
+place_of Copy is_open = InBoth
+place_of PreFlip is_open = InBoth
+place_of HeapFlip is_open = InBoth
+place_of ThreadFlip is_open = InNew
+place_of Reclaim true = InNew
+place_of Reclaim false = InOld
+
+-- whether a thread is in the phase only while a cycle is open
+abbrev pub is_within_cycle : Phase → Bool
+is_within_cycle Idle = false
+is_within_cycle Mark = true
+is_within_cycle Allocate = true
+is_within_cycle Copy = true
+is_within_cycle PreFlip = true
+is_within_cycle HeapFlip = true
+is_within_cycle ThreadFlip = true
+is_within_cycle Reclaim = false
+
+abbrev pub room_at : Place → Spaces → ℕ
+room_at InOld m = free_words m.old
+room_at Listed m = free_words m.old
+room_at InBoth m = min (free_words m.old) (free_words m.new)
+room_at InNew m = free_words m.new
+
+-- the address of what is born: of its old copy where there are two
+abbrev pub address_at : Place → Spaces → Addr
+address_at InOld m = next_address m.old
+address_at Listed m = next_address m.old
+address_at InBoth m = next_address m.old
+address_at InNew m = next_address m.new
+
+abbrev pub born : Place → Spaces → Kind → ℕ → Spaces
+born InOld m k n = with_old m (empty_cell k n false None)
+born Listed m k n = with_grey (with_old m (empty_cell k n true None)) (next_address m.old)
+born InBoth m k n =
+    with_new (with_old m (empty_cell k n true (Some (next_address m.new)))) (empty_cell k n true (Some (next_address m.old)))
+born InNew m k n = with_new m (empty_cell k n false None)
+
+-- a birth is refused exactly where the cell exceeds the room
+abbrev pub birth_at : Place → Spaces → Kind → ℕ → Spaces × Option Addr
+birth_at p m k n = if nat_le (3 + n) (room_at p m) then (born p m k n, Some (address_at p m)) else (m, None)
+
+-- by the own phase of the thread
+abbrev pub birth : Phase → Spaces → Kind → ℕ → Spaces × Option Addr
+birth f m k n = birth_at (place_of f m.is_open) m k n
+
+-- the words that a birth may take
+abbrev pub room_for : Phase → Spaces → ℕ
+room_for f m = room_at (place_of f m.is_open) m
+
+-- ---- marks and copies
+
+abbrev pub other_of : Option Cell → Option Addr
+other_of None = None
+other_of (Some c) = c.other
+
+-- the other copy of an old cell that has one, else the address itself
+abbrev pub forward : Spaces → Addr → Addr
+forward m a = unwrap_or (other_of (cell_in m.old a)) a
+
+-- whether there is an old cell that isn't marked
+abbrev pub is_white : Option Cell → Bool
+is_white None = false
+is_white (Some c) = if c.marked then false else true
+
+abbrev pub set_mark : Cell → Cell
+set_mark c = record c { marked = true }
+
+-- an old cell that isn't marked is marked and put on the grey list
+abbrev pub marked_if : Bool → Spaces → Addr → Spaces
+marked_if false m a = m
+marked_if true m a = record (with_grey (change_at set_mark m a) a) { has_marked = true }
+
+abbrev pub mark : Spaces → Addr → Spaces × Bool
+mark m a = (marked_if (is_white (cell_in m.old a)) m a, is_white (cell_in m.old a))
+
+abbrev pub set_other : Addr → Cell → Cell
+set_other b c = record c { other = Some b }
+
+-- the copy of an old cell in the new block, before its words are copied
+abbrev pub shell_of : Addr → Cell → Cell
+shell_of a c = empty_cell c.kind (length c.slots) false (Some a)
+
+abbrev pub with_shell : Spaces → Addr → Cell → Spaces
+with_shell m a c = change_at (set_other (next_address m.new)) (with_new m (shell_of a c)) a
+
+abbrev pub clear : Spaces → Addr → Spaces
+clear m a = change_at (store_copies false None) m a
+
+-- ---- cycles
+
+-- a cycle begins with a second block of so many words
+abbrev pub opened : Spaces → ℕ → Spaces
+opened m words = record { old = m.old; new = record { start = other_start m.old.start; cells = []; words = words }; grey = []; has_marked = false; is_open = true }
+
+-- it ends with the new block alone
+abbrev pub closed : Spaces → Spaces
+closed m = record { old = m.new; new = record { start = m.old.start; cells = []; words = 0 }; grey = []; has_marked = false; is_open = false }
+
+-- ---- room
+
+-- the words of a cell that has no other copy yet
+abbrev pub bare_by : Option Addr → ℕ → ℕ
+bare_by None n = n
+bare_by (Some a) n = 0
+
+abbrev pub bare : Cell → ℕ
+bare c = bare_by c.other (size c)
+
+abbrev pub bare_words : List Cell → ℕ
+bare_words cs = sum_by bare cs
+
+-- until the cells are copied the new block holds no more words than the old cells with other copies take
+pub record HasShellRoom (m : Spaces) : Type 0 where
+  pub words : used_words m.new.cells + bare_words m.old.cells ≤ used_words m.old.cells
+  pub long : m.old.words ≤ m.new.words
+
+-- a cell that isn't marked yet
+abbrev pub white_by : Bool → ℕ
+white_by true = 0
+white_by false = 1
+
+abbrev pub white : Cell → ℕ
+white c = white_by c.marked
+
+abbrev pub whites : List Cell → ℕ
+whites cs = sum_by white cs
+
+-- The grey list has room for so many more: for each cell that isn't marked, and for each that may be born. A cell has three words at least.
+abbrev pub HasGreyRoom : Cells → ℕ → Type 0
+HasGreyRoom s spare = whites s.cells + whites s.cells + whites s.cells + free_words s ≤ spare + spare + spare + 2
+
+-- ---- walks
+
+-- where a cell begins, or the end of all: cells and their places in the order of addresses
+pub record IsPlace (s : Cells) (p : ℕ) : Type 0 where
+  pub before : List Cell
+  pub after : List Cell
+  pub split : s.cells ≡ before ++ after
+  pub at : p ≡ s.start + used_words before
+
+-- the address of the first cell with a property, at a place or behind it
+abbrev pub found_from : (Cell → Bool) → ℕ → List Cell → ℕ → Option ℕ
+found_from q at [] p = None
+found_from q at (c ∷ cs) p = if nat_lt at p then found_from q (at + size c) cs p else if q c then Some at else found_from q (at + size c) cs p
+
+abbrev pub found_in : (Cell → Bool) → Cells → ℕ → Option ℕ
+found_in q s p = found_from q s.start s.cells p
+
+-- a cell with two copies, whose words are to be copied
+abbrev pub has_other : Cell → Bool
+has_other c = is_some c.other
+
+-- a cell with a mark or another copy, which is to be cleared
+abbrev pub is_noted : Cell → Bool
+is_noted c = if c.marked then true else is_some c.other
+
+-- ---- stores
+
+-- whether an old cell lies there
+abbrev pub is_old : Spaces → Addr → Bool
+is_old m a = is_some (cell_in m.old a)
+
+-- a change of the cell at an address, where there is one
+abbrev pub change_if : (Cell → Cell) → Spaces → Option Addr → Spaces
+change_if f m None = m
+change_if f m (Some b) = change_at f m b
+
+-- a change of one copy of a cell, and of its other copy where there is one
+abbrev pub change_copies : (Cell → Cell) → (Cell → Cell) → Spaces → Addr → Spaces
+change_copies f g m a = change_if g (change_at f m a) (other_of (cell_at m a))
+
+-- the word that holds the forward of the reference that a word holds
+abbrev pub forward_word : Spaces → ℕ → ℕ
+forward_word m w = (forward m (record { number = w % ADDRESSES })).number

@@ -1,0 +1,2 @@
+pub mod Closeness
+pub mod Waiting

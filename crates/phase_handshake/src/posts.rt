@@ -1,0 +1,213 @@
+// What a collector posts, and what the threads acknowledge.
+
+ghost use Rattle.std.specs.Prelude.{◌≡◌, map, IsTrue};
+ghost use Rattle.reference_machine.specs.Cycles.{phase_after};
+ghost use Rattle.phase_handshake.specs.Handshakes.{AreClose, acknowledged, all_answered, all_seen, first_handshakes, has_answered, has_seen, is_open, joined, left, posted_next, posted_round, seat_of, unanswered};
+
+use cil_model::limits::MOST_THREADS;
+use cil_model::phases::Phase;
+use std::marker::Model;
+
+/// What a live thread has seen of the collector: the phase that it has acknowledged, and whether it has answered the round that
+/// is posted.
+#[derive(Clone, Copy, PartialEq, Eq, Debug)]
+pub struct Seat {
+    pub phase: Phase,
+    pub answered: bool,
+}
+
+/// The phase that the collector has posted, whether it has posted a round of marking since the cycle opened, and the seat of
+/// each live thread, by the thread's number.
+///
+/// Each live thread has acknowledged the posted phase or the one before it. No call takes memory.
+#[derive(Debug, Drop)]
+pub struct Posts {
+    posted: Phase,
+    has_round: bool,
+    seats: [Option<Seat>; MOST_THREADS],
+}
+
+impl Model for Posts {
+    ghost use Rattle.phase_handshake.specs.Handshakes.{AreClose, Handshakes};
+
+    ghost Value = { Handshakes };
+
+    ghost view = { λ p. record { posted = p.posted; has_round = p.has_round; seats = p.seats } };
+
+    ghost invariant = { λ p. AreClose (record { posted = p.posted; has_round = p.has_round; seats = p.seats }) };
+}
+
+impl Posts {
+    /// The posts before the first cycle: thread 0 is live and has acknowledged the first phase, and no round is posted.
+    pub fn new() -> Posts
+        ensures { result ≡ first_handshakes }
+    {
+        let mut seats = [None; MOST_THREADS];
+        seats[0] = Some(Seat {
+            phase: Phase::Idle,
+            answered: false,
+        });
+        Posts {
+            posted: Phase::Idle,
+            has_round: false,
+            seats,
+        }
+    }
+
+    /// The phase that is posted. Each live thread has acknowledged it or the one before it; where it has acknowledged the one
+    /// before, an acknowledgement of it is still to come.
+    pub fn posted(&self) -> Phase
+        ensures posted { result ≡ self.now.posted }
+        ensures close { AreClose self.now }
+    {
+        self.posted
+    }
+
+    /// Whether a round of marking was posted since the cycle opened. It stays posted until the next cycle opens.
+    pub fn has_round(&self) -> bool
+        ensures { result ≡ self.now.has_round }
+    {
+        self.has_round
+    }
+
+    /// The seat of a thread. None where no thread of that number is live, as for every number from 16 on.
+    pub fn seat(&self, thread: u8) -> Option<Seat>
+        ensures { result ≡ seat_of self.now thread }
+    {
+        self.seats.get(usize::from(thread)).copied().flatten()
+    }
+
+    /// Whether every live thread has acknowledged the posted phase. True where none is live.
+    pub fn all_seen(&self) -> bool
+        ensures { result ≡ all_seen self.now }
+    {
+        let posted = self.posted;
+        self.seats.iter().all(|seat| has_seen(posted, seat))
+    }
+
+    /// Whether every live thread has answered the posted round. True where none is live, else false where no round is posted.
+    pub fn all_answered(&self) -> bool
+        ensures { result ≡ all_answered self.now }
+    {
+        self.seats.iter().all(has_answered)
+    }
+
+    /// Posts the next phase, once every live thread has acknowledged the posted one. The phase that opens a cycle takes the
+    /// posted round and its answers back; every other one leaves both as they are.
+    pub fn post(&mut self, phase: Phase)
+        requires next { phase ≡ phase_after self.old.posted }
+        requires seen { IsTrue (all_seen self.old) }
+        ensures { self.new ≡ posted_next self.old }
+    {
+        self.posted = phase;
+        if phase == Phase::Mark {
+            self.has_round = false;
+            take_answers_back(&mut self.seats);
+        }
+    }
+
+    /// Posts a round of marking, which no thread has answered. The posted phase and what was acknowledged of it stay.
+    pub fn post_round(&mut self)
+        ensures { self.new ≡ posted_round self.old }
+    {
+        self.has_round = true;
+        take_answers_back(&mut self.seats);
+    }
+
+    /// Acknowledges for a thread the posted phase, or else, where it has done so, answers the posted round. False where neither
+    /// was open to it, and where no thread of that number is live; nothing changes then.
+    pub fn acknowledge(&mut self, thread: u8) -> bool
+        ensures answer { result ≡ is_open self.old thread }
+        ensures after { self.new ≡ acknowledged self.old thread }
+    {
+        let Some(seat) = self.seat(thread) else {
+            return false;
+        };
+        if !seat.is_open(self.posted, self.has_round) {
+            return false;
+        }
+        self.seats[usize::from(thread)] = Some(seat.after(self.posted));
+        true
+    }
+
+    /// Gives a thread that starts a seat like its starter's: it has acknowledged and answered what the starter has. A thread
+    /// whose starter is not live has no seat. From number 16 on nothing changes.
+    pub fn join(&mut self, thread: u8, starter: u8)
+        ensures { self.new ≡ joined self.old thread starter }
+    {
+        let seat = self.seat(starter);
+        if usize::from(thread) < MOST_THREADS {
+            self.seats[usize::from(thread)] = seat;
+        }
+    }
+
+    /// Takes the seat of a thread that has ended. Nothing is asked of it any more.
+    pub fn leave(&mut self, thread: u8)
+        ensures { self.new ≡ left self.old thread }
+    {
+        if usize::from(thread) < MOST_THREADS {
+            self.seats[usize::from(thread)] = None;
+        }
+    }
+}
+
+impl Seat {
+    ghost use Rattle.phase_handshake.specs.Handshakes.{is_open_to, seat_after};
+
+    /// Whether the posted phase or round is open to the seat's thread.
+    fn is_open(self, posted: Phase, has_round: bool) -> bool
+        ensures { result ≡ is_open_to posted has_round self }
+    {
+        self.phase != posted || (has_round && !self.answered)
+    }
+
+    /// The seat once its thread has acknowledged the posted phase, or has answered the round where it had done so.
+    fn after(self, posted: Phase) -> Seat
+        ensures { result ≡ seat_after posted self }
+    {
+        if self.phase == posted {
+            Seat {
+                answered: true,
+                ..self
+            }
+        } else {
+            Seat {
+                phase: posted,
+                ..self
+            }
+        }
+    }
+}
+
+/// Whether a thread has acknowledged the posted phase, if it is live.
+fn has_seen(posted: Phase, seat: &Option<Seat>) -> bool
+    ensures { result ≡ has_seen posted seat.now }
+{
+    seat.is_none_or(|seat| seat.phase == posted)
+}
+
+/// Whether a thread has answered, if it is live.
+fn has_answered(seat: &Option<Seat>) -> bool
+    ensures { result ≡ has_answered seat.now }
+{
+    seat.is_none_or(|seat| seat.answered)
+}
+
+/// Takes the answer of each live thread back.
+fn take_answers_back(seats: &mut [Option<Seat>])
+    ensures { seats.new ≡ map unanswered seats.old }
+{
+    for seat in seats.iter_mut() {
+        *seat = unanswered(*seat);
+    }
+}
+
+/// The seat without its answer.
+fn unanswered(seat: Option<Seat>) -> Option<Seat>
+    ensures { result ≡ unanswered seat }
+{
+    seat.map(|seat| Seat {
+        answered: false,
+        ..seat
+    })
+}
