@@ -1,21 +1,30 @@
 -- What a mark or a store to one copy of an object leaves of all others.
 use Rattle.std.proofs.Common.{◌≡◌, ℕ, ◌<◌, Bool, true, false, [], length, refl, sym, ap, subst, ◌∙◌}
 use Rattle.std.proofs.Math.ListN.{length-set}
-use Rattle.std.specs.Prelude.{if◌then◌else◌, Option, Some, None, IsSome, option_map}
+use Rattle.std.specs.Prelude.{if◌then◌else◌, nat_lt, is_some, Option, Some, None, IsSome, option_map}
+use Rattle.std.specs.Option.{option_map_or}
+use Rattle.std.proofs.lemmas.Bool.{ltb-true}
 use Rattle.object_memory.specs.declared.addresses.Addr.{Addr}
 use Rattle.object_memory.specs.declared.monitors.Monitor.{Monitor}
 use Rattle.object_memory.specs.declared.values.Value.{Value}
 use Rattle.object_memory.specs.declared.values.Value.TheVariants.{Int32, Int64, Native, Ref}
 use Rattle.object_memory.specs.Cells.{Cell, cell_in, store_slot, store_monitor}
-use Rattle.object_memory.specs.Spaces.{Spaces, cell_at, change_at, change_copies, change_if, is_old, is_white, marked_if, other_of, set_mark}
+use Rattle.object_memory.specs.Spaces.{Spaces, change_at, change_copies, change_if, is_old, is_white, marked_if, other_of, set_mark}
 use Rattle.object_memory.specs.Objects.{Objects, object_cell, object_slots, with_cell, with_slot}
 use Rattle.object_memory.proofs.Counts.{change-count, change-there}
-use Rattle.barriers.specs.Barriers.{IsOtherAlike, IsOtherThere, with_both, with_both_monitors, with_marked}
+use Rattle.barriers.specs.Barriers.{is_other_alike, is_other_there, with_both, with_both_monitors, with_marked}
 
 -- the other copy, as the heap tells it
 pub other_told : (o : Option Cell) (r : Option Addr) → option_map (λ (c : Cell). c.other) o ≡ Some r → other_of o ≡ r
 other_told None r e = absurd cc
 other_told (Some c) r e = cc
+
+-- the other copy that has a slot too, and one that lies there
+has_slot : (o : Objects) (a b : Addr) (slot : ℕ) → is_other_alike o a slot ≡ true → other_of (object_cell o a) ≡ Some b → slot < length (object_slots o b)
+has_slot o a b slot alike other = ltb-true slot (length (object_slots o b)) (sym (ap (λ r. option_map_or (λ c. nat_lt slot (length (object_slots o c))) r true) other) ∙ alike)
+
+lies_there : (o : Objects) (a b : Addr) → is_other_there o a ≡ true → other_of (object_cell o a) ≡ Some b → IsSome (object_cell o b)
+lies_there o a b there other = sym (ap (λ r. option_map_or (λ c. is_some (object_cell o c)) r true) other) ∙ there
 
 -- ---- slots
 
@@ -31,18 +40,18 @@ marked_slots o (Int64 n) b slot inside = inside
 marked_slots o (Native n) b slot inside = inside
 
 -- after a store to one copy the other one has the slot still
-pub other_slot : (o p : Objects) (a b : Addr) (slot w : ℕ) → p ≡ with_slot o a slot w → IsOtherAlike o a slot → option_map (λ (c : Cell). c.other) (object_cell o a) ≡ Some (Some b) → slot < length (object_slots p b)
+pub other_slot : (o p : Objects) (a b : Addr) (slot w : ℕ) → p ≡ with_slot o a slot w → is_other_alike o a slot ≡ true → option_map (λ (c : Cell). c.other) (object_cell o a) ≡ Some (Some b) → slot < length (object_slots p b)
 other_slot o p a b slot w is alike other =
     subst (λ (x : Objects). slot < length (object_slots x b)) (sym is)
-    (subst (λ n. slot < n) (sym (change-count (store_slot slot w) (λ c. length-set c.slots slot w) o.spaces a b)) (alike b (other_told (object_cell o a) (Some b) other)))
+    (subst (λ n. slot < n) (sym (change-count (store_slot slot w) (λ c. length-set c.slots slot w) o.spaces a b)) (has_slot o a b slot alike (other_told (object_cell o a) (Some b) other)))
 
 -- ---- monitors
 
 -- after a store of a monitor to one copy the other one is there still
-pub other_there : (o p : Objects) (a b : Addr) (m : Monitor) → p ≡ with_cell (store_monitor m) o a → IsOtherThere o a → option_map (λ (c : Cell). c.other) (object_cell o a) ≡ Some (Some b) → IsSome (object_cell p b)
+pub other_there : (o p : Objects) (a b : Addr) (m : Monitor) → p ≡ with_cell (store_monitor m) o a → is_other_there o a ≡ true → option_map (λ (c : Cell). c.other) (object_cell o a) ≡ Some (Some b) → IsSome (object_cell p b)
 other_there o p a b m is there other =
     subst (λ (x : Objects). IsSome (object_cell x b)) (sym is)
-    (change-there (store_monitor m) (λ c. refl) o.spaces a b (there b (other_told (object_cell o a) (Some b) other)))
+    (change-there (store_monitor m) (λ c. refl) o.spaces a b (lies_there o a b there (other_told (object_cell o a) (Some b) other)))
 
 -- where both copies are changed alike, it doesn't matter which is which
 pub both_alike : (f : Cell → Cell) (o : Objects) (a : Addr) → with_both f f o a ≡ record o { spaces = change_copies f f o.spaces a }

@@ -1,2 +1,3 @@
 pub mod Keeping
+mod Trial
 pub mod Twins

@@ -1,6 +1,6 @@
 -- What stores, births and comparisons of references do to what the heap and the static fields hold, by the phase that the thread has
 -- acknowledged (Hudson and Moss, "Sapphire"; this profile). Each rule of an instruction, a monitor or a start of a thread cites these.
-use Rattle.std.specs.Prelude.{◌≡◌, ◌<◌, ℕ, ◌==◌, if◌then◌else◌, Bool, true, false, List, length, Option, Some, IsSome, slice_set}
+use Rattle.std.specs.Prelude.{◌≡◌, ℕ, ◌==◌, ◌&&◌, if◌then◌else◌, nat_lt, Bool, true, false, List, length, Option, is_some, slice_set}
 use Rattle.std.specs.Option.{option_map_or}
 use Rattle.cil_model.specs.declared.phases.Phase.{Phase}
 use Rattle.cil_model.specs.declared.phases.Phase.TheVariants.{Idle, Mark, Allocate, Copy, PreFlip, HeapFlip, ThreadFlip, Reclaim}
@@ -10,7 +10,7 @@ use Rattle.object_memory.specs.declared.monitors.Monitor.{Monitor}
 use Rattle.object_memory.specs.declared.values.Value.{Value}
 use Rattle.object_memory.specs.declared.values.Value.TheVariants.{Int32, Int64, Native, Ref}
 use Rattle.object_memory.specs.Cells.{Cell, literal_number, store_slot, store_monitor}
-use Rattle.object_memory.specs.Spaces.{IsThere, change_copies, forward, is_old, other_of}
+use Rattle.object_memory.specs.Spaces.{change_copies, forward, is_old, is_there, is_within_cycle, other_of}
 use Rattle.object_memory.specs.Objects.{Objects, object_cell, object_slots, with_birth, with_literal_monitor, with_mark, with_monitor, with_slot}
 use Rattle.object_memory.specs.Values.{value_word}
 
@@ -30,12 +30,22 @@ forwarded o (Int32 n) = Int32 n
 forwarded o (Int64 n) = Int64 n
 forwarded o (Native n) = Native n
 
--- an integer, or a reference that is null, a literal's or an object's
-abbrev pub IsValueThere : Objects → Value → Type 0
-IsValueThere o (Ref a) = IsThere o.spaces a
-IsValueThere o (Int32 n) = Unit {0}
-IsValueThere o (Int64 n) = Unit {0}
-IsValueThere o (Native n) = Unit {0}
+-- ---- what is there
+
+-- an integer, or a reference of what is there
+abbrev pub is_value_there : Objects → Value → Bool
+is_value_there o (Ref a) = is_there o.spaces a
+is_value_there o (Int32 n) = true
+is_value_there o (Int64 n) = true
+is_value_there o (Native n) = true
+
+-- the other copy of an object, where it has one, has a slot of this number too
+abbrev pub is_other_alike : Objects → Addr → ℕ → Bool
+is_other_alike o a slot = option_map_or (λ b. nat_lt slot (length (object_slots o b))) (other_of (object_cell o a)) true
+
+-- the other copy of an object lies there, where it has one
+abbrev pub is_other_there : Objects → Addr → Bool
+is_other_there o a = option_map_or (λ b. is_some (object_cell o b)) (other_of (object_cell o a)) true
 
 -- ---- both copies
 
@@ -50,14 +60,6 @@ with_both_slots o a slot v w = with_both (store_slot slot (value_word v)) (store
 abbrev pub with_both_monitors : Objects → Addr → Monitor → Objects
 with_both_monitors o a m = with_both (store_monitor m) (store_monitor m) o a
 
--- the other copy of an object, where it has one, has a slot of this number too
-abbrev pub IsOtherAlike : Objects → Addr → ℕ → Type 0
-IsOtherAlike o a slot = (b : Addr) → other_of (object_cell o a) ≡ Some b → slot < length (object_slots o b)
-
--- the other copy of an object lies there, where it has one
-abbrev pub IsOtherThere : Objects → Addr → Type 0
-IsOtherThere o a = (b : Addr) → other_of (object_cell o a) ≡ Some b → IsSome (object_cell o b)
-
 -- ---- stores of values
 
 -- a value in a field or an element
@@ -71,16 +73,16 @@ stored_value HeapFlip o a slot v = with_both_slots o a slot v (forwarded o v)
 stored_value ThreadFlip o a slot v = with_both_slots o a slot v v
 stored_value Reclaim o a slot v = with_slot o a slot (value_word v)
 
--- what is so where a thread stores it: a cycle is open, the value is one of this heap, and both copies have the slot
-abbrev pub IsStorable : Phase → Objects → Addr → ℕ → Value → Type 0
-IsStorable Idle o a slot v = Unit {0}
-IsStorable Mark o a slot v = (o.spaces.is_open ≡ true) × IsValueThere o v
-IsStorable Allocate o a slot v = Unit {0}
-IsStorable Copy o a slot v = IsValueThere o v × IsOtherAlike o a slot
-IsStorable PreFlip o a slot v = IsValueThere o v × IsOtherAlike o a slot
-IsStorable HeapFlip o a slot v = IsValueThere o v × IsOtherAlike o a slot
-IsStorable ThreadFlip o a slot v = IsOtherAlike o a slot
-IsStorable Reclaim o a slot v = Unit {0}
+-- whether it can be stored there: a mark takes an open cycle and a value of this heap, and both copies have the slot where both are changed
+abbrev pub is_storable : Phase → Objects → Addr → ℕ → Value → Bool
+is_storable Idle o a slot v = true
+is_storable Mark o a slot v = o.spaces.is_open && is_value_there o v
+is_storable Allocate o a slot v = true
+is_storable Copy o a slot v = is_value_there o v && is_other_alike o a slot
+is_storable PreFlip o a slot v = is_value_there o v && is_other_alike o a slot
+is_storable HeapFlip o a slot v = is_value_there o v && is_other_alike o a slot
+is_storable ThreadFlip o a slot v = is_other_alike o a slot
+is_storable Reclaim o a slot v = true
 
 -- a reference
 abbrev pub stored_ref : Phase → Objects → Addr → ℕ → Addr → Objects
@@ -104,10 +106,18 @@ abbrev pub stored_int : Phase → Objects → Addr → (slot word : ℕ) → Obj
 stored_int phase o a slot word =
     if reaches_both phase then with_both (store_slot slot word) (store_slot slot word) o a else with_slot o a slot word
 
+-- whether it can be stored there: both copies have the slot where both are changed
+abbrev pub is_word_storable : Phase → Objects → Addr → ℕ → Bool
+is_word_storable phase o a slot = if reaches_both phase then is_other_alike o a slot else true
+
 -- the monitor of an object or a literal, which has no other copy
 abbrev pub stored_monitor : Phase → Objects → Addr → Monitor → Objects
 stored_monitor phase o a m =
     if reaches_both phase then option_map_or (with_literal_monitor o m) (literal_number a) (with_both_monitors o a m) else with_monitor o a m
+
+-- whether it can be stored there: the other copy is there where both are changed
+abbrev pub is_monitor_storable : Phase → Objects → Addr → Bool
+is_monitor_storable phase o a = if reaches_both phase then is_other_there o a else true
 
 -- ---- static fields
 
@@ -122,21 +132,26 @@ stored_static HeapFlip o statics number v = (o, slice_set statics number (forwar
 stored_static ThreadFlip o statics number v = (o, slice_set statics number v)
 stored_static Reclaim o statics number v = (o, slice_set statics number v)
 
-abbrev pub IsStaticStorable : Phase → Objects → Value → Type 0
-IsStaticStorable Idle o v = Unit {0}
-IsStaticStorable Mark o v = (o.spaces.is_open ≡ true) × IsValueThere o v
-IsStaticStorable Allocate o v = Unit {0}
-IsStaticStorable Copy o v = Unit {0}
-IsStaticStorable PreFlip o v = IsValueThere o v
-IsStaticStorable HeapFlip o v = IsValueThere o v
-IsStaticStorable ThreadFlip o v = Unit {0}
-IsStaticStorable Reclaim o v = Unit {0}
+-- whether it can be stored: a mark takes an open cycle, and a mark and a forward a value of this heap
+abbrev pub is_static_storable : Phase → Objects → Value → Bool
+is_static_storable Idle o v = true
+is_static_storable Mark o v = o.spaces.is_open && is_value_there o v
+is_static_storable Allocate o v = true
+is_static_storable Copy o v = true
+is_static_storable PreFlip o v = is_value_there o v
+is_static_storable HeapFlip o v = is_value_there o v
+is_static_storable ThreadFlip o v = true
+is_static_storable Reclaim o v = true
 
 -- ---- births
 
 -- the objects with one of so many slots more, and its address; as they were where it exceeds the room
 abbrev pub object_born : Phase → Objects → Kind → ℕ → Objects × Option Addr
 object_born phase o kind slots = with_birth phase o kind slots
+
+-- whether a thread in this phase can bear: some phases are of an open cycle alone
+abbrev pub can_bear : Phase → Objects → Bool
+can_bear phase o = if is_within_cycle phase then o.spaces.is_open else true
 
 -- ---- references
 
@@ -154,6 +169,10 @@ compares_forwards Reclaim = false
 -- the address by which a reference is compared
 abbrev pub compared : Phase → Objects → Addr → Addr
 compared phase o a = if compares_forwards phase then forward o.spaces a else a
+
+-- whether they can be compared: a forward is that of something that is there
+abbrev pub are_comparable : Phase → Objects → Addr → Addr → Bool
+are_comparable phase o a b = if compares_forwards phase then is_there o.spaces a && is_there o.spaces b else true
 
 -- two references are of one object, or both null
 abbrev pub AreOfOneObject : Phase → Objects → Addr → Addr → Type 0

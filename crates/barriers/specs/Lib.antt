@@ -1,1 +1,2 @@
 pub mod Barriers
+pub mod TrialHeap

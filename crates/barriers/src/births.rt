@@ -1,8 +1,7 @@
 // Births of objects.
 
-ghost use Rattle.std.specs.Prelude.{◌≡◌, true};
-ghost use Rattle.object_memory.specs.Spaces.{is_within_cycle};
-ghost use Rattle.barriers.specs.Barriers.{object_born};
+ghost use Rattle.std.specs.Prelude.{◌≡◌, ◌≤◌, ◌^◌, true};
+ghost use Rattle.barriers.specs.Barriers.{can_bear, object_born};
 
 use cil_model::phases::Phase;
 use object_memory::{Addr, Heap, Kind};
@@ -11,11 +10,21 @@ use object_memory::{Addr, Heap, Kind};
 /// `Idle` and `Mark`, in both from `Allocate` to `HeapFlip`, with the address of the old copy, and then in the new one alone. None exactly
 /// where it exceeds the room; nothing is changed then.
 pub fn birth(heap: &mut Heap, phase: Phase, kind: Kind, slots: u64) -> Option<Addr>
-    requires { is_within_cycle phase ≡ true → heap.old.spaces.is_open ≡ true }
+    requires { can_bear phase heap.old ≡ true }
     ensures { (heap.new, result) ≡ object_born phase heap.old kind slots }
 {
-    if slots > heap.room(phase) as u64 {
-        return None;
+    match u32::try_from(slots) {
+        Ok(slots) => heap.birth(kind, slots, phase),
+        Err(_) => refuse(heap, phase, kind, slots),
     }
-    heap.birth(kind, slots as u32, phase)
+}
+
+/// The birth of an object with more slots than any heap has words, which is refused.
+#[cold]
+fn refuse(heap: &mut Heap, phase: Phase, kind: Kind, slots: u64) -> Option<Addr>
+    requires { 2 ^ 32 ≤ slots }
+    ensures { (heap.new, result) ≡ object_born phase heap.old kind slots }
+{
+    let _room = heap.room(phase);
+    None
 }

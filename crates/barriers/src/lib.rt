@@ -5,7 +5,9 @@
 mod births;
 mod references;
 mod stores;
+#[cfg(test)]
+mod tests;
 
 pub use births::birth;
 pub use references::same;
-pub use stores::{store_int, store_monitor, store_ref, store_static, store_value};
+pub use stores::{forward, mark, store_int, store_monitor, store_ref, store_static, store_value};

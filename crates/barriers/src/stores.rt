@@ -4,7 +4,7 @@ ghost use Rattle.std.specs.Prelude.{◌≡◌, ◌<◌, true, IsSome, length};
 ghost use Rattle.object_memory.specs.Cells.{store_slot};
 ghost use Rattle.object_memory.specs.declared.values.Value.TheVariants.{Ref};
 ghost use Rattle.object_memory.specs.Objects.{monitor_at, object_cell, object_slots};
-ghost use Rattle.barriers.specs.Barriers.{IsOtherAlike, IsOtherThere, IsStaticStorable, IsStorable, IsValueThere, forwarded, reaches_both, stored_int, stored_monitor, stored_ref, stored_static, stored_value, with_both, with_both_monitors, with_marked};
+ghost use Rattle.barriers.specs.Barriers.{is_other_alike, is_other_there, is_static_storable, is_storable, is_value_there, is_word_storable, is_monitor_storable, forwarded, reaches_both, stored_int, stored_monitor, stored_ref, stored_static, stored_value, with_both, with_both_monitors, with_marked};
 
 use cil_model::phases::Phase;
 use object_memory::{Addr, Heap, Monitor, Value};
@@ -14,7 +14,21 @@ use object_memory::{Addr, Heap, Monitor, Value};
 /// count from 0. Nothing else changes.
 pub fn store_value(heap: &mut Heap, phase: Phase, object: Addr, slot: u32, value: Value)
     requires inside { slot < length (object_slots heap.old object) }
-    requires ready { IsStorable phase heap.old object slot value }
+    requires ready { is_storable phase heap.old object slot value ≡ true }
+    ensures { heap.new ≡ stored_value phase heap.old object slot value }
+{
+    if phase == Phase::Idle {
+        heap.set_slot(object, slot, value.word());
+    } else {
+        store_in_cycle(heap, phase, object, slot, value);
+    }
+}
+
+/// The same in any phase. Apart from what is done between cycles, so that a step is short.
+#[cold]
+fn store_in_cycle(heap: &mut Heap, phase: Phase, object: Addr, slot: u32, value: Value)
+    requires inside { slot < length (object_slots heap.old object) }
+    requires ready { is_storable phase heap.old object slot value ≡ true }
     ensures { heap.new ≡ stored_value phase heap.old object slot value }
 {
     match phase {
@@ -36,7 +50,7 @@ pub fn store_value(heap: &mut Heap, phase: Phase, object: Addr, slot: u32, value
 /// Stores a reference to a field or an element, as `store_value` does. Slots count from 0. Nothing else changes.
 pub fn store_ref(heap: &mut Heap, phase: Phase, object: Addr, slot: u32, reference: Addr)
     requires inside { slot < length (object_slots heap.old object) }
-    requires ready { IsStorable phase heap.old object slot (Ref reference) }
+    requires ready { is_storable phase heap.old object slot (Ref reference) ≡ true }
     ensures { heap.new ≡ stored_ref phase heap.old object slot reference }
 {
     store_value(heap, phase, object, slot, Value::Ref(reference));
@@ -46,7 +60,7 @@ pub fn store_ref(heap: &mut Heap, phase: Phase, object: Addr, slot: u32, referen
 /// `ThreadFlip` both copies of the object get it. Slots count from 0. Nothing else changes.
 pub fn store_int(heap: &mut Heap, phase: Phase, object: Addr, slot: u32, word: u64)
     requires inside { slot < length (object_slots heap.old object) }
-    requires copies { reaches_both phase ≡ true → IsOtherAlike heap.old object slot }
+    requires ready { is_word_storable phase heap.old object slot ≡ true }
     ensures { heap.new ≡ stored_int phase heap.old object slot word }
 {
     if reaches_both(phase) {
@@ -59,7 +73,7 @@ pub fn store_int(heap: &mut Heap, phase: Phase, object: Addr, slot: u32, word: u
 /// Sets the monitor of an object or a literal. From `Copy` to `ThreadFlip` both copies of the object get it. Nothing else changes.
 pub fn store_monitor(heap: &mut Heap, phase: Phase, object: Addr, monitor: Monitor)
     requires there { IsSome (monitor_at heap.old object) }
-    requires copies { reaches_both phase ≡ true → IsOtherThere heap.old object }
+    requires ready { is_monitor_storable phase heap.old object ≡ true }
     ensures { heap.new ≡ stored_monitor phase heap.old object monitor }
 {
     if reaches_both(phase) && object.literal_number().is_none() {
@@ -79,7 +93,7 @@ pub fn store_static(
     value: Value,
 )
     requires inside { number < length statics.old }
-    requires ready { IsStaticStorable phase heap.old value }
+    requires ready { is_static_storable phase heap.old value ≡ true }
     ensures { (heap.new, statics.new) ≡ stored_static phase heap.old statics.old number value }
 {
     match phase {
@@ -104,10 +118,11 @@ fn reaches_both(phase: Phase) -> bool
     }
 }
 
-/// Marks the object of a reference. An integer has none.
-fn mark(heap: &mut Heap, value: Value)
+/// Marks the object of a reference, and puts it on the grey list where it wasn't marked. An integer has none. Nothing else changes.
+#[cold]
+pub fn mark(heap: &mut Heap, value: Value)
     requires open { heap.old.spaces.is_open ≡ true }
-    requires there { IsValueThere heap.old value }
+    requires there { is_value_there heap.old value ≡ true }
     ensures { heap.new ≡ with_marked heap.old value }
 {
     match value {
@@ -118,9 +133,10 @@ fn mark(heap: &mut Heap, value: Value)
     }
 }
 
-/// The reference of the other copy, in the place of an old object's.
-fn forward(heap: &Heap, value: Value) -> Value
-    requires { IsValueThere heap.now value }
+/// The reference of the other copy, in the place of an old object's. Any other value is itself.
+#[cold]
+pub fn forward(heap: &Heap, value: Value) -> Value
+    requires { is_value_there heap.now value ≡ true }
     ensures { result ≡ forwarded heap.now value }
 {
     match value {
@@ -130,9 +146,10 @@ fn forward(heap: &Heap, value: Value) -> Value
 }
 
 /// Stores a word to the slot of the old copy of an object, and another to that of the new copy.
+#[cold]
 fn set_both_slots(heap: &mut Heap, object: Addr, slot: u32, old: u64, new: u64)
     requires inside { slot < length (object_slots heap.old object) }
-    requires copies { IsOtherAlike heap.old object slot }
+    requires copies { is_other_alike heap.old object slot ≡ true }
     ensures { heap.new ≡ with_both (store_slot slot old) (store_slot slot new) heap.old object }
 {
     let copy = heap.other(object);
@@ -150,9 +167,10 @@ fn set_both_slots(heap: &mut Heap, object: Addr, slot: u32, old: u64, new: u64)
 }
 
 /// Sets the monitor of both copies of an object.
+#[cold]
 fn set_both_monitors(heap: &mut Heap, object: Addr, monitor: Monitor)
     requires there { IsSome (object_cell heap.old object) }
-    requires copies { IsOtherThere heap.old object }
+    requires copies { is_other_there heap.old object ≡ true }
     ensures { heap.new ≡ with_both_monitors heap.old object monitor }
 {
     let copy = heap.other(object);

@@ -9,13 +9,13 @@ use cil_model::memory::NoMemory;
 use cil_model::reports::{End, Report};
 use cil_model::texts::Text;
 use cil_model::types::ClassName;
-use cil_plain::PlainMachine;
+use cil_plain::{PlainMachine, PlainNames};
 use ilasm_reader::{ReadError, read};
 use instruction_text::CharactersText;
 use name_tables::built_in::BuiltInClass;
 use name_tables::lookups::NameTables;
 use orders::{read_source, read_text};
-use schedule_text::write_schedule;
+use schedule_text::{Item, write_schedule};
 use source_runs::{Failure, Machine, Outcome, accept, run_events};
 use std::alloc::Global;
 use std::collections::HashMap;
@@ -172,11 +172,23 @@ fn reads_no_more(alloc: Global) -> io::Result<bool> {
     Ok(short.as_slice() == b"s0*5\n".as_slice() && read == 1_048_577)
 }
 
+/// One event.
+fn once(event: Event) -> Item {
+    Item { event, count: 1 }
+}
+
 /// Whether events are written, each longest run of equal ones as one item, and not those of a thread that there can't be.
 fn writes_schedules(alloc: Global) -> Result<bool, NoMemory> {
     let (step, ack) = (Event::Step(15), Event::Ack(0));
-    let text = write_schedule(alloc, &[step, step, Event::Gc, ack, step]).ok();
-    let refused = write_schedule(alloc, &[Event::Gc, Event::Step(16)]).err();
+    let events = [
+        once(step),
+        once(step),
+        once(Event::Gc),
+        once(ack),
+        once(step),
+    ];
+    let text = write_schedule(alloc, &events).ok();
+    let refused = write_schedule(alloc, &[once(Event::Gc), once(Event::Step(16))]).err();
     Ok(
         text.is_some_and(|text| text.as_str() == "s15*2 g a0 s15")
             && refused.map(|error| error.number()) == Some(502),
@@ -279,7 +291,9 @@ fn runs_plainly(alloc: Global) -> Result<bool, Failure> {
 }
 
 fn is_run_plainly(alloc: Global, names: &NameTables) -> Result<bool, NoMemory> {
-    match PlainMachine::new(alloc, &*names, LIMITS)? {
+    let names = PlainNames::new(alloc, &*names)?;
+    let opened = PlainMachine::new(alloc, &names, LIMITS)?;
+    match opened {
         None => Ok(false),
         Some(machine) => is_plain_run(alloc, machine),
     }

@@ -1,6 +1,7 @@
 // What the classes of a program are to one another (ECMA-335 I.8.7, II.10.3 and II.12.2), by the tables of their names.
 
 use crate::effects::Halt;
+use crate::names::PlainNames;
 use crate::values::{PlainElement, PlainType};
 use cil_model::instructions::{FieldReference, MethodName};
 use cil_model::trees::Method;
@@ -21,6 +22,7 @@ pub struct Found<'a> {
 #[derive(Clone, Copy)]
 pub struct Classes<'a> {
     pub names: &'a NameTables<'a>,
+    pub chains: &'a PlainNames<'a>,
 }
 
 impl<'a> Classes<'a> {
@@ -46,10 +48,7 @@ impl<'a> Classes<'a> {
 
     /// The class, its base, and so on (ECMA-335 I.8.9.9).
     pub fn chain(&self, class: usize) -> &'a [usize] {
-        match self.declared(class) {
-            None => &[],
-            Some(declared) => self.names.chain(declared.name),
-        }
+        self.chains.chain(class)
     }
 
     /// The name of a built-in class; none where it is a class of the source.

@@ -13,9 +13,11 @@ mod frames;
 mod heap;
 mod instructions;
 mod machine;
+mod names;
 mod objects;
 mod state;
 mod turns;
 mod values;
 
 pub use machine::PlainMachine;
+pub use names::PlainNames;

@@ -2,6 +2,7 @@
 
 use crate::classes::Found;
 use crate::effects::Halt;
+use crate::names::PlainNames;
 use crate::state::State;
 use cil_model::limits::Limits;
 use cil_model::memory::NoMemory;
@@ -43,10 +44,10 @@ impl<'a> PlainMachine<'a> {
     /// program has no entry point.
     pub fn new(
         alloc: Global,
-        names: &'a NameTables<'a>,
+        names: &'a PlainNames<'a>,
         limits: Limits,
     ) -> Result<Option<Self>, NoMemory> {
-        let Some(entry) = entry_point(names) else {
+        let Some(entry) = entry_point(names.tables) else {
             return Ok(None);
         };
         let mut state = State::new(alloc, names, limits);

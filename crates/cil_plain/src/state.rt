@@ -4,11 +4,12 @@ use crate::classes::{Classes, Found};
 use crate::effects::Halt;
 use crate::frames::Frame;
 use crate::heap::{FieldValue, Heap};
+use crate::names::PlainNames;
 use crate::values::Value;
 use cil_model::limits::Limits;
 use cil_model::reports::{End, Fault};
 use name_tables::bodies::code_of;
-use name_tables::lookups::{MemberNumber, NameTables};
+use name_tables::lookups::MemberNumber;
 use std::alloc::Global;
 use std::fmt;
 
@@ -63,10 +64,13 @@ pub struct State<'a> {
 
 impl<'a> State<'a> {
     /// The state before the first thread: no object was born, and nothing printed.
-    pub fn new(alloc: Global, names: &'a NameTables<'a>, limits: Limits) -> Self {
+    pub fn new(alloc: Global, names: &'a PlainNames<'a>, limits: Limits) -> Self {
         State {
             alloc,
-            classes: Classes { names },
+            classes: Classes {
+                names: names.tables,
+                chains: names,
+            },
             limits,
             heap: Heap::new(alloc),
             statics: Vec::new(alloc),

@@ -1,6 +1,7 @@
 // The layout of a program.
 
 ghost use Rattle.std.specs.Prelude.{◌≡◌, IfOk, Some, true, false, length, option_map, slice_get};
+ghost use Rattle.std.specs.Option.{option_map_or};
 ghost use Rattle.cil_model.specs.declared.trees.Tree.{Tree};
 ghost use Rattle.cil_model.specs.declared.types.ClassName.{ClassName};
 ghost use Rattle.cil_model.specs.declared.types.DeclaredType.{DeclaredType};
@@ -77,9 +78,9 @@ impl Layout {
         kind_at(row_at(self.kinds.as_slice(), class), slot)
     }
 
-    /// Whether a slot of an object of a class holds a reference.
+    /// Whether a slot of an object of a class holds a reference; false where no class has the number.
     pub fn is_reference(&self, class: usize, slot: usize) -> bool
-        ensures { (tree : Tree) → IsLayout tree self.now → (c : ClassName) → class_name tree class ≡ Some c → result ≡ is_reference_slot tree c slot }
+        ensures { (tree : Tree) → IsLayout tree self.now → result ≡ option_map_or (λ c. is_reference_slot tree c slot) (class_name tree class) false }
     {
         is_reference_at(row_at(self.kinds.as_slice(), class), slot)
     }

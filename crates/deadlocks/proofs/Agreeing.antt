@@ -41,6 +41,7 @@ use Rattle.event_trace.proofs.interleaving_core.simulation.Memories.{named_is_no
 use Rattle.event_trace.proofs.interleaving_core.step_simulation.Monitors.{IsMonitorAt, monitor_there}
 use Rattle.event_trace.proofs.interleaving_core.step_simulation.OneBlock.{heap_reads, modelled, one_block}
 use Rattle.event_trace.proofs.interleaving_core.step_simulation.Joins.{lives_alike}
+use Rattle.event_trace.proofs.interleaving_core.step_simulation.SoundContents.{idle_heap}
 use Rattle.event_trace.proofs.interleaving_core.step_simulation.ThreadObjects.{IsThreadObject, thread_object_is, thread_on_is}
 
 -- a machine's wait is for the same thread
@@ -78,8 +79,8 @@ module _ (c : Content) (s : State) (r : Represents c s) (t : ℕ) where
 
   enters_alike : (a : Addr) (n : ObjectName) → name a.number ≡ Some n → AreWaitsAlike (monitor_wait c.objects t a) (option_and_then (state_held n t) (monitor_of s n))
   enters_alike a n named =
-      let at : IsMonitorAt c.tree (one_block c.tree) name c.objects c.statics c.printed c.limits s a n =
-      monitor_there c.tree (one_block c.tree) name c.objects c.statics c.printed c.limits s (modelled c.tree name c.objects c.statics c.printed s r.stands.by.memory) r.counted a n named in
+      let at : IsMonitorAt c.tree (one_block c.tree c.limits.words) name c.objects c.statics c.printed c.limits s a n =
+      monitor_there c.tree (one_block c.tree c.limits.words) name c.objects c.statics c.printed c.limits s (modelled c.tree c.limits.words name c.objects c.statics c.printed s r.stands.by.memory (idle_heap c r.sound)) r.counted a n named in
       let machine : monitor_wait c.objects t a ≡ held_by_another (class_of_object c.objects a) t at.monitor =
       ap (λ b. if b then None else option_and_then (held_by_another (class_of_object c.objects a) t) (monitor_at c.objects a)) (named_is_not_null c.tree name c.objects s (heap_reads c.tree name c.objects s r.stands.by.memory.heap) a.number n named)
       ∙ ap (option_and_then (held_by_another (class_of_object c.objects a) t)) at.held in

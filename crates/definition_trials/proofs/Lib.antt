@@ -12,6 +12,7 @@ mod JoinTrials
 mod TokenTrials
 mod LexemeTrials
 mod CollectorTrials
+mod BarrierTrials
 mod RunTrials
 mod ObjectTrials
 mod StoryTrials

@@ -1,6 +1,7 @@
 pub mod Classes
 pub mod Climbing
 pub mod DepthLaws
+pub mod LineLaws
 pub mod Shorts
 pub mod Operands
 pub mod MemberLaws

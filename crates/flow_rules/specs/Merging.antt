@@ -1,5 +1,5 @@
 -- What a merge answers.
-use Rattle.std.specs.Prelude.{◌≡◌, ℕ, List, Option, Some, None, slice_get}
+use Rattle.std.specs.Prelude.{◌≡◌, ℕ, List, [], Option, Some, None, slice_get, slice_index_or}
 use Rattle.cil_model.specs.declared.types.ClassName.{ClassName}
 use Rattle.cil_model.specs.declared.types.DeclaredType.{DeclaredType}
 use Rattle.cil_model.specs.Declarations.{Declaration}
@@ -9,7 +9,9 @@ use Rattle.cil_model.specs.TypeTree.{StackType, IsBelow, IsMerge, parent, ancest
 use Rattle.resolved_code.specs.Resolved.{AreResolved, IsResolvedClass}
 use Rattle.resolved_code.specs.declared.classes.ResolvedClass.{ResolvedClass}
 use Rattle.cil_model.specs.Legality.{IsLegal}
-use Rattle.flow_rules.specs.Named.{stack_type}
+use Rattle.resolved_code.specs.declared.types.NumberedElement.{NumberedElement}
+use Rattle.resolved_code.specs.declared.types.NumberedElement.TheVariants.{Class}
+use Rattle.flow_rules.specs.Named.{element_named, stack_type}
 use Rattle.flow_rules.specs.declared.entries.StackEntry.{StackEntry}
 
 -- the merge, or that no type is above both (III.1.8.1.3)
@@ -33,3 +35,15 @@ IsDepth tree t n = (top : DeclaredType) × (ancestor tree n t ≡ Some top) × (
 -- two types have as many parents above them
 abbrev pub AreLevel : Tree → DeclaredType → DeclaredType → Type 0
 AreLevel tree a b = (n : ℕ) × IsDepth tree a n × IsDepth tree b n
+
+-- the element is so many parents above the one of a class, whatever brackets stand after both
+abbrev pub IsUp : Tree → ℕ → ℕ → NumberedElement → Type 0
+IsUp tree class n above = (brackets : ℕ) → ancestor tree n (record { element = element_named tree (Class class); brackets = brackets }) ≡ Some (record { element = element_named tree above; brackets = brackets })
+
+-- each element stands as many parents above the one of a class as its place says
+abbrev pub IsLine : Tree → ℕ → List NumberedElement → Type 0
+IsLine tree class line = (n : ℕ) (above : NumberedElement) → slice_get line n ≡ Some above → IsUp tree class n above
+
+-- the same of each class
+abbrev pub AreLines : Tree → List (List NumberedElement) → Type 0
+AreLines tree rows = (class : ℕ) → IsLine tree class (slice_index_or rows class [])

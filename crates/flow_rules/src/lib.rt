@@ -5,6 +5,7 @@ pub mod arrays;
 pub mod entries;
 pub mod flow;
 pub mod laws;
+mod lines;
 pub mod members;
 pub mod method_types;
 pub mod mismatches;

@@ -1,31 +1,34 @@
 // The tree of types, and merges in it (ECMA-335 III.1.8.1.3; the tree is this profile's).
 
-ghost use Rattle.std.specs.Prelude.{◌≡◌, ◌≤◌, ◌+◌, ◌-◌, ◌==◌, ◌||◌, if◌then◌else◌, true, false, Some, None, option_map, slice_get, IfSome};
+ghost use Rattle.std.specs.Prelude.{◌≡◌, ◌≤◌, ◌+◌, ◌-◌, ◌==◌, ◌||◌, if◌then◌else◌, ℕ, true, false, Some, None, option_map, map, slice_get, IfOk, IfSome};
 ghost use Rattle.cil_model.specs.declared.trees.Tree.{Tree};
 ghost use Rattle.cil_model.specs.declared.types.ClassName.{ClassName};
 ghost use Rattle.cil_model.specs.Assignable.{element_of_class, type_of_class, is_class_assignable, is_assignable};
 ghost use Rattle.std.specs.List.{list_any};
 ghost use Rattle.cil_model.specs.Chains.{base_of, longest_chain};
-ghost use Rattle.cil_model.specs.TypeTree.{ancestor, parent, parent_element};
+ghost use Rattle.cil_model.specs.TypeTree.{ancestor, parent, parent_at, parent_element, IsBelow};
 ghost use Rattle.cil_model.specs.TypeTree as OnStack;
 ghost use Rattle.cil_model.specs.Legality.{IsLegal};
 ghost use Rattle.resolved_code.specs.Numbered.{class_name};
 ghost use Rattle.resolved_code.specs.declared.types.NumberedElement.TheVariants.{Object, Class};
 ghost use Rattle.flow_rules.specs.declared.entries.StackEntry.TheVariants.{Declared, Null};
 ghost use Rattle.flow_rules.specs.Named.{type_named, element_named, class_named, is_known};
-ghost use Rattle.flow_rules.specs.Merging.{AreClasses, AreLevel, IsClassAt, IsDepth, IsMerged};
+ghost use Rattle.flow_rules.specs.Merging.{AreClasses, AreLevel, IsClassAt, IsDepth, IsMerged, IsLine, AreLines};
 
 use crate::entries::{StackEntry, is_reference};
+use crate::lines::Lines;
+use cil_model::memory::NoMemory;
 use cil_model::trees::Tree;
 use resolved_code::classes::ResolvedClass;
 use resolved_code::type_tests::TypeTest;
 use resolved_code::types::{NumberedElement, NumberedType};
+use std::alloc::Global;
 use std::marker::Model;
 
 /// The types of a legal program, each below its parent. Contracts see it as the program's tree.
 #[derive(Drop)]
 pub struct TypeTree<'a> {
-    tree: &'a Tree,
+    lines: Lines<'a>,
     classes: &'a [ResolvedClass],
 }
 
@@ -35,18 +38,79 @@ impl<'a> Model for TypeTree<'a> {
 
     ghost Value = { Tree };
 
-    ghost view = { λ t. t.tree.now };
+    ghost view = { λ t. t.lines.tree.now };
 
-    ghost invariant = { λ t. AreClasses t.tree.now t.classes.now };
+    ghost invariant = { λ t. AreClasses t.lines.tree.now t.classes.now };
 }
 
 impl<'a> TypeTree<'a> {
-    /// The types of a legal program with these classes.
-    pub fn new(tree: &'a Tree, classes: &'a [ResolvedClass]) -> Self
+    /// The types of a legal program with these classes. Goes along the bases of each class once. Fails for want of memory alone.
+    pub fn new(
+        tree: &'a Tree,
+        classes: &'a [ResolvedClass],
+        alloc: Global,
+    ) -> Result<Self, NoMemory>
         requires { AreClasses tree.now classes.now }
-        ensures { result ≡ tree.now }
+        ensures { IfOk result (λ t. t ≡ tree.now) }
     {
-        TypeTree { tree, classes }
+        let without_lines = TypeTree {
+            lines: Lines::none(tree, alloc),
+            classes,
+        };
+        let rows = without_lines.rows(alloc)?;
+        Ok(TypeTree {
+            lines: Lines::of(tree, rows),
+            classes,
+        })
+    }
+
+    /// The element above another, whatever brackets stand after both; none above an element that has one only behind brackets.
+    fn element_above(&self, element: NumberedElement) -> Option<NumberedElement>
+        ensures { IfSome result (λ above. (brackets : ℕ) → parent_at self.now (element_named self.now element) brackets ≡ Some (record { element = element_named self.now above; brackets = brackets })) }
+    {
+        match element {
+            NumberedElement::Class(number) => Some(self.base_element(number)),
+            NumberedElement::String => Some(NumberedElement::Object),
+            NumberedElement::Object | NumberedElement::Int32 | NumberedElement::Int64 => None,
+        }
+    }
+
+    fn count_classes(&self) -> usize {
+        self.classes.len()
+    }
+
+    /// The elements from a class's on, each above the one before it. Fails for want of memory alone.
+    fn line_from(&self, class: usize, alloc: Global) -> Result<Vec<NumberedElement>, NoMemory>
+        ensures { IfOk result (λ line. IsLine self.now class line.items) }
+    {
+        let mut line = Vec::new(alloc);
+        let mut here = NumberedElement::Class(class);
+        for step in 0..self.count_classes() {
+            line.push(here)?;
+            match self.element_above(here) {
+                None => return Ok(line),
+                Some(above) => here = above,
+            }
+        }
+        Ok(line)
+    }
+
+    /// The same of each class. Fails for want of memory alone.
+    fn rows(&self, alloc: Global) -> Result<Vec<Vec<NumberedElement>>, NoMemory>
+        ensures { IfOk result (λ rows. AreLines self.now (map (λ row. row.items) rows.items)) }
+    {
+        let mut rows = Vec::new(alloc);
+        for class in 0..self.count_classes() {
+            rows.push(self.line_from(class, alloc)?)?;
+        }
+        Ok(rows)
+    }
+
+    /// Whether a type is seen at once to be above another.
+    fn is_above(&self, above: NumberedType, below: NumberedType) -> bool
+        ensures { result ≡ true → IsBelow self.now (OnStack.Declared (type_named self.now below)) (OnStack.Declared (type_named self.now above)) }
+    {
+        self.lines.is_above(above, below)
     }
 
     /// The type itself; in place of a number that is no class's, System.Object's.
@@ -163,12 +227,22 @@ impl<'a> TypeTree<'a> {
         None
     }
 
-    /// The closest type above two others. The deeper one is brought to the depth of the other first.
+    /// The closest type above two others. Mostly they are one, or one of them is above the other. Else the deeper one is brought to the
+    /// depth of the other first.
     fn merged_types(&self, first: NumberedType, second: NumberedType) -> Option<NumberedType>
         requires first { is_known self.now first.element ≡ true }
         requires second { is_known self.now second.element ≡ true }
         ensures { IsMerged self.now (Declared first) (Declared second) (option_map Declared result) }
     {
+        if is_same(first, second) {
+            return Some(first);
+        }
+        if self.is_above(first, second) {
+            return Some(first);
+        }
+        if self.is_above(second, first) {
+            return Some(second);
+        }
         let one_depth = self.depth(first);
         let other_depth = self.depth(second);
         let one = self.ancestor(first, one_depth.saturating_sub(other_depth))?;

@@ -13,7 +13,8 @@ use Rattle.inheritance.specs.declared.changes.Source.TheVariants.{Nothing, Class
 use Rattle.inheritance.specs.declared.forests.Forest.{Forest}
 use Rattle.inheritance.specs.declared.ledgers.Entry.{Entry}
 use Rattle.inheritance.specs.Changes.{known, known_of, is_ordered, is_past, changes_of, found_from, AreUpTo, AddsChanges}
-use Rattle.inheritance.specs.Lines.{base_in, place_in}
+use Rattle.inheritance.specs.Lines.{base_in, line_within, Ends, place_in}
+use Rattle.inheritance.proofs.LineLaws.{line_of_none}
 use Rattle.inheritance.specs.Ledgers.{pair_of, nearest_from, entry_in, height_of, source_of, IsEntered, IsStanding, IsRightBefore}
 
 pub past_later : (t : ℕ) (cs : List Change) → is_past t cs ≡ true → is_past (t + 1) cs ≡ true
@@ -91,7 +92,7 @@ module _ (forest : Forest) where
     entered_still : (n : ℕ) (entry : Entry) → entry_in entries n ≡ Some entry → IsEntered forest new n entry
     entered_still n entry e =
         let was : IsEntered forest rows n entry = r.entered n entry e in
-        record { short = was.short; right = λ key m h k. ap pair_of (before key entry.time h (r.earlier n entry e)) ∙ was.right key m h k }
+        record { short = was.short; ended = was.ended; right = λ key m h k. ap pair_of (before key entry.time h (r.earlier n entry e)) ∙ was.right key m h k }
 
     -- what is found at the time, before the class's keys are
     found_standing : (now : Option ℕ) → IsStanding forest rows entries t now → (height : ℕ) → height_of entries now ≡ Some height → (key m u : ℕ) → key < forest.keys → height ≤ m → t ≤ u →
@@ -100,6 +101,13 @@ module _ (forest : Forest) where
     found_standing (Some n) s height e key m u h k l =
         let same : s.0.length ≡ height = same_Some s.0.length height (sym (ap (option_map (λ (x : Entry). x.length)) s.1) ∙ e) in
         ap pair_of (s.2 key u h l) ∙ (r.entered n s.0 s.1).right key m h (omega (arith, same, k))
+
+    -- where the current class's bases end, no more classes are found
+    line_standing : (now : Option ℕ) → IsStanding forest rows entries t now → (height m : ℕ) → height_of entries now ≡ Some height → height ≤ m → line_within bases m now ≡ line_within bases height now
+    line_standing None s height m e k = line_of_none bases m ∙ sym (line_of_none bases height)
+    line_standing (Some n) s height m e k =
+        let same : s.0.length ≡ height = same_Some s.0.length height (sym (ap (option_map (λ (x : Entry). x.length)) s.1) ∙ e) in
+        (r.entered n s.0 s.1).ended m (omega (arith, same, k)) ∙ ap (λ h. line_within bases h (Some n)) same
 
     steady : (now : Option ℕ) → IsStanding forest rows entries t now → (key u w : ℕ) → key < forest.keys → t ≤ u → t ≤ w → known_of rows key u ≡ known_of rows key w
     steady None s key u w h k l = s key u h k ∙ sym (s key w h l)
@@ -132,8 +140,16 @@ module _ (forest : Forest) where
         let further : pair_of (known_of rows key t) ≡ nearest_from forest key m (base_in bases class) = found_standing t rows new entries current r class (Class class) a current r.standing height high key m t h (omega (arith, k)) (omega arith) ∙ ap (nearest_from forest key m) (sym base) in
         ap pair_of (behind t rows new entries current r class (Class class) a key t h (omega arith)) ∙ own_place (place key class) (known_of rows key t) (nearest_from forest key m (base_in bases class)) key further
 
+    made_ended : (m : ℕ) → height + 1 ≤ m → line_within bases m (Some class) ≡ line_within bases (height + 1) (Some class)
+    made_ended zero k = absurd (omega (arith, k))
+    made_ended (suc m) k =
+        let one : height + 1 ≡ suc height = omega arith in
+        let further : line_within bases m (base_in bases class) ≡ line_within bases height (base_in bases class) =
+        ap (line_within bases m) base ∙ line_standing t rows new entries current r class (Class class) a current r.standing height m high (omega (arith, k)) ∙ sym (ap (line_within bases height) base) in
+        ap (λ ns. class ∷ ns) further ∙ sym (ap (λ h. line_within bases h (Some class)) one)
+
     made_entered : IsEntered forest new class made
-    made_entered = record { short = omega (arith, low); right = made_right }
+    made_entered = record { short = omega (arith, low); ended = made_ended; right = made_right }
 
     entered_after : (n : ℕ) (entry : Entry) → ((n == class) ≡ true) × (n ≡ class) ⊎ ((n == class) ≡ false) × (n ≢ class) → entry_in after n ≡ Some entry → IsEntered forest new n entry
     entered_after n entry (inl h) e =
@@ -236,6 +252,11 @@ module _ (forest : Forest) where
       based = r.based;
       standing = standing_left (base_in bases class) refl;
     }
+
+-- the bases of a class that was entered end
+pub entered_ends : (forest : Forest) (rows : List (List Change)) (class : ℕ) (entry : Entry) → IsEntered forest rows class entry → Ends forest.bases.items forest.most class
+entered_ends forest rows class entry e =
+    let more : entry.length ≤ suc forest.most = omega (arith, e.short) in e.ended (suc forest.most) more ∙ sym (e.ended forest.most e.short)
 
 -- ---- at the start
 

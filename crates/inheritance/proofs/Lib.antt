@@ -1,2 +1,4 @@
 mod ChangeLaws
+pub mod LineLaws
+mod MarkedLaws
 mod LedgerLaws

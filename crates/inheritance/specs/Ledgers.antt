@@ -9,7 +9,7 @@ use Rattle.inheritance.specs.declared.forests.Forest.{Forest}
 use Rattle.inheritance.specs.declared.ledgers.Entry.{Entry}
 use Rattle.inheritance.specs.declared.ledgers.Ledger.{Ledger}
 use Rattle.inheritance.specs.Changes.{known_of, AreOrdered, AreUpTo}
-use Rattle.inheritance.specs.Lines.{base_in, line_within, place_in, nearest}
+use Rattle.inheritance.specs.Lines.{base_in, line_within, Ends, place_in, nearest}
 
 -- the class and the place of a declaration
 abbrev pub pair_of : Option Declared → Option (ℕ × ℕ)
@@ -26,6 +26,7 @@ entry_in entries class = slice_index_or entries class None
 -- at its time, each key finds the nearest class with it
 pub record IsEntered (forest : Forest) (rows : List (List Change)) (class : ℕ) (entry : Entry) : Type 0 where
   pub short : entry.length ≤ forest.most
+  pub ended : (n : ℕ) → entry.length ≤ n → line_within forest.bases.items n (Some class) ≡ line_within forest.bases.items entry.length (Some class)
   pub right : (key n : ℕ) → key < forest.keys → entry.length ≤ n → pair_of (known_of rows key entry.time) ≡ nearest_from forest key n (Some class)
 
 -- from a time on each key finds what it found as the current class was entered, and nothing where there is none
@@ -46,9 +47,10 @@ pub record IsRightBefore (forest : Forest) (time : ℕ) (rows : List (List Chang
 abbrev pub IsRight : Forest → ℕ → Ledger → Type 0
 IsRight forest time ledger = IsRightBefore forest time (map (λ v. v.items) ledger.changes.items) ledger.entries.items ledger.current
 
--- each key finds the nearest class with it, from each class that was entered
+-- each key finds the nearest class with it, from each class that was entered, whose bases end
 pub record IsDone (forest : Forest) (ledger : Ledger) : Type 0 where
   pub ordered : AreOrdered (map (λ v. v.items) ledger.changes.items)
+  pub ended : (class : ℕ) (entry : Entry) → entry_in ledger.entries.items class ≡ Some entry → Ends forest.bases.items forest.most class
   pub right : (class : ℕ) (entry : Entry) → entry_in ledger.entries.items class ≡ Some entry → (key : ℕ) → key < forest.keys → pair_of (known_of (map (λ v. v.items) ledger.changes.items) key entry.time) ≡ nearest_from forest key forest.most (Some class)
 
 -- how many classes there are from a class on

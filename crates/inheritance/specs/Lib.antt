@@ -1,3 +1,4 @@
 pub mod Changes
 pub mod Lines
 pub mod Ledgers
+pub mod Marked

@@ -1,5 +1,5 @@
 -- Classes by numbers: the base of each, the keys that each declares, and the nearest class with a key.
-use Rattle.std.specs.Prelude.{ℕ, zero, suc, ◌==◌, List, [], ◌∷◌, Option, Some, None, slice_index_or}
+use Rattle.std.specs.Prelude.{◌≡◌, ℕ, zero, suc, ◌==◌, List, [], ◌∷◌, Option, Some, None, slice_index_or}
 use Rattle.std.specs.Option.{option_map_or}
 use Rattle.std.specs.List.{position_from}
 
@@ -12,6 +12,10 @@ abbrev pub line_within : List (Option ℕ) → ℕ → Option ℕ → List ℕ
 line_within bases zero class = []
 line_within bases (suc n) None = []
 line_within bases (suc n) (Some class) = class ∷ line_within bases n (base_in bases class)
+
+-- one class more than so many finds no further one
+abbrev pub Ends : List (Option ℕ) → ℕ → ℕ → Type 0
+Ends bases most class = line_within bases (suc most) (Some class) ≡ line_within bases most (Some class)
 
 -- the first place at which a class declares a key
 abbrev pub place_in : List (List ℕ) → ℕ → ℕ → Option ℕ

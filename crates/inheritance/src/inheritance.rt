@@ -1,7 +1,9 @@
 // The nearest declaration of each key, from each class on.
 
-ghost use Rattle.std.specs.Prelude.{◌≡◌, ◌<◌, ℕ, Some, IfOk, map};
+ghost use Rattle.std.specs.Prelude.{◌≡◌, ◌==◌, ◌<◌, ℕ, Some, IfOk, map, true};
+ghost use Rattle.std.specs.List.{position_from};
 ghost use Rattle.inheritance.specs.declared.ledgers.Entry.{Entry};
+ghost use Rattle.inheritance.specs.Lines.{Ends};
 ghost use Rattle.inheritance.specs.Changes.{known_of, AreOrdered};
 ghost use Rattle.inheritance.specs.Ledgers.{pair_of, nearest_from, entry_in, IsRight, IsDone};
 
@@ -20,8 +22,9 @@ pub struct Endless;
 #[derive(Drop)]
 pub struct Inheritance {
     pub forest: Forest,
-    ledger: Ledger,
+    pub(crate) ledger: Ledger,
     ghost ordered: { AreOrdered (map (λ v. v.items) ledger.changes.items) },
+    ghost ended: { (class : ℕ) (entry : Entry) → entry_in ledger.entries.items class ≡ Some entry → Ends forest.bases.items forest.most class },
     ghost right: { (class : ℕ) (entry : Entry) → entry_in ledger.entries.items class ≡ Some entry → (key : ℕ) → key < forest.keys → pair_of (known_of (map (λ v. v.items) ledger.changes.items) key entry.time) ≡ nearest_from forest key forest.most (Some class) },
 }
 
@@ -37,6 +40,24 @@ fn search(alloc: Global, forest: &Forest) -> Result<Ledger, NoMemory>
     Ok(ledger)
 }
 
+fn is_key(key: usize, own: usize) -> bool
+    ensures { result ≡ (key == own) }
+{
+    key == own
+}
+
+/// The first place of a key among those that a class declares.
+fn place_of(keys: &[usize], key: usize) -> Option<usize>
+    ensures { result ≡ position_from (λ k. key == k) 0 keys.now }
+{
+    for place in 0..keys.len() {
+        if is_key(key, keys[place]) {
+            return Some(place);
+        }
+    }
+    None
+}
+
 impl Inheritance {
     /// Takes time and memory with the number of classes and of declarations, but for logarithms. Fails for want of memory alone.
     pub fn new(alloc: Global, forest: Forest) -> Result<Self, NoMemory>
@@ -47,7 +68,8 @@ impl Inheritance {
     }
 
     /// The nearest class that declares a key, from a class on, with the place of the key. Takes time with the logarithm of the
-    /// number of classes that declare it.
+    /// number of classes that declare it. `Endless` where the bases of the class are not seen to end: use `nearest_along` then. That this
+    /// is said of no other class is tested, not proved.
     pub fn nearest(&self, class: usize, key: usize) -> Result<Option<Declared>, Endless>
         requires { key < self.now.forest.keys }
         ensures { IfOk result (λ found. pair_of found ≡ nearest_from self.now.forest key self.now.forest.most (Some class)) }
@@ -56,5 +78,31 @@ impl Inheritance {
             None => Err(Endless),
             Some(entry) => Ok(found_at(self.ledger.changes.as_slice(), key, entry.time)),
         }
+    }
+
+    /// The same, found by going along the bases, for a class whose bases are not seen to end.
+    pub fn nearest_along(&self, first: usize, key: usize) -> Option<Declared>
+        ensures { pair_of result ≡ nearest_from self.now.forest key self.now.forest.most (Some first) }
+    {
+        let mut next = Some(first);
+        let mut left = self.forest.most;
+        while left > 0 {
+            let Some(class) = next else {
+                return None;
+            };
+            if let Some(place) = place_of(self.forest.keys_of(class), key) {
+                return Some(Declared { class, place });
+            }
+            next = self.forest.base(class);
+            left -= 1;
+        }
+        None
+    }
+
+    /// Whether the bases of a class are seen to end among as many classes as are looked at.
+    pub fn ends(&self, class: usize) -> bool
+        ensures { result ≡ true → Ends self.now.forest.bases.items self.now.forest.most class }
+    {
+        self.ledger.entry(class).is_some()
     }
 }

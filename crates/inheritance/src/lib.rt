@@ -5,8 +5,12 @@ mod changes;
 mod forests;
 mod inheritance;
 mod ledgers;
+mod marked;
+mod rounds;
 mod tours;
 
 pub use changes::Declared;
 pub use forests::Forest;
 pub use inheritance::{Endless, Inheritance};
+pub use rounds::least_own_base;
+pub use tours::classes_behind_bases;

@@ -78,3 +78,18 @@ pub(crate) fn tour(alloc: Global, bases: &[Option<usize>]) -> Result<Vec<Step>, 
     }
     Ok(steps)
 }
+
+/// The classes whose bases end, each behind its base. Its contract says nothing, as that of the steps.
+pub fn classes_behind_bases(
+    alloc: Global,
+    bases: &[Option<usize>],
+) -> Result<Vec<usize>, NoMemory> {
+    let mut classes = Vec::new(alloc);
+    let steps = tour(alloc, bases)?;
+    for step in steps.as_slice() {
+        if let Step::Enter(class) = step {
+            classes.push(*class)?;
+        }
+    }
+    Ok(classes)
+}

@@ -1,6 +1,6 @@
 -- What the built-in members that need no other thread do (Partition IV). A rule has no answer where an operand is missing or of another
 -- kind, or where there is no such object or literal: no verified program comes there.
-use Rattle.std.specs.Prelude.{ℕ, ◌-◌, ◌^◌, ◌==◌, Bool, false, ◌||◌, if◌then◌else◌, nat_lt, is_some, List, [], ◌∷◌, ◌++◌, Option, Some, None, option_map, slice_get}
+use Rattle.std.specs.Prelude.{ℕ, ◌-◌, ◌^◌, ◌==◌, Bool, false, ◌&&◌, ◌||◌, if◌then◌else◌, nat_lt, is_some, List, [], ◌∷◌, ◌++◌, Option, Some, None, option_map, slice_get}
 use Rattle.std.specs.Fmt.{signed_decimal}
 use Rattle.std.specs.Option.{option_map_or}
 use Rattle.object_memory.specs.declared.addresses.Addr.{Addr}
@@ -13,6 +13,8 @@ use Rattle.threads_monitors.specs.Frames.{Frames, with_stack}
 use Rattle.threads_monitors.specs.Monitors.{entries, with_entry, with_exit}
 use Rattle.threads_monitors.specs.declared.effects.Effect.{Effect}
 use Rattle.threads_monitors.specs.declared.effects.Effect.TheVariants.{GoesOn}
+use Rattle.threads_monitors.specs.declared.mutators.Mutator.{Mutator}
+use Rattle.barriers.specs.Barriers.{is_monitor_storable}
 use Rattle.instructions.specs.Frames.{given, with_top, onward}
 use Rattle.instructions.specs.ObjectTurns.{ObjectTurn, beside}
 
@@ -34,14 +36,14 @@ is_countable None = false
 is_countable (Some monitor) = nat_lt (entries monitor) (2 ^ 32 - 1)
 
 -- Monitor.Enter (I.12.6.5)
-abbrev pub enter_turn : ℕ → Frames → Objects → ObjectTurn
-enter_turn thread m o = reference_from m.running.stack m (λ a n.
-    if (a.number == 0) || is_countable (monitor_at o a) then carried m n (with_entry o a thread) else None)
+abbrev pub enter_turn : Mutator → Frames → Objects → ObjectTurn
+enter_turn mutator m o = reference_from m.running.stack m (λ a n.
+    if (a.number == 0) || (is_countable (monitor_at o a) && is_monitor_storable mutator.phase o a) then carried m n (with_entry mutator o a) else None)
 
 -- Monitor.Exit (I.12.6.5)
-abbrev pub exit_turn : ℕ → Frames → Objects → ObjectTurn
-exit_turn thread m o = reference_from m.running.stack m (λ a n.
-    if (a.number == 0) || is_some (monitor_at o a) then carried m n (with_exit o a thread) else None)
+abbrev pub exit_turn : Mutator → Frames → Objects → ObjectTurn
+exit_turn mutator m o = reference_from m.running.stack m (λ a n.
+    if (a.number == 0) || (is_some (monitor_at o a) && is_monitor_storable mutator.phase o a) then carried m n (with_exit mutator o a) else None)
 
 -- ---- printing
 

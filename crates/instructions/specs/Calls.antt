@@ -3,7 +3,7 @@
 use Rattle.std.specs.Prelude.{ℕ, ◌+◌, ◌-◌, ◌==◌, Bool, true, false, ◌&&◌, if◌then◌else◌, nat_lt, nat_le, List, ◌∷◌, length, Option, Some, None}
 use Rattle.cil_model.specs.declared.limits.TheConstants.{MOST_INSTRUCTIONS}
 use Rattle.cil_model.specs.declared.reports.Fault.TheVariants.{OutOfMemory, StackOverflow}
-use Rattle.cil_model.specs.declared.phases.Phase.TheVariants.{Idle}
+use Rattle.cil_model.specs.declared.phases.Phase.{Phase}
 use Rattle.object_memory.specs.declared.addresses.Addr.{Addr}
 use Rattle.object_memory.specs.declared.values.Value.{Value}
 use Rattle.object_memory.specs.declared.values.ValueKind.{ValueKind}
@@ -12,9 +12,8 @@ use Rattle.threads_monitors.specs.Frames.{Frames, size, with_place, with_stack, 
 use Rattle.threads_monitors.specs.declared.effects.Effect.TheVariants.{GoesOn, Returns, Raises}
 use Rattle.object_memory.specs.declared.kinds.Kind.TheVariants.{Instance}
 use Rattle.object_memory.specs.Objects.{Objects}
-use Rattle.barriers.specs.Barriers.{object_born}
 use Rattle.instructions.specs.Frames.{Turn, with_top}
-use Rattle.instructions.specs.ObjectTurns.{ObjectTurn, beside, born}
+use Rattle.instructions.specs.ObjectTurns.{ObjectTurn, bears, beside, born}
 use Rattle.instructions.specs.declared.calls.Callee.{Callee}
 
 -- goes on once the frame is at the instruction behind
@@ -60,12 +59,12 @@ constructs callee m (o, None) = Some (m, o, Raises OutOfMemory)
 constructs callee m (o, Some a) = beside o (construct_turn callee a m)
 
 -- newobj (III.4.21) of a class with a constructor that has code: the depth is looked at before memory
-abbrev pub new_object_turn : ℕ → ℕ → Called → Frames → Objects → ObjectTurn
-new_object_turn class slots callee m o = if is_full m then Some (m, o, Raises StackOverflow) else constructs callee m (object_born Idle o (Instance class) slots)
+abbrev pub new_object_turn : Phase → ℕ → ℕ → Called → Frames → Objects → ObjectTurn
+new_object_turn phase class slots callee m o = if is_full m then Some (m, o, Raises StackOverflow) else bears phase o (Instance class) slots (constructs callee m)
 
 -- the same with a constructor that is built in, which is done at once
-abbrev pub new_plain_object_turn : ℕ → ℕ → Frames → Objects → ObjectTurn
-new_plain_object_turn class slots m o = born m (object_born Idle o (Instance class) slots)
+abbrev pub new_plain_object_turn : Phase → ℕ → ℕ → Frames → Objects → ObjectTurn
+new_plain_object_turn phase class slots m o = bears phase o (Instance class) slots (born m)
 
 -- ---- returns
 

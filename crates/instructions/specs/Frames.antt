@@ -12,11 +12,11 @@ use Rattle.cil_model.specs.declared.instructions.BranchComparison.TheVariants.{E
 use Rattle.cil_model.specs.declared.limits.TheConstants.{MOST_INSTRUCTIONS}
 use Rattle.cil_model.specs.declared.reports.Fault.{Fault}
 use Rattle.cil_model.specs.Bodies.{at_place}
-use Rattle.cil_model.specs.declared.phases.Phase.TheVariants.{Idle}
+use Rattle.cil_model.specs.declared.phases.Phase.{Phase}
 use Rattle.object_memory.specs.declared.values.Value.{Value}
 use Rattle.object_memory.specs.declared.values.Value.TheVariants.{Int32, Int64, Native, Ref}
 use Rattle.object_memory.specs.Objects.{Objects}
-use Rattle.barriers.specs.Barriers.{are_same}
+use Rattle.barriers.specs.Barriers.{are_comparable, are_same}
 use Rattle.threads_monitors.specs.Frames.{Frames, size, with_place, with_stack, with_argument, with_local}
 use Rattle.threads_monitors.specs.declared.effects.Effect.{Effect}
 use Rattle.threads_monitors.specs.declared.effects.Effect.TheVariants.{GoesOn, Raises}
@@ -100,22 +100,22 @@ abbrev pub same_reference : Comparison → Bool → Option Bool
 same_reference Equal same = Some same
 same_reference _ same = None
 
-abbrev pub comparison : Objects → Comparison → Value → Value → Option Bool
-comparison o op (Int32 x) (Int32 y) = Some (compared op x y)
-comparison o op (Int64 x) (Int64 y) = Some (compared op x y)
-comparison o op (Ref a) (Ref b) = same_reference op (are_same Idle o a b)
-comparison o op _ _ = None
+abbrev pub comparison : Phase → Objects → Comparison → Value → Value → Option Bool
+comparison phase o op (Int32 x) (Int32 y) = Some (compared op x y)
+comparison phase o op (Int64 x) (Int64 y) = Some (compared op x y)
+comparison phase o op (Ref a) (Ref b) = if are_comparable phase o a b then same_reference op (are_same phase o a b) else None
+comparison phase o op _ _ = None
 
 abbrev pub branch_reference : BranchComparison → Bool → Option Bool
 branch_reference BranchEqual same = Some same
 branch_reference NotEqual same = Some (not same)
 branch_reference _ same = None
 
-abbrev pub branch_test : Objects → BranchComparison → Value → Value → Option Bool
-branch_test o op (Int32 x) (Int32 y) = branch_values op (Int32Value x) (Int32Value y)
-branch_test o op (Int64 x) (Int64 y) = branch_values op (Int64Value x) (Int64Value y)
-branch_test o op (Ref a) (Ref b) = branch_reference op (are_same Idle o a b)
-branch_test o op _ _ = None
+abbrev pub branch_test : Phase → Objects → BranchComparison → Value → Value → Option Bool
+branch_test phase o op (Int32 x) (Int32 y) = branch_values op (Int32Value x) (Int32Value y)
+branch_test phase o op (Int64 x) (Int64 y) = branch_values op (Int64Value x) (Int64Value y)
+branch_test phase o op (Ref a) (Ref b) = if are_comparable phase o a b then branch_reference op (are_same phase o a b) else None
+branch_test phase o op _ _ = None
 
 -- ---- instructions
 
@@ -152,8 +152,8 @@ unary_turn op m = with_top m (λ v n. given (unary_result op v) (λ u. leaves u 
 abbrev pub shift_turn : ShiftOperation → Frames → Turn
 shift_turn op m = with_top m (λ w n. with_top n (λ v k. given (shift_result op v w) (λ u. leaves u k)))
 
-abbrev pub compare_turn : Comparison → Frames → Objects → Turn
-compare_turn op m o = with_top m (λ w n. with_top n (λ v k. given (comparison o op v w) (λ holds. leaves (one_or_zero holds) k)))
+abbrev pub compare_turn : Phase → Comparison → Frames → Objects → Turn
+compare_turn phase op m o = with_top m (λ w n. with_top n (λ v k. given (comparison phase o op v w) (λ holds. leaves (one_or_zero holds) k)))
 
 abbrev pub convert_32_turn : Frames → Turn
 convert_32_turn m = with_top m (λ v n. given (in_32_bits v) (λ u. leaves u n))
@@ -168,8 +168,8 @@ branch_true_turn place m = with_top m (λ v n. given (is_set v) (λ holds. branc
 abbrev pub branch_false_turn : ℕ → Frames → Turn
 branch_false_turn place m = with_top m (λ v n. given (is_set v) (λ holds. branch_if (not holds) place n))
 
-abbrev pub branch_compare_turn : BranchComparison → ℕ → Frames → Objects → Turn
-branch_compare_turn op place m o = with_top m (λ w n. with_top n (λ v k. given (branch_test o op v w) (λ holds. branch_if holds place k)))
+abbrev pub branch_compare_turn : Phase → BranchComparison → ℕ → Frames → Objects → Turn
+branch_compare_turn phase op place m o = with_top m (λ w n. with_top n (λ v k. given (branch_test phase o op v w) (λ holds. branch_if holds place k)))
 
 -- to the place of that number, counted as unsigned, or on to the instruction behind (III.3.66)
 abbrev pub to_place : Option ℕ → Frames → Turn

@@ -1,10 +1,11 @@
 -- What instructions do to objects, arrays and static fields (III.4). A rule has no answer where an operand is missing or of another
 -- kind, or where there is no such object or slot: no verified program comes there.
-use Rattle.std.specs.Prelude.{ℕ, ◌==◌, ℤ, pos, negsuc, if◌then◌else◌, nat_lt, List, length, Option, Some, None, option_map, slice_get, slice_set}
+use Rattle.std.specs.Prelude.{ℕ, ◌==◌, ◌&&◌, ℤ, pos, negsuc, if◌then◌else◌, nat_lt, List, length, Option, Some, None, option_map, slice_get}
 use Rattle.cil_model.specs.declared.reports.Fault.TheVariants.{NullReference, IndexOutOfRange, Overflow, OutOfMemory}
-use Rattle.cil_model.specs.declared.phases.Phase.TheVariants.{Idle}
+use Rattle.cil_model.specs.declared.phases.Phase.{Phase}
 use Rattle.object_memory.specs.declared.addresses.Addr.{Addr}
 use Rattle.object_memory.specs.declared.kinds.ArrayElement.{ArrayElement}
+use Rattle.object_memory.specs.declared.kinds.Kind.{Kind}
 use Rattle.object_memory.specs.declared.kinds.Kind.TheVariants.{Array}
 use Rattle.object_memory.specs.declared.values.Value.{Value}
 use Rattle.object_memory.specs.declared.values.Value.TheVariants.{Int32, Native, Ref}
@@ -12,7 +13,7 @@ use Rattle.object_memory.specs.declared.values.ValueKind.{ValueKind}
 use Rattle.object_memory.specs.Cells.{Cell}
 use Rattle.object_memory.specs.Objects.{Objects, object_cell}
 use Rattle.object_memory.specs.Values.{value_in}
-use Rattle.barriers.specs.Barriers.{object_born, stored_value}
+use Rattle.barriers.specs.Barriers.{can_bear, is_static_storable, is_storable, object_born, stored_static, stored_value}
 use Rattle.threads_monitors.specs.Frames.{Frames}
 use Rattle.threads_monitors.specs.declared.effects.Effect.{Effect}
 use Rattle.threads_monitors.specs.declared.effects.Effect.TheVariants.{Raises}
@@ -52,17 +53,18 @@ slots_of o a = option_map (λ (c : Cell). c.slots) (object_cell o a)
 abbrev pub load_slot : ValueKind → ℕ → Addr → Frames → Objects → ObjectTurn
 load_slot kind slot a m o = given (slots_of o a) (λ slots. given (slice_get slots slot) (λ w. beside o (leaves (value_in kind w) m)))
 
--- stores to a slot and goes on
-abbrev pub store_slot : Value → ℕ → Addr → Frames → Objects → ObjectTurn
-store_slot v slot a m o = given (slots_of o a) (λ slots. given (slice_get slots slot) (λ w. beside (stored_value Idle o a slot v) (onward m)))
+-- stores to a slot, by the phase of the thread, and goes on
+abbrev pub store_slot : Phase → Value → ℕ → Addr → Frames → Objects → ObjectTurn
+store_slot phase v slot a m o = given (slots_of o a) (λ slots. given (slice_get slots slot) (λ w.
+    if is_storable phase o a slot v then beside (stored_value phase o a slot v) (onward m) else None))
 
 -- ldfld (III.4.10)
 abbrev pub load_field_turn : ValueKind → ℕ → Frames → Objects → ObjectTurn
 load_field_turn kind slot m o = with_top m (λ object n. object_of object n o (λ a. load_slot kind slot a n o))
 
 -- stfld (III.4.28)
-abbrev pub store_field_turn : ℕ → Frames → Objects → ObjectTurn
-store_field_turn slot m o = with_top m (λ v n. with_top n (λ object k. object_of object k o (λ a. store_slot v slot a k o)))
+abbrev pub store_field_turn : Phase → ℕ → Frames → Objects → ObjectTurn
+store_field_turn phase slot m o = with_top m (λ v n. with_top n (λ object k. object_of object k o (λ a. store_slot phase v slot a k o)))
 
 -- ---- arrays
 
@@ -86,9 +88,9 @@ load_element_turn kind m o = with_top m (λ index n. with_top n (λ array k. obj
     in_range (place_in i (length slots)) k o (λ slot. load_slot kind slot a k o))))))
 
 -- stelem.i4 and stelem.i8 (III.4.27)
-abbrev pub store_element_turn : Frames → Objects → ObjectTurn
-store_element_turn m o = with_top m (λ v n. with_top n (λ index k. with_top k (λ array j. object_of array j o (λ a. index_of index (λ i. given (slots_of o a) (λ slots.
-    in_range (place_in i (length slots)) j o (λ slot. store_slot v slot a j o)))))))
+abbrev pub store_element_turn : Phase → Frames → Objects → ObjectTurn
+store_element_turn phase m o = with_top m (λ v n. with_top n (λ index k. with_top k (λ array j. object_of array j o (λ a. index_of index (λ i. given (slots_of o a) (λ slots.
+    in_range (place_in i (length slots)) j o (λ slot. store_slot phase v slot a j o)))))))
 
 -- leaves the object that is born; without one memory is refused
 abbrev pub leaves_born : Option Addr → Frames → Turn
@@ -99,14 +101,18 @@ leaves_born (Some a) m = leaves (Ref a) m
 abbrev pub born : Frames → Objects × Option Addr → ObjectTurn
 born m birth = beside birth.0 (leaves_born birth.1 m)
 
+-- goes on with what a birth gives, by the phase of the thread
+abbrev pub bears : Phase → Objects → Kind → ℕ → (Objects × Option Addr → ObjectTurn) → ObjectTurn
+bears phase o kind slots go = if can_bear phase o then go (object_born phase o kind slots) else None
+
 -- of a length that isn't negative
-abbrev pub new_array_of : ArrayElement → ℤ → Frames → Objects → ObjectTurn
-new_array_of element (negsuc n) m o = Some (m, o, Raises Overflow)
-new_array_of element (pos n) m o = born m (object_born Idle o (Array element) n)
+abbrev pub new_array_of : Phase → ArrayElement → ℤ → Frames → Objects → ObjectTurn
+new_array_of phase element (negsuc n) m o = Some (m, o, Raises Overflow)
+new_array_of phase element (pos n) m o = bears phase o (Array element) n (born m)
 
 -- newarr (III.4.20)
-abbrev pub new_array_turn : ArrayElement → Frames → Objects → ObjectTurn
-new_array_turn element m o = with_top m (λ v n. index_of v (λ z. new_array_of element z n o))
+abbrev pub new_array_turn : Phase → ArrayElement → Frames → Objects → ObjectTurn
+new_array_turn phase element m o = with_top m (λ v n. index_of v (λ z. new_array_of phase element z n o))
 
 -- ---- static fields
 
@@ -114,7 +120,15 @@ new_array_turn element m o = with_top m (λ v n. index_of v (λ z. new_array_of 
 abbrev pub load_static_turn : ℕ → Frames → List Value → Turn
 load_static_turn number m statics = given (slice_get statics number) (λ v. leaves v m)
 
--- stsfld (III.4.30): the frames and the static fields after it. While no cycle is open, the store is the plain one.
-abbrev pub store_static_turn : ℕ → Frames → List Value → Option (Frames × List Value × Effect)
-store_static_turn number m statics = with_top m (λ v n.
-    if nat_lt number (length statics) then option_map (λ (t : Frames × Effect). (t.0, slice_set statics number v, t.1)) (onward n) else None)
+-- the frames, the objects with the static fields after an instruction, and what it comes to; or it has no answer
+abbrev pub StaticTurn : Type 0
+StaticTurn = Option (Frames × (Objects × List Value) × Effect)
+
+-- a turn of the frames beside these objects and static fields
+abbrev pub beside_statics : Objects × List Value → Turn → StaticTurn
+beside_statics memory turn = option_map (λ (t : Frames × Effect). (t.0, memory, t.1)) turn
+
+-- stsfld (III.4.30), by the phase of the thread
+abbrev pub store_static_turn : Phase → ℕ → Frames → Objects → List Value → StaticTurn
+store_static_turn phase number m o statics = with_top m (λ v n.
+    if nat_lt number (length statics) && is_static_storable phase o v then beside_statics (stored_static phase o statics number v) (onward n) else None)

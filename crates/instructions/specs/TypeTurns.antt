@@ -4,6 +4,7 @@ use Rattle.std.specs.Prelude.{ℕ, ◌==◌, Bool, true, if◌then◌else◌, le
 use Rattle.std.specs.Option.{option_map_or}
 use Rattle.cil_model.specs.declared.types.DeclaredType.{DeclaredType}
 use Rattle.cil_model.specs.declared.types.Element.TheVariants.{String as StringElement}
+use Rattle.cil_model.specs.declared.phases.Phase.{Phase}
 use Rattle.cil_model.specs.declared.trees.Tree.{Tree}
 use Rattle.cil_model.specs.declared.reports.Fault.TheVariants.{InvalidCast, ArrayTypeMismatch}
 use Rattle.cil_model.specs.Declarations.{plain}
@@ -85,11 +86,11 @@ abbrev pub element_at : Objects → Addr → Option ArrayElement
 element_at o a = option_and_then (λ (c : Cell). element_in c.kind) (object_cell o a)
 
 -- stores to a place that is there what the array's own elements admit
-abbrev pub store_admitted : Tree → Value → ℕ → Addr → Frames → Objects → ObjectTurn
-store_admitted tree v slot a m o = given (element_at o a) (λ e. given (may_stand_as tree o v (held_type e)) (λ holds.
-    if holds then store_slot v slot a m o else Some (m, o, Raises ArrayTypeMismatch)))
+abbrev pub store_admitted : Phase → Tree → Value → ℕ → Addr → Frames → Objects → ObjectTurn
+store_admitted phase tree v slot a m o = given (element_at o a) (λ e. given (may_stand_as tree o v (held_type e)) (λ holds.
+    if holds then store_slot phase v slot a m o else Some (m, o, Raises ArrayTypeMismatch)))
 
 -- stelem.ref (III.4.27): the place is looked at before the class
-abbrev pub store_reference_turn : Tree → Frames → Objects → ObjectTurn
-store_reference_turn tree m o = with_top m (λ v n. with_top n (λ index k. with_top k (λ array j. object_of array j o (λ a. index_of index (λ i. given (slots_of o a) (λ slots.
-    in_range (place_in i (length slots)) j o (λ slot. store_admitted tree v slot a j o)))))))
+abbrev pub store_reference_turn : Phase → Tree → Frames → Objects → ObjectTurn
+store_reference_turn phase tree m o = with_top m (λ v n. with_top n (λ index k. with_top k (λ array j. object_of array j o (λ a. index_of index (λ i. given (slots_of o a) (λ slots.
+    in_range (place_in i (length slots)) j o (λ slot. store_admitted phase tree v slot a j o)))))))

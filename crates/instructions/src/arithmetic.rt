@@ -60,25 +60,25 @@ pub fn shift(frames: &mut FrameMemory, operation: ShiftOperation) -> Effect
 }
 
 /// `ceq`, `cgt` and `clt` (ECMA-335 III.3.21, III.3.22, III.3.25). Of references the heap tells whether they are equal.
-pub fn compare(frames: &mut FrameMemory, heap: &Heap, operation: Comparison) -> Effect
-    requires { IsSome (compare_turn operation frames.old heap.now) }
-    ensures { Some (frames.new, result) ≡ compare_turn operation frames.old heap.now }
+pub fn compare(frames: &mut FrameMemory, heap: &Heap, phase: Phase, operation: Comparison) -> Effect
+    requires { IsSome (compare_turn phase operation frames.old heap.now) }
+    ensures { Some (frames.new, result) ≡ compare_turn phase operation frames.old heap.now }
 {
     let second = frames.pop();
     let first = frames.pop();
-    let holds = holds(heap, operation, first, second);
+    let holds = holds(heap, phase, operation, first, second);
     leave(frames, one_or_zero(holds))
 }
 
 /// Whether a comparison of two integers of one size, or of two references, holds.
-fn holds(heap: &Heap, operation: Comparison, first: Value, second: Value) -> bool
-    requires { IsSome (comparison heap.now operation first second) }
-    ensures { comparison heap.now operation first second ≡ Some result }
+fn holds(heap: &Heap, phase: Phase, operation: Comparison, first: Value, second: Value) -> bool
+    requires { IsSome (comparison phase heap.now operation first second) }
+    ensures { comparison phase heap.now operation first second ≡ Some result }
 {
     match (first, second) {
         (Value::Int32(x), Value::Int32(y)) => Integer::compare(operation, x, y),
         (Value::Int64(x), Value::Int64(y)) => Integer::compare(operation, x, y),
-        (Value::Ref(x), Value::Ref(y)) => barriers::same(heap, Phase::Idle, x, y),
+        (Value::Ref(x), Value::Ref(y)) => barriers::same(heap, phase, x, y),
         _ => unreachable!(),
     }
 }

@@ -65,9 +65,9 @@ pub fn load_element(frames: &mut FrameMemory, heap: &mut Heap, kind: ValueKind) 
 }
 
 /// `stelem.i4` and `stelem.i8` (ECMA-335 III.4.27). The faults are those of `load_element`.
-pub fn store_element(frames: &mut FrameMemory, heap: &mut Heap) -> Effect
-    requires { IsSome (store_element_turn frames.old heap.old) }
-    ensures { Some (frames.new, heap.new, result) ≡ store_element_turn frames.old heap.old }
+pub fn store_element(frames: &mut FrameMemory, heap: &mut Heap, phase: Phase) -> Effect
+    requires { IsSome (store_element_turn phase frames.old heap.old) }
+    ensures { Some (frames.new, heap.new, result) ≡ store_element_turn phase frames.old heap.old }
 {
     let value = frames.pop();
     let operand = frames.pop();
@@ -78,26 +78,26 @@ pub fn store_element(frames: &mut FrameMemory, heap: &mut Heap) -> Effect
         return Effect::Raises(Fault::NullReference);
     }
     match place_in(index(operand), heap.slots(array)) {
-        Some(place) => store_slot(frames, heap, value, array, place),
+        Some(place) => store_slot(frames, heap, phase, value, array, place),
         None => Effect::Raises(Fault::IndexOutOfRange),
     }
 }
 
 /// `newarr` (ECMA-335 III.4.20). A negative length raises `Overflow`, then a birth that is refused `OutOfMemory`.
-pub fn new_array(frames: &mut FrameMemory, heap: &mut Heap, element: ArrayElement) -> Effect
-    requires { IsSome (new_array_turn element frames.old heap.old) }
-    ensures { Some (frames.new, heap.new, result) ≡ new_array_turn element frames.old heap.old }
+pub fn new_array(
+    frames: &mut FrameMemory,
+    heap: &mut Heap,
+    phase: Phase,
+    element: ArrayElement,
+) -> Effect
+    requires { IsSome (new_array_turn phase element frames.old heap.old) }
+    ensures { Some (frames.new, heap.new, result) ≡ new_array_turn phase element frames.old heap.old }
 {
     let length = index(frames.pop());
     if length < 0 {
         return Effect::Raises(Fault::Overflow);
     }
-    let address = barriers::birth(
-        heap,
-        Phase::Idle,
-        Kind::Array(element),
-        length.cast_unsigned(),
-    );
+    let address = barriers::birth(heap, phase, Kind::Array(element), length.cast_unsigned());
     leave_born(frames, address)
 }
 

@@ -15,27 +15,34 @@ use threads_monitors::{Effect, FrameMemory};
 pub fn new_object(
     frames: &mut FrameMemory,
     heap: &mut Heap,
+    phase: Phase,
     class: u16,
     slots: u32,
     callee: Callee,
 ) -> Effect
-    requires { IsSome (new_object_turn class slots (called callee) frames.old heap.old) }
-    ensures { Some (frames.new, heap.new, result) ≡ new_object_turn class slots (called callee.entry) frames.old heap.old }
+    requires { IsSome (new_object_turn phase class slots (called callee) frames.old heap.old) }
+    ensures { Some (frames.new, heap.new, result) ≡ new_object_turn phase class slots (called callee.entry) frames.old heap.old }
 {
     if frames.is_full() {
         return Effect::Raises(Fault::StackOverflow);
     }
-    match barriers::birth(heap, Phase::Idle, Kind::Instance(class), u64::from(slots)) {
+    match barriers::birth(heap, phase, Kind::Instance(class), u64::from(slots)) {
         Some(object) => construct(frames, callee, object),
         None => Effect::Raises(Fault::OutOfMemory),
     }
 }
 
 /// `newobj` (ECMA-335 III.4.21) with a constructor that is built in. Where the birth is refused, it raises `OutOfMemory`.
-pub fn new_plain_object(frames: &mut FrameMemory, heap: &mut Heap, class: u16, slots: u32) -> Effect
-    requires { IsSome (new_plain_object_turn class slots frames.old heap.old) }
-    ensures { Some (frames.new, heap.new, result) ≡ new_plain_object_turn class slots frames.old heap.old }
+pub fn new_plain_object(
+    frames: &mut FrameMemory,
+    heap: &mut Heap,
+    phase: Phase,
+    class: u16,
+    slots: u32,
+) -> Effect
+    requires { IsSome (new_plain_object_turn phase class slots frames.old heap.old) }
+    ensures { Some (frames.new, heap.new, result) ≡ new_plain_object_turn phase class slots frames.old heap.old }
 {
-    let object = barriers::birth(heap, Phase::Idle, Kind::Instance(class), u64::from(slots));
+    let object = barriers::birth(heap, phase, Kind::Instance(class), u64::from(slots));
     leave_born(frames, object)
 }

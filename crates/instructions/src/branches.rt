@@ -46,28 +46,39 @@ fn is_set(value: Value) -> bool
 pub fn branch_compare(
     frames: &mut FrameMemory,
     heap: &Heap,
+    phase: Phase,
     operation: BranchComparison,
     place: usize,
 ) -> Effect
-    requires { IsSome (branch_compare_turn operation place frames.old heap.now) }
-    ensures { Some (frames.new, result) ≡ branch_compare_turn operation place frames.old heap.now }
+    requires { IsSome (branch_compare_turn phase operation place frames.old heap.now) }
+    ensures { Some (frames.new, result) ≡ branch_compare_turn phase operation place frames.old heap.now }
 {
     let second = frames.pop();
     let first = frames.pop();
-    branch_if(frames, is_taken(heap, operation, first, second), place)
+    branch_if(
+        frames,
+        is_taken(heap, phase, operation, first, second),
+        place,
+    )
 }
 
 /// Whether a branch that compares two integers of one size, or two references, is taken.
-fn is_taken(heap: &Heap, operation: BranchComparison, first: Value, second: Value) -> bool
-    requires { IsSome (branch_test heap.now operation first second) }
-    ensures { branch_test heap.now operation first second ≡ Some result }
+fn is_taken(
+    heap: &Heap,
+    phase: Phase,
+    operation: BranchComparison,
+    first: Value,
+    second: Value,
+) -> bool
+    requires { IsSome (branch_test phase heap.now operation first second) }
+    ensures { branch_test phase heap.now operation first second ≡ Some result }
 {
     match (first, second) {
         (Value::Int32(x), Value::Int32(y)) => Integer::branches(operation, x, y),
         (Value::Int64(x), Value::Int64(y)) => Integer::branches(operation, x, y),
         (Value::Ref(x), Value::Ref(y)) => match operation {
-            BranchComparison::Equal => barriers::same(heap, Phase::Idle, x, y),
-            BranchComparison::NotEqual => !barriers::same(heap, Phase::Idle, x, y),
+            BranchComparison::Equal => barriers::same(heap, phase, x, y),
+            BranchComparison::NotEqual => !barriers::same(heap, phase, x, y),
             _ => unreachable!(),
         },
         _ => unreachable!(),

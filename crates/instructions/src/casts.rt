@@ -8,6 +8,7 @@ use crate::arrays::{index, place_in};
 use crate::fields::store_slot;
 use crate::places::leave;
 use crate::types::{may_stand, numbered};
+use cil_model::phases::Phase;
 use cil_model::reports::Fault;
 use class_layout::Layout;
 use object_memory::{Addr, ArrayElement, Heap, Kind, Value};
@@ -83,17 +84,18 @@ fn store_admitted(
     layout: &Layout,
     frames: &mut FrameMemory,
     heap: &mut Heap,
+    phase: Phase,
     value: Value,
     array: Addr,
     place: u32,
 ) -> Effect
     requires layout { IsLayout program.now layout.now }
-    requires there { IsSome (store_admitted program.now value place array frames.old heap.old) }
-    ensures { Some (frames.new, heap.new, result) ≡ store_admitted program.now value place array frames.old heap.old }
+    requires there { IsSome (store_admitted phase program.now value place array frames.old heap.old) }
+    ensures { Some (frames.new, heap.new, result) ≡ store_admitted phase program.now value place array frames.old heap.old }
 {
     let held = held_type(element(heap, array));
     if may_stand(program, layout, heap, value, held) {
-        store_slot(frames, heap, value, array, place)
+        store_slot(frames, heap, phase, value, array, place)
     } else {
         Effect::Raises(Fault::ArrayTypeMismatch)
     }
@@ -106,10 +108,11 @@ pub fn store_reference(
     layout: &Layout,
     frames: &mut FrameMemory,
     heap: &mut Heap,
+    phase: Phase,
 ) -> Effect
     requires layout { IsLayout program.now layout.now }
-    requires there { IsSome (store_reference_turn program.now frames.old heap.old) }
-    ensures { Some (frames.new, heap.new, result) ≡ store_reference_turn program.now frames.old heap.old }
+    requires there { IsSome (store_reference_turn phase program.now frames.old heap.old) }
+    ensures { Some (frames.new, heap.new, result) ≡ store_reference_turn phase program.now frames.old heap.old }
 {
     let value = frames.pop();
     let operand = frames.pop();
@@ -120,7 +123,7 @@ pub fn store_reference(
         return Effect::Raises(Fault::NullReference);
     }
     match place_in(index(operand), heap.slots(array)) {
-        Some(place) => store_admitted(program, layout, frames, heap, value, array, place),
+        Some(place) => store_admitted(program, layout, frames, heap, phase, value, array, place),
         None => Effect::Raises(Fault::IndexOutOfRange),
     }
 }

@@ -28,14 +28,15 @@ pub fn load_slot(
 pub fn store_slot(
     frames: &mut FrameMemory,
     heap: &mut Heap,
+    phase: Phase,
     value: Value,
     object: Addr,
     slot: u32,
 ) -> Effect
-    requires { IsSome (store_slot value slot object frames.old heap.old) }
-    ensures { Some (frames.new, heap.new, result) ≡ store_slot value slot object frames.old heap.old }
+    requires { IsSome (store_slot phase value slot object frames.old heap.old) }
+    ensures { Some (frames.new, heap.new, result) ≡ store_slot phase value slot object frames.old heap.old }
 {
-    barriers::store_value(heap, Phase::Idle, object, slot, value);
+    barriers::store_value(heap, phase, object, slot, value);
     go_on(frames)
 }
 
@@ -52,14 +53,14 @@ pub fn load_field(frames: &mut FrameMemory, heap: &mut Heap, kind: ValueKind, sl
 }
 
 /// `stfld` (ECMA-335 III.4.28). Null raises `NullReference`.
-pub fn store_field(frames: &mut FrameMemory, heap: &mut Heap, slot: u32) -> Effect
-    requires { IsSome (store_field_turn slot frames.old heap.old) }
-    ensures { Some (frames.new, heap.new, result) ≡ store_field_turn slot frames.old heap.old }
+pub fn store_field(frames: &mut FrameMemory, heap: &mut Heap, phase: Phase, slot: u32) -> Effect
+    requires { IsSome (store_field_turn phase slot frames.old heap.old) }
+    ensures { Some (frames.new, heap.new, result) ≡ store_field_turn phase slot frames.old heap.old }
 {
     let value = frames.pop();
     match frames.pop() {
         Value::Ref(object) if object.is_null() => Effect::Raises(Fault::NullReference),
-        Value::Ref(object) => store_slot(frames, heap, value, object, slot),
+        Value::Ref(object) => store_slot(frames, heap, phase, value, object, slot),
         _ => unreachable!(),
     }
 }

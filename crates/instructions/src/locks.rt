@@ -5,17 +5,17 @@ ghost use Rattle.instructions.specs.BuiltInTurns.{enter_turn, exit_turn};
 
 use crate::places::go_on;
 use object_memory::{Heap, Value};
-use threads_monitors::{Effect, FrameMemory};
+use threads_monitors::{Effect, FrameMemory, Mutator};
 
 /// `Monitor.Enter` (ECMA-335 I.12.6.5) by a thread. Another thread's monitor blocks, and nothing changes. Null raises `ArgumentNull`.
-pub fn enter(frames: &mut FrameMemory, heap: &mut Heap, thread: u8) -> Effect
-    requires { IsSome (enter_turn thread frames.old heap.old) }
-    ensures { Some (frames.new, heap.new, result) ≡ enter_turn thread frames.old heap.old }
+pub fn enter(frames: &mut FrameMemory, heap: &mut Heap, mutator: Mutator) -> Effect
+    requires { IsSome (enter_turn mutator frames.old heap.old) }
+    ensures { Some (frames.new, heap.new, result) ≡ enter_turn mutator frames.old heap.old }
 {
     let Value::Ref(object) = frames.operand(0) else {
         unreachable!()
     };
-    match threads_monitors::enter(heap, object, thread) {
+    match threads_monitors::enter(heap, mutator, object) {
         Effect::GoesOn => {
             frames.pop();
             go_on(frames)
@@ -25,14 +25,14 @@ pub fn enter(frames: &mut FrameMemory, heap: &mut Heap, thread: u8) -> Effect
 }
 
 /// `Monitor.Exit` (ECMA-335 I.12.6.5) by a thread. Any thread but the owner raises `SynchronizationLock`, and null `ArgumentNull`.
-pub fn exit(frames: &mut FrameMemory, heap: &mut Heap, thread: u8) -> Effect
-    requires { IsSome (exit_turn thread frames.old heap.old) }
-    ensures { Some (frames.new, heap.new, result) ≡ exit_turn thread frames.old heap.old }
+pub fn exit(frames: &mut FrameMemory, heap: &mut Heap, mutator: Mutator) -> Effect
+    requires { IsSome (exit_turn mutator frames.old heap.old) }
+    ensures { Some (frames.new, heap.new, result) ≡ exit_turn mutator frames.old heap.old }
 {
     let Value::Ref(object) = frames.operand(0) else {
         unreachable!()
     };
-    match threads_monitors::exit(heap, object, thread) {
+    match threads_monitors::exit(heap, mutator, object) {
         Effect::GoesOn => {
             frames.pop();
             go_on(frames)

@@ -4,7 +4,8 @@ ghost use Rattle.std.specs.Prelude.{◌≡◌, IsSome, Some};
 ghost use Rattle.instructions.specs.ObjectTurns.{load_static_turn, store_static_turn};
 
 use crate::places::{go_on, leave};
-use object_memory::Value;
+use cil_model::phases::Phase;
+use object_memory::{Heap, Value};
 use threads_monitors::{Effect, FrameMemory};
 
 /// `ldsfld` (ECMA-335 III.4.14), by the number of the static field.
@@ -15,11 +16,18 @@ pub fn load_static(frames: &mut FrameMemory, statics: &[Value], number: u32) -> 
     leave(frames, statics[number as usize])
 }
 
-/// `stsfld` (ECMA-335 III.4.30), by the number of the static field. The other ones stay. While no cycle is open, the store is the plain one.
-pub fn store_static(frames: &mut FrameMemory, statics: &mut [Value], number: u32) -> Effect
-    requires { IsSome (store_static_turn number frames.old statics.old) }
-    ensures { Some (frames.new, statics.new, result) ≡ store_static_turn number frames.old statics.old }
+/// `stsfld` (ECMA-335 III.4.30), by the number of the static field, for a thread in this phase. The other fields stay.
+pub fn store_static(
+    frames: &mut FrameMemory,
+    heap: &mut Heap,
+    phase: Phase,
+    statics: &mut [Value],
+    number: u32,
+) -> Effect
+    requires { IsSome (store_static_turn phase number frames.old heap.old statics.old) }
+    ensures { Some (frames.new, (heap.new, statics.new), result) ≡ store_static_turn phase number frames.old heap.old statics.old }
 {
-    statics[number as usize] = frames.pop();
+    let value = frames.pop();
+    barriers::store_static(heap, phase, statics, number as usize, value);
     go_on(frames)
 }

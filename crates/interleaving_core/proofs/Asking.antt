@@ -19,10 +19,11 @@ use Rattle.object_memory.specs.declared.values.Value.{Value}
 use Rattle.object_memory.specs.Objects.{Objects}
 use Rattle.step_simulation.specs.simulation.loaded_program.MethodNumbers.{number_of}
 use Rattle.threads_monitors.specs.Frames.{Frames}
+use Rattle.threads_monitors.specs.declared.mutators.Mutator.{Mutator}
 use Rattle.threads_monitors.specs.declared.effects.Effect.{Effect}
 use Rattle.threads_monitors.specs.declared.effects.Effect.TheVariants.{Raises}
 use Rattle.step_simulation.specs.simulation.instructions.Frames.{Turn, given, onward, top_of}
-use Rattle.step_simulation.specs.simulation.instructions.ObjectTurns.{ObjectTurn, beside}
+use Rattle.step_simulation.specs.simulation.instructions.ObjectTurns.{ObjectTurn, beside, StaticTurn}
 use Rattle.step_simulation.specs.simulation.instructions.Calls.{call_turn}
 use Rattle.step_simulation.specs.simulation.instructions.BuiltInTurns.{enter_turn, exit_turn, write_turn}
 use Rattle.step_simulation.specs.simulation.interpreter.Operations.{constant_rule, stack_rule, arithmetic_rule, branch_rule, field_rule, array_rule, type_rule, static_rule}
@@ -67,9 +68,9 @@ module _ (m : Frames) (o : Objects) (statics : List Value) (printed : List ℕ) 
   objects_keep None answer object is starts = none_is_some answer (sym is)
   objects_keep (Some t) answer object is starts = other_outcome answer (answer_of t.0 t.1 statics printed (Comes t.2)) t.2 object is refl starts
 
-  statics_keep : (turn : Option (Frames × List Value × Effect)) → KeepsAll (of_statics o statics printed turn)
+  statics_keep : (turn : StaticTurn) → KeepsAll (of_statics o statics printed turn)
   statics_keep None answer object is starts = none_is_some answer (sym is)
-  statics_keep (Some t) answer object is starts = other_outcome answer (answer_of t.0 o t.1 printed (Comes t.2)) t.2 object is refl starts
+  statics_keep (Some t) answer object is starts = other_outcome answer (answer_of t.0 t.1.0 t.1.1 printed (Comes t.2)) t.2 object is refl starts
 
   -- ---- calls
 
@@ -113,40 +114,40 @@ module _ (m : Frames) (o : Objects) (statics : List Value) (printed : List ℕ) 
   construct_keeps [] = none_keeps
   construct_keeps (v ∷ rest) = console_keeps _
 
-  module _ (tree : Tree) (thread : ℕ) where
-    act_keeps : (a : Action) → KeepsCall (act_turn tree thread a m o printed)
+  module _ (tree : Tree) (mutator : Mutator) where
+    act_keeps : (a : Action) → KeepsCall (act_turn tree mutator a m o printed)
     act_keeps Construct = construct_keeps m.running.stack
     act_keeps Write = write_keeps (write_turn (literals_of tree) printed m)
-    act_keeps Enter = console_keeps (enter_turn thread m o)
-    act_keeps Exit = console_keeps (exit_turn thread m o)
+    act_keeps Enter = console_keeps (enter_turn mutator m o)
+    act_keeps Exit = console_keeps (exit_turn mutator m o)
     act_keeps Start = start_keeps (top_reference m.running.stack)
     act_keeps Join = join_keeps (top_reference m.running.stack)
 
-    action_keeps : (a : Option Action) (turn : CallTurn) → KeepsCall turn → KeepsCall (option_map_or (λ x. act_turn tree thread x m o printed) a turn)
+    action_keeps : (a : Option Action) (turn : CallTurn) → KeepsCall turn → KeepsCall (option_map_or (λ x. act_turn tree mutator x m o printed) a turn)
     action_keeps None turn keeps = keeps
     action_keeps (Some a) turn keeps = act_keeps a
 
-    run_keeps : (found : ClassName × Method) → KeepsCall (run_turn tree thread found m o printed)
+    run_keeps : (found : ClassName × Method) → KeepsCall (run_turn tree mutator found m o printed)
     run_keeps found =
         action_keeps (action_of found.0 found.1) (given (number_of tree found) (λ n. beside_console printed (beside o (call_turn (called_as found n) m))))
         (given_keeps (number_of tree found) (λ n. beside_console printed (beside o (call_turn (called_as found n) m))) (λ n. console_keeps (beside o (call_turn (called_as found n) m))))
 
-    chosen_keeps : (a : Addr) (n : MemberNumber) → KeepsCall (run_chosen tree thread a n m o printed)
-    chosen_keeps a n = given_keeps (chosen_at tree o a n) (λ run. run_turn tree thread run m o printed) run_keeps
+    chosen_keeps : (a : Addr) (n : MemberNumber) → KeepsCall (run_chosen tree mutator a n m o printed)
+    chosen_keeps a n = given_keeps (chosen_at tree o a n) (λ run. run_turn tree mutator run m o printed) run_keeps
 
     null_keeps : (is_null : Bool) (turn : CallTurn) → KeepsCall turn → KeepsCall (if is_null then Some (call_answer m o printed (Comes (Raises NullReference))) else turn)
     null_keeps true turn keeps = effect_keeps m o printed (Raises NullReference)
     null_keeps false turn keeps = keeps
 
-    virtual_keeps : (n : MemberNumber) → KeepsCall (virtual_at tree thread n m o printed)
+    virtual_keeps : (n : MemberNumber) → KeepsCall (virtual_at tree mutator n m o printed)
     virtual_keeps n =
         given_keeps (method_at tree (n.class, n.place)) _ (λ found.
         given_keeps (receiver m.running.stack (length (argument_types found.1 found.0))) _ (λ a.
-        null_keeps (a.number == 0) (run_chosen tree thread a n m o printed) (chosen_keeps a n)))
+        null_keeps (a.number == 0) (run_chosen tree mutator a n m o printed) (chosen_keeps a n)))
 
     -- ---- every instruction
 
-    operation_keeps : (op : Operation) → KeepsAll (operation_turn tree thread op m o statics printed)
+    operation_keeps : (op : Operation) → KeepsAll (operation_turn tree mutator op m o statics printed)
     operation_keeps NoOperation = frames_keep (constant_rule NoOperation m)
     operation_keeps (LoadInt32 z) = frames_keep (constant_rule (LoadInt32 z) m)
     operation_keeps (LoadInt64 z) = frames_keep (constant_rule (LoadInt64 z) m)
@@ -158,36 +159,36 @@ module _ (m : Frames) (o : Objects) (statics : List Value) (printed : List ℕ) 
     operation_keeps (StoreLocal n) = frames_keep (stack_rule (StoreLocal n) m)
     operation_keeps Duplicate = frames_keep (stack_rule Duplicate m)
     operation_keeps Pop = frames_keep (stack_rule Pop m)
-    operation_keeps (Binary op) = frames_keep (arithmetic_rule (Binary op) m o)
-    operation_keeps (Unary op) = frames_keep (arithmetic_rule (Unary op) m o)
-    operation_keeps (Shift op) = frames_keep (arithmetic_rule (Shift op) m o)
-    operation_keeps (Compare op) = frames_keep (arithmetic_rule (Compare op) m o)
-    operation_keeps ConvertInt32 = frames_keep (arithmetic_rule ConvertInt32 m o)
-    operation_keeps ConvertInt64 = frames_keep (arithmetic_rule ConvertInt64 m o)
-    operation_keeps (Branch place) = frames_keep (branch_rule (Branch place) m o)
-    operation_keeps (BranchTrue place) = frames_keep (branch_rule (BranchTrue place) m o)
-    operation_keeps (BranchFalse place) = frames_keep (branch_rule (BranchFalse place) m o)
-    operation_keeps (BranchCompare op place) = frames_keep (branch_rule (BranchCompare op place) m o)
-    operation_keeps (Switch places) = frames_keep (branch_rule (Switch places) m o)
-    operation_keeps (LoadField owner field) = objects_keep (field_rule tree (LoadField owner field) m o)
-    operation_keeps (StoreField owner field) = objects_keep (field_rule tree (StoreField owner field) m o)
-    operation_keeps (LoadStaticField field) = statics_keep (static_rule tree (LoadStaticField field) m statics)
-    operation_keeps (StoreStaticField field) = statics_keep (static_rule tree (StoreStaticField field) m statics)
-    operation_keeps (NewArray t) = objects_keep (array_rule (NewArray t) m o)
-    operation_keeps LoadLength = objects_keep (array_rule LoadLength m o)
-    operation_keeps LoadElementInt32 = objects_keep (array_rule LoadElementInt32 m o)
-    operation_keeps LoadElementInt64 = objects_keep (array_rule LoadElementInt64 m o)
-    operation_keeps LoadElementReference = objects_keep (array_rule LoadElementReference m o)
-    operation_keeps StoreElementInt32 = objects_keep (array_rule StoreElementInt32 m o)
-    operation_keeps StoreElementInt64 = objects_keep (array_rule StoreElementInt64 m o)
-    operation_keeps StoreElementReference = objects_keep (type_rule tree StoreElementReference m o)
-    operation_keeps (CastClass t) = objects_keep (type_rule tree (CastClass t) m o)
-    operation_keeps (IsInstance t) = objects_keep (type_rule tree (IsInstance t) m o)
-    operation_keeps (Call b owner method) = calls_keep (call_rule tree thread (Call b owner method) m o printed) (given_keeps (method_at tree (method.class, method.place)) (λ found. run_turn tree thread found m o printed) run_keeps)
-    operation_keeps (CallVirtual owner method) = calls_keep (call_rule tree thread (CallVirtual owner method) m o printed) (virtual_keeps method)
-    operation_keeps (NewObject method) = calls_keep (call_rule tree thread (NewObject method) m o printed) (console_keeps (new_at tree method m o))
-    operation_keeps Return = calls_keep (call_rule tree thread Return m o printed) (console_keeps (beside o (return_rule tree m)))
+    operation_keeps (Binary op) = frames_keep (arithmetic_rule mutator.phase (Binary op) m o)
+    operation_keeps (Unary op) = frames_keep (arithmetic_rule mutator.phase (Unary op) m o)
+    operation_keeps (Shift op) = frames_keep (arithmetic_rule mutator.phase (Shift op) m o)
+    operation_keeps (Compare op) = frames_keep (arithmetic_rule mutator.phase (Compare op) m o)
+    operation_keeps ConvertInt32 = frames_keep (arithmetic_rule mutator.phase ConvertInt32 m o)
+    operation_keeps ConvertInt64 = frames_keep (arithmetic_rule mutator.phase ConvertInt64 m o)
+    operation_keeps (Branch place) = frames_keep (branch_rule mutator.phase (Branch place) m o)
+    operation_keeps (BranchTrue place) = frames_keep (branch_rule mutator.phase (BranchTrue place) m o)
+    operation_keeps (BranchFalse place) = frames_keep (branch_rule mutator.phase (BranchFalse place) m o)
+    operation_keeps (BranchCompare op place) = frames_keep (branch_rule mutator.phase (BranchCompare op place) m o)
+    operation_keeps (Switch places) = frames_keep (branch_rule mutator.phase (Switch places) m o)
+    operation_keeps (LoadField owner field) = objects_keep (field_rule mutator.phase tree (LoadField owner field) m o)
+    operation_keeps (StoreField owner field) = objects_keep (field_rule mutator.phase tree (StoreField owner field) m o)
+    operation_keeps (LoadStaticField field) = statics_keep (static_rule mutator.phase tree (LoadStaticField field) m o statics)
+    operation_keeps (StoreStaticField field) = statics_keep (static_rule mutator.phase tree (StoreStaticField field) m o statics)
+    operation_keeps (NewArray t) = objects_keep (array_rule mutator.phase (NewArray t) m o)
+    operation_keeps LoadLength = objects_keep (array_rule mutator.phase LoadLength m o)
+    operation_keeps LoadElementInt32 = objects_keep (array_rule mutator.phase LoadElementInt32 m o)
+    operation_keeps LoadElementInt64 = objects_keep (array_rule mutator.phase LoadElementInt64 m o)
+    operation_keeps LoadElementReference = objects_keep (array_rule mutator.phase LoadElementReference m o)
+    operation_keeps StoreElementInt32 = objects_keep (array_rule mutator.phase StoreElementInt32 m o)
+    operation_keeps StoreElementInt64 = objects_keep (array_rule mutator.phase StoreElementInt64 m o)
+    operation_keeps StoreElementReference = objects_keep (type_rule mutator.phase tree StoreElementReference m o)
+    operation_keeps (CastClass t) = objects_keep (type_rule mutator.phase tree (CastClass t) m o)
+    operation_keeps (IsInstance t) = objects_keep (type_rule mutator.phase tree (IsInstance t) m o)
+    operation_keeps (Call b owner method) = calls_keep (call_rule tree mutator (Call b owner method) m o printed) (given_keeps (method_at tree (method.class, method.place)) (λ found. run_turn tree mutator found m o printed) run_keeps)
+    operation_keeps (CallVirtual owner method) = calls_keep (call_rule tree mutator (CallVirtual owner method) m o printed) (virtual_keeps method)
+    operation_keeps (NewObject method) = calls_keep (call_rule tree mutator (NewObject method) m o printed) (console_keeps (new_at tree mutator method m o))
+    operation_keeps Return = calls_keep (call_rule tree mutator Return m o printed) (console_keeps (beside o (return_rule tree m)))
 
     -- an instruction that asks for a thread to start leaves all as it was
-    pub start_changes_nothing : (answer : Answer) (object : Addr) → IsDone tree thread m o statics printed answer → answer.outcome ≡ Starts object → answer ≡ answer_of m o statics printed (Starts object)
+    pub start_changes_nothing : (answer : Answer) (object : Addr) → IsDone tree mutator m o statics printed answer → answer.outcome ≡ Starts object → answer ≡ answer_of m o statics printed (Starts object)
     start_changes_nothing answer object done starts = operation_keeps done.operation answer object done.is starts

@@ -1,5 +1,5 @@
 -- What a thread is about to enter or to join is there, and what its instruction calls is known to the table.
-use Rattle.std.proofs.Common.{◌≡◌, ◌≢◌, ◌==◌, ◌<◌, ℕ, Bool, true, false, ◌||◌, if◌then◌else◌, List, [], ◌∷◌, length, Option, Some, None, option_map, option_and_then, slice_get, refl, sym, ap, ◌∙◌, subst}
+use Rattle.std.proofs.Common.{◌≡◌, ◌≢◌, ◌==◌, ◌<◌, ℕ, Bool, true, false, ◌&&◌, ◌||◌, if◌then◌else◌, List, [], ◌∷◌, length, Option, Some, None, option_map, option_and_then, slice_get, refl, sym, ap, ◌∙◌, subst}
 use Rattle.std.specs.Prelude.{IsSome}
 use Rattle.std.specs.Option.{option_map_or}
 use Rattle.std.proofs.lemmas.Bool.{eqb-true}
@@ -37,6 +37,8 @@ use Rattle.object_memory.specs.Cells.{Cell, literal_number, null}
 use Rattle.object_memory.specs.Objects.{Objects, monitor_at, object_cell, object_slots}
 use Rattle.step_simulation.specs.simulation.loaded_program.MethodNumbers.{number_of}
 use Rattle.threads_monitors.specs.Frames.{Frames, with_stack}
+use Rattle.threads_monitors.specs.declared.mutators.Mutator.{Mutator}
+use Rattle.step_simulation.specs.simulation.instructions.barriers.Barriers.{is_monitor_storable}
 use Rattle.threads_monitors.specs.Monitors.{with_entry}
 use Rattle.threads_monitors.specs.declared.effects.Effect.TheVariants.{Raises}
 use Rattle.step_simulation.specs.simulation.instructions.Calls.{call_turn}
@@ -46,7 +48,7 @@ use Rattle.step_simulation.specs.simulation.instructions.BuiltInTurns.{carried, 
 use Rattle.step_simulation.specs.simulation.interpreter.Calls.{CallTurn, act_turn, beside_console, call_answer, called_as, chosen, chosen_by, class_at, class_of_kind, receiver, run_chosen, run_turn, top_reference, virtual_at}
 use Rattle.step_simulation.specs.simulation.interpreter.Instructions.{Answer, HasSmallConstant, IsAt, IsDone, MachineTurn, answer_of, line_at, of_calls, operation_turn}
 use Rattle.step_simulation.specs.simulation.interpreter.declared.outcomes.Outcome.TheVariants.{Comes, Joins}
-use Rattle.step_simulation.specs.simulation.MachineContents.{Content}
+use Rattle.step_simulation.specs.simulation.MachineContents.{Content, mutator_of}
 use Rattle.step_simulation.specs.simulation.Ready.{IsAnswerable, IsReady}
 use Rattle.interleaving_core.specs.Waits.{HasObject, action_at, called_member}
 
@@ -146,7 +148,7 @@ not_null_number a apart = by_test (a.number == 0) refl
     by_test false e = e
     by_test true e = absurd (apart (ap (λ n. record { number = n }) (eqb-true a.number 0 e)))
 
-module _ (tree : Tree) (t : ℕ) (m : Frames) (o : Objects) (ss : List Value) (pr : List ℕ) (a : Action) (x : Addr) (top : top_reference m.running.stack ≡ Some x) (nonzero : IsNot0 x) where
+module _ (tree : Tree) (mutator : Mutator) (m : Frames) (o : Objects) (ss : List Value) (pr : List ℕ) (a : Action) (x : Addr) (top : top_reference m.running.stack ≡ Some x) (nonzero : IsNot0 x) where
   -- the topmost value is a reference to it
   stack_is : (stack : List Value) → top_reference stack ≡ Some x → (rest : List Value) × (stack ≡ Ref x ∷ rest)
   stack_is [] e = none_is_some x e
@@ -156,19 +158,19 @@ module _ (tree : Tree) (t : ℕ) (m : Frames) (o : Objects) (ss : List Value) (p
   stack_is (Native z ∷ rest) e = none_is_some x e
 
   abbrev acted : MachineTurn
-  acted = of_calls o ss pr (act_turn tree t a m o pr)
+  acted = of_calls o ss pr (act_turn tree mutator a m o pr)
 
-  run_is : (found : ClassName × Method) → action_of found.0 found.1 ≡ Some a → run_turn tree t found m o pr ≡ act_turn tree t a m o pr
-  run_is found acts = ap (λ k. option_map_or (λ b. act_turn tree t b m o pr) k otherwise) acts
+  run_is : (found : ClassName × Method) → action_of found.0 found.1 ≡ Some a → run_turn tree mutator found m o pr ≡ act_turn tree mutator a m o pr
+  run_is found acts = ap (λ k. option_map_or (λ b. act_turn tree mutator b m o pr) k otherwise) acts
     where
       otherwise : CallTurn
       otherwise = given (number_of tree found) (λ n. beside_console pr (beside o (call_turn (called_as found n) m)))
 
   plain_is : (flag : Bool) (r : MethodReference) (owner : ℕ) (method : MemberNumber) → IsMethod tree flag r method → called_action tree (Named.Call flag r) ≡ Some a →
-      operation_turn tree t (Resolved.Call flag owner method) m o ss pr ≡ acted
+      operation_turn tree mutator (Resolved.Call flag owner method) m o ss pr ≡ acted
   plain_is flag r owner method finds acts =
       let own : action_of finds.declared_in finds.found ≡ Some a = sym (ap action_found finds.finds) ∙ acts in
-      ap (λ k. of_calls o ss pr (given k (λ found. run_turn tree t found m o pr))) finds.numbered ∙ ap (of_calls o ss pr) (run_is (finds.declared_in, finds.found) own)
+      ap (λ k. of_calls o ss pr (given k (λ found. run_turn tree mutator found m o pr))) finds.numbered ∙ ap (of_calls o ss pr) (run_is (finds.declared_in, finds.found) own)
 
   -- a method that is not virtual runs itself
   chosen_itself : (found run : ClassName × Method) → is_virtual found.1.kind ≡ false → (k : Option ℕ) → chosen_by tree found k ≡ Some run → run ≡ found
@@ -179,7 +181,7 @@ module _ (tree : Tree) (t : ℕ) (m : Frames) (o : Objects) (ss : List Value) (p
       itself d = ap (λ b. if b then (if is_interface tree found.0 then interface_target tree found.1.name found.1.signature d found.0 else class_target tree found.1.name found.1.signature d found.0) else Some found) plain
 
   virtual_is : (c : ClassName) (name : List ℕ) (signature : Signature) (owner : ℕ) (method : MemberNumber) → IsMethod tree true (virtual_reference c name signature) method → called_action tree (Named.CallVirtual c name signature) ≡ Some a →
-      IsSome (operation_turn tree t (Resolved.CallVirtual owner method) m o ss pr) → operation_turn tree t (Resolved.CallVirtual owner method) m o ss pr ≡ acted
+      IsSome (operation_turn tree mutator (Resolved.CallVirtual owner method) m o ss pr) → operation_turn tree mutator (Resolved.CallVirtual owner method) m o ss pr ≡ acted
   virtual_is c name signature owner method finds acts there = ap (of_calls o ss pr) fourth ∙ by_run (chosen tree o x found) refl (subst (λ k. IsSome (of_calls o ss pr k)) fourth there)
     where
       found : ClassName × Method
@@ -192,21 +194,21 @@ module _ (tree : Tree) (t : ℕ) (m : Frames) (o : Objects) (ss : List Value) (p
       declared = found_is_declared tree true (virtual_reference c name signature) finds.declared_in finds.found finds.finds
 
       go : Addr → CallTurn
-      go y = if y.number == 0 then Some (call_answer m o pr (Comes (Raises NullReference))) else run_chosen tree t y method m o pr
+      go y = if y.number == 0 then Some (call_answer m o pr (Comes (Raises NullReference))) else run_chosen tree mutator y method m o pr
 
       runs : ClassName × Method → CallTurn
-      runs run = run_turn tree t run m o pr
+      runs run = run_turn tree mutator run m o pr
 
       called : receiver m.running.stack (length (argument_types finds.found finds.declared_in)) ≡ Some x
       called =
           let stack = stack_is m.running.stack top in
           ap (receiver m.running.stack) (ap length (acts_as_member tree finds.declared_in finds.found a declared own).takes) ∙ ap (λ l. receiver l 1) stack.1
 
-      fourth : virtual_at tree t method m o pr ≡ given (chosen tree o x found) runs
+      fourth : virtual_at tree mutator method m o pr ≡ given (chosen tree o x found) runs
       fourth =
           ap (λ k. given k (λ (f : ClassName × Method). given (receiver m.running.stack (length (argument_types f.1 f.0))) go)) finds.numbered
           ∙ (ap (λ k. given k go) called
-          ∙ (ap (λ b. if b then Some (call_answer m o pr (Comes (Raises NullReference))) else run_chosen tree t x method m o pr) nonzero
+          ∙ (ap (λ b. if b then Some (call_answer m o pr (Comes (Raises NullReference))) else run_chosen tree mutator x method m o pr) nonzero
           ∙ ap (λ k. given (option_and_then (chosen tree o x) k) runs) finds.numbered))
 
       by_run : (r : Option (ClassName × Method)) → chosen tree o x found ≡ r → IsSome (of_calls o ss pr (given r runs)) → of_calls o ss pr (given r runs) ≡ acted
@@ -217,18 +219,18 @@ module _ (tree : Tree) (t : ℕ) (m : Frames) (o : Objects) (ss : List Value) (p
 
 -- ---- what a ready thread is about to do can be done
 
-module _ (c : Content) (t left : ℕ) (m : Frames) (ready : IsReady c t m) (answers : (a : Answer) → IsDone c.tree t m c.objects c.statics c.printed a → IsAnswerable c t left a a.outcome) where
+module _ (c : Content) (t left : ℕ) (m : Frames) (ready : IsReady c t m) (answers : (a : Answer) → IsDone c.tree (mutator_of c t) m c.objects c.statics c.printed a → IsAnswerable c t left a a.outcome) where
   module _ (op : Operation) (at : IsAt c.tree m op) (x : Addr) (top : top_reference m.running.stack ≡ Some x) (apart : x ≢ null) where
-    turn_of : (a : Action) → action_at c.tree m ≡ Some a → HasSmallConstant op × (operation_turn c.tree t op m c.objects c.statics c.printed ≡ of_calls c.objects c.statics c.printed (act_turn c.tree t a m c.objects c.printed))
+    turn_of : (a : Action) → action_at c.tree m ≡ Some a → HasSmallConstant op × (operation_turn c.tree (mutator_of c t) op m c.objects c.statics c.printed ≡ of_calls c.objects c.statics c.printed (act_turn c.tree (mutator_of c t) a m c.objects c.printed))
     turn_of a acts = by_calls at.line.instruction op (calls_of c.tree (lines_of at.found.1) at.line.instruction op at.stands) (sym (action_is c.tree m op at) ∙ acts) (ready.there op at)
       where
         nonzero : IsNot0 x
         nonzero = not_null_number x apart
 
-        by_calls : (i : Instruction) (o : Operation) → Calls c.tree i o → called_action c.tree i ≡ Some a → (HasSmallConstant o → IsSome (operation_turn c.tree t o m c.objects c.statics c.printed)) →
-            HasSmallConstant o × (operation_turn c.tree t o m c.objects c.statics c.printed ≡ of_calls c.objects c.statics c.printed (act_turn c.tree t a m c.objects c.printed))
-        by_calls _ _ (plainly flag r owner method finds) e there = (tt, plain_is c.tree t m c.objects c.statics c.printed a x top nonzero flag r owner method finds e)
-        by_calls _ _ (virtually k name signature owner method finds) e there = (tt, virtual_is c.tree t m c.objects c.statics c.printed a x top nonzero k name signature owner method finds e (there tt))
+        by_calls : (i : Instruction) (o : Operation) → Calls c.tree i o → called_action c.tree i ≡ Some a → (HasSmallConstant o → IsSome (operation_turn c.tree (mutator_of c t) o m c.objects c.statics c.printed)) →
+            HasSmallConstant o × (operation_turn c.tree (mutator_of c t) o m c.objects c.statics c.printed ≡ of_calls c.objects c.statics c.printed (act_turn c.tree (mutator_of c t) a m c.objects c.printed))
+        by_calls _ _ (plainly flag r owner method finds) e there = (tt, plain_is c.tree (mutator_of c t) m c.objects c.statics c.printed a x top nonzero flag r owner method finds e)
+        by_calls _ _ (virtually k name signature owner method finds) e there = (tt, virtual_is c.tree (mutator_of c t) m c.objects c.statics c.printed a x top nonzero k name signature owner method finds e (there tt))
         by_calls _ _ (nothing i o none' e') e there = none_is_some a (sym none' ∙ e)
 
     -- a monitor, where it enters
@@ -238,12 +240,12 @@ module _ (c : Content) (t left : ℕ) (m : Frames) (ready : IsReady c t m) (answ
         by_stack m.running.stack top (subst IsSome turn.1 (ready.there op at turn.0))
       where
         goes : Addr → Frames → ObjectTurn
-        goes a n = if (a.number == 0) || is_countable (monitor_at c.objects a) then carried m n (with_entry c.objects a t) else None
+        goes a n = if (a.number == 0) || (is_countable (monitor_at c.objects a) && is_monitor_storable (mutator_of c t).phase c.objects a) then carried m n (with_entry (mutator_of c t) c.objects a) else None
 
-        by_monitor : (y : Addr) (n : Frames) → y ≡ x → (b : Bool) → b ≡ false → (w : Option Monitor) → IsSome (of_calls c.objects c.statics c.printed (beside_console c.printed (if b || is_countable w then carried m n (with_entry c.objects y t) else None))) → IsSome w
-        by_monitor y n same true e w there = not_both true e refl
-        by_monitor y n same false e None there = absurd cc
-        by_monitor y n same false e (Some w) there = refl
+        by_monitor : (y : Addr) (n : Frames) → y ≡ x → (b d : Bool) → b ≡ false → (w : Option Monitor) → IsSome (of_calls c.objects c.statics c.printed (beside_console c.printed (if b || (is_countable w && d) then carried m n (with_entry (mutator_of c t) c.objects y) else None))) → IsSome w
+        by_monitor y n same true d e w there = not_both true e refl
+        by_monitor y n same false d e None there = absurd cc
+        by_monitor y n same false d e (Some w) there = refl
 
         by_stack : (stack : List Value) → top_reference stack ≡ Some x → IsSome (of_calls c.objects c.statics c.printed (beside_console c.printed (reference_from stack m goes))) → IsSome (monitor_at c.objects x)
         by_stack [] e there = none_is_some x e
@@ -253,14 +255,14 @@ module _ (c : Content) (t left : ℕ) (m : Frames) (ready : IsReady c t m) (answ
         by_stack (Ref y ∷ rest) e there =
             let same : y ≡ x = same_Some y x e in
             subst (λ k. IsSome (monitor_at c.objects k)) same
-            (by_monitor y (with_stack m rest) same (y.number == 0) (ap (λ (k : Addr). k.number == 0) same ∙ not_null_number x apart) (monitor_at c.objects y) there)
+            (by_monitor y (with_stack m rest) same (y.number == 0) (is_monitor_storable (mutator_of c t).phase c.objects y) (ap (λ (k : Addr). k.number == 0) same ∙ not_null_number x apart) (monitor_at c.objects y) there)
 
     -- and the slot that tells a thread, where it joins
     joins : action_at c.tree m ≡ Some Join → 0 < length (object_slots c.objects x)
     joins acts =
         let turn = turn_of Join acts in
         let answer : Answer = answer_of m c.objects c.statics c.printed (Joins x) in
-        let asked : of_calls c.objects c.statics c.printed (act_turn c.tree t Join m c.objects c.printed) ≡ Some answer =
+        let asked : of_calls c.objects c.statics c.printed (act_turn c.tree (mutator_of c t) Join m c.objects c.printed) ≡ Some answer =
         ap (λ k. of_calls c.objects c.statics c.printed (option_map (λ b. call_answer m c.objects c.printed (Joins b)) k)) top in
         (answers answer (record { operation = op; at = at; constant = turn.0; is = sym (turn.1 ∙ asked) })).slot apart
 

@@ -1,5 +1,5 @@
 -- Threads keep their budgets.
-use Rattle.std.proofs.Common.{◌≡◌, ◌⊎◌, ◌<◌, ◌+◌, ◌-◌, ◌==◌, ℕ, zero, suc, true, false, cond, if◌then◌else◌, List, [], ◌∷◌, ◌++◌, Option, Some, None, slice_get, slice_set, refl, inl, inr, sym, ap, ◌∙◌, subst, arith}
+use Rattle.std.proofs.Common.{◌≡◌, ◌⊎◌, ◌<◌, ◌+◌, ◌-◌, ◌==◌, ℕ, zero, suc, true, false, cond, List, [], ◌∷◌, ◌++◌, Option, Some, None, slice_get, slice_set, refl, inl, inr, sym, ap, ◌∙◌, subst, arith}
 use Rattle.std.proofs.lemmas.Bool.Decides.{nat_tests}
 use Rattle.std.proofs.lemmas.List.Sums.{sum_by-cons}
 use Rattle.std.specs.Option.{option_map_or}
@@ -7,7 +7,7 @@ use Rattle.cil_model.specs.declared.events.Event.{Event}
 use Rattle.cil_model.specs.declared.events.Event.TheVariants.{Step, Ack, Gc}
 use Rattle.cil_model.specs.declared.reports.End.{End}
 use Rattle.cil_model.specs.declared.reports.Report.{Report}
-use Rattle.cil_model.specs.declared.reports.Report.TheVariants.{Absent, NothingPosted, Waiting}
+use Rattle.cil_model.specs.declared.reports.Report.TheVariants.{Absent, Waiting}
 use Rattle.threads_monitors.specs.Frames.{Frames}
 use Rattle.threads_monitors.specs.Threads.{end_after, is_live, is_live_at, report_of, standing_after}
 use Rattle.threads_monitors.specs.declared.effects.Effect.{Effect}
@@ -15,10 +15,11 @@ use Rattle.threads_monitors.specs.declared.effects.Effect.TheVariants.{GoesOn, R
 use Rattle.threads_monitors.specs.declared.threads.Standing.{Standing}
 use Rattle.threads_monitors.specs.declared.threads.Standing.TheVariants.{Live, Ended}
 use Rattle.threads_monitors.specs.declared.threads.Thread.{Thread}
+use Rattle.phase_handshake.specs.Handshakes.{Handshakes, left as without_seat}
 use Rattle.step_simulation.specs.simulation.interpreter.declared.outcomes.Outcome.{Outcome}
 use Rattle.step_simulation.specs.simulation.Budgets.{KeepsBudgets, made_step, steps_left_of, steps_made}
 use Rattle.step_simulation.specs.simulation.MachineContents.{Content}
-use Rattle.step_simulation.specs.simulation.Turns.{IsStandingTurn, IsThreadTurn, IsTurn, counted, finished, left_by, live_thread}
+use Rattle.step_simulation.specs.simulation.Turns.{IsStandingTurn, IsThreadTurn, IsTurn, counted, finished, left_by, live_thread, acknowledgement, seats_after}
 use Rattle.step_simulation.proofs.Finished.{HasBegun, finished_by}
 use Rattle.cil_model.proofs.Lists.{none_is_some, get_before, set_is_there}
 use Rattle.step_simulation.specs.simulation.interpreter.Instructions.{Answer}
@@ -113,8 +114,8 @@ module _ (c : Content) (live : LiveHaveSteps c.limits.budget c.threads) (some : 
 
     module _ (d : Content) (as_before : AreAsBefore d.threads) (limits : d.limits ≡ c.limits) where
       -- the thread stands so after the step
-      stepped : (x : Thread) (r : Report) → ((t : ℕ) → made_step t (Step n) r ≡ (n == t)) → suc x.steps_left ≡ left → (is_live x ≡ true → 0 < x.steps_left) → KeepsBudgets c (record d { threads = slice_set d.threads n x }) ((Step n, r) ∷ [])
-      stepped x r made less goes = record {
+      stepped : (x : Thread) (h : Handshakes) (r : Report) → ((t : ℕ) → made_step t (Step n) r ≡ (n == t)) → suc x.steps_left ≡ left → (is_live x ≡ true → 0 < x.steps_left) → KeepsBudgets c (record d { threads = slice_set d.threads n x; posts = h }) ((Step n, r) ∷ [])
+      stepped x h r made less goes = record {
         counted = λ t. one_made t n r (left_in d.limits.budget (slice_set d.threads n x) t) (made t)
             ∙ (ap (λ l. cond (n == t) 1 0 + left_in l.budget (slice_set d.threads n x) t) limits
             ∙ (left_set c.limits.budget d.threads n t x as_before.own as_before.own_there (less ∙ sym as_before.own_left) ∙ as_before.same t));
@@ -148,9 +149,9 @@ module _ (c : Content) (live : LiveHaveSteps c.limits.budget c.threads) (some : 
       counts : (e : Effect) (m : Frames) → KeepsBudgets c (counted d n left e m).0 ((Step n, (counted d n left e m).1) ∷ [])
       counts e m = by_end (end_after e (left - 1)) refl
         where
-          by_end : (end : Option End) → end_after e (left - 1) ≡ end → KeepsBudgets c (record d { threads = slice_set d.threads n (standing_after end m (left - 1) e).0 }) ((Step n, (standing_after end m (left - 1) e).1) ∷ [])
-          by_end None is = stepped (record { standing = Live m; steps_left = left - 1 }) (report_of e) (made_by e) less_one (λ h. live_left e (left - 1) is)
-          by_end (Some x) is = stepped (record { standing = Ended x; steps_left = left - 1 }) _ (λ t. refl) less_one (λ h. absurd cc)
+          by_end : (end : Option End) → end_after e (left - 1) ≡ end → KeepsBudgets c (record d { threads = slice_set d.threads n (standing_after end m (left - 1) e).0; posts = seats_after d.posts n (standing_after end m (left - 1) e).1 }) ((Step n, (standing_after end m (left - 1) e).1) ∷ [])
+          by_end None is = stepped (record { standing = Live m; steps_left = left - 1 }) (seats_after d.posts n (report_of e)) (report_of e) (made_by e) less_one (λ h. live_left e (left - 1) is)
+          by_end (Some x) is = stepped (record { standing = Ended x; steps_left = left - 1 }) (without_seat d.posts n) _ (λ t. refl) less_one (λ h. absurd cc)
 
     -- the thread has other frames
     module _ (a : Answer) where
@@ -180,15 +181,17 @@ module _ (c : Content) (live : LiveHaveSteps c.limits.budget c.threads) (some : 
       outcome_keeps o after done =
           let way = finished_by c n left a after o done in
           subst (λ (x : Content × Report). KeepsBudgets c x.0 ((Step n, x.1) ∷ [])) way.is
-          (counts (record (left_by c n left a) { threads = way.threads; objects = way.objects }) (by_way way.threads way.are) refl way.effect way.frames)
+          (counts (record (left_by c n left a) { threads = way.threads; posts = way.posts; objects = way.objects }) (by_way way.threads way.are) refl way.effect way.frames)
         where
-          by_way : (threads : List Thread) → (threads ≡ (left_by c n left a).threads) ⊎ HasBegun c.limits.budget (left_by c n left a).threads threads → AreAsBefore threads
-          by_way threads (inl is) = subst AreAsBefore (sym is) replaced
-          by_way threads (inr more) = joined_by threads more
+          by_way : {P Q : Type 0} (threads : List Thread) → ((threads ≡ (left_by c n left a).threads) × P) ⊎ (HasBegun c.limits.budget (left_by c n left a).threads threads × Q) → AreAsBefore threads
+          by_way threads (inl (is, seats)) = subst AreAsBefore (sym is) replaced
+          by_way threads (inr (more, seats)) = joined_by threads more
 
   -- an event keeps the budgets
   pub turn_keeps : (e : Event) (after : Content × Report) → IsTurn c e after → KeepsBudgets c after.0 ((e, after.1) ∷ [])
-  turn_keeps (Ack n) after h = unmoved_as (Ack n) (if is_live_at c.threads n then NothingPosted else Absent) after h (λ t. refl)
+  turn_keeps (Ack n) after h =
+      let as_before = unmoved (Ack n) (acknowledgement c n) (λ t. refl) in
+      subst (λ (x : Content × Report). KeepsBudgets c x.0 ((Ack n, x.1) ∷ [])) (sym h) (record { counted = as_before.counted; live = as_before.live })
   turn_keeps Gc after h = unmoved_as Gc Waiting after h (λ t. refl)
   turn_keeps (Step n) after h = by_thread (slice_get c.threads n) refl h
     where

@@ -1,9 +1,10 @@
 -- A thread that was reached by its number, and its machine once it has changed.
 use Rattle.std.proofs.Common.{◌≡◌, ◌<◌, ℕ, true, false, List, ◌++◌, length, take, drop, Option, Some, None, option_map, slice_get, slice_set, refl, sym, ap, ◌∙◌, subst}
-use Rattle.std.specs.Prelude.{slice_index_or}
+use Rattle.std.specs.Prelude.{IsSome, slice_index_or}
 use Rattle.std.specs.Option.{option_map_or}
 use Rattle.std.proofs.Math.Seq.{take-append_seam}
 use Rattle.std.proofs.lemmas.Option.{get_or_from_slice_get, slice_get_read}
+use Rattle.cil_model.specs.declared.phases.Phase.{Phase}
 use Rattle.cil_model.specs.declared.limits.Limits.{Limits}
 use Rattle.cil_model.specs.declared.reports.Fault.{Fault}
 use Rattle.cil_model.specs.declared.reports.Report.{Report}
@@ -17,10 +18,13 @@ use Rattle.threads_monitors.specs.declared.effects.Effect.{Effect}
 use Rattle.threads_monitors.specs.declared.effects.Effect.TheVariants.{Raises}
 use Rattle.threads_monitors.specs.declared.threads.Standing.TheVariants.{Live}
 use Rattle.threads_monitors.specs.declared.threads.Thread.{Thread}
-use Rattle.step_simulation.specs.simulation.interpreter.Instructions.{IsDone, answer_of}
+use Rattle.resolved_code.specs.declared.operations.Operation.{Operation}
+use Rattle.threads_monitors.specs.declared.mutators.Mutator.{Mutator}
+use Rattle.step_simulation.specs.simulation.Ready.{IsReady}
+use Rattle.step_simulation.specs.simulation.interpreter.Instructions.{IsDone, answer_of, HasSmallConstant, IsAt, operation_turn}
 use Rattle.step_simulation.specs.simulation.interpreter.declared.outcomes.Outcome.{Outcome}
-use Rattle.step_simulation.specs.simulation.MachineContents.{Content}
-use Rattle.step_simulation.specs.simulation.Turns.{after_request, answered, counted, live_thread, started, thread_for}
+use Rattle.step_simulation.specs.simulation.MachineContents.{Content, mutator_of}
+use Rattle.step_simulation.specs.simulation.Turns.{after_request, answered, counted, live_thread, started, thread_for, seats_after}
 use Rattle.interleaving_core.specs.Finishing.{IsInstructed}
 use Rattle.interleaving_core.proofs.Stepping.{live_there, thread_is}
 
@@ -57,28 +61,29 @@ module _ (c : Content) (t i : ℕ) (same : i ≡ t) (thread : Thread) (reads : t
     is_thread : thread ≡ live_thread left m
     is_thread = reached c.threads t i same thread reads (live_thread left m) there
 
-    placed : (x : Thread × Report) → ◌≡◌ {A = Thread × Report} (new, report) x → ◌≡◌ {A = Content × Report} (record c { threads = slice_set c.threads t x.0 }, x.1) (record c { threads = slice_set c.threads i new }, report)
+    placed : (x : Thread × Report) → ◌≡◌ {A = Thread × Report} (new, report) x →
+        ◌≡◌ {A = Content × Report} (record c { threads = slice_set c.threads t x.0; posts = seats_after c.posts t x.1 }, x.1) (record c { threads = slice_set c.threads i new; posts = seats_after c.posts t report }, report)
     placed x h =
-        let by_place : ℕ → Content × Report = λ k. (record c { threads = slice_set c.threads k new }, report) in
-        let by_thread : Thread × Report → Content × Report = λ y. (record c { threads = slice_set c.threads t y.0 }, y.1) in
+        let by_place : ℕ → Content × Report = λ k. (record c { threads = slice_set c.threads k new; posts = seats_after c.posts t report }, report) in
+        let by_thread : Thread × Report → Content × Report = λ y. (record c { threads = slice_set c.threads t y.0; posts = seats_after c.posts t y.1 }, y.1) in
         sym (ap by_place same ∙ ap by_thread h)
 
     -- once its step is counted
-    pub counted_is : (effect : Effect) → ◌≡◌ {A = Thread × Report} (new, report) (settled effect thread) → counted c t left effect m ≡ (record c { threads = slice_set c.threads i new }, report)
+    pub counted_is : (effect : Effect) → ◌≡◌ {A = Thread × Report} (new, report) (settled effect thread) → counted c t left effect m ≡ (record c { threads = slice_set c.threads i new; posts = seats_after c.posts t report }, report)
     counted_is effect h = placed (settled effect (live_thread left m)) (h ∙ ap (settled effect) is_thread)
 
     -- and once what it asked for was answered
     pub answered_is : (effect : Effect) → ((n : Frames) → thread.standing ≡ Live n → ◌≡◌ {A = Thread × Report} (new, report) (settled effect (record thread { standing = Live (after_request effect n) })))
-        → answered c t left m effect ≡ (record c { threads = slice_set c.threads i new }, report)
+        → answered c t left m effect ≡ (record c { threads = slice_set c.threads i new; posts = seats_after c.posts t report }, report)
     answered_is effect h =
         placed (settled effect (live_thread left (after_request effect m)))
         (h m (ap (λ (x : Thread). x.standing) is_thread) ∙ ap (λ (x : Thread). settled effect (record x { standing = Live (after_request effect m) })) is_thread)
 
   -- once its instruction is done
-  pub instructed : is_live_at c.threads t ≡ true → (new : Thread) (o : Objects) (statics : List Value) (printed : List ℕ) (outcome : Outcome)
-      → ((m : Frames) → thread.standing ≡ Live m → (n : Frames) × (new ≡ record thread { standing = Live n }) × IsDone c.tree t m c.objects c.statics c.printed (answer_of n o statics printed outcome))
+  pub instructed : (mutator : Mutator) → mutator ≡ mutator_of c t → is_live_at c.threads t ≡ true → (new : Thread) (o : Objects) (statics : List Value) (printed : List ℕ) (outcome : Outcome)
+      → ((m : Frames) → thread.standing ≡ Live m → (n : Frames) × (new ≡ record thread { standing = Live n }) × IsDone c.tree mutator m c.objects c.statics c.printed (answer_of n o statics printed outcome))
       → IsInstructed c t outcome (record c { threads = slice_set c.threads i new; objects = o; statics = statics; printed = printed })
-  instructed live new o statics printed outcome does =
+  instructed mutator own live new o statics printed outcome does =
       let there = live_there c.threads t live in
       let is_thread : thread ≡ live_thread there.0 there.1 = reached c.threads t i same thread reads (live_thread there.0 there.1) there.2 in
       let done = does there.1 (ap (λ (x : Thread). x.standing) is_thread) in
@@ -88,16 +93,22 @@ module _ (c : Content) (t i : ℕ) (same : i ≡ t) (thread : Thread) (reads : t
         frames = there.1;
         answer = answer_of done.0 o statics printed outcome;
         there = there.2;
-        done = done.2;
+        done = subst (λ u. IsDone c.tree u there.1 c.objects c.statics c.printed (answer_of done.0 o statics printed outcome)) own done.2;
         comes = refl;
         is = ap (λ (k : ℕ). record c { threads = slice_set c.threads k new; objects = o; statics = statics; printed = printed }) same
             ∙ ap (λ (x : Thread). record c { threads = slice_set c.threads t x; objects = o; statics = statics; printed = printed }) new_is;
       }
 
+-- ---- a ready thread
+
+-- its instruction has an answer
+pub ready_for : (c : Content) (t : ℕ) (m : Frames) (mutator : Mutator) → mutator ≡ mutator_of c t → IsReady c t m → (op : Operation) → IsAt c.tree m op → HasSmallConstant op → IsSome (operation_turn c.tree mutator op m c.objects c.statics c.printed)
+ready_for c t m mutator own ready op at small = subst (λ u. IsSome (operation_turn c.tree u op m c.objects c.statics c.printed)) (sym own) (ready.there op at small)
+
 -- ---- a start that nothing hinders
 
-pub started_is : (tree : Tree) (limits : Limits) (threads : List Thread) (o : Objects) (a : Addr) (new : Thread) (after : List Thread × Objects × Effect) → start_fault threads o a ≡ None → thread_for tree limits o a ≡ Some new
-    → after ≡ with_start threads o a new → Some after ≡ started tree limits threads o a
-started_is tree limits threads o a new after free is e =
+pub started_is : (phase : Phase) (tree : Tree) (limits : Limits) (threads : List Thread) (o : Objects) (a : Addr) (new : Thread) (after : List Thread × Objects × Effect) → start_fault threads o a ≡ None → thread_for tree limits o a ≡ Some new
+    → after ≡ with_start phase threads o a new → Some after ≡ started phase tree limits threads o a
+started_is phase tree limits threads o a new after free is e =
     let refuse : Fault → Option (List Thread × Objects × Effect) = λ x. Some (threads, o, Raises x) in
-    ap Some e ∙ sym (ap (λ (f : Option Fault). option_map_or refuse f (option_map (with_start threads o a) (thread_for tree limits o a))) free ∙ ap (option_map (with_start threads o a)) is)
+    ap Some e ∙ sym (ap (λ (f : Option Fault). option_map_or refuse f (option_map (with_start phase threads o a) (thread_for tree limits o a))) free ∙ ap (option_map (with_start phase threads o a)) is)

@@ -24,6 +24,9 @@ use Rattle.cil_model.proofs.Legal.{entry_alone}
 use Rattle.name_tables.specs.declared.lookups.MemberNumber.{MemberNumber}
 use Rattle.name_tables.specs.Numbers.{declarations, method_at, source_entry}
 use Rattle.resolved_code.proofs.ClassNumbers.{FoundAt, found_at, number_of_place as class_of_place}
+use Rattle.phase_handshake.specs.Handshakes.{Handshakes, first_handshakes}
+use Rattle.step_simulation.specs.simulation.collector.Phases.{no_progress}
+use Rattle.step_simulation.specs.simulation.collector.declared.progress.Progress.{Progress}
 use Rattle.step_simulation.specs.simulation.programs.Contents.{IsEntryPoint}
 use Rattle.object_memory.specs.declared.addresses.Addr.{Addr}
 use Rattle.object_memory.specs.declared.values.Value.{Value}
@@ -110,15 +113,17 @@ module _ (tree : Tree) where
 
       -- part by part
       pub opened_as : (found : ClassName × Method) (n : ℕ) → slice_get (entry_points tree) 0 ≡ Some found → slice_get (all_methods tree) n ≡ Some found →
-          (threads : List Thread) → threads ≡ thread_at limits found [] n ∷ [] → (objects : Objects) → objects ≡ no_objects limits.words (length (literals_of tree)) →
+          (threads : List Thread) → threads ≡ thread_at limits found [] n ∷ [] → (posts : Handshakes) → posts ≡ first_handshakes → (progress : Progress) → progress ≡ no_progress → (objects : Objects) → objects ≡ no_objects limits.words (length (literals_of tree)) →
           (statics : List Value) → statics ≡ flat_map (λ (c : Class). zeros_of (declared_fields c)) tree.classes → (printed : List ℕ) → printed ≡ [] →
-          opening_content tree limits ≡ Some (record { tree = tree; limits = limits; threads = threads; objects = objects; statics = statics; printed = printed })
-      opened_as found n entry there threads t objects o statics s printed p =
+          opening_content tree limits ≡ Some (record { tree = tree; limits = limits; threads = threads; posts = posts; progress = progress; objects = objects; statics = statics; printed = printed })
+      opened_as found n entry there threads t posts h progress g objects o statics s printed p =
           content_opens found n entry there ∙
-          ap (λ (x : List Thread). Some (record { tree = tree; limits = limits; threads = x; objects = no_objects limits.words (length (literals_of tree)); statics = map zero_of_typed (static_fields tree); printed = [] })) (sym t) ∙
-          ap (λ (x : Objects). Some (record { tree = tree; limits = limits; threads = threads; objects = x; statics = map zero_of_typed (static_fields tree); printed = [] })) (sym o) ∙
-          ap (λ (x : List Value). Some (record { tree = tree; limits = limits; threads = threads; objects = objects; statics = x; printed = [] })) (statics_at_first ∙ sym s) ∙
-          ap (λ (x : List ℕ). Some (record { tree = tree; limits = limits; threads = threads; objects = objects; statics = statics; printed = x })) (sym p)
+          ap (λ (x : List Thread). Some (record { tree = tree; limits = limits; threads = x; posts = first_handshakes; progress = no_progress; objects = no_objects limits.words (length (literals_of tree)); statics = map zero_of_typed (static_fields tree); printed = [] })) (sym t) ∙
+          ap (λ (x : Handshakes). Some (record { tree = tree; limits = limits; threads = threads; posts = x; progress = no_progress; objects = no_objects limits.words (length (literals_of tree)); statics = map zero_of_typed (static_fields tree); printed = [] })) (sym h) ∙
+          ap (λ (x : Progress). Some (record { tree = tree; limits = limits; threads = threads; posts = posts; progress = x; objects = no_objects limits.words (length (literals_of tree)); statics = map zero_of_typed (static_fields tree); printed = [] })) (sym g) ∙
+          ap (λ (x : Objects). Some (record { tree = tree; limits = limits; threads = threads; posts = posts; progress = progress; objects = x; statics = map zero_of_typed (static_fields tree); printed = [] })) (sym o) ∙
+          ap (λ (x : List Value). Some (record { tree = tree; limits = limits; threads = threads; posts = posts; progress = progress; objects = objects; statics = x; printed = [] })) (statics_at_first ∙ sym s) ∙
+          ap (λ (x : List ℕ). Some (record { tree = tree; limits = limits; threads = threads; posts = posts; progress = progress; objects = objects; statics = statics; printed = x })) (sym p)
 
       -- the thread that begins on an object is at the method that is chosen for it
       pub thread_for_chosen : (o : Objects) (a : Addr) (found : ClassName × Method) (n : ℕ) → chosen_at tree o a run_member ≡ Some found → slice_get (all_methods tree) n ≡ Some found →

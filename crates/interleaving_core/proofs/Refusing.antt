@@ -7,7 +7,8 @@ use Rattle.cil_model.specs.declared.events.Event.TheVariants.{Step}
 use Rattle.cil_model.specs.declared.reports.Fault.{Fault}
 use Rattle.cil_model.specs.declared.reports.Report.{Report}
 use Rattle.object_memory.specs.declared.addresses.Addr.{Addr}
-use Rattle.object_memory.specs.Objects.{Objects, with_slot}
+use Rattle.object_memory.specs.Objects.{Objects}
+use Rattle.step_simulation.specs.simulation.instructions.barriers.Barriers.{stored_int}
 use Rattle.threads_monitors.specs.Frames.{Frames}
 use Rattle.threads_monitors.specs.Threads.{join_effect, start_fault, with_start}
 use Rattle.threads_monitors.specs.declared.effects.Effect.{Effect}
@@ -16,8 +17,8 @@ use Rattle.threads_monitors.specs.declared.threads.Thread.{Thread}
 use Rattle.step_simulation.specs.simulation.interpreter.Instructions.{IsDone, Prints, Answer}
 use Rattle.step_simulation.specs.simulation.interpreter.declared.outcomes.Outcome.{Outcome}
 use Rattle.step_simulation.specs.simulation.interpreter.declared.outcomes.Outcome.TheVariants.{Comes, Starts, Joins}
-use Rattle.step_simulation.specs.simulation.MachineContents.{Content}
-use Rattle.step_simulation.specs.simulation.Turns.{IsThreadTurn, IsTurn, PrintsOrStarts, after_request, counted, finished, left_by, live_thread, started, thread_for}
+use Rattle.step_simulation.specs.simulation.MachineContents.{Content, mutator_of}
+use Rattle.step_simulation.specs.simulation.Turns.{IsThreadTurn, IsTurn, PrintsOrStarts, after_request, counted, finished, left_by, live_thread, started, thread_for, seated}
 use Rattle.step_simulation.specs.simulation.Ready.{IsAnswerable}
 use Rattle.interleaving_core.specs.Finishing.{IsInstructed}
 use Rattle.step_simulation.proofs.Finished.{finished_printed}
@@ -34,15 +35,15 @@ there_mapped f None h = absurd cc
 module _ (c : Content) (t left : ℕ) (a : Answer) where
   -- the content and the report, where a start left so much
   abbrev started_in : List Thread × Objects × Effect → Content × Report
-  started_in x = counted (record (left_by c t left a) { threads = x.0; objects = x.1 }) t left x.2 (after_request x.2 a.frames)
+  started_in x = counted (record (left_by c t left a) { threads = x.0; posts = seated x.2 c.posts (length (left_by c t left a).threads) t; objects = x.1 }) t left x.2 (after_request x.2 a.frames)
 
   -- a start that can be answered has an answer
   module _ (object : Addr) (can : start_fault (left_by c t left a).threads a.objects object ≡ None → IsSome (thread_for c.tree c.limits a.objects object)) where
-    started_there : IsSome (started c.tree c.limits (left_by c t left a).threads a.objects object)
+    started_there : IsSome (started (mutator_of c t).phase c.tree c.limits (left_by c t left a).threads a.objects object)
     started_there = by_fault (start_fault (left_by c t left a).threads a.objects object) (thread_for c.tree c.limits a.objects object) can
       where
         by_fault : (f : Option Fault) (new : Option Thread) → (f ≡ None → IsSome new) →
-            IsSome (option_map_or {U = Option (List Thread × Objects × Effect)} (λ x. Some ((left_by c t left a).threads, a.objects, Raises x)) f (option_map (with_start (left_by c t left a).threads a.objects object) new))
+            IsSome (option_map_or {U = Option (List Thread × Objects × Effect)} (λ x. Some ((left_by c t left a).threads, a.objects, Raises x)) f (option_map (with_start (mutator_of c t).phase (left_by c t left a).threads a.objects object) new))
         by_fault (Some x) new h = refl
         by_fault None (Some new) h = refl
         by_fault None None h = h refl
@@ -52,16 +53,16 @@ module _ (c : Content) (t left : ℕ) (a : Answer) where
   finished_there (Joins object) h =
       let effect = join_effect (left_by c t left a).threads a.objects object in (counted (left_by c t left a) t left effect (after_request effect a.frames), refl)
   finished_there (Starts object) h =
-      let x = there_mapped started_in (started c.tree c.limits (left_by c t left a).threads a.objects object) (started_there object h.1) in (started_in x.0, x.2)
+      let x = there_mapped started_in (started (mutator_of c t).phase c.tree c.limits (left_by c t left a).threads a.objects object) (started_there object h.2) in (started_in x.0, x.2)
 
   -- a start without a fault brings one thread more
   one_more : (object : Addr) → IsAnswerable c t left a (Starts object) → start_fault (left_by c t left a).threads a.objects object ≡ None → (after : Content × Report) × (finished c t left a (Starts object) ≡ Some after) × (length c.threads < length after.0.threads)
   one_more object h free =
-      let new = there_mapped (with_start (left_by c t left a).threads a.objects object) (thread_for c.tree c.limits a.objects object) (h.1 free) in
+      let new = there_mapped (with_start (mutator_of c t).phase (left_by c t left a).threads a.objects object) (thread_for c.tree c.limits a.objects object) (h.2 free) in
       let threads = (left_by c t left a).threads in
-      let x : List Thread × Objects × Effect = (threads ++ new.0 ∷ [], with_slot a.objects object 0 (length threads + 1), GoesOn) in
-      let begun : started c.tree c.limits threads a.objects object ≡ Some x =
-      ap (λ (f : Option Fault). option_map_or {U = Option (List Thread × Objects × Effect)} (λ y. Some (threads, a.objects, Raises y)) f (option_map (with_start threads a.objects object) (thread_for c.tree c.limits a.objects object))) free
+      let x : List Thread × Objects × Effect = (threads ++ new.0 ∷ [], stored_int (mutator_of c t).phase a.objects object 0 (length threads + 1), GoesOn) in
+      let begun : started (mutator_of c t).phase c.tree c.limits threads a.objects object ≡ Some x =
+      ap (λ (f : Option Fault). option_map_or {U = Option (List Thread × Objects × Effect)} (λ y. Some (threads, a.objects, Raises y)) f (option_map (with_start (mutator_of c t).phase threads a.objects object) (thread_for c.tree c.limits a.objects object))) free
       ∙ (new.2 ∙ ap (λ (f : Option Fault). Some (option_map_or {U = List Thread × Objects × Effect} (λ y. (threads, a.objects, Raises y)) f x)) free) in
       let more : length (threads ++ new.0 ∷ []) ≡ length threads + 1 = length-append threads (new.0 ∷ []) in
       let same : length threads ≡ length c.threads = length-set c.threads t (live_thread left a.frames) in
@@ -69,11 +70,11 @@ module _ (c : Content) (t left : ℕ) (a : Answer) where
       (started_in x, ap (option_map started_in) begun, omega (arith, more, same, kept))
 
 module _ (c : Content) (t left : ℕ) (m : Frames) (there : slice_get c.threads t ≡ Some (live_thread left m)) where
-  turn_is : (a : Answer) → IsDone c.tree t m c.objects c.statics c.printed a → (after : Content × Report) → finished c t left a a.outcome ≡ Some after → IsTurn c (Step t) after
+  turn_is : (a : Answer) → IsDone c.tree (mutator_of c t) m c.objects c.statics c.printed a → (after : Content × Report) → finished c t left a a.outcome ≡ Some after → IsTurn c (Step t) after
   turn_is a done after is = subst (λ (o : Option Thread). IsThreadTurn c t o after) (sym there) (a, done, is)
 
   -- an instruction that prints
-  pub print_refused : ((a : Answer) → IsDone c.tree t m c.objects c.statics c.printed a → IsAnswerable c t left a a.outcome) → Prints c.tree t m c.objects c.statics c.printed → PrintsOrStarts c (Step t)
+  pub print_refused : ((a : Answer) → IsDone c.tree (mutator_of c t) m c.objects c.statics c.printed a → IsAnswerable c t left a a.outcome) → Prints c.tree (mutator_of c t) m c.objects c.statics c.printed → PrintsOrStarts c (Step t)
   print_refused can prints =
       let a = prints.0 in
       let answerable = can a prints.1 in

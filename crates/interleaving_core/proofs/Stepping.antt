@@ -2,13 +2,15 @@
 use Rattle.std.proofs.Common.{◌≡◌, ◌+◌, ℕ, true, false, List, [], ◌∷◌, ◌++◌, length, Option, Some, None, option_map, slice_get, refl, sym, ap, ◌∙◌, subst}
 use Rattle.std.specs.Option.{option_map_or}
 use Rattle.std.proofs.lemmas.Option.{same_Some}
+use Rattle.cil_model.specs.declared.phases.Phase.{Phase}
 use Rattle.cil_model.specs.declared.events.Event.TheVariants.{Step}
 use Rattle.cil_model.specs.declared.limits.Limits.{Limits}
 use Rattle.cil_model.specs.declared.reports.Fault.{Fault}
 use Rattle.cil_model.specs.declared.reports.Report.{Report}
 use Rattle.cil_model.specs.declared.trees.Tree.{Tree}
 use Rattle.object_memory.specs.declared.addresses.Addr.{Addr}
-use Rattle.object_memory.specs.Objects.{Objects, with_slot}
+use Rattle.object_memory.specs.Objects.{Objects}
+use Rattle.step_simulation.specs.simulation.instructions.barriers.Barriers.{stored_int}
 use Rattle.threads_monitors.specs.Frames.{Frames}
 use Rattle.threads_monitors.specs.Threads.{is_live, is_live_at, start_fault, with_start}
 use Rattle.threads_monitors.specs.declared.effects.Effect.{Effect}
@@ -18,7 +20,7 @@ use Rattle.threads_monitors.specs.declared.threads.Standing.TheVariants.{Live, E
 use Rattle.threads_monitors.specs.declared.threads.Thread.{Thread}
 use Rattle.step_simulation.specs.simulation.interpreter.declared.outcomes.Outcome.{Outcome}
 use Rattle.step_simulation.specs.simulation.interpreter.declared.outcomes.Outcome.TheVariants.{Starts}
-use Rattle.step_simulation.specs.simulation.MachineContents.{Content}
+use Rattle.step_simulation.specs.simulation.MachineContents.{Content, mutator_of}
 use Rattle.step_simulation.specs.simulation.Turns.{IsStandingTurn, IsThreadTurn, IsTurn, finish, finished, left_by, live_thread, started, thread_for}
 use Rattle.step_simulation.specs.simulation.Ready.{CanFinish, IsAnswerable}
 use Rattle.interleaving_core.specs.Finishing.{IsInstructed}
@@ -48,21 +50,21 @@ live_by threads n left m is = ap (λ o. option_map_or is_live o false) is
 
 -- ---- a start keeps the threads that there are
 
-with_start_keeps : (threads : List Thread) (o : Objects) (a : Addr) (new : Thread) (n : ℕ) (t : Thread) → slice_get threads n ≡ Some t → slice_get (with_start threads o a new).0 n ≡ Some t
-with_start_keeps threads o a new n t is = by_fault (start_fault threads o a)
+with_start_keeps : (phase : Phase) (threads : List Thread) (o : Objects) (a : Addr) (new : Thread) (n : ℕ) (t : Thread) → slice_get threads n ≡ Some t → slice_get (with_start phase threads o a new).0 n ≡ Some t
+with_start_keeps phase threads o a new n t is = by_fault (start_fault threads o a)
   where
-    by_fault : (f : Option Fault) → slice_get (option_map_or {U = List Thread × Objects × Effect} (λ x. (threads, o, Raises x)) f (threads ++ new ∷ [], with_slot o a 0 (length threads + 1), GoesOn)).0 n ≡ Some t
+    by_fault : (f : Option Fault) → slice_get (option_map_or {U = List Thread × Objects × Effect} (λ x. (threads, o, Raises x)) f (threads ++ new ∷ [], stored_int phase o a 0 (length threads + 1), GoesOn)).0 n ≡ Some t
     by_fault None = get_before threads (new ∷ []) n t is
     by_fault (Some x) = is
 
-pub started_keeps : (tree : Tree) (limits : Limits) (threads : List Thread) (o : Objects) (a : Addr) (n : ℕ) (t : Thread) (after : List Thread × Objects × Effect) → slice_get threads n ≡ Some t
-    → Some after ≡ started tree limits threads o a → slice_get after.0 n ≡ Some t
-started_keeps tree limits threads o a n t after is done = by_fault (start_fault threads o a) (thread_for tree limits o a) done
+pub started_keeps : (phase : Phase) (tree : Tree) (limits : Limits) (threads : List Thread) (o : Objects) (a : Addr) (n : ℕ) (t : Thread) (after : List Thread × Objects × Effect) → slice_get threads n ≡ Some t
+    → Some after ≡ started phase tree limits threads o a → slice_get after.0 n ≡ Some t
+started_keeps phase tree limits threads o a n t after is done = by_fault (start_fault threads o a) (thread_for tree limits o a) done
   where
-    by_fault : (f : Option Fault) (new : Option Thread) → Some after ≡ option_map_or (λ x. Some (threads, o, Raises x)) f (option_map (with_start threads o a) new) → slice_get after.0 n ≡ Some t
+    by_fault : (f : Option Fault) (new : Option Thread) → Some after ≡ option_map_or (λ x. Some (threads, o, Raises x)) f (option_map (with_start phase threads o a) new) → slice_get after.0 n ≡ Some t
     by_fault (Some x) new e = ap (λ (r : List Thread × Objects × Effect). slice_get r.0 n) (same_Some after (threads, o, Raises x) e) ∙ is
     by_fault None None e = none_is_some after (sym e)
-    by_fault None (Some new) e = ap (λ (r : List Thread × Objects × Effect). slice_get r.0 n) (same_Some after (with_start threads o a new) e) ∙ with_start_keeps threads o a new n t is
+    by_fault None (Some new) e = ap (λ (r : List Thread × Objects × Effect). slice_get r.0 n) (same_Some after (with_start phase threads o a new) e) ∙ with_start_keeps phase threads o a new n t is
 
 -- ---- both halves
 
@@ -86,7 +88,7 @@ module _ (c : Content) (t : ℕ) (outcome : Outcome) (after : Content) (half : I
   -- where the rest is refused all is as it was
   pub refused_back : (object : Addr) → outcome ≡ Starts object → after ≡ c
   refused_back object starts =
-      let same = start_changes_nothing half.frames c.objects c.statics c.printed c.tree t half.answer object half.done (half.comes ∙ starts) in
+      let same = start_changes_nothing half.frames c.objects c.statics c.printed c.tree (mutator_of c t) half.answer object half.done (half.comes ∙ starts) in
       half.is ∙ ap (left_by c t half.left) same ∙ ap (λ (x : List Thread). record c { threads = x }) (set_itself c.threads t (live_thread half.left half.frames) half.there)
 
 -- ---- what was asked for can be answered
@@ -98,10 +100,10 @@ same_frames left l m n e = same_live m n (ap (λ (x : Thread). x.standing) e)
     same_live x y h = cc
 
 module _ (c : Content) (t : ℕ) (outcome : Outcome) (after : Content) (half : IsInstructed c t outcome after) (answerable : IsAnswerable c t half.left half.answer half.answer.outcome) where
-  pub can_finish : (left : ℕ) (m : Frames) → slice_get after.threads t ≡ Some (live_thread left m) → CanFinish after m outcome
+  pub can_finish : (left : ℕ) (m : Frames) → slice_get after.threads t ≡ Some (live_thread left m) → CanFinish after t m outcome
   can_finish left m is =
-      let asked : CanFinish (left_by c t half.left half.answer) half.answer.frames outcome = subst (IsAnswerable c t half.left half.answer) half.comes answerable in
-      let there : CanFinish after half.answer.frames outcome = subst (λ (x : Content). CanFinish x half.answer.frames outcome) (sym half.is) asked in
+      let asked : CanFinish (left_by c t half.left half.answer) t half.answer.frames outcome = subst (IsAnswerable c t half.left half.answer) half.comes answerable in
+      let there : CanFinish after t half.answer.frames outcome = subst (λ (x : Content). CanFinish x t half.answer.frames outcome) (sym half.is) asked in
       let same : half.answer.frames ≡ m =
       same_frames half.left left half.answer.frames m (same_Some (live_thread half.left half.answer.frames) (live_thread left m) (sym (thread_left c t outcome after half) ∙ is)) in
-      subst (λ (x : Frames). CanFinish after x outcome) same there
+      subst (λ (x : Frames). CanFinish after t x outcome) same there

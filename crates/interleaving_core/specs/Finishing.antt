@@ -3,7 +3,7 @@ use Rattle.std.specs.Prelude.{◌≡◌, ℕ, Some, slice_get}
 use Rattle.threads_monitors.specs.Frames.{Frames}
 use Rattle.step_simulation.specs.simulation.interpreter.Instructions.{IsDone, Answer}
 use Rattle.step_simulation.specs.simulation.interpreter.declared.outcomes.Outcome.{Outcome}
-use Rattle.step_simulation.specs.simulation.MachineContents.{Content}
+use Rattle.step_simulation.specs.simulation.MachineContents.{Content, mutator_of}
 use Rattle.step_simulation.specs.simulation.Turns.{left_by, live_thread}
 
 -- the thread's instruction is done and came to this, and its step isn't counted yet
@@ -12,6 +12,6 @@ pub record IsInstructed (c : Content) (t : ℕ) (outcome : Outcome) (after : Con
   pub frames : Frames
   pub answer : Answer
   pub there : slice_get c.threads t ≡ Some (live_thread left frames)
-  pub done : IsDone c.tree t frames c.objects c.statics c.printed answer
+  pub done : IsDone c.tree (mutator_of c t) frames c.objects c.statics c.printed answer
   pub comes : answer.outcome ≡ outcome
   pub is : after ≡ left_by c t left answer

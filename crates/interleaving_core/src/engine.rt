@@ -8,12 +8,14 @@ ghost use Rattle.object_memory.specs.Objects.{object_slots};
 ghost use Rattle.object_memory.specs.declared.addresses.Addr.{Addr as AnyAddr};
 ghost use Rattle.cil_model.specs.declared.limits.TheConstants.{MOST_INSTRUCTIONS, MOST_THREADS};
 ghost use Rattle.cil_model.specs.declared.events.Event.TheVariants.{Step as StepOf, Ack as AckOf, Gc as GcOf};
+ghost use Rattle.step_simulation.specs.simulation.instructions.barriers.Barriers.{is_word_storable};
 ghost use Rattle.threads_monitors.specs.Frames.{Frames};
 ghost use Rattle.threads_monitors.specs.Threads.{is_live, is_live_at, start_fault};
 ghost use Rattle.step_simulation.specs.simulation.interpreter.declared.outcomes.Outcome.TheVariants.{Starts as StartsOn, Joins as JoinsOn};
 ghost use Rattle.step_simulation.specs.simulation.interpreter.Instructions.{Prints};
+ghost use Rattle.step_simulation.specs.simulation.MachineContents.{mutator_of};
 ghost use Rattle.step_simulation.specs.simulation.Ready.{CanFinish};
-ghost use Rattle.step_simulation.specs.simulation.Turns.{IsTurn, PrintsOrStarts, answered, counted, finish, live_thread, started, thread_for};
+ghost use Rattle.step_simulation.specs.simulation.Turns.{IsTurn, PrintsOrStarts, answered, counted, finish, live_thread, seated, started, thread_for};
 ghost use Rattle.interleaving_core.specs.Views.{CanGoOn, content_of, end_at};
 ghost use Rattle.interleaving_core.specs.Positions.{position_at};
 ghost use Rattle.interleaving_core.specs.Waits.{wait_at};
@@ -21,25 +23,29 @@ ghost use Rattle.interleaving_core.specs.Finishing.{IsInstructed};
 
 use crate::beginnings::beginning_on;
 use crate::positions::{Position, position_in};
-use crate::steps::{answer, instruct};
+use crate::steps::{answer, instruct, leave_if_ended, seat_started};
 use crate::waits::{Wait, wait_in};
 use cil_model::events::Event;
 use cil_model::limits::Limits;
 use cil_model::memory::NoMemory;
 use cil_model::reports::{End, Report};
 use object_memory::Addr;
+use phase_handshake::Posts;
 use std::alloc::Global;
+use step_simulation::collector_code::Progress;
 use step_simulation::interpreter_code::loaded_code::LoadedProgram;
 use step_simulation::interpreter_code::outcomes::Outcome;
 use step_simulation::interpreter_code::stores::Store;
-use threads_monitors::{Effect, Standing, Thread, join, start, start_fault};
+use threads_monitors::{Effect, Mutator, Standing, Thread, join, start, start_fault};
 
-/// A program, and all that changes while it runs.
+/// A program, and all that changes while it runs: its threads, what a collector has posted and how far it is, and what instructions work on.
 #[derive(Drop)]
 pub struct Engine {
     pub program: LoadedProgram,
     pub limits: Limits,
     pub threads: Vec<Thread>,
+    pub posts: Posts,
+    pub progress: Progress,
     pub store: Store,
 }
 
@@ -76,12 +82,15 @@ impl Engine {
         requires ready { CanGoOn self.old }
         requires live { is_live_at self.old.threads.items number ≡ true }
         ensures instructed { IfOk result (λ outcome. IsInstructed (content_of self.old) number outcome (content_of self.new)) }
-        ensures prints { OnErr result ((left : ℕ) (m : Frames) → slice_get self.old.threads.items number ≡ Some (live_thread left m) → Prints self.old.program number m self.old.store.heap self.old.store.statics.items self.old.store.console.items) }
+        ensures prints { OnErr result ((left : ℕ) (m : Frames) → slice_get self.old.threads.items number ≡ Some (live_thread left m) → Prints self.old.program (mutator_of (content_of self.old) number) m self.old.store.heap self.old.store.statics.items self.old.store.console.items) }
         ensures refused { OnErr result (content_of self.new ≡ content_of self.old) }
     {
         instruct(
             &mut self.threads[usize::from(number)],
-            number,
+            Mutator {
+                number,
+                phase: self.posts.phase(number),
+            },
             &self.program,
             &mut self.store,
         )
@@ -91,7 +100,7 @@ impl Engine {
     fn finish(&mut self, alloc: Global, number: u8, outcome: Outcome) -> Result<Report, NoMemory>
         requires limits { are_in_range self.old.limits ≡ true }
         requires live { is_live_at self.old.threads.items number ≡ true }
-        requires can { (left : ℕ) (m : Frames) → slice_get self.old.threads.items number ≡ Some (live_thread left m) → CanFinish (content_of self.old) m outcome }
+        requires can { (left : ℕ) (m : Frames) → slice_get self.old.threads.items number ≡ Some (live_thread left m) → CanFinish (content_of self.old) number m outcome }
         ensures finished { IfOk result (λ report. (left : ℕ) (m : Frames) → slice_get self.old.threads.items number ≡ Some (live_thread left m) → finish (content_of self.old) number left m outcome ≡ Some (content_of self.new, report)) }
         ensures free { OnErr result ((object : AnyAddr) × (outcome ≡ StartsOn object) × (start_fault self.old.threads.items self.old.store.heap object ≡ None)) }
         ensures refused { OnErr result ((object : AnyAddr) × (outcome ≡ StartsOn object) × (content_of self.new ≡ content_of self.old)) }
@@ -107,19 +116,19 @@ impl Engine {
     fn finish_start(&mut self, alloc: Global, number: u8, object: Addr) -> Result<Report, NoMemory>
         requires limits { are_in_range self.old.limits ≡ true }
         requires live { is_live_at self.old.threads.items number ≡ true }
-        requires can { (left : ℕ) (m : Frames) → slice_get self.old.threads.items number ≡ Some (live_thread left m) → CanFinish (content_of self.old) m (StartsOn object) }
+        requires can { (left : ℕ) (m : Frames) → slice_get self.old.threads.items number ≡ Some (live_thread left m) → CanFinish (content_of self.old) number m (StartsOn object) }
         ensures finished { IfOk result (λ report. (left : ℕ) (m : Frames) → slice_get self.old.threads.items number ≡ Some (live_thread left m) → finish (content_of self.old) number left m (StartsOn object) ≡ Some (content_of self.new, report)) }
         ensures free { OnErr result (start_fault self.old.threads.items self.old.store.heap object ≡ None) }
         ensures refused { OnErr result (content_of self.new ≡ content_of self.old) }
     {
-        let effect = self.start(alloc, object)?;
+        let effect = self.start(alloc, number, object)?;
         Ok(self.answer(number, effect))
     }
 
     /// Counts the step of a live thread that asked for the end of another, and reports it.
     fn finish_join(&mut self, number: u8, object: Addr) -> Report
         requires live { is_live_at self.old.threads.items number ≡ true }
-        requires can { (left : ℕ) (m : Frames) → slice_get self.old.threads.items number ≡ Some (live_thread left m) → CanFinish (content_of self.old) m (JoinsOn object) }
+        requires can { (left : ℕ) (m : Frames) → slice_get self.old.threads.items number ≡ Some (live_thread left m) → CanFinish (content_of self.old) number m (JoinsOn object) }
         ensures { (left : ℕ) (m : Frames) → slice_get self.old.threads.items number ≡ Some (live_thread left m) → finish (content_of self.old) number left m (JoinsOn object) ≡ Some (content_of self.new, result) }
     {
         let effect = join(&self.threads, &self.store.heap, object);
@@ -131,7 +140,9 @@ impl Engine {
         requires live { is_live_at self.old.threads.items number ≡ true }
         ensures { (left : ℕ) (m : Frames) → slice_get self.old.threads.items number ≡ Some (live_thread left m) → counted (content_of self.old) number left effect m ≡ (content_of self.new, result) }
     {
-        self.threads[usize::from(number)].settle(effect)
+        let report = self.threads[usize::from(number)].settle(effect);
+        leave_if_ended(&mut self.posts, number, report);
+        report
     }
 
     /// Counts the step of a live thread that asked for something of another thread, and reports it.
@@ -141,16 +152,20 @@ impl Engine {
         requires behind { (left : ℕ) (m : Frames) → slice_get self.old.threads.items number ≡ Some (live_thread left m) → m.running.place < MOST_INSTRUCTIONS }
         ensures { (left : ℕ) (m : Frames) → slice_get self.old.threads.items number ≡ Some (live_thread left m) → answered (content_of self.old) number left m effect ≡ (content_of self.new, result) }
     {
-        answer(&mut self.threads[usize::from(number)], effect)
+        let report = answer(&mut self.threads[usize::from(number)], effect);
+        leave_if_ended(&mut self.posts, number, report);
+        report
     }
 
-    /// Starts a thread on an object, or tells why there is none. `NoMemory` where there is none for its frames; nothing is changed then.
-    fn start(&mut self, alloc: Global, object: Addr) -> Result<Effect, NoMemory>
+    /// Starts a thread on an object for the thread of a number, whose seat it is given, or tells why there is none. `NoMemory` where there
+    /// is none for its frames; nothing is changed then.
+    fn start(&mut self, alloc: Global, starter: u8, object: Addr) -> Result<Effect, NoMemory>
         requires limits { are_in_range self.old.limits ≡ true }
         requires slot { object ≢ null → 0 < length (object_slots self.old.store.heap object) }
+        requires ready { object ≢ null → is_word_storable (mutator_of (content_of self.old) starter).phase self.old.store.heap object 0 ≡ true }
         requires there { start_fault self.old.threads.items self.old.store.heap object ≡ None → IsSome (thread_for self.old.program self.old.limits self.old.store.heap object) }
-        ensures started { IfOk result (λ effect. Some (self.new.threads.items, self.new.store.heap, effect) ≡ started self.old.program self.old.limits self.old.threads.items self.old.store.heap object) }
-        ensures others { IfOk result (λ _. content_of self.new ≡ record (content_of self.old) { threads = self.new.threads.items; objects = self.new.store.heap }) }
+        ensures started { IfOk result (λ effect. Some (self.new.threads.items, self.new.store.heap, effect) ≡ started (mutator_of (content_of self.old) starter).phase self.old.program self.old.limits self.old.threads.items self.old.store.heap object) }
+        ensures others { IfOk result (λ effect. content_of self.new ≡ record (content_of self.old) { threads = self.new.threads.items; posts = seated effect (content_of self.old).posts (length self.old.threads.items) starter; objects = self.new.store.heap }) }
         ensures free { OnErr result (start_fault self.old.threads.items self.old.store.heap object ≡ None) }
         ensures refused { OnErr result (content_of self.new ≡ content_of self.old) }
     {
@@ -158,20 +173,26 @@ impl Engine {
             return Ok(Effect::Raises(fault));
         }
         let beginning = beginning_on(&self.program, self.limits, &self.store.heap, object);
-        start(
+        let number = self.threads.len();
+        let effect = start(
             alloc,
             &mut self.threads,
             &mut self.store.heap,
+            self.posts.phase(starter),
             object,
             beginning,
-        )
+        )?;
+        seat_started(&mut self.posts, effect, number, starter);
+        Ok(effect)
     }
 
-    /// An acknowledgement of a thread. Nothing is posted until there is a collector, so it changes nothing.
+    /// An acknowledgement of a thread: of the posted phase, or else of the posted round. Where neither is open to it, nothing changes.
     fn acknowledge(&mut self, thread: u8) -> Report
         ensures { IsTurn (content_of self.old) (AckOf thread) (content_of self.new, result) }
     {
-        if self.is_live(thread) {
+        if self.posts.acknowledge(thread) {
+            Report::Acked
+        } else if self.is_live(thread) {
             Report::NothingPosted
         } else {
             Report::Absent

@@ -17,8 +17,10 @@ use cil_model::memory::NoMemory;
 use cil_model::trees::{Class, ClassKind, Field};
 use name_tables::classes::field_members;
 use object_memory::{Heap, Value};
+use phase_handshake::Posts;
 use space_block::Block;
 use std::alloc::Global;
+use step_simulation::collector_code::Progress;
 use step_simulation::interpreter_code::loaded_code::{LoadedProgram, value_kind};
 use step_simulation::interpreter_code::stores::Store;
 use threads_monitors::{Thread, zero_value};
@@ -91,6 +93,8 @@ pub(crate) fn opened(alloc: Global, program: Verified, limits: Limits) -> Result
         program,
         limits,
         threads,
+        posts: Posts::new(),
+        progress: Progress::none(),
         store: Store {
             heap,
             statics,

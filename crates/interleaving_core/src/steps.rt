@@ -8,34 +8,35 @@ ghost use Rattle.threads_monitors.specs.Threads.{is_live, settled};
 ghost use Rattle.threads_monitors.specs.declared.threads.Standing.TheVariants.{Live};
 ghost use Rattle.step_simulation.specs.simulation.interpreter.Instructions.{HasSmallConstant, IsAt, IsDone, Prints, line_at, operation_turn, answer_of};
 ghost use Rattle.step_simulation.specs.simulation.interpreter.Stores.{HoldSame};
-ghost use Rattle.step_simulation.specs.simulation.Turns.{after_request};
+ghost use Rattle.step_simulation.specs.simulation.Turns.{after_request, seated, seats_after};
 
 use cil_model::memory::NoMemory;
 use cil_model::reports::Report;
+use phase_handshake::Posts;
 use step_simulation::interpreter_code::loaded_code::LoadedProgram;
 use step_simulation::interpreter_code::outcomes::Outcome;
 use step_simulation::interpreter_code::places::instruction;
 use step_simulation::interpreter_code::stores::Store;
-use threads_monitors::{Effect, FrameMemory, Standing, Thread};
+use threads_monitors::{Effect, FrameMemory, Mutator, Standing, Thread};
 
 /// The instruction at a live thread's place. `NoMemory` of a print alone, where nothing is changed.
 pub(crate) fn instruct(
     thread: &mut Thread,
-    number: u8,
+    mutator: Mutator,
     program: &LoadedProgram,
     store: &mut Store,
 ) -> Result<Outcome, NoMemory>
     requires live { is_live thread.old ≡ true }
     requires place { (m : Frames) → thread.old.standing ≡ Live m → IsSome (line_at program.now m) }
-    requires there { (m : Frames) → thread.old.standing ≡ Live m → (op : AnyOperation) → IsAt program.now m op → HasSmallConstant op → IsSome (operation_turn program.now number op m store.old.heap store.old.statics.items store.old.console.items) }
-    ensures done { IfOk result (λ outcome. (m : Frames) → thread.old.standing ≡ Live m → (n : Frames) × (thread.new ≡ record thread.old { standing = Live n }) × IsDone program.now number m store.old.heap store.old.statics.items store.old.console.items (answer_of n store.new.heap store.new.statics.items store.new.console.items outcome)) }
-    ensures prints { OnErr result ((m : Frames) → thread.old.standing ≡ Live m → Prints program.now number m store.old.heap store.old.statics.items store.old.console.items) }
+    requires there { (m : Frames) → thread.old.standing ≡ Live m → (op : AnyOperation) → IsAt program.now m op → HasSmallConstant op → IsSome (operation_turn program.now mutator op m store.old.heap store.old.statics.items store.old.console.items) }
+    ensures done { IfOk result (λ outcome. (m : Frames) → thread.old.standing ≡ Live m → (n : Frames) × (thread.new ≡ record thread.old { standing = Live n }) × IsDone program.now mutator m store.old.heap store.old.statics.items store.old.console.items (answer_of n store.new.heap store.new.statics.items store.new.console.items outcome)) }
+    ensures prints { OnErr result ((m : Frames) → thread.old.standing ≡ Live m → Prints program.now mutator m store.old.heap store.old.statics.items store.old.console.items) }
     ensures refused { OnErr result ((thread.new ≡ thread.old) × HoldSame store.old store.new) }
 {
     let Standing::Live(frames) = &mut thread.standing else {
         unreachable!()
     };
-    instruction(program, number, frames, store)
+    instruction(program, mutator, frames, store)
 }
 
 /// Takes the operand of what was asked for, once that is done, and goes on to the instruction behind. Otherwise all stays.
@@ -62,4 +63,22 @@ pub(crate) fn answer(thread: &mut Thread, effect: Effect) -> Report
     };
     take_operand(frames, effect);
     thread.settle(effect)
+}
+
+/// Takes the seat of a thread whose step, of this report, was its last. Otherwise all stays.
+pub(crate) fn leave_if_ended(posts: &mut Posts, number: u8, report: Report)
+    ensures { posts.new ≡ seats_after posts.old number report }
+{
+    if let Report::Ended(_) = report {
+        posts.leave(number);
+    }
+}
+
+/// Gives a thread its starter's seat, where the start has come to that. Otherwise all stays.
+pub(crate) fn seat_started(posts: &mut Posts, effect: Effect, thread: usize, starter: u8)
+    ensures { posts.new ≡ seated effect posts.old thread starter }
+{
+    if effect == Effect::GoesOn {
+        posts.join(thread, starter);
+    }
 }

@@ -7,6 +7,7 @@ use Rattle.object_memory.specs.declared.values.Value.{Value}
 use Rattle.object_memory.specs.Objects.{Objects}
 use Rattle.loaded_program.specs.declared.instructions.LinkedInstruction.{LinkedInstruction}
 use Rattle.loaded_program.specs.Loaded.{IsLinkedAt}
+use Rattle.threads_monitors.specs.declared.mutators.Mutator.{Mutator}
 use Rattle.threads_monitors.specs.Frames.{Frames}
 use Rattle.interpreter.specs.Instructions.{HasSmallConstant, IsAt, operation_turn}
 use Rattle.interpreter.specs.Linked.{linked_turn}
@@ -26,9 +27,9 @@ module _ (tree : Tree) (m : Frames) (l : LinkedInstruction) (at : IsLinkedAt tre
   pub is_small : HasSmallConstant resolved
   is_small = at.linked.links.constant
 
-  module _ (thread : ℕ) (o : Objects) (ss : List Value) (c : List ℕ) (there : (op : Operation) → IsAt tree m op → HasSmallConstant op → IsSome (operation_turn tree thread op m o ss c)) where
-    pub does_the_same : linked_turn tree thread l m o ss c ≡ operation_turn tree thread resolved m o ss c
-    does_the_same = linked_does tree thread at.found m o ss c at.found_is resolved l at.linked.links.is (there resolved is_at is_small)
+  module _ (mutator : Mutator) (o : Objects) (ss : List Value) (c : List ℕ) (there : (op : Operation) → IsAt tree m op → HasSmallConstant op → IsSome (operation_turn tree mutator op m o ss c)) where
+    pub does_the_same : linked_turn tree mutator l m o ss c ≡ operation_turn tree mutator resolved m o ss c
+    does_the_same = linked_does tree mutator at.found m o ss c at.found_is resolved l at.linked.links.is (there resolved is_at is_small)
 
-    pub has_answer : IsSome (linked_turn tree thread l m o ss c)
+    pub has_answer : IsSome (linked_turn tree mutator l m o ss c)
     has_answer = subst IsSome (sym does_the_same) (there resolved is_at is_small)

@@ -24,11 +24,11 @@ use Rattle.loaded_program.specs.declared.instructions.LinkedInstruction.TheVaria
 use Rattle.loaded_program.specs.Operands.{slot_at, static_at, held_at, array_held, class_in, slots_at}
 use Rattle.loaded_program.specs.Links.{link, IsLinked, number_at}
 use Rattle.loaded_program.specs.Loaded.{has_value}
+use Rattle.threads_monitors.specs.declared.mutators.Mutator.{Mutator}
 use Rattle.threads_monitors.specs.Frames.{Frames}
-use Rattle.threads_monitors.specs.declared.effects.Effect.{Effect}
 use Rattle.threads_monitors.specs.declared.effects.Effect.TheVariants.{Raises}
 use Rattle.instructions.specs.Frames.{Turn, given, leaves}
-use Rattle.instructions.specs.ObjectTurns.{ObjectTurn, beside, load_field_turn, store_field_turn, new_array_turn, load_static_turn, store_static_turn}
+use Rattle.instructions.specs.ObjectTurns.{ObjectTurn, beside, beside_statics, load_field_turn, store_field_turn, new_array_turn, load_static_turn, store_static_turn}
 use Rattle.instructions.specs.Calls.{return_turn}
 use Rattle.interpreter.specs.declared.outcomes.Outcome.TheVariants.{Comes}
 use Rattle.interpreter.specs.Calls.{CallTurn, beside_console, call_answer, chosen, made, receiver, run_turn}
@@ -46,18 +46,18 @@ module _ (o : Objects) (ss : List Value) (c : List ℕ) where
   objects_called None = refl
   objects_called (Some t) = refl
 
-  frames_stored : (t : Turn) → of_frames o ss c t ≡ of_statics o ss c (option_map (λ (t : Frames × Effect). (t.0, ss, t.1)) t)
+  frames_stored : (t : Turn) → of_frames o ss c t ≡ of_statics o ss c (beside_statics (o, ss) t)
   frames_stored None = refl
   frames_stored (Some t) = refl
 
 -- ---- links
 
-module _ (tree : Tree) (thread : ℕ) (found : ClassName × Method) (m : Frames) (o : Objects) (ss : List Value) (c : List ℕ) where
+module _ (tree : Tree) (mutator : Mutator) (found : ClassName × Method) (m : Frames) (o : Objects) (ss : List Value) (c : List ℕ) where
   abbrev turn : LinkedInstruction → MachineTurn
-  turn l = linked_turn tree thread l m o ss c
+  turn l = linked_turn tree mutator l m o ss c
 
   abbrev does : Operation → MachineTurn
-  does op = operation_turn tree thread op m o ss c
+  does op = operation_turn tree mutator op m o ss c
 
   -- there is a linked instruction, and it does this
   abbrev Links : Option LinkedInstruction → MachineTurn → Type 0
@@ -89,10 +89,10 @@ module _ (tree : Tree) (thread : ℕ) (found : ClassName × Method) (m : Frames)
   call_links : (b : Bool) (owner : ℕ) (n : MemberNumber) → IsSome (does (Resolved.Call b owner n)) → Links (link tree (has_value found) (Resolved.Call b owner n)) (does (Resolved.Call b owner n))
   call_links b owner n there =
       given_links (method_at tree (n.class, n.place)) (λ x. option_map (λ number. Linked.Call number) (option_map (λ (run : ClassName × Method). flat_number tree n.class n.place) x))
-      (λ x. of_calls o ss c (given x (λ run. run_turn tree thread run m o c)))
+      (λ x. of_calls o ss c (given x (λ run. run_turn tree mutator run m o c)))
       (λ run run_is there.
       let at : at_flat n run = method_of_number tree n.class n.place run run_is in
-      (Linked.Call (flat_number tree n.class n.place), refl, ap (λ x. of_calls o ss c (given x (λ run. run_turn tree thread run m o c))) at))
+      (Linked.Call (flat_number tree n.class n.place), refl, ap (λ x. of_calls o ss c (given x (λ run. run_turn tree mutator run m o c))) at))
       refl there
 
   -- a virtual call, where the method that is named is known
@@ -100,14 +100,14 @@ module _ (tree : Tree) (thread : ℕ) (found : ClassName × Method) (m : Frames)
   called_virtually operands run =
       given (receiver m.running.stack operands) (λ a.
       if a.number == 0 then Some (call_answer m o c (Comes (Raises NullReference)))
-      else given (chosen tree o a run) (λ run. run_turn tree thread run m o c))
+      else given (chosen tree o a run) (λ run. run_turn tree mutator run m o c))
 
   virtual_links : (owner : ℕ) (n : MemberNumber) → IsSome (does (Resolved.CallVirtual owner n)) → Links (link tree (has_value found) (Resolved.CallVirtual owner n)) (does (Resolved.CallVirtual owner n))
   virtual_links owner n there =
       given_links (method_at tree (n.class, n.place)) (λ x. option_map (λ (run : ClassName × Method). Linked.CallVirtual (flat_number tree n.class n.place) (length (argument_types run.1 run.0))) x)
       (λ x. of_calls o ss c (given x (λ run. given (receiver m.running.stack (length (argument_types run.1 run.0))) (λ a.
       if a.number == 0 then Some (call_answer m o c (Comes (Raises NullReference)))
-      else given (option_and_then (chosen tree o a) x) (λ run. run_turn tree thread run m o c)))))
+      else given (option_and_then (chosen tree o a) x) (λ run. run_turn tree mutator run m o c)))))
       (λ run run_is there.
       let at : at_flat n run = method_of_number tree n.class n.place run run_is in
       (Linked.CallVirtual (flat_number tree n.class n.place) (length (argument_types run.1 run.0)), refl, ap (λ x. of_calls o ss c (given x (called_virtually (length (argument_types run.1 run.0))))) at))
@@ -119,18 +119,18 @@ module _ (tree : Tree) (thread : ℕ) (found : ClassName × Method) (m : Frames)
   new_links : (n : MemberNumber) → IsSome (does (Resolved.NewObject n)) → Links (link tree (has_value found) (Resolved.NewObject n)) (does (Resolved.NewObject n))
   new_links n there =
       given_links (class_in n) (λ x. option_and_then (λ class. option_and_then (λ slots. option_map (λ number. Linked.NewObject class slots number) (number_at tree n)) (slots_at tree n)) x)
-      (λ x. called (given x (λ class. given (slots_at tree n) (λ slots. given (method_at tree (n.class, n.place)) (λ run. made tree class slots run m o)))))
+      (λ x. called (given x (λ class. given (slots_at tree n) (λ slots. given (method_at tree (n.class, n.place)) (λ run. made tree mutator class slots run m o)))))
       (λ class class_is.
       given_links (slots_at tree n) (λ x. option_and_then (λ slots. option_map (λ number. Linked.NewObject class slots number) (number_at tree n)) x)
-      (λ x. called (given x (λ slots. given (method_at tree (n.class, n.place)) (λ run. made tree class slots run m o))))
+      (λ x. called (given x (λ slots. given (method_at tree (n.class, n.place)) (λ run. made tree mutator class slots run m o))))
       (λ slots slots_are.
       given_links (method_at tree (n.class, n.place)) (λ x. option_map (λ number. Linked.NewObject class slots number) (option_map (λ (run : ClassName × Method). flat_number tree n.class n.place) x))
-      (λ x. called (given x (λ run. made tree class slots run m o)))
+      (λ x. called (given x (λ run. made tree mutator class slots run m o)))
       (λ run run_is there.
       let at : at_flat n run = method_of_number tree n.class n.place run run_is in (
         Linked.NewObject class slots (flat_number tree n.class n.place),
         refl,
-        ap (λ x. of_objects o ss c (given x (λ run. made tree class slots run m o))) at ∙ objects_called o ss c (made tree class slots run m o),
+        ap (λ x. of_objects o ss c (given x (λ run. made tree mutator class slots run m o))) at ∙ objects_called o ss c (made tree mutator class slots run m o),
       ))
       refl)
       refl)
@@ -162,17 +162,17 @@ module _ (tree : Tree) (thread : ℕ) (found : ClassName × Method) (m : Frames)
     links (Resolved.Switch places) there = (Linked.Switch places, refl, refl)
     links (Resolved.LoadField owner n) there = field_links owner n there
     links (Resolved.StoreField owner n) there =
-        given_links (slot_at tree n) (λ x. option_map (λ slot. Linked.StoreField slot) x) (λ x. of_objects o ss c (given x (λ slot. store_field_turn slot m o)))
+        given_links (slot_at tree n) (λ x. option_map (λ slot. Linked.StoreField slot) x) (λ x. of_objects o ss c (given x (λ slot. store_field_turn mutator.phase slot m o)))
         (λ slot slot_is there. (Linked.StoreField slot, refl, refl)) refl there
     links (Resolved.LoadStaticField n) there =
         given_links (static_at tree n) (λ x. option_map (λ number. Linked.LoadStaticField number) x)
-        (λ x. of_statics o ss c (given x (λ number. option_map (λ (t : Frames × Effect). (t.0, ss, t.1)) (load_static_turn number m ss))))
+        (λ x. of_statics o ss c (given x (λ number. beside_statics (o, ss) (load_static_turn number m ss))))
         (λ number number_is there. (Linked.LoadStaticField number, refl, frames_stored o ss c (load_static_turn number m ss))) refl there
     links (Resolved.StoreStaticField n) there =
-        given_links (static_at tree n) (λ x. option_map (λ number. Linked.StoreStaticField number) x) (λ x. of_statics o ss c (given x (λ number. store_static_turn number m ss)))
+        given_links (static_at tree n) (λ x. option_map (λ number. Linked.StoreStaticField number) x) (λ x. of_statics o ss c (given x (λ number. store_static_turn mutator.phase number m o ss)))
         (λ number number_is there. (Linked.StoreStaticField number, refl, refl)) refl there
     links (Resolved.NewArray t) there =
-        given_links (array_held t) (λ x. option_map (λ element. Linked.NewArray element) x) (λ x. of_objects o ss c (given x (λ element. new_array_turn element m o)))
+        given_links (array_held t) (λ x. option_map (λ element. Linked.NewArray element) x) (λ x. of_objects o ss c (given x (λ element. new_array_turn mutator.phase element m o)))
         (λ element element_is there. (Linked.NewArray element, refl, refl)) refl there
     links Resolved.LoadLength there = (Linked.LoadLength, refl, refl)
     links Resolved.LoadElementInt32 there = (Linked.LoadElement Kind.Int32, refl, refl)

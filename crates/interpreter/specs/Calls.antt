@@ -23,6 +23,7 @@ use Rattle.object_memory.specs.Objects.{Objects, object_cell}
 use Rattle.loaded_program.specs.AllMethods.{all_methods}
 use Rattle.loaded_program.specs.MethodNumbers.{number_of}
 use Rattle.loaded_program.specs.Prepared.{local_kinds}
+use Rattle.threads_monitors.specs.declared.mutators.Mutator.{Mutator}
 use Rattle.threads_monitors.specs.Frames.{Frames}
 use Rattle.threads_monitors.specs.declared.effects.Effect.{Effect}
 use Rattle.threads_monitors.specs.declared.effects.Effect.TheVariants.{Raises}
@@ -69,13 +70,13 @@ abbrev pub asks : (Addr → Outcome) → Frames → Objects → List ℕ → Cal
 asks what m o console = option_map (λ a. call_answer m o console (what a)) (top_reference m.running.stack)
 
 -- what a member without code does
-abbrev pub act_turn : Tree → ℕ → Action → Frames → Objects → List ℕ → CallTurn
-act_turn tree thread Construct m o console = with_top m (λ v n. beside_console console (beside o (onward n)))
-act_turn tree thread Write m o console = option_map (λ (t : Frames × List ℕ × Effect). call_answer t.0 o t.1 (Comes t.2)) (write_turn (literals_of tree) console m)
-act_turn tree thread Enter m o console = beside_console console (enter_turn thread m o)
-act_turn tree thread Exit m o console = beside_console console (exit_turn thread m o)
-act_turn tree thread Start m o console = asks Starts m o console
-act_turn tree thread Join m o console = asks Joins m o console
+abbrev pub act_turn : Tree → Mutator → Action → Frames → Objects → List ℕ → CallTurn
+act_turn tree mutator Construct m o console = with_top m (λ v n. beside_console console (beside o (onward n)))
+act_turn tree mutator Write m o console = option_map (λ (t : Frames × List ℕ × Effect). call_answer t.0 o t.1 (Comes t.2)) (write_turn (literals_of tree) console m)
+act_turn tree mutator Enter m o console = beside_console console (enter_turn mutator m o)
+act_turn tree mutator Exit m o console = beside_console console (exit_turn mutator m o)
+act_turn tree mutator Start m o console = asks Starts m o console
+act_turn tree mutator Join m o console = asks Joins m o console
 
 -- ---- calls
 
@@ -84,14 +85,14 @@ abbrev pub called_as : ClassName × Method → ℕ → Called
 called_as found n = record { method = n; arguments = length (argument_types found.1 found.0); locals = local_kinds found.1 }
 
 -- a method that runs: an action of its own, or a frame (III.3.19)
-abbrev pub run_turn : Tree → ℕ → ClassName × Method → Frames → Objects → List ℕ → CallTurn
-run_turn tree thread found m o console =
-    option_map_or (λ a. act_turn tree thread a m o console) (action_of found.0 found.1)
+abbrev pub run_turn : Tree → Mutator → ClassName × Method → Frames → Objects → List ℕ → CallTurn
+run_turn tree mutator found m o console =
+    option_map_or (λ a. act_turn tree mutator a m o console) (action_of found.0 found.1)
     (given (number_of tree found) (λ n. beside_console console (beside o (call_turn (called_as found n) m))))
 
 -- the same of the method of a number
-abbrev pub run_at : Tree → ℕ → MemberNumber → Frames → Objects → List ℕ → CallTurn
-run_at tree thread n m o console = given (method_at tree (n.class, n.place)) (λ found. run_turn tree thread found m o console)
+abbrev pub run_at : Tree → Mutator → MemberNumber → Frames → Objects → List ℕ → CallTurn
+run_at tree mutator n m o console = given (method_at tree (n.class, n.place)) (λ found. run_turn tree mutator found m o console)
 
 -- the number of the class of an object of this kind; an array has none
 abbrev pub class_of_kind : Kind → Option ℕ
@@ -111,8 +112,8 @@ abbrev pub chosen_at : Tree → Objects → Addr → MemberNumber → Option (Cl
 chosen_at tree o a n = option_and_then (chosen tree o a) (method_at tree (n.class, n.place))
 
 -- the method that an object runs for the method of a number
-abbrev pub run_chosen : Tree → ℕ → Addr → MemberNumber → Frames → Objects → List ℕ → CallTurn
-run_chosen tree thread a n m o console = given (chosen_at tree o a n) (λ run. run_turn tree thread run m o console)
+abbrev pub run_chosen : Tree → Mutator → Addr → MemberNumber → Frames → Objects → List ℕ → CallTurn
+run_chosen tree mutator a n m o console = given (chosen_at tree o a n) (λ run. run_turn tree mutator run m o console)
 
 -- the object on which a method with so many operands is called
 abbrev pub receiver_in : Option Value → Option Addr
@@ -124,31 +125,31 @@ receiver stack zero = None
 receiver stack (suc n) = receiver_in (slice_get stack n)
 
 -- callvirt (III.4.2)
-abbrev pub virtual_at : Tree → ℕ → MemberNumber → Frames → Objects → List ℕ → CallTurn
-virtual_at tree thread n m o console =
+abbrev pub virtual_at : Tree → Mutator → MemberNumber → Frames → Objects → List ℕ → CallTurn
+virtual_at tree mutator n m o console =
     given (method_at tree (n.class, n.place)) (λ found.
     given (receiver m.running.stack (length (argument_types found.1 found.0))) (λ a.
-    if a.number == 0 then Some (call_answer m o console (Comes (Raises NullReference))) else run_chosen tree thread a n m o console))
+    if a.number == 0 then Some (call_answer m o console (Comes (Raises NullReference))) else run_chosen tree mutator a n m o console))
 
 -- an object, at once where its constructor is built in (III.4.21)
-abbrev pub made : Tree → ℕ → ℕ → ClassName × Method → Frames → Objects → ObjectTurn
-made tree class slots found m o =
-    option_map_or (λ a. new_plain_object_turn class slots m o) (action_of found.0 found.1)
-    (given (number_of tree found) (λ n. new_object_turn class slots (called_as found n) m o))
+abbrev pub made : Tree → Mutator → ℕ → ℕ → ClassName × Method → Frames → Objects → ObjectTurn
+made tree mutator class slots found m o =
+    option_map_or (λ a. new_plain_object_turn mutator.phase class slots m o) (action_of found.0 found.1)
+    (given (number_of tree found) (λ n. new_object_turn mutator.phase class slots (called_as found n) m o))
 
 -- newobj (III.4.21)
-abbrev pub new_at : Tree → MemberNumber → Frames → Objects → ObjectTurn
-new_at tree n m o =
-    given (class_in n) (λ class. given (slots_at tree n) (λ slots. given (method_at tree (n.class, n.place)) (λ found. made tree class slots found m o)))
+abbrev pub new_at : Tree → Mutator → MemberNumber → Frames → Objects → ObjectTurn
+new_at tree mutator n m o =
+    given (class_in n) (λ class. given (slots_at tree n) (λ slots. given (method_at tree (n.class, n.place)) (λ found. made tree mutator class slots found m o)))
 
 -- ret (III.3.57)
 abbrev pub return_rule : Tree → Frames → Turn
 return_rule tree m = given (slice_get (all_methods tree) m.running.method) (λ found. return_turn (is_some found.1.signature.return_type) m)
 
 -- calls, newobj and ret
-abbrev pub call_rule : Tree → ℕ → Operation → Frames → Objects → List ℕ → CallTurn
-call_rule tree thread (Call is_instance owner method) m o console = run_at tree thread method m o console
-call_rule tree thread (CallVirtual owner method) m o console = virtual_at tree thread method m o console
-call_rule tree thread (NewObject method) m o console = beside_console console (new_at tree method m o)
-call_rule tree thread Return m o console = beside_console console (beside o (return_rule tree m))
-call_rule tree thread _ m o console = None
+abbrev pub call_rule : Tree → Mutator → Operation → Frames → Objects → List ℕ → CallTurn
+call_rule tree mutator (Call is_instance owner method) m o console = run_at tree mutator method m o console
+call_rule tree mutator (CallVirtual owner method) m o console = virtual_at tree mutator method m o console
+call_rule tree mutator (NewObject method) m o console = beside_console console (new_at tree mutator method m o)
+call_rule tree mutator Return m o console = beside_console console (beside o (return_rule tree m))
+call_rule tree mutator _ m o console = None

@@ -1,6 +1,7 @@
 -- What runs for each resolved instruction (III.3, III.4). A rule has no answer where it is not that rule's instruction, or where an operand
 -- is missing or of another kind: no verified program comes there.
-use Rattle.std.specs.Prelude.{if◌then◌else◌, nat_lt, List, Option, None, option_map}
+use Rattle.std.specs.Prelude.{if◌then◌else◌, nat_lt, List, None}
+use Rattle.cil_model.specs.declared.phases.Phase.{Phase}
 use Rattle.cil_model.specs.declared.trees.Tree.{Tree}
 use Rattle.resolved_code.specs.declared.operations.Operation.{Operation}
 use Rattle.resolved_code.specs.declared.operations.Operation.TheVariants.{NoOperation, LoadInt32, LoadInt64, LoadNull, LoadString, LoadArgument, StoreArgument, LoadLocal, StoreLocal, Duplicate, Pop, Binary, Unary, Shift, Compare, ConvertInt32, ConvertInt64, Branch, BranchTrue, BranchFalse, BranchCompare, Switch, LoadField, StoreField, LoadStaticField, StoreStaticField, NewArray, LoadLength, LoadElementInt32, LoadElementInt64, LoadElementReference, StoreElementInt32, StoreElementInt64, StoreElementReference, CastClass, IsInstance}
@@ -11,9 +12,8 @@ use Rattle.object_memory.specs.declared.values.Value.{Value}
 use Rattle.object_memory.specs.declared.values.ValueKind.TheVariants.{Int32 as Int32Kind, Int64 as Int64Kind, Ref as RefKind}
 use Rattle.object_memory.specs.Objects.{Objects}
 pub use Rattle.loaded_program.specs.Operands.{small, key_at, slot_in, slot_at, static_in, static_at, held_at, element_held, array_held}
-use Rattle.instructions.specs.ObjectTurns.{ObjectTurn, load_field_turn, store_field_turn, load_length_turn, load_element_turn, store_element_turn, new_array_turn, load_static_turn, store_static_turn}
+use Rattle.instructions.specs.ObjectTurns.{ObjectTurn, StaticTurn, beside_statics, load_field_turn, store_field_turn, load_length_turn, load_element_turn, store_element_turn, new_array_turn, load_static_turn, store_static_turn}
 use Rattle.instructions.specs.TypeTurns.{cast_class_turn, is_instance_turn, store_reference_turn}
-use Rattle.threads_monitors.specs.declared.effects.Effect.{Effect}
 use Rattle.threads_monitors.specs.Frames.{Frames}
 use Rattle.instructions.specs.Frames.{Turn, given, jump, onward, leaves, argument_turn, local_turn, store_argument_turn, store_local_turn, duplicate_turn, pop_turn, binary_turn, unary_turn, shift_turn, compare_turn, convert_32_turn, convert_64_turn, branch_true_turn, branch_false_turn, branch_compare_turn, switch_turn}
 
@@ -39,52 +39,52 @@ stack_rule Pop m = pop_turn m
 stack_rule _ m = None
 
 -- arithmetic, comparisons and conversions; the objects tell which references are equal
-abbrev pub arithmetic_rule : Operation → Frames → Objects → Turn
-arithmetic_rule (Binary op) m o = binary_turn op m
-arithmetic_rule (Unary op) m o = unary_turn op m
-arithmetic_rule (Shift op) m o = shift_turn op m
-arithmetic_rule (Compare op) m o = compare_turn op m o
-arithmetic_rule ConvertInt32 m o = convert_32_turn m
-arithmetic_rule ConvertInt64 m o = convert_64_turn m
-arithmetic_rule _ m o = None
+abbrev pub arithmetic_rule : Phase → Operation → Frames → Objects → Turn
+arithmetic_rule phase (Binary op) m o = binary_turn op m
+arithmetic_rule phase (Unary op) m o = unary_turn op m
+arithmetic_rule phase (Shift op) m o = shift_turn op m
+arithmetic_rule phase (Compare op) m o = compare_turn phase op m o
+arithmetic_rule phase ConvertInt32 m o = convert_32_turn m
+arithmetic_rule phase ConvertInt64 m o = convert_64_turn m
+arithmetic_rule phase _ m o = None
 
 -- branches
-abbrev pub branch_rule : Operation → Frames → Objects → Turn
-branch_rule (Branch place) m o = jump place m
-branch_rule (BranchTrue place) m o = branch_true_turn place m
-branch_rule (BranchFalse place) m o = branch_false_turn place m
-branch_rule (BranchCompare op place) m o = branch_compare_turn op place m o
-branch_rule (Switch places) m o = switch_turn places m
-branch_rule _ m o = None
+abbrev pub branch_rule : Phase → Operation → Frames → Objects → Turn
+branch_rule phase (Branch place) m o = jump place m
+branch_rule phase (BranchTrue place) m o = branch_true_turn place m
+branch_rule phase (BranchFalse place) m o = branch_false_turn place m
+branch_rule phase (BranchCompare op place) m o = branch_compare_turn phase op place m o
+branch_rule phase (Switch places) m o = switch_turn places m
+branch_rule phase _ m o = None
 
 -- ---- instructions on objects
 
 -- fields (III.4.10, III.4.28)
-abbrev pub field_rule : Tree → Operation → Frames → Objects → ObjectTurn
-field_rule tree (LoadField owner field) m o = given (slot_at tree field) (λ slot. given (held_at tree field) (λ kind. load_field_turn kind slot m o))
-field_rule tree (StoreField owner field) m o = given (slot_at tree field) (λ slot. store_field_turn slot m o)
-field_rule tree _ m o = None
+abbrev pub field_rule : Phase → Tree → Operation → Frames → Objects → ObjectTurn
+field_rule phase tree (LoadField owner field) m o = given (slot_at tree field) (λ slot. given (held_at tree field) (λ kind. load_field_turn kind slot m o))
+field_rule phase tree (StoreField owner field) m o = given (slot_at tree field) (λ slot. store_field_turn phase slot m o)
+field_rule phase tree _ m o = None
 
 -- arrays (III.4.8, III.4.12, III.4.20, III.4.27)
-abbrev pub array_rule : Operation → Frames → Objects → ObjectTurn
-array_rule (NewArray t) m o = given (array_held t) (λ element. new_array_turn element m o)
-array_rule LoadLength m o = load_length_turn m o
-array_rule LoadElementInt32 m o = load_element_turn Int32Kind m o
-array_rule LoadElementInt64 m o = load_element_turn Int64Kind m o
-array_rule LoadElementReference m o = load_element_turn RefKind m o
-array_rule StoreElementInt32 m o = store_element_turn m o
-array_rule StoreElementInt64 m o = store_element_turn m o
-array_rule _ m o = None
+abbrev pub array_rule : Phase → Operation → Frames → Objects → ObjectTurn
+array_rule phase (NewArray t) m o = given (array_held t) (λ element. new_array_turn phase element m o)
+array_rule phase LoadLength m o = load_length_turn m o
+array_rule phase LoadElementInt32 m o = load_element_turn Int32Kind m o
+array_rule phase LoadElementInt64 m o = load_element_turn Int64Kind m o
+array_rule phase LoadElementReference m o = load_element_turn RefKind m o
+array_rule phase StoreElementInt32 m o = store_element_turn phase m o
+array_rule phase StoreElementInt64 m o = store_element_turn phase m o
+array_rule phase _ m o = None
 
 -- what asks for an object's own class (III.4.3, III.4.6, III.4.27)
-abbrev pub type_rule : Tree → Operation → Frames → Objects → ObjectTurn
-type_rule tree (CastClass t) m o = cast_class_turn tree t m o
-type_rule tree (IsInstance t) m o = is_instance_turn tree t m o
-type_rule tree StoreElementReference m o = store_reference_turn tree m o
-type_rule tree _ m o = None
+abbrev pub type_rule : Phase → Tree → Operation → Frames → Objects → ObjectTurn
+type_rule phase tree (CastClass t) m o = cast_class_turn tree t m o
+type_rule phase tree (IsInstance t) m o = is_instance_turn tree t m o
+type_rule phase tree StoreElementReference m o = store_reference_turn phase tree m o
+type_rule phase tree _ m o = None
 
--- static fields (III.4.14, III.4.30): the frames and the static fields
-abbrev pub static_rule : Tree → Operation → Frames → List Value → Option (Frames × List Value × Effect)
-static_rule tree (LoadStaticField field) m statics = given (static_at tree field) (λ n. option_map (λ (t : Frames × Effect). (t.0, statics, t.1)) (load_static_turn n m statics))
-static_rule tree (StoreStaticField field) m statics = given (static_at tree field) (λ n. store_static_turn n m statics)
-static_rule tree _ m statics = None
+-- static fields (III.4.14, III.4.30)
+abbrev pub static_rule : Phase → Tree → Operation → Frames → Objects → List Value → StaticTurn
+static_rule phase tree (LoadStaticField field) m o statics = given (static_at tree field) (λ n. beside_statics (o, statics) (load_static_turn n m statics))
+static_rule phase tree (StoreStaticField field) m o statics = given (static_at tree field) (λ n. store_static_turn phase n m o statics)
+static_rule phase tree _ m o statics = None

@@ -16,7 +16,7 @@ use instructions::{Callee, locks, printing, stack};
 use loaded_program::{Action, LoadedProgram};
 use name_tables::numbers::STRING;
 use object_memory::{Addr, Heap, Kind, Value};
-use threads_monitors::{Effect, FrameMemory};
+use threads_monitors::{Effect, FrameMemory, Mutator};
 
 /// The reference on top of the running frame's stack. It stays there.
 fn top_reference(frames: &FrameMemory) -> Addr
@@ -32,16 +32,16 @@ fn top_reference(frames: &FrameMemory) -> Addr
 /// What a built-in member without code does (ECMA-335 Partition IV). `NoMemory` of a print alone, where nothing is changed.
 fn act(
     program: &LoadedProgram,
-    thread: u8,
+    mutator: Mutator,
     action: Action,
     frames: &mut FrameMemory,
     store: &mut Store,
 ) -> Result<Outcome, NoMemory>
-    requires { IsSome (act_turn program.now thread (action_named action) frames.old store.old.heap store.old.console.items) }
-    ensures done { IfOk result (λ outcome. Some (call_answer frames.new store.new.heap store.new.console.items outcome) ≡ act_turn program.now thread (action_named action) frames.old store.old.heap store.old.console.items) }
+    requires { IsSome (act_turn program.now mutator (action_named action) frames.old store.old.heap store.old.console.items) }
+    ensures done { IfOk result (λ outcome. Some (call_answer frames.new store.new.heap store.new.console.items outcome) ≡ act_turn program.now mutator (action_named action) frames.old store.old.heap store.old.console.items) }
     ensures statics { store.new.statics.items ≡ store.old.statics.items }
     ensures refused { OnErr result ((frames.new ≡ frames.old) × HoldSame store.old store.new) }
-    ensures prints { OnErr result (prints store.old.console.items (act_turn program.now thread (action_named action) frames.old store.old.heap store.old.console.items) ≡ true) }
+    ensures prints { OnErr result (prints store.old.console.items (act_turn program.now mutator (action_named action) frames.old store.old.heap store.old.console.items) ≡ true) }
 {
     match action {
         Action::Construct => Ok(Outcome::Comes(stack::pop(frames))),
@@ -50,8 +50,8 @@ fn act(
             &mut store.console,
             program.program().literals(),
         )?)),
-        Action::Enter => Ok(Outcome::Comes(locks::enter(frames, &mut store.heap, thread))),
-        Action::Exit => Ok(Outcome::Comes(locks::exit(frames, &mut store.heap, thread))),
+        Action::Enter => Ok(Outcome::Comes(locks::enter(frames, &mut store.heap, mutator))),
+        Action::Exit => Ok(Outcome::Comes(locks::exit(frames, &mut store.heap, mutator))),
         Action::Start => Ok(Outcome::Starts(top_reference(frames))),
         Action::Join => Ok(Outcome::Joins(top_reference(frames))),
     }
@@ -61,20 +61,20 @@ fn act(
 /// `NoMemory` of a print alone, where nothing is changed.
 pub(crate) fn run(
     program: &LoadedProgram,
-    thread: u8,
+    mutator: Mutator,
     number: u32,
     frames: &mut FrameMemory,
     store: &mut Store,
 ) -> Result<Outcome, NoMemory>
-    requires { IsSome (call_numbered program.now thread number frames.old store.old.heap store.old.console.items) }
-    ensures done { IfOk result (λ outcome. Some (call_answer frames.new store.new.heap store.new.console.items outcome) ≡ call_numbered program.now thread number frames.old store.old.heap store.old.console.items) }
+    requires { IsSome (call_numbered program.now mutator number frames.old store.old.heap store.old.console.items) }
+    ensures done { IfOk result (λ outcome. Some (call_answer frames.new store.new.heap store.new.console.items outcome) ≡ call_numbered program.now mutator number frames.old store.old.heap store.old.console.items) }
     ensures statics { store.new.statics.items ≡ store.old.statics.items }
     ensures refused { OnErr result ((frames.new ≡ frames.old) × HoldSame store.old store.new) }
-    ensures prints { OnErr result (prints store.old.console.items (call_numbered program.now thread number frames.old store.old.heap store.old.console.items) ≡ true) }
+    ensures prints { OnErr result (prints store.old.console.items (call_numbered program.now mutator number frames.old store.old.heap store.old.console.items) ≡ true) }
 {
     let entry = program.method(number);
     match entry.action {
-        Some(action) => act(program, thread, action, frames, store),
+        Some(action) => act(program, mutator, action, frames, store),
         None => {
             let callee = Callee {
                 method: number,
@@ -115,48 +115,49 @@ pub fn class_number(heap: &Heap, object: Addr) -> Option<usize>
 /// `NullReference`. `NoMemory` of a print alone, where nothing is changed.
 pub(crate) fn run_virtual(
     program: &LoadedProgram,
-    thread: u8,
+    mutator: Mutator,
     number: u32,
     operands: usize,
     frames: &mut FrameMemory,
     store: &mut Store,
 ) -> Result<Outcome, NoMemory>
-    requires { IsSome (virtual_numbered program.now thread number operands frames.old store.old.heap store.old.console.items) }
-    ensures done { IfOk result (λ outcome. Some (call_answer frames.new store.new.heap store.new.console.items outcome) ≡ virtual_numbered program.now thread number operands frames.old store.old.heap store.old.console.items) }
+    requires { IsSome (virtual_numbered program.now mutator number operands frames.old store.old.heap store.old.console.items) }
+    ensures done { IfOk result (λ outcome. Some (call_answer frames.new store.new.heap store.new.console.items outcome) ≡ virtual_numbered program.now mutator number operands frames.old store.old.heap store.old.console.items) }
     ensures statics { store.new.statics.items ≡ store.old.statics.items }
     ensures refused { OnErr result ((frames.new ≡ frames.old) × HoldSame store.old store.new) }
-    ensures prints { OnErr result (prints store.old.console.items (virtual_numbered program.now thread number operands frames.old store.old.heap store.old.console.items) ≡ true) }
+    ensures prints { OnErr result (prints store.old.console.items (virtual_numbered program.now mutator number operands frames.old store.old.heap store.old.console.items) ≡ true) }
 {
     let object = receiver(frames, operands);
     if object.is_null() {
         return Ok(Outcome::Comes(Effect::Raises(Fault::NullReference)));
     }
     let target = program.target(number, class_number(&store.heap, object));
-    run(program, thread, target, frames, store)
+    run(program, mutator, target, frames, store)
 }
 
 /// `newobj` (ECMA-335 III.4.21) of a class, by its number and how many slots its objects have, with the constructor of a flat number.
 pub(crate) fn create(
     program: &LoadedProgram,
+    mutator: Mutator,
     class: u16,
     slots: u32,
     number: u32,
     frames: &mut FrameMemory,
     heap: &mut Heap,
 ) -> Effect
-    requires { IsSome (made_numbered program.now class slots number frames.old heap.old) }
-    ensures { Some (frames.new, heap.new, result) ≡ made_numbered program.now class slots number frames.old heap.old }
+    requires { IsSome (made_numbered program.now mutator class slots number frames.old heap.old) }
+    ensures { Some (frames.new, heap.new, result) ≡ made_numbered program.now mutator class slots number frames.old heap.old }
 {
     let entry = program.method(number);
     match entry.action {
-        Some(_) => new_plain_object(frames, heap, class, slots),
+        Some(_) => new_plain_object(frames, heap, mutator.phase, class, slots),
         None => {
             let callee = Callee {
                 method: number,
                 arguments: entry.arguments,
                 locals: entry.locals.as_slice(),
             };
-            new_object(frames, heap, class, slots, callee)
+            new_object(frames, heap, mutator.phase, class, slots, callee)
         }
     }
 }

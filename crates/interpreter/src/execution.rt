@@ -12,21 +12,21 @@ use cil_model::memory::NoMemory;
 use instructions::{arithmetic, arrays, branches, casts, fields, places, returns, stack, statics};
 use loaded_program::{LinkedInstruction, LoadedProgram};
 use object_memory::{Addr, Value};
-use threads_monitors::FrameMemory;
+use threads_monitors::{FrameMemory, Mutator};
 
 /// Does a linked instruction of a thread (ECMA-335 III.3, III.4). `NoMemory` of a print alone, where nothing is changed; no other
 /// instruction takes memory.
 pub(crate) fn execute(
     program: &LoadedProgram,
-    thread: u8,
+    mutator: Mutator,
     instruction: &LinkedInstruction,
     frames: &mut FrameMemory,
     store: &mut Store,
 ) -> Result<Outcome, NoMemory>
-    requires { IsSome (linked_turn program.now thread instruction.now frames.old store.old.heap store.old.statics.items store.old.console.items) }
-    ensures done { IfOk result (λ outcome. Some (answer_of frames.new store.new.heap store.new.statics.items store.new.console.items outcome) ≡ linked_turn program.now thread instruction.now frames.old store.old.heap store.old.statics.items store.old.console.items) }
+    requires { IsSome (linked_turn program.now mutator instruction.now frames.old store.old.heap store.old.statics.items store.old.console.items) }
+    ensures done { IfOk result (λ outcome. Some (answer_of frames.new store.new.heap store.new.statics.items store.new.console.items outcome) ≡ linked_turn program.now mutator instruction.now frames.old store.old.heap store.old.statics.items store.old.console.items) }
     ensures refused { OnErr result ((frames.new ≡ frames.old) × HoldSame store.old store.new) }
-    ensures prints { OnErr result (is_printing store.old.console.items (linked_turn program.now thread instruction.now frames.old store.old.heap store.old.statics.items store.old.console.items) ≡ true) }
+    ensures prints { OnErr result (is_printing store.old.console.items (linked_turn program.now mutator instruction.now frames.old store.old.heap store.old.statics.items store.old.console.items) ≡ true) }
 {
     match instruction {
         LinkedInstruction::NoOperation => Ok(Outcome::Comes(places::go_on(frames))),
@@ -72,6 +72,7 @@ pub(crate) fn execute(
         LinkedInstruction::Compare(comparison) => Ok(Outcome::Comes(arithmetic::compare(
             frames,
             &store.heap,
+            mutator.phase,
             *comparison,
         ))),
         LinkedInstruction::ConvertInt32 => Ok(Outcome::Comes(arithmetic::convert_to_32(frames))),
@@ -84,7 +85,7 @@ pub(crate) fn execute(
             frames, *place,
         ))),
         LinkedInstruction::BranchCompare(comparison, place) => Ok(Outcome::Comes(
-            branches::branch_compare(frames, &store.heap, *comparison, *place),
+            branches::branch_compare(frames, &store.heap, mutator.phase, *comparison, *place),
         )),
         LinkedInstruction::Switch(places) => Ok(Outcome::Comes(branches::switch(
             frames,
@@ -99,6 +100,7 @@ pub(crate) fn execute(
         LinkedInstruction::StoreField { slot } => Ok(Outcome::Comes(fields::store_field(
             frames,
             &mut store.heap,
+            mutator.phase,
             *slot,
         ))),
         LinkedInstruction::LoadStaticField(number) => Ok(Outcome::Comes(statics::load_static(
@@ -108,12 +110,15 @@ pub(crate) fn execute(
         ))),
         LinkedInstruction::StoreStaticField(number) => Ok(Outcome::Comes(statics::store_static(
             frames,
+            &mut store.heap,
+            mutator.phase,
             &mut store.statics,
             *number,
         ))),
         LinkedInstruction::NewArray(element) => Ok(Outcome::Comes(arrays::new_array(
             frames,
             &mut store.heap,
+            mutator.phase,
             *element,
         ))),
         LinkedInstruction::LoadLength => Ok(Outcome::Comes(arrays::load_length(
@@ -128,12 +133,14 @@ pub(crate) fn execute(
         LinkedInstruction::StoreElement => Ok(Outcome::Comes(arrays::store_element(
             frames,
             &mut store.heap,
+            mutator.phase,
         ))),
         LinkedInstruction::StoreElementReference => Ok(Outcome::Comes(casts::store_reference(
             program.program(),
             program.layout(),
             frames,
             &mut store.heap,
+            mutator.phase,
         ))),
         LinkedInstruction::CastClass(to) => Ok(Outcome::Comes(casts::cast_class(
             program.program(),
@@ -149,15 +156,23 @@ pub(crate) fn execute(
             &mut store.heap,
             *to,
         ))),
-        LinkedInstruction::Call(number) => run(program, thread, *number, frames, store),
+        LinkedInstruction::Call(number) => run(program, mutator, *number, frames, store),
         LinkedInstruction::CallVirtual { method, operands } => run_virtual(
-            program, thread, *method, *operands, frames, store,
+            program, mutator, *method, *operands, frames, store,
         ),
         LinkedInstruction::NewObject {
             class,
             slots,
             method,
-        } => Ok(Outcome::Comes(create(program, *class, *slots, *method, frames, &mut store.heap))),
+        } => Ok(Outcome::Comes(create(
+            program,
+            mutator,
+            *class,
+            *slots,
+            *method,
+            frames,
+            &mut store.heap,
+        ))),
         LinkedInstruction::Return { has_value } => Ok(Outcome::Comes(returns::return_from(
             frames, *has_value,
         ))),

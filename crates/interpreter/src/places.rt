@@ -12,7 +12,7 @@ use cil_model::memory::NoMemory;
 use loaded_program::LoadedProgram;
 use resolved_code::classes::body_of;
 use resolved_code::operations::Operation;
-use threads_monitors::FrameMemory;
+use threads_monitors::{FrameMemory, Mutator};
 
 /// The resolved instruction at the running frame's place. It takes no memory, and as long for each.
 pub fn operation_at<'a>(program: &'a LoadedProgram, frames: &FrameMemory) -> &'a Operation
@@ -33,16 +33,16 @@ pub fn operation_at<'a>(program: &'a LoadedProgram, frames: &FrameMemory) -> &'a
 /// changed; no other instruction takes memory.
 pub fn instruction(
     program: &LoadedProgram,
-    thread: u8,
+    mutator: Mutator,
     frames: &mut FrameMemory,
     store: &mut Store,
 ) -> Result<Outcome, NoMemory>
     requires place { IsSome (line_at program.now frames.old) }
-    requires there { (op : AnyOperation) → IsAt program.now frames.old op → HasSmallConstant op → IsSome (operation_turn program.now thread op frames.old store.old.heap store.old.statics.items store.old.console.items) }
-    ensures done { IfOk result (λ outcome. IsDone program.now thread frames.old store.old.heap store.old.statics.items store.old.console.items (answer_of frames.new store.new.heap store.new.statics.items store.new.console.items outcome)) }
+    requires there { (op : AnyOperation) → IsAt program.now frames.old op → HasSmallConstant op → IsSome (operation_turn program.now mutator op frames.old store.old.heap store.old.statics.items store.old.console.items) }
+    ensures done { IfOk result (λ outcome. IsDone program.now mutator frames.old store.old.heap store.old.statics.items store.old.console.items (answer_of frames.new store.new.heap store.new.statics.items store.new.console.items outcome)) }
     ensures refused { OnErr result ((frames.new ≡ frames.old) × HoldSame store.old store.new) }
-    ensures prints { OnErr result (Prints program.now thread frames.old store.old.heap store.old.statics.items store.old.console.items) }
+    ensures prints { OnErr result (Prints program.now mutator frames.old store.old.heap store.old.statics.items store.old.console.items) }
 {
     let instruction = program.instruction(frames.method(), frames.place());
-    execute(program, thread, instruction, frames, store)
+    execute(program, mutator, instruction, frames, store)
 }

@@ -4,7 +4,7 @@ use cil_model::events::Event;
 use cil_model::limits::{Limits, MOST_THREADS};
 use cil_model::memory::NoMemory;
 use cil_model::reports::{End, Fault, Report};
-use cil_plain::PlainMachine;
+use cil_plain::{PlainMachine, PlainNames};
 use ilasm_reader::read;
 use name_tables::built_in::BuiltInClass;
 use name_tables::lookups::NameTables;
@@ -66,7 +66,9 @@ fn compare_with(
     limits: Limits,
     events: &[Event],
 ) -> Result<Trial, Failure> {
-    match PlainMachine::new(alloc, &*names, limits)? {
+    let names = PlainNames::new(alloc, &*names)?;
+    let opened = PlainMachine::new(alloc, &names, limits)?;
+    match opened {
         None => no_entry_point(alloc),
         Some(mut plain) => Ok(run(alloc, machine, &mut plain, events)?),
     }

@@ -4,4 +4,6 @@ pub mod UnknownLaws
 pub mod MentionLaws
 pub mod ImplementLaws
 pub mod CountLaws
+pub mod MethodLaws
+pub mod KnownLaws
 pub mod OpenLaws

@@ -1,6 +1,6 @@
 -- Where each abstract method of a chain is overridden by the next nearer one, none fills a slot.
-use Rattle.std.proofs.Common.{◌≡◌, ◌==◌, ℕ, Bool, true, false, cond, not, ◌&&◌, ◌||◌, List, [], ◌∷◌, ◌++◌, Option, Some, None, option_and_then, slice_get, refl, sym, ap, ◌∙◌}
-use Rattle.std.specs.Prelude.{find, unwrap_or}
+use Rattle.std.proofs.Common.{◌≡◌, ◌==◌, ℕ, Bool, true, false, cond, not, ◌&&◌, ◌||◌, List, [], ◌∷◌, Option, Some, None, slice_get, refl, sym, ap, ◌∙◌}
+use Rattle.std.specs.Prelude.{unwrap_or}
 use Rattle.std.specs.List.{list_any}
 use Rattle.std.specs.Option.{option_map_or}
 use Rattle.std.proofs.lemmas.Bool.{or_parts, or_from, eqb-true, eq-eqb}
@@ -9,11 +9,10 @@ use Rattle.cil_model.specs.declared.trees.Tree.{Tree}
 use Rattle.cil_model.specs.declared.trees.Method.{Method}
 use Rattle.cil_model.specs.Declarations.{Declaration}
 use Rattle.cil_model.specs.Chains.{is_virtual, is_new_slot_method, is_abstract_method}
-use Rattle.name_tables.specs.Sameness.{MethodIdentity, same_identity, identity_of}
-use Rattle.name_tables.specs.SamenessLaws.{same_identity_equal}
+use Rattle.name_tables.specs.Sameness.{MethodIdentity, identity_of}
 use Rattle.name_tables.specs.Numbers.{declarations, chain_numbers, method_found}
-use Rattle.programs.specs.Found.{slot_filled_at, slot_numbered, open_numbered, is_left_open, class_leaves_open, is_override, top_over, top_open, hidden_over, hidden_open, stays_open, class_stays_open, IsSettled}
-use Rattle.programs.proofs.Tests.{and_false, and_true}
+use Rattle.programs.specs.Found.{slot_filled_at, slot_numbered, open_numbered, is_left_open, class_leaves_open, is_override, top_open, hidden_open, stays_open, IsSettled}
+use Rattle.programs.proofs.Tests.{and_false}
 
 abbrev is_abstract : Method → Bool
 is_abstract m = is_abstract_method m.kind
@@ -76,64 +75,6 @@ module _ (tree : Tree) where
         by_hidden : (b : Bool) → hidden_open tree k ns ≡ b → b || top_open tree k ns ≡ true
         by_hidden true e = refl
         by_hidden false e = (shown ns p e).0
-
-  -- ---- what stays open is declared in the chain
-
-  found_concrete : (k : MethodIdentity) (chain : List ℕ) (ms : List Method) → stays_open tree k chain ≡ true → list_any (λ (m : Method). is_abstract m && stays_open tree (identity_of m) chain) ms ≡ false →
-      option_map_or is_abstract (find (λ m. same_identity k (identity_of m)) ms) false ≡ false
-  found_concrete k chain [] stays h = refl
-  found_concrete k chain (m ∷ ms) stays h = by_test (same_identity k (identity_of m)) refl (found_concrete k chain ms stays (or_parts _ _ h).1)
-    where
-      by_test : (b : Bool) → same_identity k (identity_of m) ≡ b → option_map_or is_abstract (find (λ x. same_identity k (identity_of x)) ms) false ≡ false →
-          option_map_or is_abstract (cond b (Some m) (find (λ x. same_identity k (identity_of x)) ms)) false ≡ false
-      by_test false e rest = rest
-      by_test true e rest =
-          let own : stays_open tree (identity_of m) chain ≡ true = sym (ap (λ x. stays_open tree x chain) (same_identity_equal k (identity_of m) e)) ∙ stays in
-          sym (and_true (is_abstract m)) ∙ sym (ap (λ b. is_abstract m && b) own) ∙ (or_parts _ _ h).0
-
-  method_concrete : (k : MethodIdentity) (chain : List ℕ) (n : ℕ) → stays_open tree k chain ≡ true → class_stays_open tree chain n ≡ false → option_map_or is_abstract (method_found tree k n) false ≡ false
-  method_concrete k chain n stays h = by_entry (slice_get (declarations tree) n) h
-    where
-      by_entry : (o : Option (ClassName × Declaration)) → option_map_or (λ (e : ClassName × Declaration). list_any (λ (m : Method). is_abstract m && stays_open tree (identity_of m) chain) e.1.methods) o false ≡ false →
-          option_map_or is_abstract (option_and_then (λ (e : ClassName × Declaration). find (λ m. same_identity k (identity_of m)) e.1.methods) o) false ≡ false
-      by_entry None h' = refl
-      by_entry (Some e) h' = found_concrete k chain e.1.methods stays h'
-
-  -- ---- chains that leave nothing open
-
-  top_concrete : (f : Option Method) (top : Bool) → option_map_or is_abstract f false ≡ false → top ≡ false → option_map_or is_abstract f top ≡ false
-  top_concrete None top h k = k
-  top_concrete (Some m) top h k = h
-
-  none_hidden : (f : Option Method) (hidden top : Bool) → hidden ≡ false → top ≡ false → option_map_or (λ (m : Method). hidden || (not (is_override m) && top)) f hidden ≡ false
-  none_hidden None hidden top h k = h
-  none_hidden (Some m) hidden top h k = or_from _ _ h (ap (λ b. not (is_override m) && b) k ∙ and_false (not (is_override m)))
-
-  neither : (k : MethodIdentity) (chain : List ℕ) → stays_open tree k chain ≡ true → (ns : List ℕ) → list_any (class_stays_open tree chain) ns ≡ false → (top_open tree k ns ≡ false) × (hidden_open tree k ns ≡ false)
-  neither k chain stays [] h = (refl, refl)
-  neither k chain stays (n ∷ ns) h =
-      let rest : (top_open tree k ns ≡ false) × (hidden_open tree k ns ≡ false) = neither k chain stays ns (or_parts _ _ h).1 in
-      (top_concrete (method_found tree k n) (top_open tree k ns) (method_concrete k chain n stays (or_parts _ _ h).0) rest.0, none_hidden (method_found tree k n) (hidden_open tree k ns) (top_open tree k ns) rest.1 rest.0)
-
-  -- where no class of a part declares what stays open in it, nothing does
-  pub part_settled : (ns : List ℕ) → list_any (class_stays_open tree ns) ns ≡ false → IsSettled tree ns
-  part_settled ns h k = by_stays (stays_open tree k ns) refl
-    where
-      by_stays : (b : Bool) → stays_open tree k ns ≡ b → stays_open tree k ns ≡ false
-      by_stays false e = e
-      by_stays true e = let rest : (top_open tree k ns ≡ false) × (hidden_open tree k ns ≡ false) = neither k ns e ns h in or_from _ _ rest.1 rest.0
-
-  -- a part before another that leaves nothing open
-  pub more_settled : (part rest : List ℕ) → IsSettled tree part → IsSettled tree rest → IsSettled tree (part ++ rest)
-  more_settled part rest h g k =
-      let same : (top_open tree k (part ++ rest) ≡ top_open tree k part) × (hidden_open tree k (part ++ rest) ≡ hidden_open tree k part) = over part in
-      ap (λ b. b || top_open tree k (part ++ rest)) same.1 ∙ ap (λ b. hidden_open tree k part || b) same.0 ∙ h k
-    where
-      over : (ns : List ℕ) → (top_open tree k (ns ++ rest) ≡ top_open tree k ns) × (hidden_open tree k (ns ++ rest) ≡ hidden_open tree k ns)
-      over [] = let both : (hidden_open tree k rest ≡ false) × (top_open tree k rest ≡ false) = or_parts (hidden_open tree k rest) (top_open tree k rest) (g k) in (both.1, both.0)
-      over (n ∷ ns) =
-          let further : (top_open tree k (ns ++ rest) ≡ top_open tree k ns) × (hidden_open tree k (ns ++ rest) ≡ hidden_open tree k ns) = over ns in
-          (ap (top_over tree k n) further.0, ap (λ b. hidden_over tree k n b (hidden_open tree k (ns ++ rest))) further.0 ∙ ap (hidden_over tree k n (top_open tree k ns)) further.1)
 
   -- ---- whole chains
 

@@ -1,36 +1,84 @@
 // Bases that lead round.
 
-ghost use Rattle.std.specs.Prelude.{◌≡◌, is_some};
+ghost use Rattle.std.specs.Prelude.{◌≡◌, ◌==◌, IfOk, is_some};
 ghost use Rattle.std.specs.List.{list_any};
 ghost use Rattle.cil_model.specs.Declarations.{source_name};
 ghost use Rattle.cil_model.specs.Legality.{is_own_base, has_cycle};
+ghost use Rattle.name_tables.specs.Methods.{line_of};
 
+use cil_model::memory::NoMemory;
 use cil_model::trees::Class;
+use inheritance::least_own_base;
 use name_tables::keys::ClassKey;
 use name_tables::lookups::NameTables;
+use std::alloc::Global;
 
-/// Whether a class stands in the chain of its base.
+/// Whether a class is met from another one on along its bases.
+fn is_along(names: &NameTables, first: Option<usize>, wanted: usize) -> bool
+    ensures { result ≡ list_any (λ n. n == wanted) (line_of names.now.classes.tree.now first) }
+{
+    let mut next = first;
+    let mut left = names.classes.longest_chain();
+    while left > 0 {
+        let Some(class) = next else {
+            return false;
+        };
+        if class == wanted {
+            return true;
+        }
+        next = names.base(class);
+        left -= 1;
+    }
+    false
+}
+
+/// Whether a class stands in the chain of its base. Most are seen at once to have bases that end.
 fn is_own_base(names: &NameTables, class: &Class) -> bool
     ensures { result ≡ is_own_base names.now.classes.tree.now (source_name class.now) }
 {
     let Some(number) = names.classes.number(ClassKey::of_source(class)) else {
         return false;
     };
-    let Some(base) = names.classes.base(number) else {
+    if names.ends(number) {
         return false;
-    };
-    names.chain(base).contains(&number)
+    }
+    is_along(names, names.base(number), number)
 }
 
-/// The first class that stands twice in its own chain; none where there is none (number 203).
-pub fn own_base(names: &NameTables) -> Option<usize>
-    ensures { is_some result ≡ has_cycle names.now.classes.tree.now }
+/// The place in the source of the least class that bases seem to lead back to. Fails for want of memory alone.
+fn suspect(alloc: Global, names: &NameTables) -> Result<Option<usize>, NoMemory> {
+    let sources = names.classes.tree.classes.as_slice().len();
+    let built_in = names.classes.names().len().saturating_sub(sources);
+    match least_own_base(alloc, names.bases())? {
+        None => Ok(None),
+        Some(number) => Ok(number.checked_sub(built_in)),
+    }
+}
+
+/// The first of these classes that stands twice in its own chain.
+fn first_own_base(names: &NameTables, classes: &[Class]) -> Option<usize>
+    ensures { is_some result ≡ list_any (λ c. is_own_base names.now.classes.tree.now (source_name c)) classes.now }
 {
-    let classes = names.classes.tree.classes.as_slice();
     for (class, declared) in classes.iter().enumerate() {
         if is_own_base(names, declared) {
             return Some(class);
         }
     }
     None
+}
+
+/// The first class that stands twice in its own chain; none where there is none (number 203). It is tried first where a walk along all
+/// bases met itself, so that no more than a few chains are gone along. Fails for want of memory alone.
+pub fn own_base(alloc: Global, names: &NameTables) -> Result<Option<usize>, NoMemory>
+    ensures { IfOk result (λ c. is_some c ≡ has_cycle names.now.classes.tree.now) }
+{
+    let classes = names.classes.tree.classes.as_slice();
+    if let Some(class) = suspect(alloc, names)? {
+        if let Some(declared) = classes.get(class) {
+            if is_own_base(names, declared) {
+                return Ok(Some(class));
+            }
+        }
+    }
+    Ok(first_own_base(names, classes))
 }

@@ -1,20 +1,26 @@
 // The methods of listed interfaces.
 
-ghost use Rattle.std.specs.Prelude.{◌≡◌, is_none, is_some, map};
+ghost use Rattle.std.specs.Prelude.{◌≡◌, IfOk, IfSome, Some, true, is_none, is_some, map, slice_get};
 ghost use Rattle.std.specs.List.{list_any, list_all};
 ghost use Rattle.cil_model.specs.Chains.{methods_declared};
 ghost use Rattle.cil_model.specs.Legality.{implements_all, lacks_implementation};
+ghost use Rattle.metadata.specs.Implemented.{has_all, AreKnown};
 ghost use Rattle.programs.specs.Found.{is_virtual_found};
 ghost use Rattle.name_tables.specs.Keys.{method_of_key};
+ghost use Rattle.name_tables.specs.Methods.{line_of, methods_at};
 ghost use Rattle.name_tables.specs.Sameness.{identity_of};
 
 use crate::doubled::interfaces_named;
 use crate::violations::{ListedMethod, NotImplemented};
+use cil_model::memory::NoMemory;
 use cil_model::trees::{Class, Method};
 use cil_model::types::ClassName;
+use inheritance::Endless;
 use name_tables::keys::{ClassKey, MethodKey};
 use name_tables::kinds::is_virtual;
 use name_tables::lookups::NameTables;
+use name_tables::methods::MethodTables;
+use std::alloc::Global;
 
 /// Whether the class of a number has a virtual method of this name and signature.
 fn has_virtual(names: &NameTables, class: usize, key: MethodKey) -> bool
@@ -26,51 +32,177 @@ fn has_virtual(names: &NameTables, class: usize, key: MethodKey) -> bool
     }
 }
 
-/// Whether some class of a chain has a virtual method of this name and signature (ECMA-335 II.12.2).
-fn implements_method(names: &NameTables, chain: &[usize], key: MethodKey) -> bool
-    ensures { result ≡ list_any (is_virtual_found names.now.classes.tree.now (method_of_key key.entry)) chain.now }
+/// Whether a class from one on along its bases has a virtual method of this name and signature.
+fn has_virtual_along(names: &NameTables, first: usize, key: MethodKey) -> bool
+    ensures { result ≡ list_any (is_virtual_found names.now.classes.tree.now (method_of_key key.entry)) (line_of names.now.classes.tree.now (Some first)) }
 {
-    for class in chain {
-        if has_virtual(names, *class, key) {
+    let mut next = Some(first);
+    let mut left = names.classes.longest_chain();
+    while left > 0 {
+        let Some(class) = next else {
+            return false;
+        };
+        if has_virtual(names, class, key) {
             return true;
         }
+        next = names.base(class);
+        left -= 1;
     }
     false
 }
 
-/// The first of the methods for which no class of a chain has a virtual one.
-fn absent_method(names: &NameTables, chain: &[usize], methods: &[&Method]) -> Option<usize>
-    ensures { is_none result ≡ list_all (λ m. list_any (is_virtual_found names.now.classes.tree.now (identity_of m)) chain.now) (map (λ m. m.now) methods.now) }
+/// Whether some class from one on along its bases has a virtual method of this name and signature (ECMA-335 II.12.2). Only where the
+/// bases are not seen to end are they gone along.
+fn implements_method(methods: &MethodTables, class: Option<usize>, key: MethodKey) -> bool
+    ensures { result ≡ list_any (is_virtual_found methods.now.names.now.classes.tree.now (method_of_key key.entry)) (line_of methods.now.names.now.classes.tree.now class) }
 {
-    for (place, method) in methods.iter().enumerate() {
+    let Some(class) = class else {
+        return false;
+    };
+    match methods.has_virtual(class, key) {
+        Ok(found) => found,
+        Err(Endless) => has_virtual_along(methods.names, class, key),
+    }
+}
+
+/// The first of these methods for which no class from one on has a virtual one.
+fn absent_method(methods: &MethodTables, class: Option<usize>, wanted: &[&Method]) -> Option<usize>
+    ensures { is_none result ≡ list_all (λ m. list_any (is_virtual_found methods.now.names.now.classes.tree.now (identity_of m)) (line_of methods.now.names.now.classes.tree.now class)) (map (λ m. m.now) wanted.now) }
+{
+    for (place, method) in wanted.iter().enumerate() {
         let key = MethodKey::new(&method.name, &method.signature);
-        if !implements_method(names, chain, key) {
+        if !implements_method(methods, class, key) {
             return Some(place);
         }
     }
     None
 }
 
-/// The first method of an interface for which no class of a chain has a virtual one.
-fn absent_in(names: &NameTables, chain: &[usize], interface: &ClassName) -> Option<usize>
-    ensures { is_none result ≡ list_all (λ m. list_any (is_virtual_found names.now.classes.tree.now (identity_of m)) chain.now) (methods_declared names.now.classes.tree.now interface.now) }
+/// The first method of the class of a number for which no class from one on has a virtual one, by looking each up by its name.
+fn absent_by_name(methods: &MethodTables, class: Option<usize>, interface: usize) -> Option<usize>
+    ensures { is_none result ≡ has_all methods.now.names.now.classes.tree.now class interface }
 {
-    match names.classes.declared(ClassKey::of(interface)) {
+    match methods.names.classes.class(interface) {
         None => None,
-        Some(declared) => absent_method(names, chain, declared.methods.as_slice()),
+        Some(declared) => absent_method(methods, class, declared.methods.as_slice()),
     }
 }
 
-/// The first listed interface with a method for which no class of a chain has a virtual one, and that method.
+/// The same; only where the class's bases are not seen to end are the methods looked up by name.
+fn absent_at(methods: &MethodTables, class: Option<usize>, interface: usize) -> Option<usize>
+    ensures { is_none result ≡ has_all methods.now.names.now.classes.tree.now class interface }
+{
+    let Some(number) = class else {
+        return absent_by_name(methods, class, interface);
+    };
+    match methods.first_absent(interface, number) {
+        Ok(place) => place,
+        Err(Endless) => absent_by_name(methods, class, interface),
+    }
+}
+
+/// The interface that is noted of a class.
+fn noted(known: &[Option<usize>], class: usize) -> Option<usize>
+    ensures { IfSome result (λ interface. slice_get known.now class ≡ Some (Some interface)) }
+{
+    match known.get(class) {
+        None => None,
+        Some(None) => None,
+        Some(Some(interface)) => Some(*interface),
+    }
+}
+
+/// Whether an interface is noted of a class.
+fn is_noted(known: &[Option<usize>], class: usize, interface: usize) -> bool
+    ensures { result ≡ true → slice_get known.now class ≡ Some (Some interface) }
+{
+    match noted(known, class) {
+        None => false,
+        Some(own) => own == interface,
+    }
+}
+
+/// Whether each method of an interface is found as a virtual one from a class on. Where it is, that is noted of the class.
+fn has_all(
+    methods: &MethodTables,
+    known: &mut Vec<Option<usize>>,
+    class: usize,
+    interface: usize,
+) -> bool
+    requires { AreKnown methods.now.names.now.classes.tree.now known.old.items }
+    ensures found { result ≡ true → has_all methods.now.names.now.classes.tree.now (Some class) interface ≡ true }
+    ensures known { AreKnown methods.now.names.now.classes.tree.now known.new.items }
+{
+    if class >= known.len() {
+        return false;
+    }
+    if is_noted(known.as_slice(), class, interface) {
+        return true;
+    }
+    if absent_at(methods, Some(class), interface).is_some() {
+        return false;
+    }
+    known[class] = Some(interface);
+    true
+}
+
+/// The first method of an interface for which no class from one on has a virtual one. There is none where its base has them all: so an
+/// interface that many classes with one base list is looked through once.
+fn absent_from(
+    methods: &MethodTables,
+    known: &mut Vec<Option<usize>>,
+    class: Option<usize>,
+    interface: usize,
+) -> Option<usize>
+    requires { AreKnown methods.now.names.now.classes.tree.now known.old.items }
+    ensures absent { is_none result ≡ has_all methods.now.names.now.classes.tree.now class interface }
+    ensures known { AreKnown methods.now.names.now.classes.tree.now known.new.items }
+{
+    let Some(number) = class else {
+        return absent_at(methods, class, interface);
+    };
+    if !methods.names.ends(number) {
+        return absent_at(methods, class, interface);
+    }
+    let Some(base) = methods.names.base(number) else {
+        return absent_at(methods, class, interface);
+    };
+    if has_all(methods, known, base, interface) {
+        return None;
+    }
+    absent_at(methods, class, interface)
+}
+
+/// The first method of an interface for which no class from one on has a virtual one.
+fn absent_in(
+    methods: &MethodTables,
+    known: &mut Vec<Option<usize>>,
+    class: Option<usize>,
+    interface: &ClassName,
+) -> Option<usize>
+    requires { AreKnown methods.now.names.now.classes.tree.now known.old.items }
+    ensures known { AreKnown methods.now.names.now.classes.tree.now known.new.items }
+    ensures absent { is_none result ≡ list_all (λ m. list_any (is_virtual_found methods.now.names.now.classes.tree.now (identity_of m)) (line_of methods.now.names.now.classes.tree.now class)) (methods_declared methods.now.names.now.classes.tree.now interface.now) }
+{
+    match methods.names.classes.number(ClassKey::of(interface)) {
+        None => None,
+        Some(number) => absent_from(methods, known, class, number),
+    }
+}
+
+/// The first listed interface with a method for which no class from one on has a virtual one, and that method.
 fn absent_in_list(
-    names: &NameTables,
-    chain: &[usize],
+    methods: &MethodTables,
+    known: &mut Vec<Option<usize>>,
+    class: Option<usize>,
     interfaces: &[ClassName],
 ) -> Option<ListedMethod>
-    ensures { is_none result ≡ list_all (λ i. list_all (λ m. list_any (is_virtual_found names.now.classes.tree.now (identity_of m)) chain.now) (methods_declared names.now.classes.tree.now i)) interfaces.now }
+    requires { AreKnown methods.now.names.now.classes.tree.now known.old.items }
+    ensures known { AreKnown methods.now.names.now.classes.tree.now known.new.items }
+    ensures absent { is_none result ≡ list_all (λ i. list_all (λ m. list_any (is_virtual_found methods.now.names.now.classes.tree.now (identity_of m)) (line_of methods.now.names.now.classes.tree.now class)) (methods_declared methods.now.names.now.classes.tree.now i)) interfaces.now }
 {
     for (interface, name) in interfaces.iter().enumerate() {
-        if let Some(method) = absent_in(names, chain, name) {
+        if let Some(method) = absent_in(methods, known, class, name) {
             return Some(ListedMethod { interface, method });
         }
     }
@@ -78,21 +210,35 @@ fn absent_in_list(
 }
 
 /// The first method of an interface that a class lists for which the class's chain has no virtual one.
-fn absent_in_class(names: &NameTables, class: &Class) -> Option<ListedMethod>
-    ensures { is_none result ≡ implements_all names.now.classes.tree.now class.now }
+fn absent_in_class(
+    methods: &MethodTables,
+    known: &mut Vec<Option<usize>>,
+    class: &Class,
+) -> Option<ListedMethod>
+    requires { AreKnown methods.now.names.now.classes.tree.now known.old.items }
+    ensures known { AreKnown methods.now.names.now.classes.tree.now known.new.items }
+    ensures absent { is_none result ≡ implements_all methods.now.names.now.classes.tree.now class.now }
 {
-    let own = ClassKey::of_source(class);
-    absent_in_list(names, names.chain(own), interfaces_named(&class.kind))
+    let own = methods.names.classes.number(ClassKey::of_source(class));
+    absent_in_list(methods, known, own, interfaces_named(&class.kind))
 }
 
-/// The first class that lacks a method of an interface that it lists; none where there is none (number 204).
-pub fn not_implemented(names: &NameTables) -> Option<NotImplemented>
-    ensures { is_some result ≡ lacks_implementation names.now.classes.tree.now }
+/// The first class that lacks a method of an interface that it lists; none where there is none (number 204). Fails for want of memory
+/// alone.
+pub fn not_implemented(
+    alloc: Global,
+    methods: &MethodTables,
+) -> Result<Option<NotImplemented>, NoMemory>
+    ensures { IfOk result (λ absent. is_some absent ≡ lacks_implementation methods.now.names.now.classes.tree.now) }
 {
-    for (class, declared) in names.classes.tree.classes.as_slice().iter().enumerate() {
-        if let Some(listed) = absent_in_class(names, declared) {
-            return Some(NotImplemented { class, listed });
+    let names = methods.names;
+    let count = names.bases().len();
+    let mut known = vec![in alloc; None; count]?;
+    let classes = names.classes.tree.classes.as_slice();
+    for (class, declared) in classes.iter().enumerate() {
+        if let Some(listed) = absent_in_class(methods, &mut known, declared) {
+            return Ok(Some(NotImplemented { class, listed }));
         }
     }
-    None
+    Ok(None)
 }

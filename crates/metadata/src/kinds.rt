@@ -1,23 +1,27 @@
 // Methods whose kinds do not fit.
 
-ghost use Rattle.std.specs.Prelude.{◌≡◌, ◌==◌, ◌&&◌, ◌||◌, not, if◌then◌else◌, false, true, IfOk, is_none, is_some, map, filter_map, slice_get};
+ghost use Rattle.std.specs.Prelude.{◌≡◌, ◌==◌, ◌&&◌, ◌||◌, not, false, true, Some, IfOk, is_none, is_some, map, option_and_then};
 ghost use Rattle.std.specs.List.{list_any, list_all};
 ghost use Rattle.std.specs.Option.{option_map_or};
-ghost use Rattle.cil_model.specs.Chains.{base_of, chain_within, longest_chain, is_virtual, is_abstract_method};
+ghost use Rattle.cil_model.specs.Chains.{base_of, is_virtual, is_abstract_method};
 ghost use Rattle.cil_model.specs.Declarations.{source_name};
 ghost use Rattle.cil_model.specs.Legality.{is_interface_method, has_abstract_slot, overrides_no_virtual, kinds_fit, misfits_kind};
-ghost use Rattle.programs.specs.Found.{slot_filled_at, slot_over, slot_numbered, open_over, open_numbered, is_left_open, class_leaves_open, is_override, top_over, hidden_over, stays_open, class_stays_open, IsSettled, plain_numbered};
+ghost use Rattle.programs.specs.Found.{slot_filled_at, slot_over, slot_numbered, open_over, open_numbered, is_left_open, class_leaves_open, plain_numbered};
 ghost use Rattle.name_tables.specs.Keys.{class_of_key, method_of_key};
-ghost use Rattle.name_tables.specs.Numbers.{class_number, declarations};
+ghost use Rattle.name_tables.specs.Methods.{line_of};
+ghost use Rattle.name_tables.specs.Numbers.{class_number, method_found};
 ghost use Rattle.name_tables.specs.Sameness.{identity_of};
 
+use crate::open_slots::OpenSlots;
 use crate::violations::{KindFault, Misfit};
 use cil_model::memory::NoMemory;
 use cil_model::trees::{Class, ClassKind, Method};
+use inheritance::Endless;
 use name_tables::classes::method_members;
 use name_tables::keys::{ClassKey, MethodKey};
 use name_tables::kinds::{is_abstract_method, is_new_slot_method, is_virtual};
 use name_tables::lookups::{MemberNumber, NameTables};
+use name_tables::methods::MethodTables;
 use std::alloc::Global;
 
 // ---- slots along a chain: each is known by the number of the class that introduced it
@@ -140,202 +144,205 @@ fn method_left_open(
 }
 
 /// The first method of the class of a number whose slot is filled by an abstract method along a chain.
-fn left_open_by(names: &NameTables, chain: &[usize], class: usize) -> Option<usize>
-    ensures { is_some result ≡ class_leaves_open names.now.classes.tree.now chain.now class }
+fn left_open_by(
+    alloc: Global,
+    names: &NameTables,
+    chain: &[usize],
+    class: usize,
+) -> Result<Option<usize>, NoMemory>
+    ensures { IfOk result (λ place. is_some place ≡ class_leaves_open names.now.classes.tree.now chain.now class) }
 {
     match names.classes.class(class) {
-        None => None,
-        Some(declared) => method_left_open(
-            names,
-            chain,
-            names.chain(declared.name),
-            declared.methods.as_slice(),
-        ),
+        None => Ok(None),
+        Some(declared) => {
+            let introduced = names.chain(alloc, declared.name)?;
+            Ok(method_left_open(
+                names,
+                chain,
+                introduced.as_slice(),
+                declared.methods.as_slice(),
+            ))
+        }
     }
 }
 
 /// The first method of these classes whose slot is filled by an abstract method along a chain.
-fn first_left_open(names: &NameTables, chain: &[usize], classes: &[usize]) -> Option<MemberNumber>
-    ensures { is_some result ≡ list_any (class_leaves_open names.now.classes.tree.now chain.now) classes.now }
+fn first_left_open(
+    alloc: Global,
+    names: &NameTables,
+    chain: &[usize],
+    classes: &[usize],
+) -> Result<Option<MemberNumber>, NoMemory>
+    ensures { IfOk result (λ found. is_some found ≡ list_any (class_leaves_open names.now.classes.tree.now chain.now) classes.now) }
 {
     for class in classes {
-        if let Some(place) = left_open_by(names, chain, *class) {
-            return Some(MemberNumber {
+        if let Some(place) = left_open_by(alloc, names, chain, *class)? {
+            return Ok(Some(MemberNumber {
                 class: *class,
                 place,
-            });
+            }));
         }
     }
-    None
+    Ok(None)
 }
 
-// ---- abstract methods that are not overridden: where there is none along a chain, no slot is open along it
-
-/// Whether a virtual method is without newslot, so that it fills the slot of the next virtual one behind it (ECMA-335 II.10.3.1).
-fn is_override(method: &Method) -> bool
-    ensures { result ≡ is_override method.now }
-{
-    is_virtual(&method.kind) && !is_new_slot_method(&method.kind)
-}
-
-/// Whether the nearest method of this name and signature is abstract as seen from a class, where it is known as seen from its
-/// base.
-fn top_over(names: &NameTables, key: MethodKey, class: usize, is_top: bool) -> bool
-    ensures { result ≡ top_over names.now.classes.tree.now (method_of_key key.entry) class is_top }
-{
-    match names.classes.method(class, key) {
-        None => is_top,
-        Some(method) => is_abstract_method(&method.kind),
-    }
-}
-
-/// Whether an abstract method has its next nearer one, which is no override, as seen from a class, where it is known as seen
-/// from its base. `is_top` tells whether the nearest one as seen from the base is abstract.
-fn hidden_over(
+/// Whether the method at a place of the class at a place of a chain is virtual, and its slot is filled by an abstract one.
+fn is_open_at(
+    alloc: Global,
     names: &NameTables,
-    key: MethodKey,
+    chain: &[usize],
+    behind: usize,
+    place: usize,
+) -> Result<bool, NoMemory>
+    ensures { IfOk result (λ is_open. is_open ≡ true → list_any (class_leaves_open names.now.classes.tree.now chain.now) chain.now ≡ true) }
+{
+    let Some(class) = chain.get(behind) else {
+        return Ok(false);
+    };
+    let Some(declared) = names.classes.class(*class) else {
+        return Ok(false);
+    };
+    let Some(method) = declared.methods.as_slice().get(place) else {
+        return Ok(false);
+    };
+    let introduced = names.chain(alloc, declared.name)?;
+    Ok(method_leaves_open(names, chain, introduced.as_slice(), method))
+}
+
+/// The method that seems to be left open along a chain, where it is.
+fn open_suspect(
+    alloc: Global,
+    slots: &OpenSlots,
+    chain: &[usize],
+) -> Result<Option<MemberNumber>, NoMemory>
+    ensures { IfOk result (λ found. is_some found ≡ true → list_any (class_leaves_open slots.now.methods.now.names.now.classes.tree.now chain.now) chain.now ≡ true) }
+{
+    let Some(open) = slots.suspect(chain) else {
+        return Ok(None);
+    };
+    let Some(behind) = chain.iter().position(|number| *number == open.class) else {
+        return Ok(None);
+    };
+    if is_open_at(alloc, slots.methods.names, chain, behind, open.place)? {
+        return Ok(Some(open));
+    }
+    Ok(None)
+}
+
+/// A method that fills a slot with nothing along the chain of a class that is not known to be settled.
+fn slot_left_open(
+    alloc: Global,
+    slots: &OpenSlots,
     class: usize,
-    is_top: bool,
-    is_hidden: bool,
-) -> bool
-    ensures { result ≡ hidden_over names.now.classes.tree.now (method_of_key key.entry) class is_top is_hidden }
+) -> Result<Option<MemberNumber>, NoMemory>
+    ensures { IfOk result (λ found. is_some found ≡ list_any (class_leaves_open slots.now.methods.now.names.now.classes.tree.now (line_of slots.now.methods.now.names.now.classes.tree.now (Some class))) (line_of slots.now.methods.now.names.now.classes.tree.now (Some class))) }
 {
-    match names.classes.method(class, key) {
-        None => is_hidden,
-        Some(method) => is_hidden || (!is_override(method) && is_top),
+    let names = slots.methods.names;
+    let line = names.line(alloc, class)?;
+    let chain = line.as_slice();
+    if let Some(open) = open_suspect(alloc, slots, chain)? {
+        return Ok(Some(open));
     }
+    Ok(first_left_open(alloc, names, chain, chain)?)
 }
 
-/// Whether an abstract method of this name and signature along a chain is not overridden by the next nearer one.
-fn stays_open(names: &NameTables, key: MethodKey, chain: &[usize]) -> bool
-    ensures { result ≡ stays_open names.now.classes.tree.now (method_of_key key.entry) chain.now }
+/// A method that fills a slot of the class with nothing, since it is abstract (ECMA-335 II.15.4.2). Where each abstract method of the
+/// chain is known to be overridden, there is none, and no slot is looked at: so it is for each class of a legal program that is not
+/// abstract. Fails for want of memory alone.
+fn abstract_slot(
+    alloc: Global,
+    slots: &OpenSlots,
+    class: ClassKey,
+) -> Result<Option<MemberNumber>, NoMemory>
+    ensures { IfOk result (λ found. is_some found ≡ has_abstract_slot slots.now.methods.now.names.now.classes.tree.now (class_of_key class.entry)) }
 {
-    let mut is_top = false;
-    let mut is_hidden = false;
-    for place in (0..chain.len()).rev() {
-        is_hidden = hidden_over(names, key, chain[place], is_top, is_hidden);
-        is_top = top_over(names, key, chain[place], is_top);
+    let Some(number) = slots.methods.names.classes.number(class) else {
+        return Ok(None);
+    };
+    if slots.is_settled(number) {
+        return Ok(None);
     }
-    is_hidden || is_top
-}
-
-fn method_stays_open(names: &NameTables, chain: &[usize], method: &Method) -> bool
-    ensures { result ≡ (is_abstract_method method.now.kind && stays_open names.now.classes.tree.now (identity_of method.now) chain.now) }
-{
-    if !is_abstract_method(&method.kind) {
-        return false;
-    }
-    let key = MethodKey::new(&method.name, &method.signature);
-    stays_open(names, key, chain)
-}
-
-fn methods_stay_open(names: &NameTables, chain: &[usize], methods: &[&Method]) -> bool
-    ensures { result ≡ list_any (λ m. is_abstract_method m.kind && stays_open names.now.classes.tree.now (identity_of m) chain.now) (map (λ m. m.now) methods.now) }
-{
-    for method in methods {
-        if method_stays_open(names, chain, method) {
-            return true;
-        }
-    }
-    false
-}
-
-/// Whether a method with the name and signature of an abstract one of a class stays open along a chain.
-fn class_stays_open(names: &NameTables, chain: &[usize], class: usize) -> bool
-    ensures { result ≡ class_stays_open names.now.classes.tree.now chain.now class }
-{
-    match names.classes.class(class) {
-        None => false,
-        Some(declared) => methods_stay_open(names, chain, declared.methods.as_slice()),
-    }
-}
-
-fn some_stays_open(names: &NameTables, chain: &[usize], classes: &[usize]) -> bool
-    ensures { result ≡ list_any (class_stays_open names.now.classes.tree.now chain.now) classes.now }
-{
-    for class in classes {
-        if class_stays_open(names, chain, *class) {
-            return true;
-        }
-    }
-    false
-}
-
-/// Whether the class of a number is marked abstract (ECMA-335 II.10.1.4).
-fn is_marked_abstract(names: &NameTables, class: usize) -> bool
-    ensures { result ≡ option_map_or (λ e. e.1.is_abstract) (slice_get (declarations names.now.classes.tree.now) class) false }
-{
-    match names.classes.class(class) {
-        None => false,
-        Some(declared) => declared.is_abstract,
-    }
-}
-
-/// Whether each abstract method of a chain is seen to be overridden. The chain is gone through from its last base on, in parts, each
-/// of which ends with a class that leaves nothing open; only methods of the part are looked at, so that what was overridden once
-/// isn't looked at again for the classes below.
-fn is_settled(names: &NameTables, chain: &[usize]) -> bool
-    ensures { result ≡ true → IsSettled names.now.classes.tree.now chain.now }
-{
-    let mut end = chain.len();
-    for place in (0..chain.len()).rev() {
-        if is_marked_abstract(names, chain[place]) {
-            continue;
-        }
-        let part = &chain[place..end];
-        if !some_stays_open(names, part, part) {
-            end = place;
-        }
-    }
-    end == 0
-}
-
-/// The nearest method that fills a slot of the class with nothing, since it is abstract (ECMA-335 II.15.4.2). Where each abstract
-/// method of the chain is overridden, there is none, and no slot is looked at: so it is for each class of a legal program that is
-/// not abstract.
-fn abstract_slot(names: &NameTables, class: ClassKey) -> Option<MemberNumber>
-    ensures { is_some result ≡ has_abstract_slot names.now.classes.tree.now (class_of_key class.entry) }
-{
-    let chain = names.chain(class);
-    if is_settled(names, chain) {
-        return None;
-    }
-    first_left_open(names, chain, chain)
+    Ok(slot_left_open(alloc, slots, number)?)
 }
 
 // ---- methods without newslot
 
-/// The numbers of the chain of a class's base.
-fn base_chain<'a>(names: &'a NameTables, class: &Class) -> &'a [usize]
-    ensures { result.now ≡ filter_map (class_number names.now.classes.tree.now) (chain_within names.now.classes.tree.now (longest_chain names.now.classes.tree.now) (base_of names.now.classes.tree.now (source_name class.now))) }
+/// The number of a class's base.
+fn base_number(names: &NameTables, class: &Class) -> Option<usize>
+    ensures { result ≡ option_and_then (class_number names.now.classes.tree.now) (base_of names.now.classes.tree.now (source_name class.now)) }
 {
-    match names.classes.declared(ClassKey::of_source(class)) {
-        None => &[],
-        Some(declared) => match declared.base {
-            None => &[],
-            Some(base) => names.chain(ClassKey::of(base)),
-        },
+    match names.classes.number(ClassKey::of_source(class)) {
+        None => None,
+        Some(number) => names.base(number),
     }
 }
 
-/// The class along a chain with the nearest method of this name and signature, where that is not virtual.
-fn plain_base(names: &NameTables, key: MethodKey, chain: &[usize]) -> Option<usize>
-    ensures { is_some result ≡ plain_numbered names.now.classes.tree.now (method_of_key key.entry) chain.now }
+/// The class of a method, unless that is virtual.
+fn unless_virtual(class: usize, method: &Method) -> Option<usize>
+    ensures { is_some result ≡ not (is_virtual method.now.kind) }
 {
-    for class in chain {
-        if let Some(method) = names.classes.method(*class, key) {
-            if is_virtual(&method.kind) {
-                return None;
-            }
-            return Some(*class);
+    if is_virtual(&method.kind) {
+        return None;
+    }
+    Some(class)
+}
+
+/// The class from one on along its bases with the nearest method of this name and signature, where that is not virtual.
+fn plain_along(names: &NameTables, key: MethodKey, first: usize) -> Option<usize>
+    ensures { is_some result ≡ plain_numbered names.now.classes.tree.now (method_of_key key.entry) (line_of names.now.classes.tree.now (Some first)) }
+{
+    let mut next = Some(first);
+    let mut left = names.classes.longest_chain();
+    while left > 0 {
+        let Some(class) = next else {
+            return None;
+        };
+        if let Some(method) = names.classes.method(class, key) {
+            return unless_virtual(class, method);
         }
+        next = names.base(class);
+        left -= 1;
     }
     None
 }
 
+/// The class of a number, where its method of this name and signature is not virtual.
+fn plain_at(names: &NameTables, key: MethodKey, class: usize) -> Option<usize>
+    ensures { is_some result ≡ option_map_or (λ m. not (is_virtual m.kind)) (method_found names.now.classes.tree.now (method_of_key key.entry) class) false }
+{
+    match names.classes.method(class, key) {
+        None => None,
+        Some(method) => unless_virtual(class, method),
+    }
+}
+
+/// The class that a look-up found, where its method of this name and signature is not virtual.
+fn plain_found(names: &NameTables, key: MethodKey, found: Option<MemberNumber>) -> Option<usize>
+    ensures { is_some result ≡ option_map_or (λ f. option_map_or (λ m. not (is_virtual m.kind)) (method_found names.now.classes.tree.now (method_of_key key.entry) f.class) false) found false }
+{
+    match found {
+        None => None,
+        Some(found) => plain_at(names, key, found.class),
+    }
+}
+
+/// The class from one on along its bases with the nearest method of this name and signature, where that is not virtual. Only where the
+/// bases are not seen to end are they gone along.
+fn plain_base(methods: &MethodTables, key: MethodKey, base: Option<usize>) -> Option<usize>
+    ensures { is_some result ≡ plain_numbered methods.now.names.now.classes.tree.now (method_of_key key.entry) (line_of methods.now.names.now.classes.tree.now base) }
+{
+    let Some(base) = base else {
+        return None;
+    };
+    match methods.nearest(base, key) {
+        Ok(found) => plain_found(methods.names, key, found),
+        Err(Endless) => plain_along(methods.names, key, base),
+    }
+}
+
 /// The class whose method, which is not virtual, a virtual one without newslot stands over (ECMA-335 II.10.3.1, this profile).
-fn plain_below(names: &NameTables, class: &Class, method: &Method) -> Option<usize>
-    ensures { is_some result ≡ overrides_no_virtual names.now.classes.tree.now (source_name class.now) method.now }
+fn plain_below(methods: &MethodTables, class: &Class, method: &Method) -> Option<usize>
+    ensures { is_some result ≡ overrides_no_virtual methods.now.names.now.classes.tree.now (source_name class.now) method.now }
 {
     if !is_virtual(&method.kind) {
         return None;
@@ -344,15 +351,15 @@ fn plain_below(names: &NameTables, class: &Class, method: &Method) -> Option<usi
         return None;
     }
     let key = MethodKey::new(&method.name, &method.signature);
-    plain_base(names, key, base_chain(names, class))
+    plain_base(methods, key, base_number(methods.names, class))
 }
 
 /// The first virtual method without newslot over one that is not virtual.
-fn over_plain(names: &NameTables, class: &Class, methods: &[&Method]) -> Option<KindFault>
-    ensures { is_some result ≡ list_any (overrides_no_virtual names.now.classes.tree.now (source_name class.now)) (map (λ m. m.now) methods.now) }
+fn over_plain(tables: &MethodTables, class: &Class, methods: &[&Method]) -> Option<KindFault>
+    ensures { is_some result ≡ list_any (overrides_no_virtual tables.now.names.now.classes.tree.now (source_name class.now)) (map (λ m. m.now) methods.now) }
 {
     for (method, declared) in methods.iter().enumerate() {
-        if let Some(base) = plain_below(names, class, declared) {
+        if let Some(base) = plain_below(tables, class, declared) {
             return Some(KindFault::OverPlain { method, base });
         }
     }
@@ -374,22 +381,23 @@ fn abstract_method(methods: &[&Method]) -> Option<usize>
 
 /// What of a class that is not abstract is: a method, or what fills one of its slots.
 fn incomplete(
-    names: &NameTables,
+    alloc: Global,
+    slots: &OpenSlots,
     class: &Class,
     is_abstract: bool,
     methods: &[&Method],
-) -> Option<KindFault>
-    ensures { is_none result ≡ (is_abstract || (not (list_any (λ m. is_abstract_method m.kind) (map (λ m. m.now) methods.now)) && not (has_abstract_slot names.now.classes.tree.now (source_name class.now)))) }
+) -> Result<Option<KindFault>, NoMemory>
+    ensures { IfOk result (λ fault. is_none fault ≡ (is_abstract || (not (list_any (λ m. is_abstract_method m.kind) (map (λ m. m.now) methods.now)) && not (has_abstract_slot slots.now.methods.now.names.now.classes.tree.now (source_name class.now))))) }
 {
     if is_abstract {
-        return None;
+        return Ok(None);
     }
     if let Some(method) = abstract_method(methods) {
-        return Some(KindFault::Abstract { method });
+        return Ok(Some(KindFault::Abstract { method }));
     }
-    match abstract_slot(names, ClassKey::of_source(class)) {
-        None => None,
-        Some(open) => Some(KindFault::LeftOpen { open }),
+    match abstract_slot(alloc, slots, ClassKey::of_source(class))? {
+        None => Ok(None),
+        Some(open) => Ok(Some(KindFault::LeftOpen { open })),
     }
 }
 
@@ -412,45 +420,60 @@ fn interface_fault(methods: &[&Method]) -> Option<KindFault>
 }
 
 fn class_fault(
-    names: &NameTables,
+    alloc: Global,
+    slots: &OpenSlots,
     class: &Class,
     is_abstract: bool,
     methods: &[&Method],
-) -> Option<KindFault>
-    ensures { is_none result ≡ ((is_abstract || (not (list_any (λ m. is_abstract_method m.kind) (map (λ m. m.now) methods.now)) && not (has_abstract_slot names.now.classes.tree.now (source_name class.now)))) && not (list_any (overrides_no_virtual names.now.classes.tree.now (source_name class.now)) (map (λ m. m.now) methods.now))) }
+) -> Result<Option<KindFault>, NoMemory>
+    ensures { IfOk result (λ fault. is_none fault ≡ ((is_abstract || (not (list_any (λ m. is_abstract_method m.kind) (map (λ m. m.now) methods.now)) && not (has_abstract_slot slots.now.methods.now.names.now.classes.tree.now (source_name class.now)))) && not (list_any (overrides_no_virtual slots.now.methods.now.names.now.classes.tree.now (source_name class.now)) (map (λ m. m.now) methods.now)))) }
 {
-    if let Some(fault) = incomplete(names, class, is_abstract, methods) {
-        return Some(fault);
+    if let Some(fault) = incomplete(alloc, slots, class, is_abstract, methods)? {
+        return Ok(Some(fault));
     }
-    over_plain(names, class, methods)
+    Ok(over_plain(slots.methods, class, methods))
 }
 
 /// The first method whose kind does not fit its class or what that inherits (ECMA-335 II.15.4.2). Fails for want of memory alone.
 fn kind_fault(
     alloc: Global,
-    names: &NameTables,
+    slots: &OpenSlots,
     class: &Class,
 ) -> Result<Option<KindFault>, NoMemory>
-    ensures { IfOk result (λ f. is_none f ≡ kinds_fit names.now.classes.tree.now class.now) }
+    ensures { IfOk result (λ f. is_none f ≡ kinds_fit slots.now.methods.now.names.now.classes.tree.now class.now) }
 {
     let methods = method_members(alloc, class)?;
     match &class.kind {
         ClassKind::Interface => Ok(interface_fault(methods.as_slice())),
         ClassKind::Class { is_abstract, .. } => {
-            Ok(class_fault(names, class, *is_abstract, methods.as_slice()))
+            Ok(class_fault(alloc, slots, class, *is_abstract, methods.as_slice())?)
         }
     }
 }
 
-/// The first method whose kind does not fit its class or what that inherits; none where there is none (number 205). Fails for want
-/// of memory alone.
-pub fn misfit(alloc: Global, names: &NameTables) -> Result<Option<Misfit>, NoMemory>
-    ensures { IfOk result (λ m. is_some m ≡ misfits_kind names.now.classes.tree.now) }
+/// The first of these classes that has a method whose kind does not fit.
+fn first_misfit(
+    alloc: Global,
+    slots: &OpenSlots,
+    classes: &[Class],
+) -> Result<Option<Misfit>, NoMemory>
+    ensures { IfOk result (λ m. is_none m ≡ list_all (kinds_fit slots.now.methods.now.names.now.classes.tree.now) classes.now) }
 {
-    for (class, declared) in names.classes.tree.classes.as_slice().iter().enumerate() {
-        if let Some(fault) = kind_fault(alloc, names, declared)? {
+    for (class, declared) in classes.iter().enumerate() {
+        if let Some(fault) = kind_fault(alloc, slots, declared)? {
             return Ok(Some(Misfit { class, fault }));
         }
     }
     Ok(None)
+}
+
+/// The first method whose kind does not fit its class or what that inherits; none where there is none (number 205). Fails for want
+/// of memory alone.
+pub fn misfit(alloc: Global, methods: &MethodTables) -> Result<Option<Misfit>, NoMemory>
+    ensures { IfOk result (λ m. is_some m ≡ misfits_kind methods.now.names.now.classes.tree.now) }
+{
+    let slots = OpenSlots::new(alloc, methods)?;
+    let names = methods.names;
+    let classes = names.classes.tree.classes.as_slice();
+    Ok(first_misfit(alloc, &slots, classes)?)
 }

@@ -8,6 +8,7 @@ mod implemented;
 mod kinds;
 mod limits;
 pub mod mentions;
+mod open_slots;
 mod program;
 mod rules;
 mod unknown;

@@ -202,7 +202,8 @@ fn passed_by_class(
 ) -> Result<Option<Passed>, NoMemory>
     ensures { IfOk result (λ p. is_none p ≡ is_small_class names.now.classes.tree.now class.now) }
 {
-    if !has_few_instance_fields(names, names.chain(ClassKey::of_source(class))) {
+    let chain = names.chain(alloc, ClassKey::of_source(class))?;
+    if !has_few_instance_fields(names, chain.as_slice()) {
         return Ok(Some(Passed::InstanceFields { class: number }));
     }
     let methods = method_members(alloc, class)?;

@@ -14,6 +14,7 @@ use crate::unknown::unknown_name;
 use crate::violations::Violation;
 use cil_model::memory::NoMemory;
 use name_tables::lookups::NameTables;
+use name_tables::methods::MethodTables;
 use std::alloc::Global;
 use std::fmt;
 
@@ -80,13 +81,14 @@ pub fn least_broken(alloc: Global, names: &NameTables) -> Result<Option<Violatio
     if let Some(unknown) = unknown_name(alloc, names)? {
         return Ok(Some(Violation::Unknown(unknown)));
     }
-    if let Some(class) = own_base(names) {
+    if let Some(class) = own_base(alloc, names)? {
         return Ok(Some(Violation::OwnBase { class }));
     }
-    if let Some(absent) = not_implemented(names) {
+    let methods = MethodTables::new(alloc, names)?;
+    if let Some(absent) = not_implemented(alloc, &methods)? {
         return Ok(Some(Violation::NotImplemented(absent)));
     }
-    if let Some(misfit) = misfit(alloc, names)? {
+    if let Some(misfit) = misfit(alloc, &methods)? {
         return Ok(Some(Violation::Misfit(misfit)));
     }
     if let Some(entry) = bad_entry(alloc, names.classes.tree)? {

@@ -1,4 +1,4 @@
-mod MemberLaws
+pub mod MemberLaws
 mod KeyNumbers
 pub mod FirstPlaces
 pub mod Lists

@@ -18,7 +18,7 @@ use Rattle.name_tables.proofs.NumberLaws.{position_from-map, numbers_within, num
 
 -- ---- rows of keys
 
-map_at : {X Y : Type 0} (f : X → Y) (rows : List (List X)) (n : ℕ) → map f (slice_index_or rows n []) ≡ slice_index_or (map (map f) rows) n []
+pub map_at : {X Y : Type 0} (f : X → Y) (rows : List (List X)) (n : ℕ) → map f (slice_index_or rows n []) ≡ slice_index_or (map (map f) rows) n []
 map_at f [] n = refl
 map_at f (r ∷ rs) zero = refl
 map_at f (r ∷ rs) (suc n) = map_at f rs n
@@ -51,7 +51,7 @@ module _ (tree : Tree) where
       more [] m h = absurd (omega (arith, h))
       more (x ∷ xs) m h = map-take_more number_of_base (x ∷ xs) m (get_or (x ∷ xs) m x) h (get_or_default (x ∷ xs) m x (get_or (x ∷ xs) m x) h) ∙ ap (λ f. map number_of_base (take m (x ∷ xs)) ++ option_and_then number_of_base f ∷ []) (sym (slice_get-get_or (x ∷ xs) m x h))
 
-  base_in_numbers : (n : ℕ) → lines.base_in (base_numbers tree) n ≡ option_and_then (class_number tree) (base_at tree n)
+  pub base_in_numbers : (n : ℕ) → lines.base_in (base_numbers tree) n ≡ option_and_then (class_number tree) (base_at tree n)
   base_in_numbers n = found (declarations tree) n ∙ sym (base_of_entry (slice_get (declarations tree) n))
     where
       found : (es : List (ClassName × Declaration)) (m : ℕ) → slice_index_or (map number_of_base es) m None ≡ option_and_then number_of_base (slice_get es m)
@@ -61,7 +61,7 @@ module _ (tree : Tree) where
 
   -- ---- chains
 
-  line_is_chain : (m : ℕ) (o : Option ClassName) → lines.line_within (base_numbers tree) m (option_and_then (class_number tree) o) ≡ numbers_within tree m o
+  pub line_is_chain : (m : ℕ) (o : Option ClassName) → lines.line_within (base_numbers tree) m (option_and_then (class_number tree) o) ≡ numbers_within tree m o
   line_is_chain zero o = refl
   line_is_chain (suc m) None = refl
   line_is_chain (suc m) (Some c) = by_number (line_is_chain m) (class_number tree c) refl
@@ -73,14 +73,21 @@ module _ (tree : Tree) where
           ap (λ b. n ∷ lines.line_within (base_numbers tree) m b) (base_in_numbers n) ∙ ap (λ ns. n ∷ ns) (further (base_at tree n)) ∙
           ap (λ x. n ∷ numbers_within tree x (base_at tree n)) (sym k) ∙ sym (numbers_of_known tree (suc m) c n (omega arith) e)
 
+  -- a class and those along its bases are its chain
+  pub line_of_class : (c : ClassName) (n : ℕ) → class_number tree c ≡ Some n → lines.line_within (base_numbers tree) (longest_chain tree) (Some n) ≡ chain_numbers tree c
+  line_of_class c n e = ap (lines.line_within (base_numbers tree) (longest_chain tree)) (sym e) ∙ line_is_chain (longest_chain tree) (Some c)
+
   nearest_same : (place other : ℕ → Option ℕ) → ((n : ℕ) → place n ≡ other n) → (ns : List ℕ) → lines.nearest place ns ≡ nearest_number other ns
   nearest_same place other same [] = refl
   nearest_same place other same (n ∷ ns) = ap (λ o. option_map_or (λ p. Some (n, p)) o (lines.nearest place ns)) (same n) ∙ ap (option_map_or (λ p. Some (n, p)) (other n)) (nearest_same place other same ns)
 
+  -- from a class of a number on
+  pub nearest_on_line : {K : Type 0} (forest : Forest) (number : K → ℕ) (place : K → ℕ → Option ℕ) → IsMemberTable tree forest number place → (key : K) (n : ℕ) →
+      nearest_from forest (number key) forest.most (Some n) ≡ nearest_number (place key) (lines.line_within (base_numbers tree) (longest_chain tree) (Some n))
+  nearest_on_line forest number place t key n =
+      nearest_same (lines.place_in (map (λ r. r.items) forest.declared.items) (number key)) (place key) (t.places key) (lines.line_within forest.bases.items forest.most (Some n)) ∙
+      ap (nearest_number (place key)) (ap (λ bs. lines.line_within bs forest.most (Some n)) t.bases ∙ ap (λ m. lines.line_within (base_numbers tree) m (Some n)) t.most)
+
   pub nearest_in_table : {K : Type 0} (forest : Forest) (number : K → ℕ) (place : K → ℕ → Option ℕ) → IsMemberTable tree forest number place → (key : K) (c : ClassName) (n : ℕ) → class_number tree c ≡ Some n →
       nearest_from forest (number key) forest.most (Some n) ≡ nearest_number (place key) (chain_numbers tree c)
-  nearest_in_table forest number place t key c n e =
-      nearest_same (lines.place_in (map (λ r. r.items) forest.declared.items) (number key)) (place key) (t.places key) (lines.line_within forest.bases.items forest.most (Some n)) ∙
-      ap (nearest_number (place key)) (
-      ap (λ bs. lines.line_within bs forest.most (Some n)) t.bases ∙ ap (λ m. lines.line_within (base_numbers tree) m (Some n)) t.most ∙
-      ap (lines.line_within (base_numbers tree) (longest_chain tree)) (sym e) ∙ line_is_chain (longest_chain tree) (Some c))
+  nearest_in_table forest number place t key c n e = nearest_on_line forest number place t key n ∙ ap (nearest_number (place key)) (line_of_class c n e)

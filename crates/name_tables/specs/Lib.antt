@@ -6,3 +6,5 @@ pub mod Entries
 pub mod Numbers
 pub mod Inherited
 pub mod Members
+pub mod Hashes
+pub mod Methods

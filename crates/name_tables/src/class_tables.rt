@@ -94,6 +94,13 @@ impl<'a> ClassTable<'a> {
         self.calls.keys()
     }
 
+    /// What the methods are found by without their staticness, by their places.
+    pub(crate) fn method_keys(&self) -> &[MethodKey<'a>]
+        ensures { map method_of_key result.now ≡ map identity_of (declaration_in self.now.class).methods }
+    {
+        self.methods.keys()
+    }
+
     /// The place of the first field of this name, type and staticness.
     pub fn field(&self, key: FieldKey) -> Option<usize>
         ensures { result ≡ position_from (same_field (field_of_key key.entry)) 0 (declaration_in self.now.class).fields }

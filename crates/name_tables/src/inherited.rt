@@ -55,7 +55,7 @@ fn row_numbers<K: Eq + Hash + Copy + Drop>(
     Ok(numbers)
 }
 
-fn numbers<K: Eq + Hash + Copy + Drop>(
+pub(crate) fn numbers<K: Eq + Hash + Copy + Drop>(
     alloc: Global,
     keys: &Places<K>,
     rows: &[&[K]],
@@ -102,5 +102,16 @@ impl<K: Eq + Hash + Copy + Drop> Inherited<K> {
         ensures { IfOk result (λ found. option_map (λ d. (d.class, d.place)) found ≡ nearest_from self.now.inheritance.forest (number_in K.eq self.now.keys key) self.now.inheritance.forest.most (Some class)) }
     {
         self.inheritance.nearest(class, number_of(&self.keys, key))
+    }
+    /// The same for each class. Only where its bases are not seen to end are they gone along.
+    pub fn find(&self, class: usize, key: K) -> Option<Declared>
+        ensures { option_map (λ d. (d.class, d.place)) result ≡ nearest_from self.now.inheritance.forest (number_in K.eq self.now.keys key) self.now.inheritance.forest.most (Some class) }
+    {
+        match self.nearest(class, key) {
+            Ok(found) => found,
+            Err(Endless) => self
+                .inheritance
+                .nearest_along(class, number_of(&self.keys, key)),
+        }
     }
 }

@@ -152,16 +152,17 @@ impl Eq for FieldKey<'_> {
 
 impl Hash for FieldKey<'_> {
     ghost use Rattle.std.proofs.Common.{ap};
-    ghost use Rattle.std.specs.Hash as fed;
     ghost use Rattle.name_tables.specs.SamenessLaws.{same_field_equal};
     ghost use Rattle.name_tables.specs.Keys.{field_of_key};
+    ghost use Rattle.name_tables.specs.Hashes.{fed_field};
 
-    ghost hash_input = { λ k. fed.str (field_of_key k).name };
+    ghost hash_input = { λ k. fed_field (field_of_key k) };
 
-    ghost respects_eq = { λ a b h. ap (λ v. fed.str v.name) (same_field_equal (field_of_key a) (field_of_key b) h) };
+    ghost respects_eq = { λ a b h. ap fed_field (same_field_equal (field_of_key a) (field_of_key b) h) };
 
     fn hash<H: Hasher>(&self, state: &mut H) {
         self.name.as_str().hash(state);
+        self.field_type.hash(state);
     }
 }
 
@@ -199,17 +200,19 @@ impl Hash for MethodKey<'_> {
     ghost use Rattle.std.proofs.Common.{ap};
     ghost use Rattle.std.specs.Hash as fed;
     ghost use Rattle.name_tables.specs.SamenessLaws.{same_identity_equal};
-    ghost use Rattle.name_tables.specs.Keys.{method_of_key, fed_name};
+    ghost use Rattle.name_tables.specs.Keys.{method_of_key};
+    ghost use Rattle.name_tables.specs.Hashes.{fed_method};
 
-    ghost hash_input = { λ k. fed_name (method_of_key k).name };
+    ghost hash_input = { λ k. fed_method (method_of_key k) };
 
-    ghost respects_eq = { λ a b h. ap (λ v. fed_name v.name) (same_identity_equal (method_of_key a) (method_of_key b) h) };
+    ghost respects_eq = { λ a b h. ap fed_method (same_identity_equal (method_of_key a) (method_of_key b) h) };
 
     fn hash<H: Hasher>(&self, state: &mut H) {
         match self.name {
             None => {}
             Some(name) => name.as_str().hash(state),
         }
+        self.parameters.hash(state);
     }
 }
 
@@ -241,11 +244,12 @@ impl Hash for CallKey<'_> {
     ghost use Rattle.std.proofs.Common.{ap};
     ghost use Rattle.std.specs.Hash as fed;
     ghost use Rattle.name_tables.specs.SamenessLaws.{same_called_equal};
-    ghost use Rattle.name_tables.specs.Keys.{called_of_key, fed_name};
+    ghost use Rattle.name_tables.specs.Keys.{called_of_key};
+    ghost use Rattle.name_tables.specs.Hashes.{fed_method};
 
-    ghost hash_input = { λ k. fed_name (called_of_key k).0.name };
+    ghost hash_input = { λ k. fed_method (called_of_key k).0 };
 
-    ghost respects_eq = { λ a b h. ap (λ v. fed_name v.0.name) (same_called_equal (called_of_key a) (called_of_key b) h) };
+    ghost respects_eq = { λ a b h. ap (λ v. fed_method v.0) (same_called_equal (called_of_key a) (called_of_key b) h) };
 
     fn hash<H: Hasher>(&self, state: &mut H) {
         self.method.hash(state);

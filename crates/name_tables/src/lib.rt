@@ -10,6 +10,7 @@ pub mod keys;
 pub mod kinds;
 pub mod lookups;
 mod members;
+pub mod methods;
 pub mod numbers;
 pub mod places;
 pub mod tables;

@@ -1,15 +1,16 @@
 // What the references of a tree find, by numbers.
 
 ghost use Rattle.std.specs.Prelude.{◌≡◌, [], IfOk, map, option_map, Some, true};
+ghost use Rattle.inheritance.specs.Lines.{base_in, line_within, Ends};
 ghost use Rattle.std.specs.List.{cons_option};
 ghost use Rattle.cil_model.specs.Bodies.{virtual_reference, constructor_reference};
-ghost use Rattle.cil_model.specs.Chains.{find_field, find_method};
+ghost use Rattle.cil_model.specs.Chains.{find_field, find_method, longest_chain};
 ghost use Rattle.inheritance.specs.Ledgers.{pair_of};
 ghost use Rattle.name_tables.specs.BuiltInTable.{built_in_entry};
 ghost use Rattle.cil_model.specs.Declarations.{built_ins};
 ghost use Rattle.name_tables.specs.Keys.{class_of_key, field_of_key, called_of_key, reference_of_keys};
-ghost use Rattle.name_tables.specs.Members.{field_key_number, call_key_number, field_place, call_place, IsMemberTable};
-ghost use Rattle.name_tables.specs.Numbers.{chain_numbers, nearest_number, place_in, field_at, method_at, field_number, method_number, declarations, class_number};
+ghost use Rattle.name_tables.specs.Members.{base_numbers, field_key_number, call_key_number, field_place, call_place, IsMemberTable};
+ghost use Rattle.name_tables.specs.Numbers.{chain_numbers, nearest_number, place_in, field_at, method_at, field_number, method_number, class_number};
 ghost use Rattle.name_tables.specs.Sameness.{same_field, same_called, called_of};
 
 use crate::built_in::BuiltInClass;
@@ -22,7 +23,7 @@ use cil_model::memory::NoMemory;
 use cil_model::texts::Text;
 use cil_model::trees::Tree;
 use cil_model::types::{ClassName, DeclaredType, Signature};
-use inheritance::{Declared, Endless};
+use inheritance::Declared;
 use std::alloc::Global;
 
 /// Where a member stands: the number of its class, and its place among the fields or the methods of that class.
@@ -32,30 +33,18 @@ pub struct MemberNumber {
     pub place: usize,
 }
 
-/// The tables of a tree, with what each class inherits, and its chain.
+/// The tables of a tree, with what each class inherits.
 #[derive(Drop)]
 pub struct NameTables<'a> {
     pub classes: ClassTables<'a>,
     fields: Inherited<FieldKey<'a>>,
     calls: Inherited<CallKey<'a>>,
-    chains: Vec<Vec<usize>>,
     ghost fields_are: { IsMemberTable classes.tree.now fields.inheritance.forest (field_key_number fields.keys) (field_place classes.tree.now) },
     ghost calls_are: { IsMemberTable classes.tree.now calls.inheritance.forest (call_key_number calls.keys) (call_place classes.tree.now) },
-    ghost chains_are: { map (λ v. v.items) chains.items ≡ map (λ e. chain_numbers classes.tree.now e.0) (declarations classes.tree.now) },
-}
-
-fn chains(alloc: Global, classes: &ClassTables) -> Result<Vec<Vec<usize>>, NoMemory>
-    ensures { IfOk result (λ v. map (λ c. c.items) v.items ≡ map (λ e. chain_numbers classes.now.tree.now e.0) (declarations classes.now.tree.now)) }
-{
-    let mut chains = Vec::new(alloc);
-    for name in classes.names() {
-        chains.push(classes.chain(alloc, *name)?)?;
-    }
-    Ok(chains)
 }
 
 /// A declaration as a member.
-fn member_number(found: Option<Declared>) -> Option<MemberNumber>
+pub(crate) fn member_number(found: Option<Declared>) -> Option<MemberNumber>
     ensures { option_map (λ m. (m.class, m.place)) result ≡ pair_of found }
 {
     match found {
@@ -76,82 +65,83 @@ impl<'a> NameTables<'a> {
         let classes = ClassTables::new(alloc, tree, table)?;
         let fields = all_fields(alloc, &classes)?;
         let calls = all_calls(alloc, &classes)?;
-        let chains = chains(alloc, &classes)?;
         Ok(NameTables {
             classes,
             fields,
             calls,
-            chains,
         })
     }
 
-    /// The numbers of a declared class's chain; none where the name stands for nothing.
-    pub fn chain(&self, name: ClassKey) -> &[usize]
-        ensures { result.now ≡ chain_numbers self.now.classes.tree.now (class_of_key name.entry) }
+    /// The number of the base of each class.
+    pub fn bases(&self) -> &[Option<usize>]
+        ensures { result.now ≡ base_numbers self.now.classes.tree.now }
     {
-        let Some(number) = self.classes.number(name) else {
-            return &[];
-        };
-        match self.chains.get(number) {
-            None => &[],
-            Some(chain) => chain.as_slice(),
+        self.fields.inheritance.forest.bases.as_slice()
+    }
+
+    /// The number of the base of a class.
+    pub fn base(&self, class: usize) -> Option<usize>
+        ensures { result ≡ base_in (base_numbers self.now.classes.tree.now) class }
+    {
+        match self.bases().get(class) {
+            None => None,
+            Some(base) => *base,
         }
     }
 
-    /// The nearest class of a chain with this field.
-    fn field_along(&self, chain: &[usize], key: FieldKey) -> Option<MemberNumber>
-        ensures { option_map (λ m. (m.class, m.place)) result ≡ nearest_number (place_in (λ d. d.fields) (same_field (field_of_key key.entry)) self.now.classes.tree.now) chain.now }
+    /// Whether the bases of a class are seen to end.
+    pub fn ends(&self, class: usize) -> bool
+        ensures { result ≡ true → Ends (base_numbers self.now.classes.tree.now) (longest_chain self.now.classes.tree.now) class }
     {
-        for class in chain {
-            if let Some(place) = self.classes.field(*class, key) {
-                return Some(MemberNumber {
-                    class: *class,
-                    place,
-                });
-            }
-        }
-        None
+        self.fields.inheritance.ends(class)
     }
 
-    /// The nearest class of a chain with this method.
-    fn call_along(&self, chain: &[usize], key: CallKey) -> Option<MemberNumber>
-        ensures { option_map (λ m. (m.class, m.place)) result ≡ nearest_number (place_in (λ d. d.methods) (λ m. same_called (called_of_key key.entry) (called_of m)) self.now.classes.tree.now) chain.now }
+    /// The numbers of a class and those along its bases. Fails for want of memory alone.
+    pub fn line(&self, alloc: Global, class: usize) -> Result<Vec<usize>, NoMemory>
+        ensures { IfOk result (λ v. v.items ≡ line_within (base_numbers self.now.classes.tree.now) (longest_chain self.now.classes.tree.now) (Some class)) }
     {
-        for class in chain {
-            if let Some(place) = self.classes.call(*class, key) {
-                return Some(MemberNumber {
-                    class: *class,
-                    place,
-                });
-            }
+        let mut numbers = Vec::new(alloc);
+        let mut next = Some(class);
+        let mut left = self.classes.longest_chain();
+        while left > 0 {
+            let Some(class) = next else {
+                return Ok(numbers);
+            };
+            numbers.push(class)?;
+            next = self.base(class);
+            left -= 1;
         }
-        None
+        Ok(numbers)
     }
 
-    /// The nearest field of a class's chain. Only where its bases do not end is the chain gone along.
+    /// The numbers of a declared class's chain; none where the name stands for nothing. Fails for want of memory alone.
+    pub fn chain(&self, alloc: Global, name: ClassKey) -> Result<Vec<usize>, NoMemory>
+        ensures { IfOk result (λ v. v.items ≡ chain_numbers self.now.classes.tree.now (class_of_key name.entry)) }
+    {
+        match self.classes.number(name) {
+            None => Ok(Vec::new(alloc)),
+            Some(class) => Ok(self.line(alloc, class)?),
+        }
+    }
+
+    /// The nearest field of a class's chain.
     fn nearest_field(&self, owner: ClassKey, key: FieldKey) -> Option<MemberNumber>
         ensures { option_map (λ m. (m.class, m.place)) result ≡ nearest_number (field_place self.now.classes.tree.now key.entry) (chain_numbers self.now.classes.tree.now (class_of_key owner.entry)) }
     {
         let Some(class) = self.classes.number(owner) else {
             return None;
         };
-        match self.fields.nearest(class, key) {
-            Ok(found) => member_number(found),
-            Err(Endless) => self.field_along(self.chain(owner), key),
-        }
+        member_number(self.fields.find(class, key))
     }
 
-    /// The nearest method of a class's chain. Only where its bases do not end is the chain gone along.
+    /// The nearest method of a class's chain.
     fn nearest_call(&self, owner: ClassKey, key: CallKey) -> Option<MemberNumber>
         ensures { option_map (λ m. (m.class, m.place)) result ≡ nearest_number (call_place self.now.classes.tree.now key.entry) (chain_numbers self.now.classes.tree.now (class_of_key owner.entry)) }
     {
         let Some(class) = self.classes.number(owner) else {
             return None;
         };
-        match self.calls.nearest(class, key) {
-            Ok(found) => member_number(found),
-            Err(Endless) => self.call_along(self.chain(owner), key),
-        }
+        member_number(self.calls.find(class, key))
     }
 
     /// The method that a class itself declares.

@@ -14,7 +14,10 @@ use cil_model::memory::NoMemory;
 use std::alloc::Global;
 
 /// The number of the base of each class.
-fn base_numbers(alloc: Global, classes: &ClassTables) -> Result<Vec<Option<usize>>, NoMemory>
+pub(crate) fn base_numbers(
+    alloc: Global,
+    classes: &ClassTables,
+) -> Result<Vec<Option<usize>>, NoMemory>
     ensures { IfOk result (λ v. v.items ≡ base_numbers classes.now.tree.now) }
 {
     let mut bases = Vec::new(alloc);

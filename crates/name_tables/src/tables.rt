@@ -6,7 +6,7 @@ ghost use Rattle.cil_model.specs.Chains.{longest_chain};
 ghost use Rattle.name_tables.specs.BuiltInTable.{built_in_entry};
 ghost use Rattle.name_tables.specs.Entries.{declaration_in, entry_of};
 ghost use Rattle.name_tables.specs.Keys.{class_of_key, field_of_key, method_of_key, called_of_key};
-ghost use Rattle.name_tables.specs.Numbers.{source_entry, declarations, class_number, chain_numbers, place_in, method_found};
+ghost use Rattle.name_tables.specs.Numbers.{source_entry, declarations, class_number, place_in, method_found};
 ghost use Rattle.name_tables.specs.Sameness.{same_field, same_called, called_of};
 
 use crate::built_in::BuiltInClass;
@@ -164,30 +164,8 @@ impl<'a> ClassTables<'a> {
         }
     }
 
-    /// The numbers of a class's chain, the class itself first, up to as many classes as a chain without a cycle may have.
-    /// Fails for want of memory alone.
-    pub fn chain(&self, alloc: Global, first: ClassKey<'a>) -> Result<Vec<usize>, NoMemory>
-        ensures { IfOk result (λ v. v.items ≡ chain_numbers self.now.tree.now (class_of_key first.entry)) }
-    {
-        let mut numbers = Vec::new(alloc);
-        let mut next = Some(first);
-        let mut left = self.longest_chain();
-        while left > 0 {
-            let Some(name) = next else {
-                return Ok(numbers);
-            };
-            let Some(number) = self.number(name) else {
-                return Ok(numbers);
-            };
-            numbers.push(number)?;
-            next = self.base(number);
-            left -= 1;
-        }
-        Ok(numbers)
-    }
-
     /// No chain without a cycle has more classes: those of the source, and three built-in ones.
-    pub(crate) fn longest_chain(&self) -> usize
+    pub fn longest_chain(&self) -> usize
         ensures { result ≡ longest_chain self.now.tree.now }
     {
         self.tree.classes.as_slice().len() + 3

@@ -1,8 +1,8 @@
 -- No change that keeps how many slots a cell has changes how many there are at an address.
-use Rattle.std.proofs.Common.{◌≡◌, ℕ, ◌+◌, Bool, true, false, List, [], ◌∷◌, length, refl}
+use Rattle.std.proofs.Common.{◌≡◌, ℕ, ◌+◌, Bool, true, false, List, [], ◌∷◌, length, refl, sym, ap}
 use Rattle.std.specs.Prelude.{◌==◌, if◌then◌else◌, Option, Some, None, IsSome, option_map, unwrap_or}
 use Rattle.object_memory.specs.declared.addresses.Addr.{Addr}
-use Rattle.object_memory.specs.Cells.{Cell, size, cell_from, change_from}
+use Rattle.object_memory.specs.Cells.{Cell, Cells, size, cell_from, cell_in, change_from, slots_in}
 use Rattle.object_memory.specs.Spaces.{Spaces, first_of, cell_at, slots_at, change_at}
 
 -- how many slots the cell has; none where there is none
@@ -58,3 +58,11 @@ module _ (f : Cell → Cell) (keeps : (c : Cell) → length (f c).slots ≡ leng
       there_in (cell_from m.old.start m.old.cells b.number) (cell_from m.old.start (change_from f m.old.start m.old.cells a.number) b.number)
       (cell_from m.new.start m.new.cells b.number) (cell_from m.new.start (change_from f m.new.start m.new.cells a.number) b.number)
       (counted m.old.start m.old.cells a.number b.number) (counted m.new.start m.new.cells a.number b.number) some
+
+-- the words of a cell, by the number of its slots
+pub size_told : (s : Cells) (a : Addr) (n : ℕ) → IsSome (cell_in s a) → n ≡ length (slots_in s a) → option_map size (cell_in s a) ≡ Some (3 + n)
+size_told s a n some is = by_cell (cell_in s a) some is
+  where
+    by_cell : (o : Option Cell) → IsSome o → n ≡ length (unwrap_or (option_map (λ (c : Cell). c.slots) o) []) → option_map size o ≡ Some (3 + n)
+    by_cell None there e = absurd cc
+    by_cell (Some c) there e = ap (λ k. Some (3 + k)) (sym e)

@@ -1,15 +1,13 @@
 -- What the heap's methods read and write, in the terms of their contracts.
-use Rattle.std.proofs.Common.{◌≡◌, ◌≢◌, ℕ, suc, ◌+◌, ◌-◌, ◌<◌, ◌≤◌, Bool, true, false, List, [], ◌∷◌, ◌++◌, length, take, set, get_or, refl, sym, ap, subst, ◌∙◌, arith}
-use Rattle.std.specs.Prelude.{nat_lt, slice_get, Option, Some, None, IsSome, option_map}
+use Rattle.std.proofs.Common.{◌≡◌, ℕ, suc, ◌+◌, ◌-◌, ◌<◌, ◌≤◌, Bool, List, [], ◌∷◌, ◌++◌, length, take, set, get_or, refl, sym, ap, subst, ◌∙◌, arith}
+use Rattle.std.specs.Prelude.{Option, Some, None, IsSome, option_map}
 use Rattle.std.proofs.lemmas.List.{length-replicate}
-use Rattle.std.proofs.lemmas.Bool.Decides.{nat_tests}
 use Rattle.std.proofs.Math.ListN.{length-set}
 use Rattle.object_memory.specs.declared.addresses.Addr.{Addr}
 use Rattle.object_memory.specs.declared.kinds.Kind.{Kind}
 use Rattle.object_memory.specs.declared.monitors.Monitor.{Monitor}
-use Rattle.object_memory.specs.Cells.{next_address, Cell, Cells, size, used_words, free_words, new_cell, addresses, cell_in, slots_in, change_in, store_slot, store_monitor, store_copies, with_last}
+use Rattle.object_memory.specs.Cells.{next_address, Cell, Cells, size, free_words, new_cell, cell_in, slots_in, change_in, store_slot, store_monitor, store_copies, with_last}
 use Rattle.object_memory.specs.Words.{words_of, cells_of, IsTold, IsLaid, header_word, copies_word, is_marked_in, other_in, kind_in, count_in, monitor_in, monitor_word}
-use Rattle.object_memory.proofs.Walks.{cell_here, behind, next_from}
 use Rattle.object_memory.proofs.Tiles.{born, used_words_held, Lies, lies, Lays, word_read, word_written}
 
 -- the cells that contracts see
@@ -111,41 +109,12 @@ module _ (start : ℕ) (block : List ℕ) (used : ℕ) (laid : IsLaid block used
   pub other_read : IsSome (cell_in h a) → option_map (λ (c : Cell). c.other) (cell_in h a) ≡ Some (other_in (get_or block (place + 1) 0))
   other_read some = let c = held some in rw (c.at, copies_read c, c.lies.told.other) refl
 
-  -- ---- the walk
+  -- ---- its words
 
   pub cell_inside : IsSome (cell_in h a) → (start ≤ a.number) × (place + 3 + length (slots_in h a) ≤ used)
   cell_inside some =
       let c = held some in
       (omega (arith, c.lies.place), rw c.at (omega (arith, c.lies.place, c.lies.below)))
-
-  pub next_here : IsSome (cell_in h a) → (n : ℕ) → slice_get (addresses h) n ≡ Some a → slice_get (addresses h) (n + 1) ≡ behind (start + used) a.number (3 + length (slots_in h a))
-  next_here some n e =
-      let c = held some in
-      let cell : slice_get h.cells n ≡ Some c.cell = sym (cell_here start h.cells n a e) ∙ c.at in
-      let one : n + 1 ≡ suc n = omega arith in
-      let end : start + used_words h.cells ≡ start + used = ap (λ k. start + k) (used_words_held block used laid) in
-      let long : size c.cell ≡ 3 + length (slots_in h a) = rw c.at refl in
-      ap (slice_get (addresses h)) one ∙ next_from start h.cells n a c.cell e cell
-      ∙ ap (λ k. behind k a.number (size c.cell)) end ∙ ap (behind (start + used) a.number) long
-
-  module _ (some : IsSome (cell_in h a)) (p s : ℕ) (p_is : p ≡ place) (s_is : s ≡ length (slots_in h a)) where
-    -- where the cell ends
-    pub end_inside : p + 3 + s ≤ used
-    end_inside = omega (arith, p_is, s_is, (cell_inside some).1)
-
-    -- the walk ends at a cell that ends where the words in use do
-    pub next_none : p + 3 + s ≡ used → (n : ℕ) → slice_get (addresses h) n ≡ Some a → None ≡ slice_get (addresses h) (n + 1)
-    next_none last n e =
-        let inside = cell_inside some in
-        let test : nat_lt (a.number + (3 + length (slots_in h a))) (start + used) ≡ false = grind (arith, nat_tests) in
-        sym (next_here some n e ∙ rw test refl)
-
-    pub next_some : p + 3 + s ≢ used → (n : ℕ) → slice_get (addresses h) n ≡ Some a → Some (record { number = p + 3 + s + start }) ≡ slice_get (addresses h) (n + 1)
-    next_some more n e =
-        let inside = cell_inside some in
-        let test : nat_lt (a.number + (3 + length (slots_in h a))) (start + used) ≡ true = grind (arith, nat_tests) in
-        let there : a.number + (3 + length (slots_in h a)) ≡ p + 3 + s + start = omega (arith, inside, p_is, s_is) in
-        sym (next_here some n e ∙ rw test (ap (λ (k : ℕ). Some (record { number = k })) there))
 
   -- ---- the slots
 

@@ -1,17 +1,17 @@
 -- Births in both blocks, and shells, in the terms of the heap's methods.
-use Rattle.std.proofs.Common.{◌≡◌, ℕ, ◌+◌, ◌-◌, ◌≤◌, Bool, true, false, List, [], ◌∷◌, ◌++◌, length, refl, subst, ◌∙◌, arith}
-use Rattle.std.specs.Prelude.{nat_le, Option, Some, None, IsSome, option_map}
+use Rattle.std.proofs.Common.{◌≡◌, ℕ, ◌+◌, ◌-◌, ◌≤◌, Bool, true, false, List, [], ◌∷◌, ◌++◌, length, refl, sym, ap, subst, ◌∙◌, arith}
+use Rattle.std.specs.Prelude.{nat_le, Option, Some, None, IsSome, IfSome, option_map}
 use Rattle.std.proofs.lemmas.Bool.Decides.{nat_tests}
 use Rattle.object_memory.specs.declared.addresses.Addr.{Addr}
 use Rattle.object_memory.specs.declared.kinds.Kind.{Kind}
 use Rattle.object_memory.specs.declared.monitors.Monitor.{Monitor}
 use Rattle.object_memory.specs.declared.heap.Cycle.{Cycle}
-use Rattle.object_memory.specs.Cells.{Cell, Cells, size, free_words, next_address, new_cell, store_copies, cell_in, change_in, slots_in, with_last, empty_cell}
-use Rattle.object_memory.specs.Spaces.{with_new, InBoth, Listed, room_at, shell_of, with_shell, set_other}
+use Rattle.object_memory.specs.Cells.{Cell, Cells, size, free_words, next_address, literal_number, new_cell, store_copies, cell_in, change_in, slots_in, with_last, empty_cell}
+use Rattle.object_memory.specs.Spaces.{AreSpaces, Place, with_new, InBoth, Listed, room_at, shell_of, with_shell, set_other}
 use Rattle.object_memory.specs.Objects.{Objects, spaces_of, IsHeld, with_birth_at}
 use Rattle.object_memory.proofs.Blocks.{last_in, last_changed, same_in, unchanged_in}
 use Rattle.object_memory.proofs.TwoBlocks.{AreSpaces-with_new, not_new, change-is_space}
-use Rattle.object_memory.proofs.Births.{AreSpaces-born, HasGreyRoom-at}
+use Rattle.object_memory.proofs.Births.{AreSpaces-born, HasGreyRoom-at, birth_at-no_literal}
 use Rattle.object_memory.proofs.Rooms.{size-empty, HasGreyRoom-change}
 
 pub last_is_there : (s : Cells) (k : Kind) (n : ℕ) → IsSome (cell_in (with_last s (new_cell k n)) (next_address s))
@@ -136,3 +136,10 @@ module _ (old : Cells) (cycle : Option Cycle) (c : Cycle) (h : IsHeld old cycle)
   listed_born literals =
       let test : nat_le (3 + n) (free_words old) ≡ true = grind (arith, nat_tests) in
       rw (test, e, marked_then_is) refl
+
+-- what is born has no literal's address
+pub born_told : (o p : Objects) → AreSpaces o.spaces → o ≡ p → (place : Place) (k : Kind) (n : ℕ) (after : Objects) (r : Option Addr) → ◌≡◌ {A = Objects × Option Addr} (after, r) (with_birth_at place p k n)
+    → IfSome r (λ a. literal_number a ≡ None)
+born_told o p h same place k n after r e =
+    let spaces = subst (λ (x : Objects). AreSpaces x.spaces) same h in
+    subst (λ (x : Option Addr). IfSome x (λ a. literal_number a ≡ None)) (sym (ap (λ (x : Objects × Option Addr). x.1) e)) (birth_at-no_literal p.spaces spaces k n place)

@@ -1,6 +1,5 @@
 pub mod Tiles
 pub mod Heaps
-pub mod Walks
 pub mod Blocks
 pub mod TwoBlocks
 pub mod Rooms

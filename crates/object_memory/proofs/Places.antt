@@ -1,12 +1,12 @@
 -- Walks over the cells of a block: places, the next cell, and the next one with a property.
-use Rattle.std.proofs.Common.{◌≡◌, ◌⊎◌, inl, inr, ℕ, ◌+◌, ◌<◌, ◌≤◌, Bool, true, false, List, [], ◌∷◌, ◌++◌, refl, sym, ap, ◌∙◌, arith, append_assoc, append-nil}
+use Rattle.std.proofs.Common.{◌≡◌, ◌≢◌, ◌⊎◌, inl, inr, ℕ, ◌+◌, ◌<◌, ◌≤◌, Bool, true, false, List, [], ◌∷◌, ◌++◌, refl, sym, ap, subst, ◌∙◌, arith, append_assoc, append-nil}
 use Rattle.std.specs.Prelude.{◌==◌, nat_lt, if◌then◌else◌, Some, None}
 use Rattle.std.proofs.lemmas.List.Sums.{sum_by-cons, sum_by-append}
 use Rattle.std.proofs.lemmas.Bool.Decides.{nat_tests}
 use Rattle.object_memory.specs.declared.addresses.Addr.{Addr}
-use Rattle.object_memory.specs.Cells.{Cell, Cells, size, used_words, cell_from, cell_in, with_last}
+use Rattle.object_memory.specs.Cells.{Cell, Cells, size, used_words, cell_from, cell_in, change_from, change_in, with_last, address_behind, begins_behind}
 use Rattle.object_memory.specs.Spaces.{IsPlace, found_from, found_in}
-use Rattle.object_memory.proofs.Blocks.{range_in, apart_in}
+use Rattle.object_memory.proofs.Blocks.{range_in, apart_in, none_in}
 
 -- ---- places
 
@@ -25,6 +25,31 @@ place-le-end s p h =
 -- a place stays one with one cell more
 pub IsPlace-last : (s : Cells) (c : Cell) (p : ℕ) → IsPlace s p → IsPlace (with_last s c) p
 IsPlace-last s c p h = record { before = h.before; after = h.after ++ c ∷ []; split = ap (λ cs. cs ++ c ∷ []) h.split ∙ append_assoc h.before h.after (c ∷ []); at = h.at }
+
+-- a change of a cell that keeps its size leaves each place one
+module _ (f : Cell → Cell) (keeps : (c : Cell) → size (f c) ≡ size c) where
+  -- the cells on either side of a place, after the change
+  abbrev AreParted : ℕ → List Cell → List Cell → ℕ → Type 0
+  AreParted at before after a = (cs : List Cell) × (ds : List Cell) × (change_from f at (before ++ after) a ≡ cs ++ ds) × (used_words cs ≡ used_words before)
+
+  parted : (at : ℕ) (before after : List Cell) (a : ℕ) → AreParted at before after a
+  parted at [] after a = ([], change_from f at after a, refl, refl)
+  parted at (c ∷ cs) after a = by_test (a == at) (parted (at + size c) cs after a)
+    where
+      by_test : (t : Bool) → AreParted (at + size c) cs after a
+          → (xs : List Cell) × (ys : List Cell) × ((if t then f c ∷ (cs ++ after) else c ∷ change_from f (at + size c) (cs ++ after) a) ≡ xs ++ ys) × (used_words xs ≡ used_words (c ∷ cs))
+      by_test true rest = (f c ∷ cs, after, refl, sum_by-cons size (f c) cs ∙ ap (λ k. k + used_words cs) (keeps c) ∙ sym (sum_by-cons size c cs))
+      by_test false rest = (c ∷ rest.0, rest.1, ap (λ xs. c ∷ xs) rest.2, sum_by-cons size c rest.0 ∙ ap (λ k. size c + k) rest.3 ∙ sym (sum_by-cons size c cs))
+
+  pub IsPlace-change : (s : Cells) (a : Addr) (p : ℕ) → IsPlace s p → IsPlace (change_in f s a) p
+  IsPlace-change s a p h =
+      let both = parted s.start h.before h.after a.number in
+      record {
+        before = both.0;
+        after = both.1;
+        split = ap (λ cs. change_from f s.start cs a.number) h.split ∙ both.2;
+        at = h.at ∙ ap (λ k. s.start + k) (sym both.3);
+      }
 
 at_from : (at : ℕ) (before after : List Cell) (c : Cell) → cell_from at (before ++ c ∷ after) (at + used_words before) ≡ Some c
 at_from at [] after c = let test : (at + 0 == at) ≡ true = grind (arith, nat_tests) in rw test refl
@@ -50,6 +75,33 @@ at_by s p before (c ∷ after) split at =
 
 pub at_place : (s : Cells) (p : ℕ) → IsPlace s p → AtPlace s p
 at_place s p h = at_by s p h.before h.after h.split h.at
+
+-- behind a cell there is a place
+pub place-behind : (s : Cells) (p : ℕ) (c : Cell) → IsPlace s p → cell_in s (record { number = p }) ≡ Some c → IsPlace s (p + size c)
+place-behind s p c h e = elim (at_place s p h) [
+  | cell d there next ↦ let same : d ≡ c = cc in subst (λ x. IsPlace s (p + size x)) same next
+  | end is ↦ absurd (omega (arith, is, (range_in s (record { number = p }) c e).1))
+]
+
+-- where no cell begins is the end
+pub place-last : (s : Cells) (p : ℕ) → IsPlace s p → cell_in s (record { number = p }) ≡ None → p ≡ s.start + used_words s.cells
+place-last s p h e = elim (at_place s p h) [
+  | cell d there next ↦ absurd cc
+  | end is ↦ is
+]
+
+-- nothing begins behind all words
+pub begins_last : (s : Cells) (n : ℕ) → n ≡ used_words s.cells → begins_behind s n ≡ None
+begins_last s n e =
+    let none : cell_in s (address_behind s n) ≡ None = none_in s (address_behind s n) (λ low below. absurd (omega (arith, e, below))) in
+    rw none refl
+
+-- at any other place a cell begins
+pub begins_here : (s : Cells) (n : ℕ) → IsPlace s (s.start + n) → n ≢ used_words s.cells → begins_behind s n ≡ Some (address_behind s n)
+begins_here s n h ne = elim (at_place s (s.start + n) h) [
+  | cell c there next ↦ rw there refl
+  | end is ↦ absurd (omega (arith, is, ne))
+]
 
 -- a cell below the place of another lies below it whole
 pub below_place : (s : Cells) (p : ℕ) → IsPlace s p → (a : Addr) (c : Cell) → cell_in s a ≡ Some c → a.number < p → a.number + size c ≤ p

@@ -1,6 +1,6 @@
 -- What a heap's two blocks have at an address, by the addresses that the old one spans.
 use Rattle.std.proofs.Common.{◌≡◌, ◌⊎◌, inl, inr, ℕ, ◌+◌, ◌-◌, ◌*◌, ◌++◌, ◌<◌, ◌≤◌, Bool, true, false, List, [], ◌∷◌, refl, sym, ap, subst, ◌∙◌, arith}
-use Rattle.std.specs.Prelude.{Option, Some, None, IsSome, option_map, unwrap_or, is_some, nat_lt, if◌then◌else◌}
+use Rattle.std.specs.Prelude.{◌==◌, ◌||◌, Option, Some, None, IsSome, option_map, unwrap_or, is_some, nat_lt, if◌then◌else◌}
 use Rattle.cil_model.specs.declared.limits.TheConstants.{MOST_WORDS}
 use Rattle.object_memory.specs.declared.addresses.Addr.{Addr}
 use Rattle.object_memory.specs.declared.heap.Cycle.{Cycle}
@@ -8,7 +8,8 @@ use Rattle.object_memory.specs.Cells.{Cell, Cells, size, null, first, literal_nu
 use Rattle.object_memory.specs.declared.monitors.Monitor.{Monitor}
 use Rattle.object_memory.specs.declared.addresses.TheConstants.{FIRST_LITERAL}
 use Rattle.std.proofs.lemmas.Bool.Decides.{nat_tests}
-use Rattle.object_memory.specs.Spaces.{Spaces, AreSpaces, HasGreyRoom, first_of, cell_at, slots_at, change_at, set_mark, is_white, other_start, second}
+use borrow.Author.Tests.{eqb-true}
+use Rattle.object_memory.specs.Spaces.{Spaces, AreSpaces, HasGreyRoom, IsThere, first_of, cell_at, slots_at, change_at, set_mark, is_white, other_start, second}
 use Rattle.object_memory.specs.Objects.{Objects, new_of, spaces_of, IsHeld, with_mark}
 use Rattle.object_memory.proofs.Blocks.{range_in, unchanged_in, same_in}
 use Rattle.object_memory.proofs.TwoBlocks.{not_old, not_new, change-is_space, AreSpaces-opened}
@@ -115,10 +116,21 @@ old_by old cycle h a true own range what =
         far_by x true e s = absurd cc
         far_by x false e s = grind (arith, nat_tests)
 
+-- what passes the test of what is there
+what_is : (m : Spaces) (a : Addr) → IsThere m a → (a ≡ null) ⊎ (IsSome (literal_number a) ⊎ IsSome (cell_at m a))
+what_is m a there = by_number (a.number == 0) refl there
+  where
+    by_cell : (x y : Bool) → x ≡ is_some (literal_number a) → y ≡ is_some (cell_at m a) → (x || y) ≡ true → IsSome (literal_number a) ⊎ IsSome (cell_at m a)
+    by_cell true y e e' is = inl (sym e)
+    by_cell false y e e' is = inr (sym e' ∙ is)
+
+    by_number : (x : Bool) → (a.number == 0) ≡ x → (x || (is_some (literal_number a) || is_some (cell_at m a))) ≡ true → (a ≡ null) ⊎ (IsSome (literal_number a) ⊎ IsSome (cell_at m a))
+    by_number true e is = inl (ap (λ (n : ℕ). let b : Addr = record { number = n } in b) (eqb-true a.number 0 e))
+    by_number false e is = inr (by_cell (is_some (literal_number a)) (is_some (cell_at m a)) refl refl is)
+
 pub old_is : (old : Cells) (cycle : Option Cycle) → IsHeld old cycle → (a : Addr) (t : Bool) → (IsSome (cell_in old a) → t ≡ true)
-    → (t ≡ true → (old.start ≤ a.number) × (a.number < old.start + MOST_WORDS))
-    → (a ≡ null) ⊎ (IsSome (literal_number a) ⊎ IsSome (cell_at (spaces_of old cycle) a)) → t ≡ is_some (cell_in old a)
-old_is = old_by
+    → (t ≡ true → (old.start ≤ a.number) × (a.number < old.start + MOST_WORDS)) → IsThere (spaces_of old cycle) a → t ≡ is_some (cell_in old a)
+old_is old cycle h a t own range there = old_by old cycle h a t own range (what_is (spaces_of old cycle) a there)
 
 -- what is the same of the blocks is the same beside the literals
 pub beside : (literals : List Monitor) {m n : Spaces} → m ≡ n → ◌≡◌ {A = Objects} (record { spaces = m; literals = literals }) (record { spaces = n; literals = literals })

@@ -1,12 +1,12 @@
 -- The cells of two blocks: of the only one or the old one, and of the new one that they are copied into (this profile).
-use Rattle.std.specs.Prelude.{◌≡◌, ◌⊎◌, ◌≤◌, ℕ, ◌+◌, ◌-◌, nat_le, min, if◌then◌else◌, Bool, true, false, List, [], ◌∷◌, ◌++◌, length, sum_by, is_some, IsSome, ◌%◌, nat_lt, Option, Some, None, option_map, unwrap_or}
+use Rattle.std.specs.Prelude.{◌≡◌, ◌⊎◌, ◌≤◌, ◌==◌, ◌||◌, ℕ, ◌+◌, ◌-◌, nat_le, min, if◌then◌else◌, Bool, true, false, List, [], ◌∷◌, ◌++◌, length, sum_by, is_some, ◌%◌, nat_lt, Option, Some, None, option_map, unwrap_or}
 use Rattle.cil_model.specs.declared.limits.TheConstants.{MOST_WORDS}
 use Rattle.cil_model.specs.declared.phases.Phase.{Phase}
 use Rattle.cil_model.specs.declared.phases.Phase.TheVariants.{Idle, Mark, Allocate, Copy, PreFlip, HeapFlip, ThreadFlip, Reclaim}
 use Rattle.object_memory.specs.declared.addresses.Addr.{Addr}
 use Rattle.object_memory.specs.declared.addresses.TheConstants.{ADDRESSES}
 use Rattle.object_memory.specs.declared.kinds.Kind.{Kind}
-use Rattle.object_memory.specs.Cells.{Cell, Cells, size, used_words, free_words, null, literal_number, first, next_address, store_copies, cell_in, change_in, empty_cell, with_last}
+use Rattle.object_memory.specs.Cells.{Cell, Cells, size, used_words, free_words, literal_number, first, next_address, store_copies, cell_in, change_in, empty_cell, with_last}
 
 -- Two blocks; the cells that are marked and still to be scanned, oldest first; whether a cell was marked since the newest round
 -- began; and whether the second block is held. Where it isn't, the new block has no words.
@@ -43,8 +43,11 @@ abbrev pub change_at : (Cell → Cell) → Spaces → Addr → Spaces
 change_at f m a = record m { old = change_in f m.old a; new = change_in f m.new a }
 
 -- what an address of a reference is: null, a literal's, or a cell's
+abbrev pub is_there : Spaces → Addr → Bool
+is_there m a = (a.number == 0) || (is_some (literal_number a) || is_some (cell_at m a))
+
 abbrev pub IsThere : Spaces → Addr → Type 0
-IsThere m a = (a ≡ null) ⊎ (IsSome (literal_number a) ⊎ IsSome (cell_at m a))
+IsThere m a = is_there m a ≡ true
 
 -- ---- what a heap is
 

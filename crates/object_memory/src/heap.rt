@@ -46,8 +46,8 @@ impl Model for Heap {
 
 impl Heap {
     ghost use Rattle.object_memory.specs.declared.addresses.Addr.{Addr};
-    ghost use Rattle.object_memory.specs.Cells.{null, literal_number, store_monitor, used_words, Cell, free_words, addresses, cell_in, slots_in};
-    ghost use Rattle.object_memory.specs.Spaces.{IsThere, cell_at, slots_at, is_old, forward, opened, closed, InOld, InBoth, Listed, InNew, is_within_cycle, room_at, room_for, with_shell, clear};
+    ghost use Rattle.object_memory.specs.Cells.{null, literal_number, store_monitor, used_words, Cell, size, free_words, begins_behind, cell_in, slots_in};
+    ghost use Rattle.object_memory.specs.Spaces.{IsThere, IsPlace, cell_at, slots_at, is_old, forward, opened, closed, InOld, InBoth, Listed, InNew, is_within_cycle, room_at, room_for, with_shell, clear};
     ghost use Rattle.object_memory.specs.Objects.{no_objects, with_mark, with_birth_at, with_birth, with_cell, with_slot, monitor_at, with_monitor};
 
     /// A heap without objects, in a block that holds zeros alone, beside so many literals, which nobody has entered.
@@ -134,6 +134,14 @@ impl Heap {
         self.space_of(address).slots(address)
     }
 
+    /// The words that it takes in its block, its header counted.
+    pub fn size(&self, address: Addr) -> u32
+        requires { IsSome (cell_at self.now.spaces address) }
+        ensures { option_map size (cell_at self.now.spaces address) ≡ Some result }
+    {
+        self.space_of(address).size(address)
+    }
+
     /// Whether the collector has marked the object.
     pub fn is_marked(&self, address: Addr) -> bool
         requires { IsSome (cell_at self.now.spaces address) }
@@ -214,8 +222,8 @@ impl Heap {
         }
     }
 
-    /// The monitor of an object.
-    fn cell_monitor(&self, address: Addr) -> Monitor
+    /// The monitor of an object that is no literal.
+    pub fn cell_monitor(&self, address: Addr) -> Monitor
         requires { IsSome (cell_at self.now.spaces address) }
         ensures { option_map (λ c. c.monitor) (cell_at self.now.spaces address) ≡ Some result }
     {
@@ -243,6 +251,21 @@ impl Heap {
     /// that of the old copy where it has two. None exactly where its header and its slots exceed the room; nothing is
     /// changed then.
     pub fn birth(&mut self, kind: Kind, slots: u32, phase: Phase) -> Option<Addr>
+        requires { is_within_cycle phase ≡ true → self.old.spaces.is_open ≡ true }
+        ensures birth { (self.new, result) ≡ with_birth phase self.old kind slots }
+        ensures no_literal { IfSome result (λ a. literal_number a ≡ None) }
+    {
+        let _from = &self.from;
+        if phase == Phase::Idle {
+            self.birth_in_old(kind, slots)
+        } else {
+            self.birth_in_cycle(kind, slots, phase)
+        }
+    }
+
+    /// The same in any phase. Apart from what is done between cycles, so that a step is short.
+    #[cold]
+    fn birth_in_cycle(&mut self, kind: Kind, slots: u32, phase: Phase) -> Option<Addr>
         requires { is_within_cycle phase ≡ true → self.old.spaces.is_open ≡ true }
         ensures birth { (self.new, result) ≡ with_birth phase self.old kind slots }
         ensures no_literal { IfSome result (λ a. literal_number a ≡ None) }
@@ -276,6 +299,7 @@ impl Heap {
     }
 
     /// Makes an object in the old block, marked and on the grey list.
+    #[cold]
     fn birth_listed(&mut self, kind: Kind, slots: u32) -> Option<Addr>
         requires { self.old.spaces.is_open ≡ true }
         ensures { (self.new, result) ≡ with_birth_at Listed self.old kind slots }
@@ -295,6 +319,7 @@ impl Heap {
     }
 
     /// Makes an object with two copies, both marked, and answers the address of the old one.
+    #[cold]
     fn birth_in_both(&mut self, kind: Kind, slots: u32) -> Option<Addr>
         ensures { (self.new, result) ≡ with_birth_at InBoth self.old kind slots }
     {
@@ -314,6 +339,7 @@ impl Heap {
     }
 
     /// Makes an object in the new block alone.
+    #[cold]
     fn birth_in_new(&mut self, kind: Kind, slots: u32) -> Option<Addr>
         requires { self.old.spaces.is_open ≡ true }
         ensures { (self.new, result) ≡ with_birth_at InNew self.old kind slots }
@@ -478,39 +504,24 @@ impl Heap {
         }
     }
 
-    /// The object of the old block that was born first. None where there is none.
-    pub fn first_old(&self) -> Option<Addr>
-        ensures { result ≡ slice_get (addresses self.now.spaces.old) 0 }
+    /// The object of the old block that begins behind so many words of it. None where these are the words of all its
+    /// objects. A walk over all of them begins at place 0, and goes on behind each one's words. It takes as long for each
+    /// object.
+    pub fn old_at(&self, place: u32) -> Option<Addr>
+        requires { IsPlace self.now.spaces.old (self.now.spaces.old.start + place) }
+        ensures { result ≡ begins_behind self.now.spaces.old place }
     {
-        self.from.first()
+        self.from.at(place)
     }
 
-    /// The object of the old block that was born next after this one.
-    pub fn next_old(&self, address: Addr) -> Option<Addr>
-        requires { IsSome (cell_in self.now.spaces.old address) }
-        ensures { (n : ℕ) → slice_get (addresses self.now.spaces.old) n ≡ Some address → result ≡ slice_get (addresses self.now.spaces.old) (n + 1) }
-    {
-        self.from.next(address)
-    }
-
-    /// The object of the new block that was born first. None where there is none.
-    pub fn first_new(&self) -> Option<Addr>
-        ensures { result ≡ slice_get (addresses self.now.spaces.new) 0 }
+    /// The object of the new block that begins behind so many words of it, in the same way. None while no cycle is open.
+    pub fn new_at(&self, place: u32) -> Option<Addr>
+        requires { IsPlace self.now.spaces.new (self.now.spaces.new.start + place) }
+        ensures { result ≡ begins_behind self.now.spaces.new place }
     {
         match &self.cycle {
             None => None,
-            Some(cycle) => cycle.to.first(),
-        }
-    }
-
-    /// The object of the new block that was born next after this one.
-    pub fn next_new(&self, address: Addr) -> Option<Addr>
-        requires { IsSome (cell_in self.now.spaces.new address) }
-        ensures { (n : ℕ) → slice_get (addresses self.now.spaces.new) n ≡ Some address → result ≡ slice_get (addresses self.now.spaces.new) (n + 1) }
-    {
-        match &self.cycle {
-            None => None,
-            Some(cycle) => cycle.to.next(address),
+            Some(cycle) => cycle.to.at(place),
         }
     }
 }

@@ -1,13 +1,13 @@
 // What lies where after a birth, a mark or a store, and that there is room for shells. Each function has an empty body, and its
 // contract is the law.
 
-ghost use Rattle.std.specs.Prelude.{◌≡◌, ◌≢◌, ◌≤◌, ℕ, ◌++◌, [], ◌∷◌, length, replicate, Option, Some, None, IsSome, slice_get, option_map};
+ghost use Rattle.std.specs.Prelude.{◌≡◌, ◌≢◌, ◌≤◌, ◌+◌, ℕ, length, replicate, Some, None, IsSome};
 ghost use Rattle.cil_model.specs.declared.phases.Phase.{Phase};
 ghost use Rattle.object_memory.specs.declared.addresses.Addr.{Addr};
 ghost use Rattle.object_memory.specs.declared.kinds.Kind.{Kind};
 ghost use Rattle.object_memory.specs.declared.monitors.Monitor.{Monitor};
-ghost use Rattle.object_memory.specs.Cells.{Cell, Cells, size, free_words, addresses, cell_in, change_in, with_last, next_address, store_slot, store_monitor, store_copies, null, literal, literal_number};
-ghost use Rattle.object_memory.specs.Spaces.{Spaces, AreSpaces, Place, InNew, cell_at, slots_at, change_at, place_of, birth, forward, with_shell, opened, HasShellRoom};
+ghost use Rattle.object_memory.specs.Cells.{Cell, Cells, size, used_words, free_words, cell_in, change_in, with_last, store_slot, store_monitor, null, literal, literal_number};
+ghost use Rattle.object_memory.specs.Spaces.{Spaces, AreSpaces, IsPlace, Place, InNew, cell_at, slots_at, change_at, place_of, birth, forward, with_shell, opened, HasShellRoom};
 ghost use Rattle.object_memory.specs.Objects.{Objects, with_birth, with_slot, monitor_at, with_monitor};
 
 /// A birth's address is that of a new object, whose slots hold 0 or null. All other objects stay where they are, as they are.
@@ -34,19 +34,15 @@ pub fn stores_keep_counts()
     ensures monitor { (m : Spaces) (a b : Addr) (x : Monitor) → length (slots_at (change_at (store_monitor x) m a) b) ≡ length (slots_at m b) }
 {}
 
-/// A walk meets all objects of a block, each in the place that it has in the order of births.
-#[tactic(auto, using(crate::proofs::Walks::cell_here, crate::proofs::Walks::on_the_walk))]
-pub fn walks_meet_objects()
-    ensures met { (h : Cells) (n : ℕ) (a : Addr) → slice_get (addresses h) n ≡ Some a → cell_in h a ≡ slice_get h.cells n }
-    ensures all { (h : Cells) (a : Addr) (c : Cell) → cell_in h a ≡ Some c → (n : ℕ) × (slice_get (addresses h) n ≡ Some a) × (slice_get h.cells n ≡ Some c) }
-{}
-
-/// One object more lengthens the walk over its block by its address, and a store leaves it as it is.
-#[tactic(auto, using(crate::proofs::Walks::last_walk, crate::proofs::Walks::change_at_walk))]
-pub fn walks_grow_by_births()
-    ensures birth { (h : Cells) (c : Cell) → addresses (with_last h c) ≡ addresses h ++ next_address h ∷ [] }
-    ensures slot { (h : Cells) (a : Addr) (i w : ℕ) → addresses (change_in (store_slot i w) h a) ≡ addresses h }
-    ensures monitor { (h : Cells) (a : Addr) (m : Monitor) → addresses (change_in (store_monitor m) h a) ≡ addresses h }
+/// A walk over a block goes from place to place: it begins at the first word, goes on behind each object, and ends behind the last one.
+/// One object more leaves each place one, and so does a store.
+pub fn walks_go_from_place_to_place()
+    ensures start { (s : Cells) → IsPlace s s.start }
+    ensures behind { (s : Cells) (p : ℕ) (c : Cell) → IsPlace s p → cell_in s (record { number = p }) ≡ Some c → IsPlace s (p + size c) }
+    ensures end { (s : Cells) (p : ℕ) → IsPlace s p → cell_in s (record { number = p }) ≡ None → p ≡ s.start + used_words s.cells }
+    ensures birth { (s : Cells) (c : Cell) (p : ℕ) → IsPlace s p → IsPlace (with_last s c) p }
+    ensures slot { (s : Cells) (a : Addr) (i w p : ℕ) → IsPlace s p → IsPlace (change_in (store_slot i w) s a) p }
+    ensures monitor { (s : Cells) (a : Addr) (m : Monitor) (p : ℕ) → IsPlace s p → IsPlace (change_in (store_monitor m) s a) p }
 {}
 
 /// Null and the literals have addresses of their own, each literal one, which tells its number.

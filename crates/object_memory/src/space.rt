@@ -1,9 +1,9 @@
 // The objects of one block.
 
 ghost use Rattle.cil_model.specs.declared.limits.TheConstants.{MOST_WORDS};
-ghost use Rattle.object_memory.specs.Cells.{first, free_words, used_words, addresses, cell_in, slots_in, change_in, new_cell, with_last, next_address, store_slot, store_monitor, store_copies};
-ghost use Rattle.object_memory.specs.Spaces.{second, other_start};
-ghost use Rattle.std.specs.Prelude.{◌≡◌, ◌⊎◌, ℕ, ◌+◌, ◌<◌, ◌≤◌, length, replicate, slice_index, slice_get, [], true, Some, IsSome, option_map};
+ghost use Rattle.object_memory.specs.Cells.{first, size, free_words, used_words, begins_behind, cell_in, slots_in, change_in, new_cell, with_last, next_address, store_slot, store_monitor, store_copies};
+ghost use Rattle.object_memory.specs.Spaces.{second, other_start, IsPlace};
+ghost use Rattle.std.specs.Prelude.{◌≡◌, ◌⊎◌, ℕ, ◌+◌, ◌<◌, ◌≤◌, length, replicate, slice_index, [], true, Some, IsSome, option_map};
 
 use crate::addresses::Addr;
 use crate::copies::Copies;
@@ -119,29 +119,16 @@ impl Space {
         self.start <= address.number && address.number - self.start < MOST_WORDS
     }
 
-    /// The object that was born first, where a walk over all objects begins. None where there is no object.
-    pub(crate) fn first(&self) -> Option<Addr>
-        ensures { result ≡ slice_get (addresses self.now) 0 }
+    /// The object that begins behind so many words of the block. None where these are the words of all objects.
+    pub(crate) fn at(&self, place: u32) -> Option<Addr>
+        requires { IsPlace self.now (self.now.start + place) }
+        ensures { result ≡ begins_behind self.now place }
     {
-        if self.used == 0 {
-            return None;
-        }
-        Some(Addr { number: self.start })
-    }
-
-    /// The object that was born next after this one, where a walk goes on. None where this one was born last. It takes
-    /// as long for each object.
-    pub(crate) fn next(&self, address: Addr) -> Option<Addr>
-        requires { IsSome (cell_in self.now address) }
-        ensures { (n : ℕ) → slice_get (addresses self.now) n ≡ Some address → result ≡ slice_get (addresses self.now) (n + 1) }
-    {
-        let used = self.used;
-        let end = address.place(self.start) + HEADER_WORDS + self.slots(address) as usize;
-        if end == used {
+        if place as usize == self.used {
             return None;
         }
         Some(Addr {
-            number: end as u32 + self.start,
+            number: self.start + place,
         })
     }
 
@@ -156,9 +143,18 @@ impl Space {
     /// The number of its fields or elements.
     pub(crate) fn slots(&self, address: Addr) -> u32
         requires { IsSome (cell_in self.now address) }
-        ensures { result ≡ length (slots_in self.now address) }
+        ensures slots { result ≡ length (slots_in self.now address) }
+        ensures few { result ≤ MOST_WORDS }
     {
         Kind::slots_told(self.block.read(address.place(self.start)))
+    }
+
+    /// The words that it takes, its header counted.
+    pub(crate) fn size(&self, address: Addr) -> u32
+        requires { IsSome (cell_in self.now address) }
+        ensures { option_map size (cell_in self.now address) ≡ Some result }
+    {
+        HEADER_WORDS as u32 + self.slots(address)
     }
 
     /// The word of a field or element. They count from 0.

@@ -44,6 +44,10 @@ phase_number Reclaim = 7
 abbrev pub is_phase : Phase → Phase → Bool
 is_phase p q = phase_number p == phase_number q
 
+-- the phase that a thread has acknowledged; a thread without a seat is between cycles
+abbrev pub own_phase : Handshakes → ℕ → Phase
+own_phase h t = option_map_or (λ (s : Seat). s.phase) (seat_of h t) Idle
+
 -- ---- what has been seen and answered
 
 -- a thread has seen the posted phase once it has acknowledged it; one that has ended counts as having seen it

@@ -2,7 +2,7 @@
 
 ghost use Rattle.std.specs.Prelude.{◌≡◌, map, IsTrue};
 ghost use Rattle.reference_machine.specs.Cycles.{phase_after};
-ghost use Rattle.phase_handshake.specs.Handshakes.{AreClose, acknowledged, all_answered, all_seen, first_handshakes, has_answered, has_seen, is_open, joined, left, posted_next, posted_round, seat_of, unanswered};
+ghost use Rattle.phase_handshake.specs.Handshakes.{AreClose, acknowledged, all_answered, all_seen, first_handshakes, has_answered, has_seen, is_open, joined, left, own_phase, posted_next, posted_round, seat_of, unanswered};
 
 use cil_model::limits::MOST_THREADS;
 use cil_model::phases::Phase;
@@ -77,6 +77,16 @@ impl Posts {
         self.seats.get(usize::from(thread)).copied().flatten()
     }
 
+    /// The phase that a thread has acknowledged. `Idle` where no thread of that number is live.
+    pub fn phase(&self, thread: u8) -> Phase
+        ensures { result ≡ own_phase self.now thread }
+    {
+        match self.seat(thread) {
+            Some(seat) => seat.phase,
+            None => Phase::Idle,
+        }
+    }
+
     /// Whether every live thread has acknowledged the posted phase. True where none is live.
     pub fn all_seen(&self) -> bool
         ensures { result ≡ all_seen self.now }
@@ -132,12 +142,12 @@ impl Posts {
 
     /// Gives a thread that starts a seat like its starter's: it has acknowledged and answered what the starter has. A thread
     /// whose starter is not live has no seat. From number 16 on nothing changes.
-    pub fn join(&mut self, thread: u8, starter: u8)
+    pub fn join(&mut self, thread: usize, starter: u8)
         ensures { self.new ≡ joined self.old thread starter }
     {
         let seat = self.seat(starter);
-        if usize::from(thread) < MOST_THREADS {
-            self.seats[usize::from(thread)] = seat;
+        if thread < MOST_THREADS {
+            self.seats[thread] = seat;
         }
     }
 

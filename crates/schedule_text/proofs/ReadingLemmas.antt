@@ -88,7 +88,7 @@ AreItems-push [] (i ∷ items) word item h is = absurd h
 AreItems-push (w ∷ words) [] word item h is = absurd h
 AreItems-push (w ∷ words) (i ∷ items) word item (first, others) is = (first, AreItems-push words items word item others is)
 
-events_of-push : (items : List Item) (item : Item) → events_of (items ++ item ∷ []) ≡ events_of items ++ replicate item.count item.event
+pub events_of-push : (items : List Item) (item : Item) → events_of (items ++ item ∷ []) ≡ events_of items ++ replicate item.count item.event
 events_of-push items item =
     flat_map-append (λ i. replicate i.count i.event) items (item ∷ []) ∙ ap (λ es. events_of items ++ es) (append-nil (replicate item.count item.event))
 

@@ -1,14 +1,19 @@
 -- Runs of equal events, written one after another.
-use Rattle.std.proofs.Common.{◌≡◌, ◌≢◌, ◌+◌, ◌-◌, ◌<◌, ℕ, Bool, true, false, true≢false, List, ◌∷◌, [], ◌++◌, length, map, get_or, replicate, arith, refl, sym, ◌∙◌, ap, ap₂, subst, zero, suc, add-one, append_assoc, length-append, decimal, codes, ◌==◌, if◌then◌else◌}
-use Rattle.std.specs.List.{AllAdjacentBelow, IsChunkByPrefix, flat_map, join_with_byte}
-use Rattle.std.proofs.lemmas.List.{append-nil, get_or_append_left, get_or-replicate}
-use Rattle.std.proofs.Math.Seq.{get_or-append_seam}
+use Rattle.std.proofs.Common.{◌≡◌, ◌≢◌, ◌+◌, ◌<◌, ◌≤◌, ◌&&◌, ◌||◌, ℕ, Bool, true, false, true≢false, List, ◌∷◌, [], ◌++◌, length, map, get_or, take, drop, replicate, arith, refl, sym, ◌∙◌, ap, ap₂, subst, zero, suc, append_assoc, length-append, decimal, codes, ◌==◌, if◌then◌else◌}
+use Rattle.std.specs.List.{flat_map, join_with_byte, list_all}
+use Rattle.std.proofs.Math.ListN.{drop_of_length-le}
+use Rattle.std.proofs.lemmas.Grind.{flat_map-append}
+use Rattle.std.proofs.lemmas.List.{append-nil, drop_more, length-replicate, replicate-append-replicate, take-append-drop, take_more}
 use Rattle.std.proofs.lemmas.List.Elements.{All-cons, All-head, All-nil}
+use Rattle.std.proofs.lemmas.List.Folds.{list_all-append}
+use Rattle.std.proofs.lemmas.Bool.Decides.{nat_tests}
+use Rattle.std.specs.Prelude.{nat_le}
 use borrow.Author.Tests.{eqb-true, eq-eqb}
 use Rattle.cil_model.specs.declared.events.Event.{Event}
 use Rattle.cil_model.specs.declared.events.Event.TheVariants.{Step, Ack, Gc}
-use Rattle.schedule_text.specs.Items.{events_of, item_text, name_of, same_event, separated}
+use Rattle.schedule_text.specs.Items.{events_of, has_good_events, is_numbered, item_text, name_of, same_event, separated}
 use Rattle.schedule_text.specs.Writings.{AreRuns, IsTextOf}
+use Rattle.schedule_text.specs.declared.errors.TheConstants.{MOST_EVENTS}
 use Rattle.schedule_text.specs.declared.items.Item.{Item}
 
 -- the text of more items behind a text
@@ -69,32 +74,6 @@ itself (Step thread) = eq-eqb thread thread refl
 itself (Ack thread) = eq-eqb thread thread refl
 itself Gc = refl
 
--- a front in which each is the same as the next is one event over and over
-one_run : (events : List Event) (event : Event) → get_or events 0 event ≡ event → AllAdjacentBelow (λ x y. same_event x y ≡ true) events (length events) → events ≡ replicate (length events) event
-one_run [] event first same = refl
-one_run (x ∷ []) event first same = ap (λ e. e ∷ []) first
-one_run (x ∷ y ∷ events) event first same =
-    let next : x ≡ y = same_is_equal x y (same 0 x (omega arith)) in
-    ap₂ (λ e es. e ∷ es) first (one_run (y ∷ events) event (sym next ∙ first) (λ k d below. rw (add-one k) (rw (add-one (suc k)) at (same (suc k) d (omega arith)))))
-
--- the longest front of the same events
-pub run_is : (rest run rest' : List Event) (event : Event) → rest ≡ run ++ rest' → get_or run 0 event ≡ event → 0 < length run → IsChunkByPrefix same_event rest (length run) →
-    run ≡ replicate (length run) event
-run_is rest run rest' event is first some (same, _) = one_run run event first (λ k d below.
-    let here : get_or rest k d ≡ get_or run k d = ap (λ es. get_or es k d) is ∙ get_or_append_left run rest' d k (omega arith) in
-    let next : get_or rest (k + 1) d ≡ get_or run (k + 1) d = ap (λ es. get_or es (k + 1) d) is ∙ get_or_append_left run rest' d (k + 1) below in
-    sym (ap₂ same_event here next) ∙ same k d below)
-
-pub run_ends : (rest run rest' : List Event) (event : Event) → rest ≡ run ++ rest' → run ≡ replicate (length run) event → 0 < length run → IsChunkByPrefix same_event rest (length run) →
-    (next : Event) (more : List Event) → rest' ≡ next ∷ more → event ≢ next
-run_ends rest run rest' event is over some (_, ends) next more e equal =
-    let whole : rest ≡ run ++ next ∷ more = is ∙ ap (λ es. run ++ es) e in
-    let below : length run < length rest = omega (arith, ap length whole, length-append run (next ∷ more)) in
-    let last : get_or rest (length run - 1) event ≡ event = ap (λ es. get_or es (length run - 1) event) whole ∙ get_or_append_left run (next ∷ more) event (length run - 1) (omega arith) ∙ ap (λ es. get_or es (length run - 1) event) over ∙ get_or-replicate (length run) (length run - 1) event event (omega arith) in
-    let behind : get_or rest (length run) event ≡ next = ap (λ es. get_or es (length run) event) whole ∙ get_or-append_seam run next more event in
-    let differ : same_event event next ≡ false = sym (ap₂ same_event last behind) ∙ ends below event in
-    absurd (true≢false (sym (itself event) ∙ ap (same_event event) equal ∙ differ))
-
 some_of : (n : ℕ) (event : Event) → 0 < n → (events : List Event) × (replicate n event ≡ event ∷ events)
 some_of zero event some = absurd (omega arith)
 some_of (suc n) event some = (replicate n event, refl)
@@ -133,20 +112,126 @@ no_runs = record { together = refl; filled = All-nil (λ i. 0 < i.count); apart 
     none [] first after e = cc
     none (item ∷ before) first after e = cc
 
--- the turn of a loop over runs
-pub run_written : (events rest run rest' : List Event) (event : Event) (text text' : List ℕ) →
-    (rest ≡ run ++ rest') → get_or run 0 event ≡ event → 0 < length run → IsChunkByPrefix same_event rest (length run) →
-    text' ≡ separated text ++ item_text (record { event = event; count = length run }) →
-    ((items : List Item) → AreRuns rest items → IsTextOf events (joined text items)) →
-    (items : List Item) → AreRuns rest' items → IsTextOf events (joined text' items)
-run_written events rest run rest' event text text' is first some longest written so_far items runs =
-    let item : Item = record { event = event; count = length run } in
-    let over = run_is rest run rest' event is first some longest in
-    let ends = run_ends rest run rest' event is over some longest in
-    let together : rest ≡ replicate (length run) event ++ rest' = is ∙ ap (λ es. es ++ rest') over in
-    subst (IsTextOf events) (sym (ap (λ t. joined t items) written ∙ joined_next text item items))
-    (so_far (item ∷ items) (runs_next rest rest' item items together some ends runs))
+-- ---- runs that grow
 
-pub empty_of : (events : List Event) → length events ≡ 0 → [] ≡ events
-empty_of [] e = refl
-empty_of (event ∷ events) e = absurd (omega arith)
+-- what an item adds to a run of its event
+pub longer_run : (run item : Item) → same_event run.event item.event ≡ true → replicate (run.count + item.count) run.event ≡ replicate run.count run.event ++ replicate item.count item.event
+longer_run run item same =
+    sym (replicate-append-replicate run.count item.count run.event) ∙ ap (λ e. replicate run.count run.event ++ replicate item.count e) (same_is_equal run.event item.event same)
+
+module _ (items : List Item) (i : ℕ) (d : Item) (below : i < length items) (run : Item) where
+  abbrev item : Item
+  item = get_or items i d
+
+  abbrev behind : List Event
+  behind = events_of (drop (i + 1) items)
+
+  -- the events from the item on
+  pub from_item : events_of (drop i items) ≡ replicate item.count item.event ++ behind
+  from_item = ap events_of (drop_more items i d below)
+
+  -- they are as many
+  pub from_item_count : length (events_of (drop i items)) ≡ item.count + length behind
+  from_item_count =
+      ap length from_item ∙ length-append (replicate item.count item.event) behind ∙ ap (λ n. n + length behind) (length-replicate item.count item.event)
+
+  module _ (most : ℕ) (few : run.count + length (events_of (drop i items)) ≤ most) where
+    pub few_more : (more : Item) → replicate more.count more.event ≡ replicate run.count run.event ++ replicate item.count item.event → more.count + length behind ≤ most
+    few_more more is =
+        let long : more.count ≡ run.count + item.count =
+        sym (length-replicate more.count more.event) ∙ ap length is ∙ length-append (replicate run.count run.event) (replicate item.count item.event)
+        ∙ ap₂ (λ m n. m + n) (length-replicate run.count run.event) (length-replicate item.count item.event) in
+        omega (arith, long, few, from_item_count)
+
+    pub few_next : item.count + length behind ≤ most
+    few_next = omega (arith, few, from_item_count)
+
+  module _ (text : List ℕ) (so_far : (runs : List Item) → AreRuns (replicate run.count run.event ++ events_of (drop i items)) runs → IsTextOf (events_of items) (joined text runs)) where
+    -- the item's events are of the run
+    pub run_grows : (more : Item) → replicate more.count more.event ≡ replicate run.count run.event ++ replicate item.count item.event →
+        (runs : List Item) → AreRuns (replicate more.count more.event ++ behind) runs → IsTextOf (events_of items) (joined text runs)
+    run_grows more is runs are =
+        so_far runs (subst (λ es. AreRuns es runs) (ap (λ es. es ++ behind) is ∙ append_assoc (replicate run.count run.event) (replicate item.count item.event) behind ∙ ap (λ es. replicate run.count run.event ++ es) (sym from_item)) are)
+
+    -- they are of the next one
+    pub run_ends : (text' : List ℕ) → 0 < run.count → 0 < item.count → same_event run.event item.event ≡ false → text' ≡ separated text ++ item_text run →
+        (runs : List Item) → AreRuns (replicate item.count item.event ++ behind) runs → IsTextOf (events_of items) (joined text' runs)
+    run_ends text' some some' differ written runs are =
+        subst (IsTextOf (events_of items)) (sym (ap (λ t. joined t runs) written ∙ joined_next text run runs))
+        (so_far (run ∷ runs) (runs_next (replicate run.count run.event ++ events_of (drop i items)) (replicate item.count item.event ++ behind) run runs (ap (λ es. replicate run.count run.event ++ es) from_item) some apart are))
+      where
+        apart : (next : Event) (more : List Event) → replicate item.count item.event ++ behind ≡ next ∷ more → run.event ≢ next
+        apart next more e equal =
+            let first = some_of item.count item.event some' in
+            let here : item.event ≡ next = heads (sym (ap (λ es. es ++ behind) first.1) ∙ e) in
+            absurd (true≢false (sym (itself run.event) ∙ ap (same_event run.event) (equal ∙ sym here) ∙ differ))
+
+-- no item is left
+module _ (items : List Item) (i : ℕ) (past : length items ≤ i) (run : Item) (text : List ℕ)
+    (so_far : (runs : List Item) → AreRuns (replicate run.count run.event ++ events_of (drop i items)) runs → IsTextOf (events_of items) (joined text runs)) where
+  none_left : replicate run.count run.event ++ [] ≡ replicate run.count run.event ++ events_of (drop i items)
+  none_left = ap (λ is. replicate run.count run.event ++ events_of is) (sym (drop_of_length-le items past))
+
+  -- and the last run is written
+  pub last_run : (text' : List ℕ) → 0 < run.count → text' ≡ separated text ++ item_text run → IsTextOf (events_of items) text'
+  last_run text' some written =
+      let last = runs_next (replicate run.count run.event ++ []) [] run [] refl some (λ next more e. absurd (nothing next more e)) no_runs in
+      subst (IsTextOf (events_of items)) (sym (joined_next text run []) ∙ joined_none (separated text ++ item_text run) ∙ sym written)
+      (so_far (run ∷ []) (subst (λ es. AreRuns es (run ∷ [])) none_left last))
+    where
+      nothing : (next : Event) (more : List Event) → [] ≡ next ∷ more → ⊥
+      nothing next more e = cc
+
+  -- or there is none
+  pub no_run : run.count ≡ 0 → IsTextOf (events_of items) text
+  no_run none =
+      subst (IsTextOf (events_of items)) (joined_none text)
+      (so_far [] (subst (λ es. AreRuns es []) (ap (λ n. replicate n run.event ++ []) (sym none) ∙ none_left) no_runs))
+
+-- ---- all items
+
+or_true : (b : Bool) → (b || true) ≡ true
+or_true true = refl
+or_true false = refl
+
+not_none : (n : ℕ) (b : Bool) → (suc n == 0) ≡ b → (suc n == 0) ≡ false
+not_none n true e = let same = eqb-true (suc n) 0 e in absurd (omega arith)
+not_none n false e = e
+
+-- so many events of one kind
+all_alike : (count : ℕ) (event : Event) → list_all is_numbered (replicate count event) ≡ ((count == 0) || is_numbered event)
+all_alike zero event = refl
+all_alike (suc count) event =
+    once (is_numbered event) (all_alike count event) ∙ ap (λ b. b || is_numbered event) (sym (not_none count (suc count == 0) refl))
+  where
+    once : (good : Bool) → list_all is_numbered (replicate count event) ≡ ((count == 0) || good) → (good && list_all is_numbered (replicate count event)) ≡ good
+    once true e = e ∙ or_true (count == 0)
+    once false e = refl
+
+pub all_numbered : (items : List Item) → list_all is_numbered (events_of items) ≡ list_all has_good_events items
+all_numbered [] = refl
+all_numbered (item ∷ items) =
+    list_all-append is_numbered (replicate item.count item.event) (events_of items) ∙ ap₂ (λ a b. a && b) (all_alike item.count item.event) (all_numbered items)
+
+-- the events so far with those of one item more
+pub events_more : (items : List Item) (i : ℕ) (d : Item) → i < length items → length (events_of (take (i + 1) items)) ≡ length (events_of (take i items)) + (get_or items i d).count
+events_more items i d below =
+    let item : Item = get_or items i d in
+    ap (λ is. length (events_of is)) (take_more items i d below) ∙ ap length (flat_map-append (λ it. replicate it.count it.event) (take i items) (item ∷ []))
+    ∙ length-append (events_of (take i items)) (replicate item.count item.event ++ [])
+    ∙ ap (λ es. length (events_of (take i items)) + length es) (append-nil (replicate item.count item.event))
+    ∙ ap (λ n. length (events_of (take i items)) + n) (length-replicate item.count item.event)
+
+-- all events are no fewer
+pub events_at_least : (items : List Item) (i : ℕ) → length (events_of (take i items)) ≤ length (events_of items)
+events_at_least items i =
+    let split = ap (λ is. length (events_of is)) (sym (take-append-drop i items)) ∙ ap length (flat_map-append (λ it. replicate it.count it.event) (take i items) (drop i items))
+    ∙ length-append (events_of (take i items)) (events_of (drop i items)) in
+    omega (arith, split)
+
+-- so they are too many
+pub too_many : (items : List Item) (i : ℕ) (d : Item) (left : ℕ) → i < length items → left + length (events_of (take i items)) ≡ MOST_EVENTS → left < (get_or items i d).count →
+    false ≡ nat_le (length (events_of items)) MOST_EVENTS
+too_many items i d left below so_far more =
+    let many : MOST_EVENTS < length (events_of items) = omega (arith, so_far, more, events_more items i d below, events_at_least items (i + 1)) in
+    grind (arith, nat_tests)

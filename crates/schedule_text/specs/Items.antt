@@ -56,6 +56,10 @@ is_numbered (Step thread) = nat_lt thread MOST_THREADS
 is_numbered (Ack thread) = nat_lt thread MOST_THREADS
 is_numbered Gc = true
 
+-- an item stands for no events of another thread
+abbrev pub has_good_events : Item → Bool
+has_good_events item = (item.count == 0) || is_numbered item.event
+
 -- the name that is written for an event
 abbrev pub name_of : Event → List ℕ
 name_of (Step thread) = codes "s" ++ decimal thread

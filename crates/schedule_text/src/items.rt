@@ -7,9 +7,11 @@ use cil_model::limits::MOST_THREADS;
 
 /// An event, and how many times over it stands.
 #[derive(Clone, Copy, Debug, PartialEq, Eq)]
-pub(crate) struct Item {
-    pub(crate) event: Event,
-    pub(crate) count: usize,
+pub struct Item {
+    /// The event.
+    pub event: Event,
+    /// How many times over it stands.
+    pub count: usize,
 }
 
 /// Whether the event's thread is one that a machine can have; an event of the collector has none.

@@ -8,5 +8,6 @@ mod reading;
 mod writing;
 
 pub use errors::{MOST_EVENTS, ScheduleError};
+pub use items::Item;
 pub use reading::read_schedule;
 pub use writing::write_schedule;

@@ -1,7 +1,7 @@
 //! Writes the text of a schedule.
-ghost use Rattle.std.specs.Prelude.{◌≡◌, ◌≤◌, ◌++◌, IfOk, MatchResult, OnOk, length, string_bytes};
+ghost use Rattle.std.specs.Prelude.{◌≡◌, ◌+◌, ◌<◌, ◌≤◌, ◌++◌, IfOk, IfSome, MatchResult, None, OnOk, false, length, nat_le, replicate, string_bytes};
 ghost use Rattle.std.specs.List.{list_all};
-ghost use Rattle.schedule_text.specs.Items.{is_numbered, item_text, name_of, same_event, separated};
+ghost use Rattle.schedule_text.specs.Items.{events_of, has_good_events, is_numbered, item_text, name_of, same_event, separated};
 ghost use Rattle.schedule_text.specs.Writings.{IsNotWritten, IsTextOf, IsWritten};
 
 use crate::errors::{MOST_EVENTS, ScheduleError};
@@ -9,7 +9,7 @@ use crate::items::{Item, is_numbered};
 use cil_model::events::Event;
 use std::alloc::{AllocError, Global};
 
-/// Writes events as a text that `read_schedule` reads as these events.
+/// Writes the events that items stand for as a text that `read_schedule` reads as these events.
 ///
 /// Each longest run of equal events is one item: the event alone where the run has one event, and
 /// else with `*` and their number behind it. One space stands between items, and nothing at the
@@ -18,41 +18,96 @@ use std::alloc::{AllocError, Global};
 /// # Errors
 /// `TooLong` where there are more than 1,000,000 events, else `NoThread` where a thread's number is
 /// above 15, else `OutOfMemory` where memory is refused.
-pub fn write_schedule(alloc: Global, events: &[Event]) -> Result<String, ScheduleError>
-    ensures { MatchResult result (λ text. IsWritten events.now (string_bytes text)) (IsNotWritten events.now) }
+pub fn write_schedule(alloc: Global, items: &[Item]) -> Result<String, ScheduleError>
+    ensures { MatchResult result (λ text. IsWritten (events_of items.now) (string_bytes text)) (IsNotWritten (events_of items.now)) }
 {
-    if events.len() > MOST_EVENTS {
+    if !are_few(items) {
         return Err(ScheduleError::TooLong);
     }
-    if !are_numbered(events) {
+    if !are_numbered(items) {
         return Err(ScheduleError::NoThread);
     }
-    Ok(write_runs(alloc, events)?)
+    Ok(write_runs(alloc, items)?)
+}
+
+/// Whether items stand for no more events than a schedule has.
+fn are_few(items: &[Item]) -> bool
+    ensures { result ≡ nat_le (length (events_of items.now)) MOST_EVENTS }
+{
+    let mut left = MOST_EVENTS;
+    for item in items {
+        if item.count > left {
+            return false;
+        }
+        left -= item.count;
+    }
+    true
 }
 
 /// Whether each event's thread is one that a machine can have.
-fn are_numbered(events: &[Event]) -> bool
-    ensures { result ≡ list_all is_numbered events.now }
+fn are_numbered(items: &[Item]) -> bool
+    ensures { result ≡ list_all is_numbered (events_of items.now) }
 {
-    events.iter().all(|event| is_numbered(*event))
+    have_good_events(items)
+}
+
+fn have_good_events(items: &[Item]) -> bool
+    ensures { result ≡ list_all has_good_events items.now }
+{
+    items.iter().all(|item| has_good_events(item))
+}
+
+/// Whether the thread of an item's events is one that a machine can have, or it has none.
+fn has_good_events(item: &Item) -> bool
+    ensures { result ≡ has_good_events item.now }
+{
+    item.count == 0 || is_numbered(item.event)
 }
 
 /// The text of each longest run of equal events, with one space between two.
-fn write_runs(alloc: Global, events: &[Event]) -> Result<String, AllocError>
-    requires { length events.now ≤ MOST_EVENTS }
-    ensures { IfOk result (λ text. IsTextOf events.now (string_bytes text)) }
+fn write_runs(alloc: Global, items: &[Item]) -> Result<String, AllocError>
+    requires { length (events_of items.now) ≤ MOST_EVENTS }
+    ensures { IfOk result (λ text. IsTextOf (events_of items.now) (string_bytes text)) }
 {
     let mut text = String::new(alloc);
-    for run in events.chunk_by(|event, next| is_same(event, next)) {
-        if let Some(event) = run.first() {
-            let item = Item {
-                event: *event,
-                count: run.len(),
-            };
-            append_item(&mut text, item)?;
+    let mut run = Item {
+        event: Event::Gc,
+        count: 0,
+    };
+    for item in items {
+        match longer(run, *item) {
+            Some(more) => run = more,
+            None => {
+                append_item(&mut text, run)?;
+                run = *item;
+            }
         }
     }
+    if run.count > 0 {
+        append_item(&mut text, run)?;
+    }
     Ok(text)
+}
+
+/// A run of events with those of an item behind it. None where these are of another run.
+fn longer(run: Item, item: Item) -> Option<Item>
+    requires { run.count + item.count ≤ MOST_EVENTS }
+    ensures one { IfSome result (λ more. replicate more.count more.event ≡ replicate run.count run.event ++ replicate item.count item.event) }
+    ensures another { result ≡ None → (0 < run.count) × (0 < item.count) × (same_event run.event item.event ≡ false) }
+{
+    if item.count == 0 {
+        return Some(run);
+    }
+    if run.count == 0 {
+        return Some(item);
+    }
+    if !is_same(&run.event, &item.event) {
+        return None;
+    }
+    Some(Item {
+        event: run.event,
+        count: run.count + item.count,
+    })
 }
 
 fn is_same(event: &Event, other: &Event) -> bool

@@ -5,6 +5,8 @@ use Rattle.cil_model.specs.declared.events.Event.{Event}
 use Rattle.cil_model.specs.declared.reports.Report.{Report}
 use Rattle.object_memory.specs.Objects.{no_objects}
 use Rattle.interleaving_core.specs.simulation.MachineContents.{Content}
+use Rattle.interleaving_core.specs.simulation.collector.Phases.{no_progress}
+use Rattle.interleaving_core.specs.simulation.phase_handshake.Handshakes.{first_handshakes}
 use Rattle.interleaving_core.specs.simulation.Runs.{AreTurns, FollowsReference}
 use Rattle.interleaving_core.specs.simulation.Turns.{IsTurn}
 use Rattle.worker_counts.specs.Counts.{Count}
@@ -20,6 +22,8 @@ no_content = record {
   tree = record { externs = []; assembly = None; classes = [] };
   limits = record { words = 0; budget = 0; depth = 0 };
   threads = [];
+  posts = first_handshakes;
+  progress = no_progress;
   objects = no_objects 0 0;
   statics = [];
   printed = [];

@@ -18,7 +18,8 @@ use Rattle.interpreter.specs.resolved_code.declared.operations.Operation.{Operat
 use Rattle.interpreter.specs.object_memory.declared.addresses.Addr.{Addr}
 use Rattle.interpreter.specs.object_memory.declared.values.Value.{Value}
 use Rattle.interpreter.specs.object_memory.declared.values.Value.TheVariants.{Ref}
-use Rattle.interpreter.specs.object_memory.Objects.{Objects, free_space}
+use Rattle.interpreter.specs.object_memory.Objects.{Objects}
+use Rattle.interpreter.specs.object_memory.Spaces.{room_for}
 use Rattle.interpreter.specs.threads_monitors.Frames.{Frames}
 use Rattle.interpreter.specs.threads_monitors.declared.effects.Effect.{Effect}
 use Rattle.interpreter.specs.threads_monitors.declared.effects.Effect.TheVariants.{GoesOn, Returns, Blocks, Raises}
@@ -27,7 +28,7 @@ use Rattle.interpreter.specs.declared.outcomes.Outcome.TheVariants.{Comes, Start
 use Rattle.interpreter.specs.Instructions.{HasSmallConstant, MachineTurn, operation_turn, Answer}
 use Rattle.simulation.specs.StandsFor.{Names, Extends, IsValue, AreFrames}
 use Rattle.interpreter.proofs.cil_model.SameLaws.{never}
-use Rattle.simulation.proofs.MemoryModels.{MemoryModel, IsModelled}
+use Rattle.simulation.proofs.MemoryModels.{MemoryModel, IsModelled, mutator_in}
 
 -- ---- one instruction
 
@@ -117,7 +118,7 @@ module _ (here : Setting) (model : MemoryModel here.tree) (name : Names) (m : Fr
     pub waiting : List Frame
     pub contents : Contents
     pub is : e ≡ Goes (running ∷ waiting) (with_birth s contents)
-    pub exceeds : free_space o < cell_words here.tree contents
+    pub exceeds : room_for model.phase o.spaces < cell_words here.tree contents
 
   -- The rule has an answer, and where the reference machine is refused memory exactly where the machine is, both do the same. The machine is refused
   -- it only where the reference machine, if it weren't, would make an object that exceeds the room.
@@ -132,4 +133,4 @@ abbrev pub InstructionsAreAlike : Type 1
 InstructionsAreAlike =
     (here : Setting) (model : MemoryModel here.tree) (name : Names) (m : Frames) (o : Objects) (statics : List Value) (printed : List ℕ) (s : State) (f : Frame) (below : List Frame) (i : Instruction) (operation : Operation) →
     IsSetting here model name m o statics printed s f below i operation →
-    DoesAlike here model name m o statics printed s f below (operation_turn here.tree here.thread operation m o statics printed) (execute here s f below i)
+    DoesAlike here model name m o statics printed s f below (operation_turn here.tree (mutator_in here model) operation m o statics printed) (execute here s f below i)

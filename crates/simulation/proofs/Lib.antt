@@ -4,6 +4,7 @@ pub use Rattle.type_soundness.proofs as type_soundness
 pub use Rattle.interpreter.proofs.name_tables as name_tables
 pub use Rattle.interpreter.proofs.resolved_code as resolved_code
 pub use Rattle.interpreter.proofs.object_memory as object_memory
+pub use Rattle.collector.proofs as collector
 pub use Rattle.interpreter.proofs.loaded_program as loaded_program
 pub use Rattle.interpreter.proofs.threads_monitors as threads_monitors
 pub use Rattle.interpreter.proofs.instructions as instructions

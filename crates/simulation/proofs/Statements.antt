@@ -16,7 +16,7 @@ use Rattle.interpreter.specs.threads_monitors.Frames.{Frames}
 use Rattle.interpreter.specs.Instructions.{of_calls}
 use Rattle.interpreter.specs.Calls.{run_turn}
 use Rattle.simulation.specs.StandsFor.{Names}
-use Rattle.simulation.proofs.MemoryModels.{MemoryModel}
+use Rattle.simulation.proofs.MemoryModels.{MemoryModel, mutator_in}
 use Rattle.simulation.proofs.Instructions.{IsSetting, DoesAlike}
 
 -- a method that is found runs alike on operands that are there, as many as it has arguments
@@ -27,5 +27,5 @@ MethodsRunAlike =
     (found : ClassName × Method) (class place : ℕ) → method_at here.tree (class, place) ≡ Some found →
     nat_le (length (argument_types found.1 found.0)) (length f.stack) ≡ true →
     IsTypedEffect here.tree (run_method here s f below found (reverse (take (length (argument_types found.1 found.0)) f.stack)) (drop (length (argument_types found.1 found.0)) f.stack)) →
-    DoesAlike here model name m o statics printed s f below (of_calls o statics printed (run_turn here.tree here.thread found m o printed))
+    DoesAlike here model name m o statics printed s f below (of_calls o statics printed (run_turn here.tree (mutator_in here model) found m o printed))
     (run_method here s f below found (reverse (take (length (argument_types found.1 found.0)) f.stack)) (drop (length (argument_types found.1 found.0)) f.stack))

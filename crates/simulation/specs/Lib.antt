@@ -5,6 +5,8 @@ pub use Rattle.interpreter.specs.name_tables as name_tables
 pub use Rattle.interpreter.specs.resolved_code as resolved_code
 pub use Rattle.programs.specs as programs
 pub use Rattle.interpreter.specs.object_memory as object_memory
+pub use Rattle.collector.specs.phase_handshake as phase_handshake
+pub use Rattle.collector.specs as collector
 pub use Rattle.interpreter.specs.loaded_program as loaded_program
 pub use Rattle.interpreter.specs.threads_monitors as threads_monitors
 pub use Rattle.interpreter.specs.instructions as instructions
@@ -12,6 +14,7 @@ pub use Rattle.interpreter.specs as interpreter
 pub mod Agreement
 pub mod Counts
 pub mod MachineContents
+pub mod Sound
 pub mod StandsFor
 pub mod Turns
 pub mod Ready

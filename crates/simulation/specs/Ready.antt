@@ -1,22 +1,23 @@
 -- When a thread's next instruction has an answer, and what it asks of other threads can be answered (this profile).
-use Rattle.std.specs.Prelude.{◌≡◌, ◌≢◌, ◌<◌, ℕ, IsSome, length, None}
+use Rattle.std.specs.Prelude.{◌≡◌, ◌≢◌, ◌<◌, ℕ, true, IsSome, length, None}
 use Rattle.interpreter.specs.cil_model.declared.limits.TheConstants.{MOST_INSTRUCTIONS}
 use Rattle.interpreter.specs.resolved_code.declared.operations.Operation.{Operation}
 use Rattle.interpreter.specs.object_memory.declared.addresses.Addr.{Addr}
 use Rattle.interpreter.specs.object_memory.Cells.{null}
 use Rattle.interpreter.specs.object_memory.Objects.{Objects, object_slots}
+use Rattle.interpreter.specs.instructions.barriers.Barriers.{is_word_storable}
 use Rattle.interpreter.specs.threads_monitors.Frames.{Frames}
 use Rattle.interpreter.specs.threads_monitors.Threads.{start_fault}
 use Rattle.interpreter.specs.Instructions.{HasSmallConstant, IsAt, line_at, operation_turn, Answer}
 use Rattle.interpreter.specs.declared.outcomes.Outcome.{Outcome}
 use Rattle.interpreter.specs.declared.outcomes.Outcome.TheVariants.{Comes, Starts, Joins}
-use Rattle.simulation.specs.MachineContents.{Content}
+use Rattle.simulation.specs.MachineContents.{Content, mutator_of}
 use Rattle.simulation.specs.Turns.{left_by, thread_for}
 
 -- the frames of the thread are at an instruction, whose rule has an answer
 pub record IsReady (c : Content) (t : ℕ) (m : Frames) : Type 0 where
   pub place : IsSome (line_at c.tree m)
-  pub there : (op : Operation) → IsAt c.tree m op → HasSmallConstant op → IsSome (operation_turn c.tree t op m c.objects c.statics c.printed)
+  pub there : (op : Operation) → IsAt c.tree m op → HasSmallConstant op → IsSome (operation_turn c.tree (mutator_of c t) op m c.objects c.statics c.printed)
 
 -- the slot of an object that tells its thread is there, and so are the operand and the instruction behind
 pub record HasRequest (o : Objects) (m : Frames) (object : Addr) : Type 0 where
@@ -25,11 +26,14 @@ pub record HasRequest (o : Objects) (m : Frames) (object : Addr) : Type 0 where
   pub behind : m.running.place < MOST_INSTRUCTIONS
 
 -- what the thread with these frames asks of other threads can be answered
-abbrev pub CanFinish : Content → Frames → Outcome → Type 0
-CanFinish c m (Comes e) = Unit {0}
-CanFinish c m (Starts object) = HasRequest c.objects m object × (start_fault c.threads c.objects object ≡ None → IsSome (thread_for c.tree c.limits c.objects object))
-CanFinish c m (Joins object) = HasRequest c.objects m object
+abbrev pub CanFinish : Content → ℕ → Frames → Outcome → Type 0
+CanFinish c t m (Comes e) = Unit {0}
+CanFinish c t m (Starts object) =
+    HasRequest c.objects m object
+    × (object ≢ null → is_word_storable (mutator_of c t).phase c.objects object 0 ≡ true)
+    × (start_fault c.threads c.objects object ≡ None → IsSome (thread_for c.tree c.limits c.objects object))
+CanFinish c t m (Joins object) = HasRequest c.objects m object
 
 -- and so it is for what an instruction leaves
 abbrev pub IsAnswerable : Content → ℕ → ℕ → Answer → Outcome → Type 0
-IsAnswerable c t left a outcome = CanFinish (left_by c t left a) a.frames outcome
+IsAnswerable c t left a outcome = CanFinish (left_by c t left a) t a.frames outcome

@@ -27,7 +27,7 @@ use Rattle.interpreter.specs.object_memory.declared.monitors.Monitor.TheVariants
 use Rattle.interpreter.specs.object_memory.declared.values.Value.{Value}
 use Rattle.interpreter.specs.object_memory.declared.values.Value.TheVariants.{Int32, Int64, Native, Ref}
 use Rattle.interpreter.specs.object_memory.Cells.{Cell, literal, literal_number, null}
-use Rattle.interpreter.specs.object_memory.Objects.{Objects, object_cell, used_space, whole_space}
+use Rattle.interpreter.specs.object_memory.Objects.{Objects, object_cell, used_space}
 use Rattle.interpreter.specs.object_memory.Spaces.{AreSpaces}
 use Rattle.interpreter.specs.object_memory.Values.{value_word}
 use Rattle.interpreter.specs.loaded_program.AllMethods.{all_methods}
@@ -38,6 +38,7 @@ use Rattle.interpreter.specs.threads_monitors.declared.threads.Standing.{Standin
 use Rattle.interpreter.specs.threads_monitors.declared.threads.Standing.TheVariants.{Live, Ended}
 use Rattle.interpreter.specs.threads_monitors.declared.threads.Thread.{Thread}
 use Rattle.simulation.specs.MachineContents.{Content, frame_room}
+use Rattle.simulation.specs.Sound.{IsSound}
 use Rattle.simulation.specs.Agreement.{Agree}
 
 -- ---- values
@@ -192,12 +193,11 @@ pub record StandsFor (c : Content) (s : State) : Type 0 where
   pub name : Names
   pub by : StandsBy name c s
 
--- Within limits that a run may have, an accepted program's machine stands for a typed state, whose monitors are counted. Its heap has all
--- words of its limit.
+-- Within limits that a run may have, an accepted program's sound machine stands for a typed state, whose monitors are counted.
 pub record Represents (c : Content) (s : State) : Type 0 where
   pub accepted : IsAccepted c.tree
   pub limits : IsTrue (are_in_range c.limits)
   pub typed : IsTyped c.tree s
   pub counted : IsCounted c.limits s
-  pub space : whole_space c.objects ≡ c.limits.words
+  pub sound : IsSound c
   pub stands : StandsFor c s

@@ -8,11 +8,14 @@ use Rattle.interpreter.specs.cil_model.declared.trees.Method.{Method}
 use Rattle.interpreter.specs.cil_model.declared.limits.Limits.{Limits}
 use Rattle.interpreter.specs.cil_model.declared.events.Event.{Event}
 use Rattle.interpreter.specs.cil_model.declared.events.Event.TheVariants.{Step, Ack, Gc}
+use Rattle.interpreter.specs.cil_model.declared.phases.Phase.{Phase}
 use Rattle.interpreter.specs.cil_model.declared.reports.Report.{Report}
-use Rattle.interpreter.specs.cil_model.declared.reports.Report.TheVariants.{Absent, NothingPosted, Waiting}
+use Rattle.interpreter.specs.cil_model.declared.reports.Report.TheVariants.{Absent, Acked, Ended as HasEnded, NothingPosted, Waiting}
 use Rattle.interpreter.specs.cil_model.Bodies.{entry_points}
 use Rattle.interpreter.specs.cil_model.Fields.{FieldKey, static_fields}
 use Rattle.interpreter.specs.cil_model.Mentions.{literals_of}
+use Rattle.collector.specs.phase_handshake.Handshakes.{Handshakes, acknowledged, first_handshakes, is_open, joined, left as without_seat}
+use Rattle.collector.specs.Phases.{no_progress}
 use Rattle.interpreter.specs.name_tables.declared.lookups.MemberNumber.{MemberNumber}
 use Rattle.interpreter.specs.object_memory.declared.addresses.Addr.{Addr}
 use Rattle.interpreter.specs.object_memory.declared.values.Value.{Value}
@@ -31,7 +34,7 @@ use Rattle.interpreter.specs.Calls.{chosen_at}
 use Rattle.interpreter.specs.Instructions.{IsDone, Answer}
 use Rattle.interpreter.specs.declared.outcomes.Outcome.{Outcome}
 use Rattle.interpreter.specs.declared.outcomes.Outcome.TheVariants.{Comes, Starts, Joins}
-use Rattle.simulation.specs.MachineContents.{Content, frame_room}
+use Rattle.simulation.specs.MachineContents.{Content, frame_room, mutator_of}
 
 -- ---- the beginning
 
@@ -46,6 +49,8 @@ content_at tree limits entry n = record {
   tree = tree;
   limits = limits;
   threads = thread_at limits entry [] n ∷ [];
+  posts = first_handshakes;
+  progress = no_progress;
   objects = no_objects limits.words (length (literals_of tree));
   statics = map (λ (f : FieldKey × DeclaredType). zero_value (kind_of_type f.1)) (static_fields tree);
   printed = [];
@@ -72,10 +77,10 @@ run_member = record { class = 4; place = 1 }
 abbrev pub thread_for : Tree → Limits → Objects → Addr → Option Thread
 thread_for tree limits o a = option_and_then (λ (found : ClassName × Method). option_map (thread_at limits found (Ref a ∷ [])) (number_of tree found)) (chosen_at tree o a run_member)
 
--- the threads and objects after a start, or why there is none
-abbrev pub started : Tree → Limits → List Thread → Objects → Addr → Option (List Thread × Objects × Effect)
-started tree limits threads o a =
-    option_map_or (λ x. Some (threads, o, Raises x)) (start_fault threads o a) (option_map (with_start threads o a) (thread_for tree limits o a))
+-- the threads and objects after a start by a thread in this phase, or why there is none
+abbrev pub started : Phase → Tree → Limits → List Thread → Objects → Addr → Option (List Thread × Objects × Effect)
+started phase tree limits threads o a =
+    option_map_or (λ x. Some (threads, o, Raises x)) (start_fault threads o a) (option_map (with_start phase threads o a) (thread_for tree limits o a))
 
 -- ---- a step
 
@@ -83,10 +88,24 @@ started tree limits threads o a =
 abbrev pub live_thread : ℕ → Frames → Thread
 live_thread left m = record { standing = Live m; steps_left = left }
 
+-- the seats once the step of a thread has this report: one that has ended has none
+abbrev pub seats_after : Handshakes → ℕ → Report → Handshakes
+seats_after h t (HasEnded e) = without_seat h t
+seats_after h t _ = h
+
+-- the seats once a thread was asked to start: one that begins has its starter's
+abbrev pub seated : Effect → Handshakes → (thread starter : ℕ) → Handshakes
+seated GoesOn h thread starter = joined h thread starter
+seated Returns h thread starter = h
+seated Blocks h thread starter = h
+seated (Raises x) h thread starter = h
+
 -- the thread's frames and the content beside them, once the step is counted
 abbrev pub counted : Content → ℕ → ℕ → Effect → Frames → Content × Report
-counted c t left effect m =
-    (record c { threads = slice_set c.threads t (settled effect (live_thread left m)).0 }, (settled effect (live_thread left m)).1)
+counted c t left effect m = (
+  record c { threads = slice_set c.threads t (settled effect (live_thread left m)).0; posts = seats_after c.posts t (settled effect (live_thread left m)).1 },
+  (settled effect (live_thread left m)).1,
+)
 
 -- and once what the thread asked of another one was answered by this effect
 abbrev pub answered : Content → ℕ → ℕ → Frames → Effect → Content × Report
@@ -100,7 +119,7 @@ left_by c t left a = record c { threads = slice_set c.threads t (live_thread lef
 abbrev pub finish : Content → ℕ → ℕ → Frames → Outcome → Option (Content × Report)
 finish c t left m (Comes e) = Some (counted c t left e m)
 finish c t left m (Starts object) =
-    option_map (λ (x : List Thread × Objects × Effect). answered (record c { threads = x.0; objects = x.1 }) t left m x.2) (started c.tree c.limits c.threads c.objects object)
+    option_map (λ (x : List Thread × Objects × Effect). answered (record c { threads = x.0; posts = seated x.2 c.posts (length c.threads) t; objects = x.1 }) t left m x.2) (started (mutator_of c t).phase c.tree c.limits c.threads c.objects object)
 finish c t left m (Joins object) = Some (answered c t left m (join_effect c.threads c.objects object))
 
 -- the step of a thread that had so many steps left: its instruction, and then what that comes to
@@ -109,7 +128,7 @@ finished c t left a outcome = finish (left_by c t left a) t left a.frames outcom
 
 -- a live thread does its next instruction; one that has ended is absent
 abbrev pub IsStandingTurn : Content → ℕ → ℕ → Standing → Content × Report → Type 0
-IsStandingTurn c t left (Live m) after = (a : Answer) × IsDone c.tree t m c.objects c.statics c.printed a × (finished c t left a a.outcome ≡ Some after)
+IsStandingTurn c t left (Live m) after = (a : Answer) × IsDone c.tree (mutator_of c t) m c.objects c.statics c.printed a × (finished c t left a a.outcome ≡ Some after)
 IsStandingTurn c t left (Ended e) after = after ≡ (c, Absent)
 
 -- so is one that was never started
@@ -117,10 +136,14 @@ abbrev pub IsThreadTurn : Content → ℕ → Option Thread → Content × Repor
 IsThreadTurn c t None after = after ≡ (c, Absent)
 IsThreadTurn c t (Some thread) after = IsStandingTurn c t thread.steps_left thread.standing after
 
+-- what an acknowledgement of a thread is answered
+abbrev pub acknowledgement : Content → ℕ → Report
+acknowledgement c t = if is_open c.posts t then Acked else if is_live_at c.threads t then NothingPosted else Absent
+
 -- what an event does. Nothing is posted, and nothing is collected, until there is a collector.
 abbrev pub IsTurn : Content → Event → Content × Report → Type 0
 IsTurn c (Step t) after = IsThreadTurn c t (slice_get c.threads t) after
-IsTurn c (Ack t) after = after ≡ (c, if is_live_at c.threads t then NothingPosted else Absent)
+IsTurn c (Ack t) after = after ≡ (record c { posts = acknowledged c.posts t }, acknowledgement c t)
 IsTurn c Gc after = after ≡ (c, Waiting)
 
 -- the event prints or starts a thread: what was printed, or the threads, are more after its turn

@@ -6,4 +6,5 @@
 pub mod counts;
 pub mod sizes;
 
+pub use collector as collector_code;
 pub use interpreter as interpreter_code;

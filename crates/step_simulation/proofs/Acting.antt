@@ -32,7 +32,7 @@ use Rattle.step_simulation.proofs.Locking.{enters_alike, exits_alike}
 use Rattle.step_simulation.proofs.OneOperand.{one_taken, single_operand}
 use Rattle.step_simulation.proofs.Printing.{line_alike, memory_printed}
 use Rattle.simulation.proofs.cil_model.SameLaws.{never}
-use Rattle.simulation.proofs.MemoryModels.{MemoryModel}
+use Rattle.simulation.proofs.MemoryModels.{MemoryModel, mutator_in}
 
 module _ (here : Setting) (model : MemoryModel here.tree) (name : Names) (m : Frames) (o : Objects) (statics : List Value) (printed : List ℕ) (s : State) (f : StateFrame) (below : List StateFrame) (i : Instruction) (operation : Operation)
     (at : IsSetting here model name m o statics printed s f below i operation) where
@@ -49,7 +49,7 @@ module _ (here : Setting) (model : MemoryModel here.tree) (name : Names) (m : Fr
 
   module _ (v : Value) (rest : List Value) (u : StateValue) (rest' : List StateValue) (top : m.running.stack ≡ v ∷ rest) (top' : f.stack ≡ u ∷ rest') (stands : IsValue name v u) (others : Agree (IsValue name) rest rest') where
     abbrev Acts : Action → Type 0
-    Acts a = IsTypedEffect here.tree (act here s f below a (u ∷ []) rest') → Alike (act_turn here.tree here.thread a m o printed) (act here s f below a (u ∷ []) rest')
+    Acts a = IsTypedEffect here.tree (act here s f below a (u ∷ []) rest') → Alike (act_turn here.tree (mutator_in here model) a m o printed) (act here s f below a (u ∷ []) rest')
 
     constructs : Acts Construct
     constructs t = record {
@@ -63,7 +63,7 @@ module _ (here : Setting) (model : MemoryModel here.tree) (name : Names) (m : Fr
     writes t = by_line (state_line_of u) refl t
       where
         by_line : (l : Option (List ℕ)) → state_line_of u ≡ l → IsTypedEffect here.tree (given_there l (λ line. onward_frame f below (record s { printed = s.printed ++ line }) rest')) →
-            Alike (act_turn here.tree here.thread Write m o printed) (given_there l (λ line. onward_frame f below (record s { printed = s.printed ++ line }) rest'))
+            Alike (act_turn here.tree (mutator_in here model) Write m o printed) (given_there l (λ line. onward_frame f below (record s { printed = s.printed ++ line }) rest'))
         by_line None is t' = elim t' [ ]
         by_line (Some line) is t' = record {
           answer = answer_of (popped rest) o statics (printed ++ line) (Comes GoesOn);
@@ -86,16 +86,16 @@ module _ (here : Setting) (model : MemoryModel here.tree) (name : Names) (m : Fr
     asks_is : (what : Addr → Outcome) (a : Addr) → v ≡ Ref a → of_calls o statics printed (asks what m o printed) ≡ Some (answer_of m o statics printed (what a))
     asks_is what a is = ap (λ x. of_calls o statics printed (option_map (λ b. call_answer m o printed (what b)) (top_reference x))) (top ∙ ap (λ x. x ∷ rest) is)
 
-    starts_of : (a : Addr) → v ≡ Ref a → Alike (act_turn here.tree here.thread Start m o printed) (act here s f below Start (u ∷ []) rest')
+    starts_of : (a : Addr) → v ≡ Ref a → Alike (act_turn here.tree (mutator_in here model) Start m o printed) (act here s f below Start (u ∷ []) rest')
     starts_of a is = record { answer = answer_of m o statics printed (Starts a); is = asks_is Starts a is; refuses = λ _ h. never h; alike = λ r. asked Start a (Starts a) is }
 
-    joins_of : (a : Addr) → v ≡ Ref a → Alike (act_turn here.tree here.thread Join m o printed) (act here s f below Join (u ∷ []) rest')
+    joins_of : (a : Addr) → v ≡ Ref a → Alike (act_turn here.tree (mutator_in here model) Join m o printed) (act here s f below Join (u ∷ []) rest')
     joins_of a is = record { answer = answer_of m o statics printed (Joins a); is = asks_is Joins a is; refuses = λ _ h. never h; alike = λ r. asked Join a (Joins a) is }
 
     starts : Acts Start
     starts = by_value v u refl stands
       where
-        by_value : (w : Value) (x : StateValue) → v ≡ w → IsValue name w x → IsTypedEffect here.tree (act here s f below Start (x ∷ []) rest') → Alike (act_turn here.tree here.thread Start m o printed) (act here s f below Start (u ∷ []) rest')
+        by_value : (w : Value) (x : StateValue) → v ≡ w → IsValue name w x → IsTypedEffect here.tree (act here s f below Start (x ∷ []) rest') → Alike (act_turn here.tree (mutator_in here model) Start m o printed) (act here s f below Start (u ∷ []) rest')
         by_value w x is (int32 z fits) t = elim t [ ]
         by_value w x is (int64 z fits) t = elim t [ ]
         by_value w x is (native z fits) t = elim t [ ]
@@ -105,7 +105,7 @@ module _ (here : Setting) (model : MemoryModel here.tree) (name : Names) (m : Fr
     joins : Acts Join
     joins = by_value v u refl stands
       where
-        by_value : (w : Value) (x : StateValue) → v ≡ w → IsValue name w x → IsTypedEffect here.tree (act here s f below Join (x ∷ []) rest') → Alike (act_turn here.tree here.thread Join m o printed) (act here s f below Join (u ∷ []) rest')
+        by_value : (w : Value) (x : StateValue) → v ≡ w → IsValue name w x → IsTypedEffect here.tree (act here s f below Join (x ∷ []) rest') → Alike (act_turn here.tree (mutator_in here model) Join m o printed) (act here s f below Join (u ∷ []) rest')
         by_value w x is (int32 z fits) t = elim t [ ]
         by_value w x is (int64 z fits) t = elim t [ ]
         by_value w x is (native z fits) t = elim t [ ]
@@ -125,17 +125,17 @@ module _ (here : Setting) (model : MemoryModel here.tree) (name : Names) (m : Fr
   -- ---- an action on the uppermost values
 
   pub acts_alike : (a : Action) (n : ℕ) → nat_le n (length f.stack) ≡ true → IsTypedEffect here.tree (act here s f below a (reverse (take n f.stack)) (drop n f.stack)) →
-      Alike (act_turn here.tree here.thread a m o printed) (act here s f below a (reverse (take n f.stack)) (drop n f.stack))
+      Alike (act_turn here.tree (mutator_in here model) a m o printed) (act here s f below a (reverse (take n f.stack)) (drop n f.stack))
   acts_alike a n enough typed = by_operand (single_operand here s f below a (reverse (take n f.stack)) (drop n f.stack) typed)
     where
       by_stack : (u : StateValue) → f.stack ≡ u ∷ drop n f.stack → IsTypedEffect here.tree (act here s f below a (u ∷ []) (drop n f.stack)) →
-          (vs : List Value) → m.running.stack ≡ vs → Agree (IsValue name) vs (u ∷ drop n f.stack) → Alike (act_turn here.tree here.thread a m o printed) (act here s f below a (u ∷ []) (drop n f.stack))
+          (vs : List Value) → m.running.stack ≡ vs → Agree (IsValue name) vs (u ∷ drop n f.stack) → Alike (act_turn here.tree (mutator_in here model) a m o printed) (act here s f below a (u ∷ []) (drop n f.stack))
       by_stack u top' t [] top h = elim h [ ]
       by_stack u top' t (v ∷ vs) top h = acts v vs u (drop n f.stack) top top' h.0 h.1 a t
 
-      by_operand : (u : StateValue) × (reverse (take n f.stack) ≡ u ∷ []) → Alike (act_turn here.tree here.thread a m o printed) (act here s f below a (reverse (take n f.stack)) (drop n f.stack))
+      by_operand : (u : StateValue) × (reverse (take n f.stack) ≡ u ∷ []) → Alike (act_turn here.tree (mutator_in here model) a m o printed) (act here s f below a (reverse (take n f.stack)) (drop n f.stack))
       by_operand (u, is) =
           let top' : f.stack ≡ u ∷ drop n f.stack = one_taken n f.stack u enough is in
-          subst (λ x. Alike (act_turn here.tree here.thread a m o printed) (act here s f below a x (drop n f.stack))) (sym is)
+          subst (λ x. Alike (act_turn here.tree (mutator_in here model) a m o printed) (act here s f below a x (drop n f.stack))) (sym is)
           (by_stack u top' (subst (λ x. IsTypedEffect here.tree (act here s f below a x (drop n f.stack))) is typed) m.running.stack refl
           (subst (λ x. Agree (IsValue name) m.running.stack x) top' (own_frame here model name m o statics printed s f below i operation at).stack))

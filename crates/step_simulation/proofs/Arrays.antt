@@ -26,6 +26,7 @@ use Rattle.simulation.specs.object_memory.declared.values.ValueKind.TheVariants 
 use Rattle.simulation.specs.object_memory.Cells.{Cell, store_slot as with_cell_slot}
 use Rattle.simulation.specs.object_memory.Objects.{Objects}
 use Rattle.simulation.specs.object_memory.Values.{value_word}
+use Rattle.simulation.specs.collector.References.{holds_reference, is_reference_value}
 use Rattle.simulation.specs.threads_monitors.Frames.{Frames, with_stack}
 use Rattle.simulation.specs.instructions.Frames.{given}
 use Rattle.simulation.specs.loaded_program.Prepared.{kind_at, kind_of_type}
@@ -37,29 +38,34 @@ use Rattle.simulation.proofs.AgreeLaws.{agree_get, agree_set}
 use Rattle.simulation.proofs.Instructions.{IsSetting, DoesAlike}
 use Rattle.simulation.proofs.Operands.{fine, two_operands, three_operands}
 use Rattle.step_simulation.proofs.Words.{word_value, kind_fits}
+use Rattle.step_simulation.proofs.ReferenceSlots.{element_says, is_reference_kind, same_kinds, value_says}
 use Rattle.step_simulation.proofs.Things.{IsArrayThere}
 use Rattle.step_simulation.proofs.Parts.{given_alike, loaded_alike, replaced_alike, element_alike}
-use Rattle.simulation.proofs.MemoryModels.{MemoryModel}
+use Rattle.simulation.proofs.MemoryModels.{MemoryModel, mutator_in}
 
 -- ---- the state after a store
 
--- an element that is stored is of the old one's kind
+-- the state once an element is stored, which is of the old one's kind
 element_stored : (s : State) (k : ℕ) (object : HeapObject) (t : DeclaredType) (elements : List StateValue) (n : ℕ) (v : StateValue) (s' : State) → slice_get s.objects k ≡ Some object → object.contents ≡ IsArray t elements →
-    with_element s (Born k) n v ≡ Some s' → s' ≡ with_object s (Born k) (record object { contents = IsArray t (slice_set elements n v) })
+    with_element s (Born k) n v ≡ Some s' → (s' ≡ with_object s (Born k) (record object { contents = IsArray t (slice_set elements n v) })) × ((old : StateValue) → slice_get elements n ≡ Some old → same_kind old v ≡ true)
 element_stored s k object t elements n v s' there holds is =
     let by_object =
     subst (λ x. option_and_then (λ (y : HeapObject). option_and_then (λ (array : DeclaredType × List StateValue). option_map (λ vs. with_object s (Born k) (record y { contents = IsArray array.0 vs })) (replaced_at n v array.1)) (elements_of_contents y.contents)) x ≡ Some s') there is in
     let by_contents =
     subst (λ c. option_and_then (λ (array : DeclaredType × List StateValue). option_map (λ vs. with_object s (Born k) (record object { contents = IsArray array.0 vs })) (replaced_at n v array.1)) (elements_of_contents c) ≡ Some s') holds by_object in
-    by_old (slice_get elements n) by_contents
+    by_old (slice_get elements n) refl by_contents
   where
-    by_kind : (b : Bool) → option_map (λ vs. with_object s (Born k) (record object { contents = IsArray t vs })) (if b then Some (slice_set elements n v) else None) ≡ Some s' → s' ≡ with_object s (Born k) (record object { contents = IsArray t (slice_set elements n v) })
-    by_kind true e = sym (same_Some (with_object s (Born k) (record object { contents = IsArray t (slice_set elements n v) })) s' e)
-    by_kind false e = none_is_some s' e
+    IsAfter : Type 0
+    IsAfter = (s' ≡ with_object s (Born k) (record object { contents = IsArray t (slice_set elements n v) })) × ((old : StateValue) → slice_get elements n ≡ Some old → same_kind old v ≡ true)
 
-    by_old : (old : Option StateValue) → option_map (λ vs. with_object s (Born k) (record object { contents = IsArray t vs })) (same_kind_or_none old v (slice_set elements n v)) ≡ Some s' → s' ≡ with_object s (Born k) (record object { contents = IsArray t (slice_set elements n v) })
-    by_old None e = none_is_some s' e
-    by_old (Some old) e = by_kind (same_kind old v) e
+    by_kind : (x : StateValue) → slice_get elements n ≡ Some x → (b : Bool) → same_kind x v ≡ b → option_map (λ vs. with_object s (Born k) (record object { contents = IsArray t vs })) (if b then Some (slice_set elements n v) else None) ≡ Some s' → IsAfter
+    by_kind x found true kinds e =
+        (sym (same_Some (with_object s (Born k) (record object { contents = IsArray t (slice_set elements n v) })) s' e), λ old is. subst (λ y. same_kind y v ≡ true) (same_Some x old (sym found ∙ is)) kinds)
+    by_kind x found false kinds e = none_is_some s' e
+
+    by_old : (old : Option StateValue) → slice_get elements n ≡ old → option_map (λ vs. with_object s (Born k) (record object { contents = IsArray t vs })) (same_kind_or_none old v (slice_set elements n v)) ≡ Some s' → IsAfter
+    by_old None found e = none_is_some s' e
+    by_old (Some old) found e = by_kind old found (same_kind old v) refl e
 
 -- ---- kinds of elements
 
@@ -90,11 +96,11 @@ module _ (here : Setting) (model : MemoryModel here.tree) (name : Names) (m : Fr
         loaded_alike here model name m o statics printed s f below i operation at a array.thing.cell array.thing.lies slot held.0 held.1 kind old (word_value name (model.reads name o statics s at.memory.fits).small held.0 old kind held.2 same) rest rest' k shorter
 
     -- an array's element is stored
-    slot_stored : (a : Addr) (n : ObjectName) (t : DeclaredType) (elements : List StateValue) → name a.number ≡ Some n → (array : IsArrayThere here.tree name o s (model.reads name o statics s at.memory.fits) a n t elements) →
+    slot_stored : (a : Addr) (n : ObjectName) (t : DeclaredType) (elements : List StateValue) → name a.number ≡ Some n → array_at s n ≡ Some (t, elements) → (array : IsArrayThere here.tree name o s (model.reads name o statics s at.memory.fits) a n t elements) →
         (v : Value) (u : StateValue) → IsValue name v u → (slot : ℕ) (old : StateValue) → slice_get elements slot ≡ Some old → (rest : List Value) (rest' : List StateValue) → Agree (IsValue name) rest rest' →
         IsTypedEffect here.tree (state_given (with_element s n slot u) (λ s'. onward_frame f below s' rest')) →
-        DoesAlike here model name m o statics printed s f below (of_objects o statics printed (store_slot v slot a (with_stack m rest) o)) (state_given (with_element s n slot u) (λ s'. onward_frame f below s' rest'))
-    slot_stored a n t elements named array v u stands slot old found rest rest' k typed = given_alike here model name m o statics printed s f below i operation at _ (with_element s n slot u) (λ s'. onward_frame f below s' rest') typed after
+        DoesAlike here model name m o statics printed s f below (of_objects o statics printed (store_slot model.phase v slot a (with_stack m rest) o)) (state_given (with_element s n slot u) (λ s'. onward_frame f below s' rest'))
+    slot_stored a n t elements named there array v u stands slot old found rest rest' k typed = given_alike here model name m o statics printed s f below i operation at _ (with_element s n slot u) (λ s'. onward_frame f below s' rest') typed after
       where
         cell : Cell
         cell = array.thing.cell
@@ -112,12 +118,20 @@ module _ (here : Setting) (model : MemoryModel here.tree) (name : Names) (m : Fr
         held : (w : ℕ) × (slice_get cell.slots slot ≡ Some w) × IsWord name w old
         held = agree_get (IsWord name) cell.slots elements array.values slot old found
 
+        -- the slot is of the sort of what was there, and so of what comes
+        sort : same_kind old u ≡ true → is_reference_value v ≡ holds_reference here.tree cell.kind slot
+        sort kinds =
+            let typed_old = element_typed here.tree at.running.accepted.legal s t elements slot old (array_typed here.tree at.running.accepted.legal s at.running.typed n t elements there) found in
+            value_says name v u stands ∙ sym (same_kinds old u kinds) ∙ ap is_reference_kind (sym (kind_fits here.tree at.running.accepted.legal s old t typed_old)) ∙ sym (element_says here.tree array.kind t array.type_is slot) ∙
+            ap (λ k. holds_reference here.tree k slot) (sym array.kind_is)
+
         after : (s' : State) → with_element s n slot u ≡ Some s' → IsTypedEffect here.tree (onward_frame f below s' rest') →
-            DoesAlike here model name m o statics printed s f below (of_objects o statics printed (store_slot v slot a (with_stack m rest) o)) (onward_frame f below s' rest')
+            DoesAlike here model name m o statics printed s f below (of_objects o statics printed (store_slot model.phase v slot a (with_stack m rest) o)) (onward_frame f below s' rest')
         after s' is t' =
-            let same : s' ≡ with_object s (Born array.thing.number) object = element_stored s array.thing.number array.object t elements slot u s' array.thing.there array.holds (subst (λ x. with_element s x slot u ≡ Some s') array.thing.name_is is) in
-            subst (λ x. DoesAlike here model name m o statics printed s f below (of_objects o statics printed (store_slot v slot a (with_stack m rest) o)) (onward_frame f below x rest')) (sym same)
-            (replaced_alike here model name m o statics printed s f below i operation at a cell array.thing.lies slot held.0 held.1 array.thing.number (named ∙ ap Some array.thing.name_is) v u stands object changed rest rest' k)
+            let stored = element_stored s array.thing.number array.object t elements slot u s' array.thing.there array.holds (subst (λ x. with_element s x slot u ≡ Some s') array.thing.name_is is) in
+            let same : s' ≡ with_object s (Born array.thing.number) object = stored.0 in
+            subst (λ x. DoesAlike here model name m o statics printed s f below (of_objects o statics printed (store_slot model.phase v slot a (with_stack m rest) o)) (onward_frame f below x rest')) (sym same)
+            (replaced_alike here model name m o statics printed s f below i operation at a cell array.thing.lies slot held.0 held.1 array.thing.number (named ∙ ap Some array.thing.name_is) v u stands (sort (stored.1 old found)) object changed rest rest' k)
 
     -- ---- ldelem and stelem
 
@@ -136,16 +150,16 @@ module _ (here : Setting) (model : MemoryModel here.tree) (name : Names) (m : Fr
 
     -- stelem.i4 and stelem.i8
     store_alike : (test : DeclaredType → Bool) → IsTypedEffect here.tree (store_element here s f below test) →
-        DoesAlike here model name m o statics printed s f below (of_objects o statics printed (store_element_turn m o)) (store_element here s f below test)
+        DoesAlike here model name m o statics printed s f below (of_objects o statics printed (store_element_turn model.phase m o)) (store_element here s f below test)
     store_alike test typed =
         three_operands here model name m o statics printed s f below i operation at (of_objects o statics printed)
-        (λ array index v k. object_of array k o (λ a. index_of index (λ z. given (slots_of o a) (λ slots. in_range (place_in z (length slots)) k o (λ slot. store_slot v slot a k o)))))
+        (λ array index v k. object_of array k o (λ a. index_of index (λ z. given (slots_of o a) (λ slots. in_range (place_in z (length slots)) k o (λ slot. store_slot model.phase v slot a k o)))))
         (λ array index v rest. element here s f below test array index (λ n t z old. state_given (with_element s n z v) (λ s'. onward_frame f below s' rest)))
         typed
         (λ v w c rest u x y rest' is is' stands stands' stored k shorter t.
-        element_alike here model name m o statics printed s f below i operation at test v w u x stands stands' (with_stack m rest) (λ a slot. store_slot c slot a (with_stack m rest) o) (λ n type z old. state_given (with_element s n z y) (λ s'. onward_frame f below s' rest')) t
+        element_alike here model name m o statics printed s f below i operation at test v w u x stands stands' (with_stack m rest) (λ a slot. store_slot model.phase c slot a (with_stack m rest) o) (λ n type z old. state_given (with_element s n z y) (λ s'. onward_frame f below s' rest')) t
         (λ a n type elements named there array passed slot old found t'.
-        slot_stored a n type elements named array c y stored slot old found rest rest' k t'))
+        slot_stored a n type elements named there array c y stored slot old found rest rest' k t'))
 
   -- ---- each instruction
 
@@ -155,7 +169,7 @@ module _ (here : Setting) (model : MemoryModel here.tree) (name : Names) (m : Fr
 
   -- it does the same
   abbrev IsAlike : Instruction → Operation → Type 0
-  IsAlike i operation = DoesAlike here model name m o statics printed s f below (operation_turn here.tree here.thread operation m o statics printed) (execute here s f below i)
+  IsAlike i operation = DoesAlike here model name m o statics printed s f below (operation_turn here.tree (mutator_in here model) operation m o statics printed) (execute here s f below i)
 
   pub load_element_int32_alike : At Named.LoadElementInt32 Resolved.LoadElementInt32 → IsAlike Named.LoadElementInt32 Resolved.LoadElementInt32
   load_element_int32_alike at = load_alike Named.LoadElementInt32 Resolved.LoadElementInt32 at (same_type (plain Int32Element)) Kind.Int32 (λ t. of_integer t Int32Element) (fine here model name m o statics printed s f below Named.LoadElementInt32 Resolved.LoadElementInt32 at)

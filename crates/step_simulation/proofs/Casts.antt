@@ -31,7 +31,7 @@ use Rattle.simulation.proofs.Going.{leaves_is, next_alike}
 use Rattle.simulation.proofs.Operands.{fine, one_operand}
 use Rattle.step_simulation.proofs.ObjectTypes.{may_stand_as_is}
 use Rattle.simulation.proofs.cil_model.SameLaws.{never}
-use Rattle.simulation.proofs.MemoryModels.{MemoryModel}
+use Rattle.simulation.proofs.MemoryModels.{MemoryModel, mutator_in}
 
 module _ (here : Setting) (model : MemoryModel here.tree) (name : Names) (m : Frames) (o : Objects) (statics : List Value) (printed : List ℕ) (s : State) (f : StateFrame) (below : List StateFrame) where
   abbrev Alike : MachineTurn → StateEffect → Type 0
@@ -69,7 +69,7 @@ module _ (here : Setting) (model : MemoryModel here.tree) (name : Names) (m : Fr
 
   -- castclass (III.4.3)
   pub cast_class_alike : (t : DeclaredType) (n : NumberedType) → type_at here.tree n ≡ Some t → IsSetting here model name m o statics printed s f below (Named.CastClass t) (Resolved.CastClass n) →
-      DoesAlike here model name m o statics printed s f below (operation_turn here.tree here.thread (Resolved.CastClass n) m o statics printed) (execute here s f below (Named.CastClass t))
+      DoesAlike here model name m o statics printed s f below (operation_turn here.tree (mutator_in here model) (Resolved.CastClass n) m o statics printed) (execute here s f below (Named.CastClass t))
   cast_class_alike t n numbered at =
       cast_alike (Named.CastClass t) (Resolved.CastClass n) at t n numbered (λ k p. Some (k, p, Raises InvalidCast)) (λ rest. StateRaises InvalidCast)
       (λ rest rest' k shorter. record { answer = answer_of (with_stack m rest) o statics printed (Comes (Raises InvalidCast)); is = refl; refuses = λ _ h. never h; alike = λ r. (refl, (refl, refl, refl)) })
@@ -77,7 +77,7 @@ module _ (here : Setting) (model : MemoryModel here.tree) (name : Names) (m : Fr
 
   -- isinst (III.4.6)
   pub is_instance_alike : (t : DeclaredType) (n : NumberedType) → type_at here.tree n ≡ Some t → IsSetting here model name m o statics printed s f below (Named.IsInstance t) (Resolved.IsInstance n) →
-      DoesAlike here model name m o statics printed s f below (operation_turn here.tree here.thread (Resolved.IsInstance n) m o statics printed) (execute here s f below (Named.IsInstance t))
+      DoesAlike here model name m o statics printed s f below (operation_turn here.tree (mutator_in here model) (Resolved.IsInstance n) m o statics printed) (execute here s f below (Named.IsInstance t))
   is_instance_alike t n numbered at =
       cast_alike (Named.IsInstance t) (Resolved.IsInstance n) at t n numbered (λ k p. beside p (leaves (Ref null) k)) (λ rest. next here s f below (Null ∷ rest))
       (λ rest rest' k shorter. left_alike (Named.IsInstance t) (Resolved.IsInstance n) at (Ref null) Null rest rest' null_reference k shorter)

@@ -1,5 +1,5 @@
 -- Loads and stores of instance fields.
-use Rattle.std.proofs.Common.{◌≡◌, ◌≤◌, ℕ, Bool, true, false, if◌then◌else◌, List, ◌∷◌, length, Option, Some, None, option_map, option_and_then, slice_get, slice_set, refl, sym, ap, ◌∙◌, subst}
+use Rattle.std.proofs.Common.{◌≡◌, ◌≤◌, ◌+◌, ℕ, Bool, true, false, if◌then◌else◌, List, ◌∷◌, length, Option, Some, None, option_map, option_and_then, slice_get, slice_set, refl, sym, ap, ◌∙◌, subst}
 use Rattle.std.proofs.lemmas.Option.{same_Some}
 use Rattle.simulation.specs.cil_model.declared.instructions.Instruction.{Instruction}
 use Rattle.simulation.specs.cil_model.declared.instructions.Instruction.TheVariants as Named
@@ -20,7 +20,9 @@ use Rattle.simulation.specs.resolved_code.Resolved.{IsField}
 use Rattle.simulation.specs.resolved_code.declared.operations.Operation.{Operation}
 use Rattle.simulation.specs.resolved_code.declared.operations.Operation.TheVariants as Resolved
 use Rattle.simulation.specs.object_memory.declared.addresses.Addr.{Addr}
+use Rattle.simulation.specs.object_memory.declared.kinds.Kind.TheVariants.{Instance}
 use Rattle.simulation.specs.object_memory.declared.values.Value.{Value}
+use Rattle.simulation.specs.collector.References.{holds_reference, is_reference_value}
 use Rattle.simulation.specs.object_memory.declared.values.ValueKind.{ValueKind}
 use Rattle.simulation.specs.object_memory.Cells.{store_slot as with_cell_slot}
 use Rattle.simulation.specs.object_memory.Objects.{Objects}
@@ -36,12 +38,13 @@ use Rattle.simulation.specs.StandsFor.{Names, IsValue, IsWord, thread_word, IsIn
 use Rattle.simulation.proofs.AgreeLaws.{agree_get, agree_set}
 use Rattle.simulation.proofs.Instructions.{IsSetting, DoesAlike}
 use Rattle.simulation.proofs.Operands.{fine, one_operand, two_operands}
-use Rattle.step_simulation.proofs.Words.{word_value, kind_fits}
+use Rattle.step_simulation.proofs.Words.{word_value, kind_fits, kind_of_state}
+use Rattle.step_simulation.proofs.ReferenceSlots.{is_reference_kind, same_hidden, same_kinds, slot_says, value_says}
 use Rattle.step_simulation.proofs.Things.{IsInstanceThere, instance_there}
 use Rattle.step_simulation.proofs.Parts.{alike_turn, given_alike, known_alike, loaded_alike, replaced_alike, object_alike}
 use Rattle.step_simulation.proofs.FieldSlots.{slot_get, slot_set, position, slot, slot_is, held_is, IsFieldAt, field_at_slot}
 use Rattle.simulation.proofs.cil_model.Lists.{none_is_some}
-use Rattle.simulation.proofs.MemoryModels.{MemoryModel}
+use Rattle.simulation.proofs.MemoryModels.{MemoryModel, mutator_in}
 
 -- ---- what the reference machine finds
 
@@ -70,25 +73,27 @@ field_of s n k v is = by_object (object_at s n) refl is
 pub record IsStored (s : State) (n : ObjectName) (k : FieldKey) (v : StateValue) (s' : State) : Type 0 where
   pub old : StateValue
   pub field : IsFieldOf s n k old
+  pub kinds : same_kind old v ≡ true
   pub is : s' ≡ with_object s n (record field.object { contents = IsInstance field.class (with_entry same_key k v field.fields) })
 
 -- a store that is done changes such an object
 stored_in : (s : State) (n : ObjectName) (k : FieldKey) (v : StateValue) (s' : State) → with_field s n k v ≡ Some s' → IsStored s n k v s'
 stored_in s n k v s' is = by_object (object_at s n) refl is
   where
-    by_kind : (object : HeapObject) → object_at s n ≡ Some object → (c : ClassName) (fields : List (FieldKey × StateValue)) → object.contents ≡ IsInstance c fields → (old : StateValue) → entry_at same_key k fields ≡ Some old → (b : Bool) →
+    by_kind : (object : HeapObject) → object_at s n ≡ Some object → (c : ClassName) (fields : List (FieldKey × StateValue)) → object.contents ≡ IsInstance c fields → (old : StateValue) → entry_at same_key k fields ≡ Some old → (b : Bool) → same_kind old v ≡ b →
         option_map (λ fs. with_object s n (record object { contents = IsInstance c fs })) (if b then Some (with_entry same_key k v fields) else None) ≡ Some s' → IsStored s n k v s'
-    by_kind object there c fields holds old found true e = record {
+    by_kind object there c fields holds old found true kinds e = record {
       old = old;
+      kinds = kinds;
       field = record { object = object; class = c; fields = fields; there = there; holds = holds; found = found };
       is = sym (same_Some (with_object s n (record object { contents = IsInstance c (with_entry same_key k v fields) })) s' e);
     }
-    by_kind object there c fields holds old found false e = none_is_some s' e
+    by_kind object there c fields holds old found false kinds e = none_is_some s' e
 
     by_old : (object : HeapObject) → object_at s n ≡ Some object → (c : ClassName) (fields : List (FieldKey × StateValue)) → object.contents ≡ IsInstance c fields → (old : Option StateValue) → entry_at same_key k fields ≡ old →
         option_map (λ fs. with_object s n (record object { contents = IsInstance c fs })) (same_kind_or_none old v (with_entry same_key k v fields)) ≡ Some s' → IsStored s n k v s'
     by_old object there c fields holds None found e = none_is_some s' e
-    by_old object there c fields holds (Some old) found e = by_kind object there c fields holds old found (same_kind old v) e
+    by_old object there c fields holds (Some old) found e = by_kind object there c fields holds old found (same_kind old v) refl e
 
     by_contents : (object : HeapObject) → object_at s n ≡ Some object → (c : Contents) → object.contents ≡ c →
         option_and_then (λ fields. option_map (λ fs. with_object s n (record object { contents = with_fields c fs })) (replaced_entry k v fields)) (fields_of_contents c) ≡ Some s' → IsStored s n k v s'
@@ -171,17 +176,26 @@ module _ (here : Setting) (model : MemoryModel here.tree) (name : Names) (m : Fr
           monitor = thing.thing.stands.monitor;
         }
 
-        field_stored : (rest : List Value) (rest' : List StateValue) → Agree (IsValue name) rest rest' →
-            DoesAlike here model name m o statics printed s f below (of_objects o statics printed (store_slot w own_slot a (with_stack m rest) o)) (onward_frame f below (with_object s n object_after) rest')
-        field_stored rest rest' k =
-            subst (λ x. DoesAlike here model name m o statics printed s f below (of_objects o statics printed (store_slot w own_slot a (with_stack m rest) o)) (onward_frame f below (with_object s x object_after) rest')) (sym thing.thing.name_is)
-            (replaced_alike here model name m o statics printed s f below i operation at a thing.thing.cell thing.thing.lies own_slot word.0 word_there thing.thing.number (named ∙ ap Some thing.thing.name_is) w u stands object_after stands_after rest rest' k)
+        -- the slot is of the sort of what was there, and so of what comes
+        own_sort : same_kind v u ≡ true → is_reference_value w ≡ holds_reference here.tree thing.thing.cell.kind own_slot
+        own_sort kinds =
+            let contents : IsTypedContents here.tree s (IsInstance own.class own.fields) = subst (λ c. IsTypedContents here.tree s c) own.holds (contents_typed here.tree at.running.accepted.legal s at.running.typed n own.object own.there) in
+            let says = slot_says here.tree at.running.accepted.legal s own.class thing.kind thing.contents.class_is own.fields contents.2 own_place at_slot.entry at_slot.there in
+            value_says name w u stands ∙ sym (same_kinds v u kinds) ∙ ap (λ x. is_reference_kind (kind_of_state x)) (sym at_slot.value_is) ∙ sym says ∙
+            ap (λ h. holds_reference here.tree (Instance thing.kind) (h + own_place)) (same_hidden here.tree own.class is.declared_in at_slot.hidden) ∙
+            ap (λ k. holds_reference here.tree k own_slot) (sym thing.kind_is)
+
+        field_stored : same_kind v u ≡ true → (rest : List Value) (rest' : List StateValue) → Agree (IsValue name) rest rest' →
+            DoesAlike here model name m o statics printed s f below (of_objects o statics printed (store_slot model.phase w own_slot a (with_stack m rest) o)) (onward_frame f below (with_object s n object_after) rest')
+        field_stored kinds rest rest' k =
+            subst (λ x. DoesAlike here model name m o statics printed s f below (of_objects o statics printed (store_slot model.phase w own_slot a (with_stack m rest) o)) (onward_frame f below (with_object s x object_after) rest')) (sym thing.thing.name_is)
+            (replaced_alike here model name m o statics printed s f below i operation at a thing.thing.cell thing.thing.lies own_slot word.0 word_there thing.thing.number (named ∙ ap Some thing.thing.name_is) w u stands (own_sort kinds) object_after stands_after rest rest' k)
 
   -- ---- ldfld
 
   module _ (r : FieldReference) (owner : ℕ) (field : MemberNumber) (named : class_name here.tree owner ≡ Some r.owner) (finds : IsField here.tree false r field) (at : IsSetting here model name m o statics printed s f below (Named.LoadField r) (Resolved.LoadField owner field)) where
     -- the whole instruction
-    pub load_field_alike : DoesAlike here model name m o statics printed s f below (operation_turn here.tree here.thread (Resolved.LoadField owner field) m o statics printed) (execute here s f below (Named.LoadField r))
+    pub load_field_alike : DoesAlike here model name m o statics printed s f below (operation_turn here.tree (mutator_in here model) (Resolved.LoadField owner field) m o statics printed) (execute here s f below (Named.LoadField r))
     load_field_alike =
         let slot_there = slot_is here.tree at.running.accepted.legal r field finds in
         let kind_there = held_is here.tree at.running.accepted.legal r field finds in
@@ -205,20 +219,20 @@ module _ (here : Setting) (model : MemoryModel here.tree) (name : Names) (m : Fr
   module _ (r : FieldReference) (owner : ℕ) (field : MemberNumber) (named : class_name here.tree owner ≡ Some r.owner) (finds : IsField here.tree false r field) (at : IsSetting here model name m o statics printed s f below (Named.StoreField r) (Resolved.StoreField owner field)) where
     -- a store that is done
     store_done : (a : Addr) (n : ObjectName) → name a.number ≡ Some n → (w : Value) (u : StateValue) → IsValue name w u → (s' : State) → IsStored s n (key_of (finds.declared_in, finds.found)) u s' → (rest : List Value) (rest' : List StateValue) → Agree (IsValue name) rest rest' →
-        DoesAlike here model name m o statics printed s f below (of_objects o statics printed (store_slot w (slot here.tree at.running.accepted.legal r field finds) a (with_stack m rest) o)) (onward_frame f below s' rest')
+        DoesAlike here model name m o statics printed s f below (of_objects o statics printed (store_slot model.phase w (slot here.tree at.running.accepted.legal r field finds) a (with_stack m rest) o)) (onward_frame f below s' rest')
     store_done a n here_named w u stands s' stored rest rest' k =
-        subst (λ x. DoesAlike here model name m o statics printed s f below (of_objects o statics printed (store_slot w (slot here.tree at.running.accepted.legal r field finds) a (with_stack m rest) o)) (onward_frame f below x rest')) (sym stored.is)
-        (field_stored (Named.StoreField r) (Resolved.StoreField owner field) at r field finds a n here_named stored.old stored.field w u stands rest rest' k)
+        subst (λ x. DoesAlike here model name m o statics printed s f below (of_objects o statics printed (store_slot model.phase w (slot here.tree at.running.accepted.legal r field finds) a (with_stack m rest) o)) (onward_frame f below x rest')) (sym stored.is)
+        (field_stored (Named.StoreField r) (Resolved.StoreField owner field) at r field finds a n here_named stored.old stored.field w u stands stored.kinds rest rest' k)
 
     -- the whole instruction
-    pub store_field_alike : DoesAlike here model name m o statics printed s f below (operation_turn here.tree here.thread (Resolved.StoreField owner field) m o statics printed) (execute here s f below (Named.StoreField r))
+    pub store_field_alike : DoesAlike here model name m o statics printed s f below (operation_turn here.tree (mutator_in here model) (Resolved.StoreField owner field) m o statics printed) (execute here s f below (Named.StoreField r))
     store_field_alike =
         let slot_there = slot_is here.tree at.running.accepted.legal r field finds in
         let number : ℕ = slot here.tree at.running.accepted.legal r field finds in
-        alike_turn here model name m o statics printed s f below (Named.StoreField r) (Resolved.StoreField owner field) at _ (of_objects o statics printed (store_field_turn number m o)) _
-        (ap (λ x. of_objects o statics printed (given x (λ n. store_field_turn n m o))) slot_there)
+        alike_turn here model name m o statics printed s f below (Named.StoreField r) (Resolved.StoreField owner field) at _ (of_objects o statics printed (store_field_turn model.phase number m o)) _
+        (ap (λ x. of_objects o statics printed (given x (λ n. store_field_turn model.phase n m o))) slot_there)
         (two_operands here model name m o statics printed s f below (Named.StoreField r) (Resolved.StoreField owner field) at (of_objects o statics printed)
-        (λ object v k. object_of object k o (λ a. store_slot v number a k o))
+        (λ object v k. object_of object k o (λ a. store_slot model.phase v number a k o))
         (λ object v rest. state_given (find_field here.tree false r) (λ found. not_null object NullReference (λ n. state_given (with_field s n (key_of found) v) (λ s'. onward_frame f below s' rest))))
         (fine here model name m o statics printed s f below (Named.StoreField r) (Resolved.StoreField owner field) at)
         (λ v w rest u x rest' is' is'' stands stands' k shorter typed.

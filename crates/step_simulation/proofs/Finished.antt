@@ -14,10 +14,12 @@ use Rattle.simulation.specs.cil_model.declared.trees.Method.{Method}
 use Rattle.simulation.specs.cil_model.declared.types.ClassName.{ClassName}
 use Rattle.simulation.specs.object_memory.declared.addresses.Addr.{Addr}
 use Rattle.simulation.specs.object_memory.declared.values.Value.TheVariants.{Ref}
-use Rattle.simulation.specs.object_memory.Objects.{Objects, with_slot, whole_space}
+use Rattle.simulation.specs.object_memory.Objects.{Objects}
+use Rattle.simulation.specs.instructions.barriers.Barriers.{stored_int}
+use Rattle.simulation.specs.phase_handshake.Handshakes.{Handshakes, acknowledged, joined}
 use Rattle.simulation.specs.loaded_program.MethodNumbers.{number_of}
 use Rattle.simulation.specs.threads_monitors.Frames.{Frames}
-use Rattle.simulation.specs.threads_monitors.Threads.{join_effect, start_fault, thread_on, with_start, is_live_at, wait_for}
+use Rattle.simulation.specs.threads_monitors.Threads.{join_effect, start_fault, thread_on, with_start, is_live_at, wait_for, is_live}
 use Rattle.simulation.specs.threads_monitors.declared.effects.Effect.{Effect}
 use Rattle.simulation.specs.threads_monitors.declared.effects.Effect.TheVariants.{GoesOn, Raises, Blocks}
 use Rattle.simulation.specs.threads_monitors.declared.threads.Standing.{Standing}
@@ -27,9 +29,9 @@ use Rattle.simulation.specs.interpreter.Calls.{chosen_at}
 use Rattle.simulation.specs.interpreter.Instructions.{IsDone, Answer}
 use Rattle.simulation.specs.interpreter.declared.outcomes.Outcome.{Outcome}
 use Rattle.simulation.specs.interpreter.declared.outcomes.Outcome.TheVariants.{Comes, Starts, Joins}
-use Rattle.simulation.specs.MachineContents.{Content}
-use Rattle.simulation.specs.Turns.{IsStandingTurn, IsThreadTurn, IsTurn, after_request, counted, finished, left_by, run_member, started, thread_at, thread_for}
-use Rattle.step_simulation.proofs.HeapSizes.{instruction_keeps_words}
+use Rattle.simulation.specs.MachineContents.{Content, mutator_of}
+use Rattle.simulation.specs.Turns.{IsStandingTurn, IsThreadTurn, IsTurn, after_request, counted, finished, left_by, run_member, started, thread_at, thread_for, live_thread, seated}
+use Rattle.step_simulation.proofs.Seats.{AreFitting, acknowledged_fits, begun_fits, counted_fits, live_fits, live_more, live_set}
 use Rattle.simulation.specs.reference_machine.Runs.{is_refusal}
 use Rattle.simulation.proofs.Instructions.{is_refused_effect, is_refused_fault, is_refused_outcome}
 use Rattle.step_simulation.proofs.Settling.{refusal_of}
@@ -40,18 +42,21 @@ pub record HasBegun (budget : ℕ) (before threads : List Thread) : Type 0 where
   pub new : Thread
   pub are : threads ≡ before ++ new ∷ []
   pub whole : new.steps_left ≡ budget
+  pub lives : is_live new ≡ true
   pub room : length before < MOST_THREADS
 
 -- a step was counted beside these threads and objects, with one thread more or none; memory was refused to it where it was to its instruction
 pub record IsFinished (c : Content) (t left : ℕ) (a : Answer) (o : Outcome) (after : Content × Report) : Type 0 where
   pub threads : List Thread
+  pub posts : Handshakes
   pub objects : Objects
   pub effect : Effect
   pub frames : Frames
-  pub is : counted (record (left_by c t left a) { threads = threads; objects = objects }) t left effect frames ≡ after
-  pub words : whole_space objects ≡ whole_space a.objects
+  pub is : counted (record (left_by c t left a) { threads = threads; posts = posts; objects = objects }) t left effect frames ≡ after
   pub refused : is_refused_effect effect ≡ is_refused_outcome o
-  pub are : (threads ≡ (left_by c t left a).threads) ⊎ HasBegun c.limits.budget (left_by c t left a).threads threads
+  pub are :
+      ((threads ≡ (left_by c t left a).threads) × (posts ≡ c.posts))
+      ⊎ (HasBegun c.limits.budget (left_by c t left a).threads threads × (posts ≡ joined c.posts (length (left_by c t left a).threads) t))
 
 module _ (c : Content) (t left : ℕ) (a : Answer) (after : Content × Report) where
   abbrev threads : List Thread
@@ -59,17 +64,18 @@ module _ (c : Content) (t left : ℕ) (a : Answer) (after : Content × Report) w
 
   -- no other thread begins
   alone : (o : Outcome) (e : Effect) (m : Frames) → is_refused_effect e ≡ is_refused_outcome o → counted (left_by c t left a) t left e m ≡ after → IsFinished c t left a o after
-  alone o e m refused is = record { threads = threads; objects = a.objects; effect = e; frames = m; is = is; words = refl; refused = refused; are = inl refl }
+  alone o e m refused is = record { threads = threads; posts = c.posts; objects = a.objects; effect = e; frames = m; is = is; refused = refused; are = inl (refl, refl) }
 
   module _ (object : Addr) where
-    begins_whole : (new : Thread) → thread_for c.tree c.limits a.objects object ≡ Some new → new.steps_left ≡ c.limits.budget
-    begins_whole new is = by_found (chosen_at c.tree a.objects object run_member) is
+    -- what begins is what the rule says
+    begins_as : {X : Type 0} (look : Thread → X) (value : X) → ((found : ClassName × Method) (k : ℕ) → look (thread_at c.limits found (Ref object ∷ []) k) ≡ value) → (new : Thread) → thread_for c.tree c.limits a.objects object ≡ Some new → look new ≡ value
+    begins_as look value each new is = by_found (chosen_at c.tree a.objects object run_member) is
       where
-        by_number : (found : ClassName × Method) (k : Option ℕ) → option_map (thread_at c.limits found (Ref object ∷ [])) k ≡ Some new → new.steps_left ≡ c.limits.budget
+        by_number : (found : ClassName × Method) (k : Option ℕ) → option_map (thread_at c.limits found (Ref object ∷ [])) k ≡ Some new → look new ≡ value
         by_number found None e = none_is_some new e
-        by_number found (Some k) e = sym (ap (λ (x : Thread). x.steps_left) (same_Some (thread_at c.limits found (Ref object ∷ []) k) new e))
+        by_number found (Some k) e = sym (ap look (same_Some (thread_at c.limits found (Ref object ∷ []) k) new e)) ∙ each found k
 
-        by_found : (o : Option (ClassName × Method)) → option_and_then (λ (found : ClassName × Method). option_map (thread_at c.limits found (Ref object ∷ [])) (number_of c.tree found)) o ≡ Some new → new.steps_left ≡ c.limits.budget
+        by_found : (o : Option (ClassName × Method)) → option_and_then (λ (found : ClassName × Method). option_map (thread_at c.limits found (Ref object ∷ [])) (number_of c.tree found)) o ≡ Some new → look new ≡ value
         by_found None e = none_is_some new e
         by_found (Some found) e = by_number found (number_of c.tree found) e
 
@@ -98,27 +104,36 @@ module _ (c : Content) (t left : ℕ) (a : Answer) (after : Content × Report) w
         by_tests false false false e = none_is_some x e
 
     abbrev started_in : List Thread × Objects × Effect → Content × Report
-    started_in x = counted (record (left_by c t left a) { threads = x.0; objects = x.1 }) t left x.2 (after_request x.2 a.frames)
+    started_in x = counted (record (left_by c t left a) { threads = x.0; posts = seated x.2 c.posts (length threads) t; objects = x.1 }) t left x.2 (after_request x.2 a.frames)
 
-    begins : option_map started_in (started c.tree c.limits threads a.objects object) ≡ Some after → IsFinished c t left a (Starts object) after
+    begins : option_map started_in (started (mutator_of c t).phase c.tree c.limits threads a.objects object) ≡ Some after → IsFinished c t left a (Starts object) after
     begins is = by_fault (start_fault threads a.objects object) refl (thread_for c.tree c.limits a.objects object) refl is
       where
         by_fault : (f : Option Fault) → start_fault threads a.objects object ≡ f → (new : Option Thread) → thread_for c.tree c.limits a.objects object ≡ new →
-            option_map started_in (option_map_or {U = Option (List Thread × Objects × Effect)} (λ x. Some (threads, a.objects, Raises x)) f (option_map (with_start threads a.objects object) new)) ≡ Some after → IsFinished c t left a (Starts object) after
+            option_map started_in (option_map_or {U = Option (List Thread × Objects × Effect)} (λ x. Some (threads, a.objects, Raises x)) f (option_map (with_start (mutator_of c t).phase threads a.objects object) new)) ≡ Some after → IsFinished c t left a (Starts object) after
         by_fault (Some x) fault new told e = alone (Starts object) (Raises x) a.frames (fault_plain x fault) (same_Some (started_in (threads, a.objects, Raises x)) after e)
         by_fault None fault None told e = none_is_some after e
         by_fault None fault (Some new) told e =
-            let plain : with_start threads a.objects object new ≡ (threads ++ new ∷ [], with_slot a.objects object 0 (length threads + 1), GoesOn) =
-            ap (λ (f : Option Fault). option_map_or {U = List Thread × Objects × Effect} (λ x. (threads, a.objects, Raises x)) f (threads ++ new ∷ [], with_slot a.objects object 0 (length threads + 1), GoesOn)) fault in
+            let plain : with_start (mutator_of c t).phase threads a.objects object new ≡ (threads ++ new ∷ [], stored_int (mutator_of c t).phase a.objects object 0 (length threads + 1), GoesOn) =
+            ap (λ (f : Option Fault). option_map_or {U = List Thread × Objects × Effect} (λ x. (threads, a.objects, Raises x)) f (threads ++ new ∷ [], stored_int (mutator_of c t).phase a.objects object 0 (length threads + 1), GoesOn)) fault in
             record {
               threads = threads ++ new ∷ [];
-              objects = with_slot a.objects object 0 (length threads + 1);
+              posts = joined c.posts (length threads) t;
+              objects = stored_int (mutator_of c t).phase a.objects object 0 (length threads + 1);
               effect = GoesOn;
               frames = after_request GoesOn a.frames;
-              is = ap started_in (sym plain) ∙ same_Some (started_in (with_start threads a.objects object new)) after e;
-              words = refl;
+              is = ap started_in (sym plain) ∙ same_Some (started_in (with_start (mutator_of c t).phase threads a.objects object new)) after e;
               refused = refl;
-              are = inr (record { new = new; are = refl; whole = begins_whole new told; room = room_left fault });
+              are = inr (
+                record {
+                  new = new;
+                  are = refl;
+                  whole = begins_as (λ (x : Thread). x.steps_left) c.limits.budget (λ found k. refl) new told;
+                  lives = begins_as is_live true (λ found k. refl) new told;
+                  room = room_left fault;
+                },
+                refl,
+              );
             }
 
   -- nor is a join
@@ -159,10 +174,6 @@ module _ (c : Content) (t left : ℕ) (a : Answer) (after : Content × Report) w
     pub finished_program : (after.0.tree ≡ c.tree) × (after.0.limits ≡ c.limits)
     finished_program = (sym (ap (λ (x : Content × Report). x.0.tree) way.is), sym (ap (λ (x : Content × Report). x.0.limits) way.is))
 
-    -- the heap has as many words as the instruction left
-    pub finished_words : whole_space after.0.objects ≡ whole_space a.objects
-    finished_words = ap (λ (x : Content × Report). whole_space x.0.objects) (sym way.is) ∙ way.words
-
     -- there are no more threads than there may be
     pub finished_few : length c.threads ≤ MOST_THREADS → length after.0.threads ≤ MOST_THREADS
     finished_few few =
@@ -170,38 +181,63 @@ module _ (c : Content) (t left : ℕ) (a : Answer) (after : Content × Report) w
         let same : length threads ≡ length c.threads = length-set c.threads t _ in
         by_way counted_length same way.are
       where
-        by_way : length after.0.threads ≡ length way.threads → length threads ≡ length c.threads → (way.threads ≡ threads) ⊎ HasBegun c.limits.budget threads way.threads → length after.0.threads ≤ MOST_THREADS
-        by_way e same (inl is) = let as_before : length way.threads ≡ length threads = ap length is in omega (arith, e, same, as_before, few)
-        by_way e same (inr more) =
+        by_way : length after.0.threads ≡ length way.threads → length threads ≡ length c.threads → ((way.threads ≡ threads) × (way.posts ≡ c.posts)) ⊎ (HasBegun c.limits.budget threads way.threads × (way.posts ≡ joined c.posts (length threads) t)) → length after.0.threads ≤ MOST_THREADS
+        by_way e same (inl (is, seats)) = let as_before : length way.threads ≡ length threads = ap length is in omega (arith, e, same, as_before, few)
+        by_way e same (inr (more, seats)) =
             let one : length way.threads ≡ length threads + 1 = ap length more.are ∙ length-append threads (more.new ∷ []) in
             omega (arith, e, one, more.room)
+
+    -- posts and seats fit the threads
+    pub finished_fitting : AreFitting c.posts c.threads → is_live_at c.threads t ≡ true → AreFitting after.0.posts after.0.threads
+    finished_fitting fit there =
+        subst (λ (x : Content × Report). AreFitting x.0.posts x.0.threads) way.is (counted_fits way.posts way.threads (begun way.are).0 t way.effect way.frames left (begun way.are).1)
+      where
+        same : AreFitting c.posts threads
+        same = live_fits c.posts c.threads fit t (live_thread left a.frames) refl there
+
+        lives : is_live_at threads t ≡ true
+        lives = live_set c.threads t t (live_thread left a.frames) refl there ∙ there
+
+        begun : ((way.threads ≡ threads) × (way.posts ≡ c.posts)) ⊎ (HasBegun c.limits.budget threads way.threads × (way.posts ≡ joined c.posts (length threads) t)) → AreFitting way.posts way.threads × (is_live_at way.threads t ≡ true)
+        begun (inl (is, seats)) = (
+          subst (λ h. AreFitting h way.threads) (sym seats) (subst (AreFitting c.posts) (sym is) same),
+          ap (λ ts. is_live_at ts t) is ∙ lives,
+        )
+        begun (inr (more, seats)) = (
+          subst (λ h. AreFitting h way.threads) (sym seats) (subst (AreFitting (joined c.posts (length threads) t)) (sym more.are) (begun_fits c.posts threads same t more.new more.lives more.room lives)),
+          ap (λ ts. is_live_at ts t) more.are ∙ live_more threads t more.new lives,
+        )
 
 -- ---- any event
 
 module _ (c : Content) (after : Content × Report) where
-  -- what holds where nothing changes, and after each step of a live thread
-  module _ (P : Content × Report → Type 0) (unchanged : (r : Report) → P (c, r)) (stepped : (t left : ℕ) (m : Frames) (a : Answer) → IsDone c.tree t m c.objects c.statics c.printed a → finished c t left a a.outcome ≡ Some after → P after) where
+  -- what holds where nothing changes, after an acknowledgement, and after each step of a live thread
+  module _ (P : Content × Report → Type 0) (unchanged : (r : Report) → P (c, r)) (acknowledges : (t : ℕ) (r : Report) → P (record c { posts = acknowledged c.posts t }, r))
+      (stepped : (t left : ℕ) (m : Frames) (a : Answer) → slice_get c.threads t ≡ Some (live_thread left m) → IsDone c.tree (mutator_of c t) m c.objects c.statics c.printed a → finished c t left a a.outcome ≡ Some after → P after) where
     turn_by : (e : Event) → IsTurn c e after → P after
-    turn_by (Ack t) h = subst P (sym h) (unchanged _)
+    turn_by (Ack t) h = subst P (sym h) (acknowledges t _)
     turn_by Gc h = subst P (sym h) (unchanged _)
-    turn_by (Step t) h = by_thread (slice_get c.threads t) h
+    turn_by (Step t) h = by_thread (slice_get c.threads t) refl h
       where
-        by_standing : (left : ℕ) (standing : Standing) → IsStandingTurn c t left standing after → P after
-        by_standing left (Live m) k = stepped t left m k.0 k.1 k.2
-        by_standing left (Ended x) k = subst P (sym k) (unchanged _)
+        by_standing : (left : ℕ) (standing : Standing) → slice_get c.threads t ≡ Some (record { standing = standing; steps_left = left }) → IsStandingTurn c t left standing after → P after
+        by_standing left (Live m) there k = stepped t left m k.0 there k.1 k.2
+        by_standing left (Ended x) there k = subst P (sym k) (unchanged _)
 
-        by_thread : (o : Option Thread) → IsThreadTurn c t o after → P after
-        by_thread None k = subst P (sym k) (unchanged _)
-        by_thread (Some thread) k = by_standing thread.steps_left thread.standing k
+        by_thread : (o : Option Thread) → slice_get c.threads t ≡ o → IsThreadTurn c t o after → P after
+        by_thread None is k = subst P (sym k) (unchanged _)
+        by_thread (Some thread) is k = by_standing thread.steps_left thread.standing is k
 
   -- the program and its limits stay
   pub same_program : (e : Event) → IsTurn c e after → (after.0.tree ≡ c.tree) × (after.0.limits ≡ c.limits)
-  same_program e = turn_by (λ x. (x.0.tree ≡ c.tree) × (x.0.limits ≡ c.limits)) (λ r. (refl, refl)) (λ t left m a done is. finished_program c t left a after a.outcome is) e
+  same_program e =
+      turn_by (λ x. (x.0.tree ≡ c.tree) × (x.0.limits ≡ c.limits)) (λ r. (refl, refl)) (λ t r. (refl, refl)) (λ t left m a there done is. finished_program c t left a after a.outcome is) e
 
   pub turn_few : (e : Event) → IsTurn c e after → length c.threads ≤ MOST_THREADS → length after.0.threads ≤ MOST_THREADS
-  turn_few e h few = turn_by (λ x. length x.0.threads ≤ MOST_THREADS) (λ r. few) (λ t left m a done is. finished_few c t left a after a.outcome is few) e h
+  turn_few e h few =
+      turn_by (λ x. length x.0.threads ≤ MOST_THREADS) (λ r. few) (λ t r. few) (λ t left m a there done is. finished_few c t left a after a.outcome is few) e h
 
-  -- the heap keeps its size
-  pub turn_keeps_words : (e : Event) → IsTurn c e after → whole_space after.0.objects ≡ whole_space c.objects
-  turn_keeps_words e = turn_by (λ x. whole_space x.0.objects ≡ whole_space c.objects) (λ r. refl)
-      (λ t left m a done is. finished_words c t left a after a.outcome is ∙ instruction_keeps_words c.tree t m c.objects c.statics c.printed a done) e
+  -- posts and seats fit the threads after each event
+  pub turn_keeps_fitting : (e : Event) → IsTurn c e after → AreFitting c.posts c.threads → AreFitting after.0.posts after.0.threads
+  turn_keeps_fitting e turn fit =
+      turn_by (λ x. AreFitting x.0.posts x.0.threads) (λ r. fit) (λ t r. acknowledged_fits c.posts c.threads fit t)
+      (λ t left m a there done is. finished_fitting c t left a after a.outcome is fit (ap (λ o. option_map_or is_live o false) there)) e turn

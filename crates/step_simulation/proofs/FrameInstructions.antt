@@ -37,7 +37,7 @@ use Rattle.simulation.proofs.Operands.{fine, one_operand}
 use Rattle.step_simulation.proofs.Meeting.{IsResult, Same, Opposite, meets_opposite}
 use Rattle.step_simulation.proofs.ValueResults.{comparison_meets, branch_test_meets, is_set_meets, binary_meets, unary_meets, shift_meets, narrow_meets, wide_meets, one_or_zero_alike}
 use Rattle.step_simulation.proofs.Taking.{to_label_does, load_does, store_does, value_does, Alike, Typed, changed_does, onward_does, leaves_does, pushes_does, result_does, jump_does, branch_does, one_given, two_given}
-use Rattle.simulation.proofs.MemoryModels.{MemoryModel}
+use Rattle.simulation.proofs.MemoryModels.{MemoryModel, mutator_in}
 
 module _ (here : Setting) (model : MemoryModel here.tree) (name : Names) (m : Frames) (o : Objects) (statics : List Value) (printed : List ℕ) (s : State) (f : StateFrame) (below : List StateFrame) where
   -- a machine at an instruction
@@ -46,7 +46,7 @@ module _ (here : Setting) (model : MemoryModel here.tree) (name : Names) (m : Fr
 
   -- it does the same as the reference machine
   abbrev Does : Instruction → Operation → Type 0
-  Does i operation = DoesAlike here model name m o statics printed s f below (operation_turn here.tree here.thread operation m o statics printed) (execute here s f below i)
+  Does i operation = DoesAlike here model name m o statics printed s f below (operation_turn here.tree (mutator_in here model) operation m o statics printed) (execute here s f below i)
 
   -- ---- constants
 
@@ -126,7 +126,7 @@ module _ (here : Setting) (model : MemoryModel here.tree) (name : Names) (m : Fr
 
   pub compare_alike : (op : Comparison) → At (Named.Compare op) (Resolved.Compare op) → Does (Named.Compare op) (Resolved.Compare op)
   compare_alike op at =
-      two_given here model name m o statics printed s f below _ _ at Same (comparison o op) (compare_values op) (λ holds n. leaves (one_or_zero holds) n) (λ holds rest. next here s f below (one_or_zero_value holds ∷ rest))
+      two_given here model name m o statics printed s f below _ _ at Same (comparison model.phase o op) (compare_values op) (λ holds n. leaves (one_or_zero holds) n) (λ holds rest. next here s f below (one_or_zero_value holds ∷ rest))
       (comparison_meets here.tree model name o statics s at.memory.fits op) (fine here model name m o statics printed s f below _ _ at) (λ a b e rest rest' k shorter t. leaves_does here model name m o statics printed s f below _ _ at (one_or_zero a) (one_or_zero_value b) (one_or_zero_alike name a b e) rest rest' k shorter)
 
   pub convert_int32_alike : At Named.ConvertInt32 Resolved.ConvertInt32 → Does Named.ConvertInt32 Resolved.ConvertInt32
@@ -154,7 +154,7 @@ module _ (here : Setting) (model : MemoryModel here.tree) (name : Names) (m : Fr
   pub branch_compare_alike : (op : BranchComparison) (label : List ℕ) (place : ℕ) → place_of label (lines_of f.method) ≡ Some place →
       At (Named.BranchCompare op label) (Resolved.BranchCompare op place) → Does (Named.BranchCompare op label) (Resolved.BranchCompare op place)
   branch_compare_alike op label place is at =
-      two_given here model name m o statics printed s f below _ _ at Same (branch_test o op) (branch_values op) (λ holds n. branch_if holds place n) (λ holds rest. branch_to here s f below holds label rest)
+      two_given here model name m o statics printed s f below _ _ at Same (branch_test model.phase o op) (branch_values op) (λ holds n. branch_if holds place n) (λ holds rest. branch_to here s f below holds label rest)
       (branch_test_meets here.tree model name o statics s at.memory.fits op) (fine here model name m o statics printed s f below _ _ at) (λ a b e rest rest' k shorter t. branch_does here model name m o statics printed s f below _ _ at label place is a b e rest rest' k)
 
   pub switch_alike : (labels : List (List ℕ)) (places : List ℕ) → map (λ label. place_of label (lines_of f.method)) labels ≡ map Some places →

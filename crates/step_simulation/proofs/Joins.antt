@@ -56,7 +56,7 @@ module _ (c : Content) (s : State) (r : Represents c s) (t left : ℕ) (m : Fram
   abbrev IsJoined : Effect → Type 0
   IsJoined j =
       (false ≡ is_refused_effect j) ×
-      ComesAlike (here c s r t left m there) (one_block c.tree) r.stands.name m c.objects c.statics c.printed s (running c s r t left m there) (below c s r t left m there)
+      ComesAlike (here c s r t left m there) (one_block c.tree c.limits.words) r.stands.name m c.objects c.statics c.printed s (running c s r t left m there) (below c s r t left m there)
       (Comes j) (answer_of (after_request j m) c.objects c.statics c.printed (Comes j)) (done c s r t left m there false)
 
   module _ (operand : StateValue) (rest : List StateValue) (stack : (running c s r t left m there).stack ≡ operand ∷ rest) where
@@ -64,8 +64,8 @@ module _ (c : Content) (s : State) (r : Represents c s) (t left : ℕ) (m : Fram
     joined_by true e = (refl, (e, refl, (refl, refl, refl)))
     joined_by false e = (
       refl,
-      subst (λ x. GoesAlike (here c s r t left m there) (one_block c.tree) r.stands.name m c.objects c.statics c.printed s (running c s r t left m there) (below c s r t left m there) (answer_of (after_request GoesOn m) c.objects c.statics c.printed (Comes GoesOn)) x) (sym e)
-          (next_alike (here c s r t left m there) (one_block c.tree) r.stands.name m c.objects c.statics c.printed s (running c s r t left m there) (below c s r t left m there) (instruction c s r t left m there) operation
+      subst (λ x. GoesAlike (here c s r t left m there) (one_block c.tree c.limits.words) r.stands.name m c.objects c.statics c.printed s (running c s r t left m there) (below c s r t left m there) (answer_of (after_request GoesOn m) c.objects c.statics c.printed (Comes GoesOn)) x) (sym e)
+          (next_alike (here c s r t left m there) (one_block c.tree c.limits.words) r.stands.name m c.objects c.statics c.printed s (running c s r t left m there) (below c s r t left m there) (instruction c s r t left m there) operation
           (setting c s r t left m there operation at constant) (drop 1 m.running.stack) rest (rest_agrees c s r t left m there operand rest stack)),
     )
 

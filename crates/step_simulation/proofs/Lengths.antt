@@ -6,7 +6,6 @@ use Rattle.std.proofs.lemmas.Option.{same_Some}
 use Rattle.simulation.specs.cil_model.declared.instructions.Instruction.TheVariants as Named
 use Rattle.simulation.specs.cil_model.declared.limits.TheConstants.{MOST_WORDS, MOST_BRACKETS}
 use Rattle.simulation.specs.cil_model.declared.reports.Fault.TheVariants.{Overflow, OutOfMemory, NullReference}
-use Rattle.simulation.specs.cil_model.declared.phases.Phase.TheVariants.{Idle}
 use Rattle.simulation.specs.cil_model.declared.trees.Tree.{Tree}
 use Rattle.simulation.specs.cil_model.declared.types.ClassName.{ClassName}
 use Rattle.simulation.specs.cil_model.declared.types.DeclaredType.{DeclaredType}
@@ -34,7 +33,8 @@ use Rattle.simulation.specs.object_memory.declared.kinds.Kind.TheVariants.{Array
 use Rattle.simulation.specs.object_memory.declared.values.Value.{Value}
 use Rattle.simulation.specs.object_memory.declared.values.Value.TheVariants.{Int32, Int64, Native, Ref}
 use Rattle.simulation.specs.object_memory.Cells.{Cell, null}
-use Rattle.simulation.specs.object_memory.Objects.{Objects, with_birth}
+use Rattle.simulation.specs.object_memory.Objects.{Objects}
+use Rattle.simulation.specs.instructions.barriers.Barriers.{object_born}
 use Rattle.simulation.specs.instructions.TypeTurns.{numbered, held_type}
 use Rattle.simulation.specs.threads_monitors.Frames.{Frames, with_place, with_stack}
 use Rattle.simulation.specs.threads_monitors.declared.effects.Effect.TheVariants.{GoesOn, Raises}
@@ -56,7 +56,7 @@ use Rattle.std.proofs.lemmas.List.{length-replicate}
 use Rattle.simulation.proofs.Rooms.{contents_size}
 use Rattle.simulation.proofs.cil_model.SameLaws.{never}
 use Rattle.simulation.proofs.cil_model.Lists.{none_is_some}
-use Rattle.simulation.proofs.MemoryModels.{MemoryModel, IsModelled, IsBirth}
+use Rattle.simulation.proofs.MemoryModels.{MemoryModel, IsModelled, IsBirth, mutator_in}
 
 -- ---- how long an array is
 
@@ -128,7 +128,7 @@ module _ (here : Setting) (model : MemoryModel here.tree) (name : Names) (m : Fr
 
   -- the length of the array is that of the cell
   pub load_length_alike : IsSetting here model name m o statics printed s f below Named.LoadLength Resolved.LoadLength →
-      DoesAlike here model name m o statics printed s f below (operation_turn here.tree here.thread Resolved.LoadLength m o statics printed) (execute here s f below Named.LoadLength)
+      DoesAlike here model name m o statics printed s f below (operation_turn here.tree (mutator_in here model) Resolved.LoadLength m o statics printed) (execute here s f below Named.LoadLength)
   load_length_alike at =
       one_operand here model name m o statics printed s f below Named.LoadLength Resolved.LoadLength at (of_objects o statics printed)
       (λ array k. object_of array k o (λ a. given (slots_of o a) (λ slots. beside o (leaves (Native (pos (length slots))) k))))
@@ -153,7 +153,7 @@ module _ (here : Setting) (model : MemoryModel here.tree) (name : Names) (m : Fr
 
   module _ (t : DeclaredType) (n : NumberedType) (is : type_at here.tree n ≡ Some t) (at : IsSetting here model name m o statics printed s f below (Named.NewArray t) (Resolved.NewArray n)) where
     -- an array is born, or memory is refused
-    born_alike : (element : ArrayElement) → type_at here.tree (held_type element) ≡ Some t → (count : ℕ) (o' : Objects) (x : Option Addr) → ◌≡◌ {A = Objects × Option Addr} (with_birth Idle o (Array element) count) (o', x) →
+    born_alike : (element : ArrayElement) → type_at here.tree (held_type element) ≡ Some t → (count : ℕ) (o' : Objects) (x : Option Addr) → ◌≡◌ {A = Objects × Option Addr} (object_born model.phase o (Array element) count) (o', x) →
         (rest : List Value) (rest' : List StateValue) → Agree (IsValue name) rest rest' → length rest ≤ length m.running.stack →
         DoesAlike here model name m o statics printed s f below (of_objects o statics printed (beside o' (leaves_born x (with_stack m rest)))) (new_array here s f below t (pos count) rest')
     born_alike element element_is count o' None born rest rest' k shorter = record {
@@ -193,24 +193,29 @@ module _ (here : Setting) (model : MemoryModel here.tree) (name : Names) (m : Fr
 
     -- of a length
     counted_alike : (element : ArrayElement) → type_at here.tree (held_type element) ≡ Some t → (z : ℤ) (rest : List Value) (rest' : List StateValue) → Agree (IsValue name) rest rest' → length rest ≤ length m.running.stack →
-        DoesAlike here model name m o statics printed s f below (of_objects o statics printed (new_array_of element z (with_stack m rest) o)) (new_array here s f below t z rest')
+        DoesAlike here model name m o statics printed s f below (of_objects o statics printed (new_array_of model.phase element z (with_stack m rest) o)) (new_array here s f below t z rest')
     counted_alike element element_is (negsuc count) rest rest' k shorter = raised_alike here model name m o statics printed s f below (Named.NewArray t) (Resolved.NewArray n) at (with_stack m rest) Overflow
-    counted_alike element element_is (pos count) rest rest' k shorter = born_alike element element_is count (with_birth Idle o (Array element) count).0 (with_birth Idle o (Array element) count).1 refl rest rest' k shorter
+    counted_alike element element_is (pos count) rest rest' k shorter =
+        let birth : Objects × Option Addr = object_born model.phase o (Array element) count in
+        alike_turn here model name m o statics printed s f below (Named.NewArray t) (Resolved.NewArray n) at (of_objects o statics printed (new_array_of model.phase element (pos count) (with_stack m rest) o))
+        (of_objects o statics printed (beside birth.0 (leaves_born birth.1 (with_stack m rest)))) (new_array here s f below t (pos count) rest')
+        (ap (λ b. of_objects o statics printed (if b then beside birth.0 (leaves_born birth.1 (with_stack m rest)) else None)) (model.bears name o statics s at.memory.fits))
+        (born_alike element element_is count birth.0 birth.1 refl rest rest' k shorter)
 
     -- the whole instruction
-    pub new_array_alike : DoesAlike here model name m o statics printed s f below (operation_turn here.tree here.thread (Resolved.NewArray n) m o statics printed) (execute here s f below (Named.NewArray t))
+    pub new_array_alike : DoesAlike here model name m o statics printed s f below (operation_turn here.tree (mutator_in here model) (Resolved.NewArray n) m o statics printed) (execute here s f below (Named.NewArray t))
     new_array_alike =
         let shallow : t.brackets < 256 =
         (let low : t.brackets < MOST_BRACKETS = arrays_shallow here.tree at.running.accepted.legal f.owner at.running.frame.is_declared.0 f.method at.running.frame.is_declared.1 at.running.frame.code at.running.frame.has_code f.place at.running.line at.running.at t at.running.is in omega (arith, low)) in
         let held = type_held_back here.tree at.running.accepted.legal n t is shallow in
-        alike_turn here model name m o statics printed s f below (Named.NewArray t) (Resolved.NewArray n) at _ (of_objects o statics printed (new_array_turn held.0 m o)) _
-        (ap (λ x. of_objects o statics printed (given x (λ element. new_array_turn element m o))) held.1)
+        alike_turn here model name m o statics printed s f below (Named.NewArray t) (Resolved.NewArray n) at _ (of_objects o statics printed (new_array_turn model.phase held.0 m o)) _
+        (ap (λ x. of_objects o statics printed (given x (λ element. new_array_turn model.phase element m o))) held.1)
         (one_operand here model name m o statics printed s f below (Named.NewArray t) (Resolved.NewArray n) at (of_objects o statics printed)
-        (λ v k. index_of v (λ z. new_array_of held.0 z k o))
+        (λ v k. index_of v (λ z. new_array_of model.phase held.0 z k o))
         (λ v rest. state_given (as_index v) (λ z. new_array here s f below t z rest))
         (fine here model name m o statics printed s f below (Named.NewArray t) (Resolved.NewArray n) at)
         (λ v rest u rest' is' is'' stands k shorter typed.
         given_alike here model name m o statics printed s f below (Named.NewArray t) (Resolved.NewArray n) at _ (as_index u) _ typed (λ z index typed'.
-        alike_turn here model name m o statics printed s f below (Named.NewArray t) (Resolved.NewArray n) at _ (of_objects o statics printed (new_array_of held.0 z (with_stack m rest) o)) _
-        (ap (λ x. of_objects o statics printed (given x (λ y. new_array_of held.0 y (with_stack m rest) o))) (same_index here model name m o statics printed s f below (Named.NewArray t) (Resolved.NewArray n) at v u stands ∙ index))
+        alike_turn here model name m o statics printed s f below (Named.NewArray t) (Resolved.NewArray n) at _ (of_objects o statics printed (new_array_of model.phase held.0 z (with_stack m rest) o)) _
+        (ap (λ x. of_objects o statics printed (given x (λ y. new_array_of model.phase held.0 y (with_stack m rest) o))) (same_index here model name m o statics printed s f below (Named.NewArray t) (Resolved.NewArray n) at v u stands ∙ index))
         (counted_alike held.0 held.2 z rest rest' k shorter))))

@@ -1,8 +1,10 @@
 pub use Rattle.simulation.proofs as simulation
 pub mod Changes
 pub mod Births
+pub mod IdleHeaps
 pub mod OneBlock
 pub mod Words
+pub mod ReferenceSlots
 pub mod Things
 pub mod Parts
 pub mod Arrays
@@ -39,10 +41,11 @@ pub mod Constructors
 pub mod NewObjectBirths
 pub mod Frames
 pub mod NewObjects
+pub mod SoundContents
 pub mod Settings
 pub mod Settling
 pub mod ThreadObjects
-pub mod HeapSizes
+pub mod Seats
 pub mod Finished
 pub mod Requests
 pub mod Joins

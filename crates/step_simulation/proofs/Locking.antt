@@ -1,6 +1,7 @@
 -- Monitors are entered and left alike on both machines.
-use Rattle.std.proofs.Common.{◌≡◌, ◌≤◌, ◌+◌, ◌-◌, ◌^◌, ℕ, Bool, true, false, ◌||◌, List, [], ◌∷◌, Some, None, option_and_then, refl, sym, ap, ◌∙◌, subst, arith, inr}
+use Rattle.std.proofs.Common.{◌≡◌, ◌≤◌, ◌+◌, ◌-◌, ◌^◌, ℕ, Bool, true, false, ◌&&◌, ◌||◌, List, [], ◌∷◌, Some, None, option_and_then, refl, sym, ap, ◌∙◌, subst, arith, inr}
 use Rattle.std.specs.Prelude.{nat_lt, nat_le, ◌==◌, if◌then◌else◌, is_some}
+use Rattle.std.proofs.lemmas.Bool.{and_from}
 use Rattle.std.proofs.lemmas.Bool.Decides.{nat_tests}
 use Rattle.simulation.specs.cil_model.declared.instructions.Instruction.{Instruction}
 use Rattle.simulation.specs.cil_model.declared.limits.Limits.{Limits}
@@ -20,7 +21,8 @@ use Rattle.simulation.specs.object_memory.declared.monitors.Monitor.TheVariants.
 use Rattle.simulation.specs.object_memory.declared.values.Value.{Value}
 use Rattle.simulation.specs.object_memory.declared.values.Value.TheVariants.{Ref}
 use Rattle.simulation.specs.object_memory.Cells.{null}
-use Rattle.simulation.specs.object_memory.Objects.{Objects, monitor_at, with_monitor}
+use Rattle.simulation.specs.object_memory.Objects.{Objects, monitor_at}
+use Rattle.simulation.specs.instructions.barriers.Barriers.{is_monitor_storable, stored_monitor}
 use Rattle.simulation.specs.threads_monitors.Frames.{Frames, with_place, with_stack}
 use Rattle.simulation.specs.threads_monitors.Monitors.{entered, left, with_monitor_or, with_entry, with_exit}
 use Rattle.simulation.specs.threads_monitors.declared.effects.Effect.{Effect}
@@ -37,7 +39,7 @@ use Rattle.simulation.proofs.Going.{onward_alike, onward_is}
 use Rattle.step_simulation.proofs.Monitors.{IsMonitorAt, IsChanged, monitor_there}
 use Rattle.simulation.proofs.Memories.{named_is_not_null}
 use Rattle.simulation.proofs.cil_model.SameLaws.{never}
-use Rattle.simulation.proofs.MemoryModels.{MemoryModel}
+use Rattle.simulation.proofs.MemoryModels.{MemoryModel, mutator_in}
 
 -- so few entries can be counted
 few_entries : (count left budget : ℕ) → count + left ≤ budget → budget ≤ MOST_BUDGET → nat_lt count (2 ^ 32 - 1) ≡ true
@@ -78,37 +80,37 @@ module _ (here : Setting) (model : MemoryModel here.tree) (name : Names) (m : Fr
   -- ---- an object, at its address
 
   module _ (a : Addr) (n : ObjectName) (named : name a.number ≡ Some n) (there : IsMonitorAt here.tree model name o statics printed here.limits s a n) (turn : CallTurn) where
-    changes_alike : (new : Monitor) (changed : StateMonitor) → turn ≡ carrying (with_monitor o a new, GoesOn) → IsMonitor new changed → Alike turn (onward_frame f below (with_state_monitor s n changed) rest')
+    changes_alike : (new : Monitor) (changed : StateMonitor) → turn ≡ carrying (stored_monitor model.phase o a new, GoesOn) → IsMonitor new changed → Alike turn (onward_frame f below (with_state_monitor s n changed) rest')
     changes_alike new changed is h =
         let after : IsChanged here.tree model name o statics printed here.limits s a n new changed = there.changes new changed h in
         record {
-          answer = answer_of (with_place (with_stack m rest) (m.running.place + 1)) (with_monitor o a new) statics printed (Comes GoesOn);
-          is = ap (of_calls o statics printed) is ∙ ap (λ x. of_calls o statics printed (beside_console printed (beside (with_monitor o a new) x))) (onward_is here model name m o statics printed s f below i operation at rest);
+          answer = answer_of (with_place (with_stack m rest) (m.running.place + 1)) (stored_monitor model.phase o a new) statics printed (Comes GoesOn);
+          is = ap (of_calls o statics printed) is ∙ ap (λ x. of_calls o statics printed (beside_console printed (beside (stored_monitor model.phase o a new) x))) (onward_is here model name m o statics printed s f below i operation at rest);
           refuses = λ _ h. never h;
-          alike = λ r. onward_alike here model name m o statics printed s f below i operation at name (λ b k e. e) (with_monitor o a new) statics printed (with_state_monitor s n changed) after.others after.memory rest rest' others;
+          alike = λ r. onward_alike here model name m o statics printed s f below i operation at name (λ b k e. e) (stored_monitor model.phase o a new) statics printed (with_state_monitor s n changed) after.others after.memory rest rest' others;
         }
 
-    entry_alike : (w : Monitor) (w' : StateMonitor) → IsMonitor w w' → turn ≡ carrying (with_monitor_or o a Blocks (entered here.thread w)) → Alike turn (enter here s f below n rest' w')
+    entry_alike : (w : Monitor) (w' : StateMonitor) → IsMonitor w w' → turn ≡ carrying (with_monitor_or model.phase o a Blocks (entered here.thread w)) → Alike turn (enter here s f below n rest' w')
     entry_alike Free IsFree h is = changes_alike (Held here.thread 1) (IsHeld here.thread 1) is (refl, refl)
     entry_alike (Held owner count) (IsHeld owner' count') h is =
-        by_owner (owner' == here.thread) (is ∙ ap (λ x. carrying (with_monitor_or o a Blocks (if x == here.thread then Some (Held here.thread (count + 1)) else None))) h.0)
+        by_owner (owner' == here.thread) (is ∙ ap (λ x. carrying (with_monitor_or model.phase o a Blocks (if x == here.thread then Some (Held here.thread (count + 1)) else None))) h.0)
       where
-        by_owner : (b : Bool) → turn ≡ carrying (with_monitor_or o a Blocks (if b then Some (Held here.thread (count + 1)) else None)) →
+        by_owner : (b : Bool) → turn ≡ carrying (with_monitor_or model.phase o a Blocks (if b then Some (Held here.thread (count + 1)) else None)) →
             Alike turn (if b then onward_frame f below (with_state_monitor s n (IsHeld here.thread (count' + 1))) rest' else StateBlocks)
         by_owner true e = changes_alike (Held here.thread (count + 1)) (IsHeld here.thread (count' + 1)) e (refl, ap (λ x. x + 1) h.1)
         by_owner false e = blocks_alike turn e
     entry_alike Free (IsHeld owner' count') h is = elim h [ ]
     entry_alike (Held owner count) IsFree h is = elim h [ ]
 
-    exit_alike : (w : Monitor) (w' : StateMonitor) → IsMonitor w w' → turn ≡ carrying (with_monitor_or o a (Raises SynchronizationLock) (left here.thread w)) → Alike turn (exit here s f below n rest' w')
+    exit_alike : (w : Monitor) (w' : StateMonitor) → IsMonitor w w' → turn ≡ carrying (with_monitor_or model.phase o a (Raises SynchronizationLock) (left here.thread w)) → Alike turn (exit here s f below n rest' w')
     exit_alike Free IsFree h is = raises_alike turn SynchronizationLock is
     exit_alike (Held owner count) (IsHeld owner' count') h is =
         by_owner (owner' == here.thread) (
-        is ∙ ap (λ x. carrying (with_monitor_or o a (Raises SynchronizationLock) (if x == here.thread then Some (if nat_le count 1 then Free else Held here.thread (count - 1)) else None))) h.0 ∙
-        ap (λ x. carrying (with_monitor_or o a (Raises SynchronizationLock) (if owner' == here.thread then Some (if nat_le x 1 then Free else Held here.thread (x - 1)) else None))) h.1
+        is ∙ ap (λ x. carrying (with_monitor_or model.phase o a (Raises SynchronizationLock) (if x == here.thread then Some (if nat_le count 1 then Free else Held here.thread (count - 1)) else None))) h.0 ∙
+        ap (λ x. carrying (with_monitor_or model.phase o a (Raises SynchronizationLock) (if owner' == here.thread then Some (if nat_le x 1 then Free else Held here.thread (x - 1)) else None))) h.1
         )
       where
-        by_owner : (b : Bool) → turn ≡ carrying (with_monitor_or o a (Raises SynchronizationLock) (if b then Some (if nat_le count' 1 then Free else Held here.thread (count' - 1)) else None)) →
+        by_owner : (b : Bool) → turn ≡ carrying (with_monitor_or model.phase o a (Raises SynchronizationLock) (if b then Some (if nat_le count' 1 then Free else Held here.thread (count' - 1)) else None)) →
             Alike turn (if b then onward_frame f below (with_state_monitor s n (if nat_le count' 1 then IsFree else IsHeld here.thread (count' - 1))) rest' else StateRaises SynchronizationLock)
         by_owner true e = changes_alike (if nat_le count' 1 then Free else Held here.thread (count' - 1)) (if nat_le count' 1 then IsFree else IsHeld here.thread (count' - 1)) e (lowered here.thread count')
         by_owner false e = raises_alike turn SynchronizationLock e
@@ -117,56 +119,65 @@ module _ (here : Setting) (model : MemoryModel here.tree) (name : Names) (m : Fr
 
   -- ---- the operand
 
+  -- a monitor can be stored there
+  abbrev storable : Addr → Bool
+  storable b = is_monitor_storable model.phase o b
+
   module _ (a : Addr) (top : m.running.stack ≡ Ref a ∷ rest) where
     abbrev enters_by : Bool → Bool → Objects × Effect → CallTurn
     enters_by is_null can x = beside_console printed (if is_null || can then carried m (with_stack m rest) x else None)
 
-    enter_is : act_turn here.tree here.thread Enter m o printed ≡ enters_by (a.number == 0) (is_countable (monitor_at o a)) (with_entry o a here.thread)
-    enter_is = ap (λ x. beside_console printed (reference_from x m (λ b k. if (b.number == 0) || is_countable (monitor_at o b) then carried m k (with_entry o b here.thread) else None))) top
+    enter_is : act_turn here.tree (mutator_in here model) Enter m o printed ≡ enters_by (a.number == 0) (is_countable (monitor_at o a) && storable a) (with_entry (mutator_in here model) o a)
+    enter_is = ap (λ x. beside_console printed (reference_from x m (λ b k. if (b.number == 0) || (is_countable (monitor_at o b) && storable b) then carried m k (with_entry (mutator_in here model) o b) else None))) top
 
-    exit_is : act_turn here.tree here.thread Exit m o printed ≡ enters_by (a.number == 0) (is_some (monitor_at o a)) (with_exit o a here.thread)
-    exit_is = ap (λ x. beside_console printed (reference_from x m (λ b k. if (b.number == 0) || is_some (monitor_at o b) then carried m k (with_exit o b here.thread) else None))) top
+    exit_is : act_turn here.tree (mutator_in here model) Exit m o printed ≡ enters_by (a.number == 0) (is_some (monitor_at o a) && storable a) (with_exit (mutator_in here model) o a)
+    exit_is = ap (λ x. beside_console printed (reference_from x m (λ b k. if (b.number == 0) || (is_some (monitor_at o b) && storable b) then carried m k (with_exit (mutator_in here model) o b) else None))) top
 
     module _ (n : ObjectName) (named : name a.number ≡ Some n) where
       there : IsMonitorAt here.tree model name o statics printed here.limits s a n
       there = monitor_there here.tree model name o statics printed here.limits s at.memory at.counted a n named
 
+      can_store : storable a ≡ true
+      can_store = model.monitor_storable name o statics s at.memory.fits a n named
+
       not_null : (a.number == 0) ≡ false
       not_null = named_is_not_null here.tree name o s (model.reads name o statics s at.memory.fits) a.number n named
 
-      enters_object : Alike (act_turn here.tree here.thread Enter m o printed) (act here s f below Enter (Reference n ∷ []) rest')
+      enters_object : Alike (act_turn here.tree (mutator_in here model) Enter m o printed) (act here s f below Enter (Reference n ∷ []) rest')
       enters_object =
-          subst (λ x. Alike (act_turn here.tree here.thread Enter m o printed) (given_there x (enter here s f below n rest'))) (sym there.state_held) (
-          entry_alike a n named there (act_turn here.tree here.thread Enter m o printed) there.monitor there.state_monitor there.stands (
+          subst (λ x. Alike (act_turn here.tree (mutator_in here model) Enter m o printed) (given_there x (enter here s f below n rest'))) (sym there.state_held) (
+          entry_alike a n named there (act_turn here.tree (mutator_in here model) Enter m o printed) there.monitor there.state_monitor there.stands (
           enter_is ∙
-          ap (λ b. enters_by b (is_countable (monitor_at o a)) (if b then (o, Raises ArgumentNull) else with_monitor_or o a Blocks (option_and_then (entered here.thread) (monitor_at o a)))) not_null ∙
-          ap (λ x. enters_by false (is_countable x) (with_monitor_or o a Blocks (option_and_then (entered here.thread) x))) there.held ∙
-          ap (λ b. enters_by false b (with_monitor_or o a Blocks (entered here.thread there.monitor))) (countable here.limits s there.monitor there.state_monitor at.budget there.stands there.counted)
+          ap (λ b. enters_by b (is_countable (monitor_at o a) && storable a) (if b then (o, Raises ArgumentNull) else with_monitor_or model.phase o a Blocks (option_and_then (entered here.thread) (monitor_at o a)))) not_null ∙
+          ap (λ x. enters_by false (is_countable x && storable a) (with_monitor_or model.phase o a Blocks (option_and_then (entered here.thread) x))) there.held ∙
+          ap (λ b. enters_by false b (with_monitor_or model.phase o a Blocks (entered here.thread there.monitor)))
+          (and_from (is_countable (Some there.monitor)) (storable a) (countable here.limits s there.monitor there.state_monitor at.budget there.stands there.counted) can_store)
           )
           )
 
-      exits_object : Alike (act_turn here.tree here.thread Exit m o printed) (act here s f below Exit (Reference n ∷ []) rest')
+      exits_object : Alike (act_turn here.tree (mutator_in here model) Exit m o printed) (act here s f below Exit (Reference n ∷ []) rest')
       exits_object =
-          subst (λ x. Alike (act_turn here.tree here.thread Exit m o printed) (given_there x (exit here s f below n rest'))) (sym there.state_held) (
-          exit_alike a n named there (act_turn here.tree here.thread Exit m o printed) there.monitor there.state_monitor there.stands (
+          subst (λ x. Alike (act_turn here.tree (mutator_in here model) Exit m o printed) (given_there x (exit here s f below n rest'))) (sym there.state_held) (
+          exit_alike a n named there (act_turn here.tree (mutator_in here model) Exit m o printed) there.monitor there.state_monitor there.stands (
           exit_is ∙
-          ap (λ b. enters_by b (is_some (monitor_at o a)) (if b then (o, Raises ArgumentNull) else with_monitor_or o a (Raises SynchronizationLock) (option_and_then (left here.thread) (monitor_at o a)))) not_null ∙
-          ap (λ x. enters_by false (is_some x) (with_monitor_or o a (Raises SynchronizationLock) (option_and_then (left here.thread) x))) there.held
+          ap (λ b. enters_by b (is_some (monitor_at o a) && storable a) (if b then (o, Raises ArgumentNull) else with_monitor_or model.phase o a (Raises SynchronizationLock) (option_and_then (left here.thread) (monitor_at o a)))) not_null ∙
+          ap (λ x. enters_by false (is_some x && storable a) (with_monitor_or model.phase o a (Raises SynchronizationLock) (option_and_then (left here.thread) x))) there.held ∙
+          ap (λ b. enters_by false b (with_monitor_or model.phase o a (Raises SynchronizationLock) (left here.thread there.monitor))) can_store
           )
           )
 
   pub enters_alike : (v : Value) (u : StateValue) → m.running.stack ≡ v ∷ rest → IsValue name v u → IsTypedEffect here.tree (act here s f below Enter (u ∷ []) rest') →
-      Alike (act_turn here.tree here.thread Enter m o printed) (act here s f below Enter (u ∷ []) rest')
+      Alike (act_turn here.tree (mutator_in here model) Enter m o printed) (act here s f below Enter (u ∷ []) rest')
   enters_alike v u top (int32 z fits) t = elim t [ ]
   enters_alike v u top (int64 z fits) t = elim t [ ]
   enters_alike v u top (native z fits) t = elim t [ ]
-  enters_alike v u top null_reference t = raises_alike (act_turn here.tree here.thread Enter m o printed) ArgumentNull (enter_is null top)
+  enters_alike v u top null_reference t = raises_alike (act_turn here.tree (mutator_in here model) Enter m o printed) ArgumentNull (enter_is null top)
   enters_alike v u top (reference a n named) t = enters_object a top n named
 
   pub exits_alike : (v : Value) (u : StateValue) → m.running.stack ≡ v ∷ rest → IsValue name v u → IsTypedEffect here.tree (act here s f below Exit (u ∷ []) rest') →
-      Alike (act_turn here.tree here.thread Exit m o printed) (act here s f below Exit (u ∷ []) rest')
+      Alike (act_turn here.tree (mutator_in here model) Exit m o printed) (act here s f below Exit (u ∷ []) rest')
   exits_alike v u top (int32 z fits) t = elim t [ ]
   exits_alike v u top (int64 z fits) t = elim t [ ]
   exits_alike v u top (native z fits) t = elim t [ ]
-  exits_alike v u top null_reference t = raises_alike (act_turn here.tree here.thread Exit m o printed) ArgumentNull (exit_is null top)
+  exits_alike v u top null_reference t = raises_alike (act_turn here.tree (mutator_in here model) Exit m o printed) ArgumentNull (exit_is null top)
   exits_alike v u top (reference a n named) t = exits_object a top n named

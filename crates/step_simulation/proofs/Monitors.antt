@@ -11,14 +11,15 @@ use Rattle.simulation.specs.object_memory.declared.addresses.Addr.{Addr}
 use Rattle.simulation.specs.object_memory.declared.monitors.Monitor.{Monitor}
 use Rattle.simulation.specs.object_memory.declared.values.Value.{Value}
 use Rattle.simulation.specs.object_memory.Cells.{Cell}
-use Rattle.simulation.specs.object_memory.Objects.{Objects, object_cell, monitor_at, with_monitor}
+use Rattle.simulation.specs.object_memory.Objects.{Objects, object_cell, monitor_at}
+use Rattle.simulation.specs.instructions.barriers.Barriers.{stored_monitor}
 use Rattle.simulation.specs.StandsFor.{Names, IsMonitor, IsBornAt, IsLiteralAt}
 use Rattle.simulation.proofs.MemoryModels.{MemoryModel, IsModelled}
 
 module _ (tree : Tree) (model : MemoryModel tree) (name : Names) (o : Objects) (statics : List Value) (printed : List ℕ) (limits : Limits) (s : State) (a : Addr) (n : ObjectName) where
   -- the memory with other monitors of the object
   pub record IsChanged (monitor : Monitor) (changed : StateMonitor) : Type 0 where
-    pub memory : IsModelled tree model name (with_monitor o a monitor) statics printed (with_state_monitor s n changed)
+    pub memory : IsModelled tree model name (stored_monitor model.phase o a monitor) statics printed (with_state_monitor s n changed)
     pub others : (with_state_monitor s n changed).threads ≡ s.threads
 
   -- the monitors of an object under a name, which may change alike
@@ -51,13 +52,13 @@ module _ (tree : Tree) (model : MemoryModel tree) (name : Names) (o : Objects) (
       changes new changed h =
           let after : State = with_object s (Born n) (record here.object { monitor = changed }) in
           let state_is : with_state_monitor s (Born n) changed ≡ after = ap (λ x. unwrap_or (option_map (λ (y : HeapObject). with_object s (Born n) (record y { monitor = changed })) x) s) here.is in
-          let known : IsModelled tree model name (with_monitor o a new) statics printed after =
+          let known : IsModelled tree model name (stored_monitor model.phase o a new) statics printed after =
           record {
             fits = model.monitors name o statics s memory.fits a n named here.cell here.lies new (record here.object { monitor = changed }) (record { contents = here.stands.contents; monitor = h });
             printed_is = memory.printed_is;
           }
           in record {
-            memory = subst (λ x. IsModelled tree model name (with_monitor o a new) statics printed x) (sym state_is) known;
+            memory = subst (λ x. IsModelled tree model name (stored_monitor model.phase o a new) statics printed x) (sym state_is) known;
             others = ap (λ (x : State). x.threads) state_is;
           }
 

@@ -1,7 +1,6 @@
 -- What a birth gives, and what it leaves on both machines.
 use Rattle.std.proofs.Common.{◌≡◌, ◌<◌, ◌+◌, ℕ, false, if◌then◌else◌, List, Option, Some, None, refl, sym, ap, subst}
 use Rattle.simulation.specs.cil_model.declared.reports.Fault.TheVariants.{OutOfMemory}
-use Rattle.simulation.specs.cil_model.declared.phases.Phase.TheVariants.{Idle}
 use Rattle.simulation.specs.cil_model.declared.trees.Tree.{Tree}
 use Rattle.simulation.specs.reference_machine.Values.{ObjectName}
 use Rattle.simulation.specs.reference_machine.States.{Contents, Frame as StateFrame, State, next_name, with_birth as with_state_birth}
@@ -10,16 +9,18 @@ use Rattle.simulation.specs.reference_machine.Steps.{birth as state_birth}
 use Rattle.simulation.specs.object_memory.declared.addresses.Addr.{Addr}
 use Rattle.simulation.specs.object_memory.declared.kinds.Kind.{Kind}
 use Rattle.simulation.specs.object_memory.declared.values.Value.{Value}
-use Rattle.simulation.specs.object_memory.Objects.{Objects, free_space, with_birth}
+use Rattle.simulation.specs.object_memory.Objects.{Objects}
+use Rattle.simulation.specs.object_memory.Spaces.{room_for}
+use Rattle.simulation.specs.instructions.barriers.Barriers.{object_born}
 use Rattle.simulation.specs.StandsFor.{Names}
 use Rattle.simulation.proofs.MemoryModels.{MemoryModel, IsModelled, IsBirth}
 
 -- a birth is refused beyond the room, and nothing is changed, or an object lies at an address
 pub by_birth : (tree : Tree) (model : MemoryModel tree) (name : Names) (o : Objects) (statics : List Value) (s : State) → model.Fits name o statics s → (k : Kind) (n : ℕ) (P : Objects × Option Addr → Type 0) →
-    (free_space o < 3 + n → P (o, None)) → ((born : Objects) (a : Addr) → with_birth Idle o k n ≡ (born, Some a) → P (born, Some a)) → P (with_birth Idle o k n)
-by_birth tree model name o statics s fits k n P refused given = by_answer (with_birth Idle o k n) refl
+    (room_for model.phase o.spaces < 3 + n → P (o, None)) → ((born : Objects) (a : Addr) → object_born model.phase o k n ≡ (born, Some a) → P (born, Some a)) → P (object_born model.phase o k n)
+by_birth tree model name o statics s fits k n P refused given = by_answer (object_born model.phase o k n) refl
   where
-    by_answer : (x : Objects × Option Addr) → with_birth Idle o k n ≡ x → P x
+    by_answer : (x : Objects × Option Addr) → object_born model.phase o k n ≡ x → P x
     by_answer (born, Some a) e = given born a e
     by_answer (born, None) e = let refusal = model.refusals name o statics s fits k n born e in subst (λ p. P (p, None)) (sym refusal.0) (refused refusal.1)
 

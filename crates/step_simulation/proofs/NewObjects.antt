@@ -5,7 +5,6 @@ use Rattle.simulation.specs.cil_model.declared.types.ClassName.{ClassName}
 use Rattle.simulation.specs.cil_model.declared.types.DeclaredType.{DeclaredType}
 use Rattle.simulation.specs.cil_model.declared.instructions.Instruction.TheVariants as Named
 use Rattle.simulation.specs.cil_model.declared.reports.Fault.TheVariants.{OutOfMemory, StackOverflow}
-use Rattle.simulation.specs.cil_model.declared.phases.Phase.TheVariants.{Idle}
 use Rattle.simulation.specs.cil_model.declared.trees.Method.{Method}
 use Rattle.simulation.specs.cil_model.declared.trees.Code.{Code}
 use Rattle.simulation.specs.cil_model.Bodies.{code_of, constructor_reference}
@@ -25,12 +24,14 @@ use Rattle.simulation.specs.object_memory.declared.addresses.Addr.{Addr}
 use Rattle.simulation.specs.object_memory.declared.kinds.Kind.TheVariants.{Instance}
 use Rattle.simulation.specs.object_memory.declared.values.Value.{Value}
 use Rattle.simulation.specs.object_memory.declared.values.Value.TheVariants.{Ref}
-use Rattle.simulation.specs.object_memory.Objects.{Objects, with_birth, free_space}
+use Rattle.simulation.specs.object_memory.Objects.{Objects}
+use Rattle.simulation.specs.object_memory.Spaces.{room_for}
+use Rattle.simulation.specs.instructions.barriers.Barriers.{object_born}
 use Rattle.simulation.specs.loaded_program.MethodNumbers.{number_of}
 use Rattle.simulation.specs.threads_monitors.Frames.{Frames, with_place, with_stack}
 use Rattle.simulation.specs.threads_monitors.declared.effects.Effect.TheVariants.{GoesOn, Raises}
 use Rattle.simulation.specs.instructions.Frames.{given}
-use Rattle.simulation.specs.instructions.ObjectTurns.{ObjectTurn, beside, born as born_turn}
+use Rattle.simulation.specs.instructions.ObjectTurns.{ObjectTurn, bears, beside, born as born_turn}
 use Rattle.simulation.specs.instructions.Calls.{constructs, is_full, new_object_turn, new_plain_object_turn}
 use Rattle.simulation.specs.interpreter.declared.outcomes.Outcome.TheVariants.{Comes}
 use Rattle.simulation.specs.interpreter.Instructions.{MachineTurn, of_calls, operation_turn, Answer, answer_of}
@@ -47,7 +48,7 @@ use Rattle.step_simulation.proofs.Zeros.{new_instance_stands}
 use Rattle.std.proofs.lemmas.List.{length-replicate}
 use Rattle.simulation.proofs.Rooms.{contents_size}
 use Rattle.simulation.proofs.cil_model.SameLaws.{never}
-use Rattle.simulation.proofs.MemoryModels.{MemoryModel, IsBirth}
+use Rattle.simulation.proofs.MemoryModels.{MemoryModel, IsBirth, mutator_in}
 
 -- what doesn't stick passed its test
 not_stuck : (here : Setting) (b : Bool) (e : StateEffect) → IsTypedEffect here.tree (if b then e else Sticks) → b ≡ true
@@ -117,11 +118,11 @@ module _ (here : Setting) (model : MemoryModel here.tree) (name : Names) (m : Fr
 
   -- ---- what the machine finds
 
-  turn_is : new_at here.tree number m o ≡ made here.tree number.class slots (c, built) m o
+  turn_is : new_at here.tree (mutator_in here model) number m o ≡ made here.tree (mutator_in here model) number.class slots (c, built) m o
   turn_is =
-      ap (λ x. given x (λ class. given (slots_at here.tree number) (λ n. given (method_at here.tree (number.class, number.place)) (λ found. made here.tree class n found m o)))) (class_is_in here.tree legal c parameters number is) ∙
-      ap (λ x. given x (λ n. given (method_at here.tree (number.class, number.place)) (λ found. made here.tree number.class n found m o))) (slots_are_at here.tree legal c parameters number is) ∙
-      ap (λ x. given x (λ found. made here.tree number.class slots found m o)) (numbered_own here.tree legal c parameters number is)
+      ap (λ x. given x (λ class. given (slots_at here.tree number) (λ n. given (method_at here.tree (number.class, number.place)) (λ found. made here.tree (mutator_in here model) class n found m o)))) (class_is_in here.tree legal c parameters number is) ∙
+      ap (λ x. given x (λ n. given (method_at here.tree (number.class, number.place)) (λ found. made here.tree (mutator_in here model) number.class n found m o))) (slots_are_at here.tree legal c parameters number is) ∙
+      ap (λ x. given x (λ found. made here.tree (mutator_in here model) number.class slots found m o)) (numbered_own here.tree legal c parameters number is)
 
   -- ---- refusals
 
@@ -134,7 +135,7 @@ module _ (here : Setting) (model : MemoryModel here.tree) (name : Names) (m : Fr
   Enters e = (running : StateFrame) × (waiting : List StateFrame) × (e ≡ Goes (running ∷ waiting) (with_state_birth s contents))
 
   -- there is no room for the object
-  refused : (go : ObjectName → State → StateEffect) → (here.is_refused ≡ false → Enters (go (next_name s) (with_state_birth s contents))) → free_space o < 3 + slots →
+  refused : (go : ObjectName → State → StateEffect) → (here.is_refused ≡ false → Enters (go (next_name s) (with_state_birth s contents))) → room_for model.phase o.spaces < 3 + slots →
       Alike (Some (m, o, Raises OutOfMemory)) (state_birth here s f below contents go)
   refused go enters room = record {
     answer = answer_of m o statics printed (Comes (Raises OutOfMemory));
@@ -152,8 +153,12 @@ module _ (here : Setting) (model : MemoryModel here.tree) (name : Names) (m : Fr
     alike = λ r. (ap (λ b. if b then StateRaises OutOfMemory else go (next_name s) (with_state_birth s contents)) r, (refl, refl, refl));
   }
 
+  -- a thread of this phase can bear
+  bears_alike : (go : Objects × Option Addr → ObjectTurn) (e : StateEffect) → Alike (go (object_born model.phase o (Instance number.class) slots)) e → Alike (bears model.phase o (Instance number.class) slots go) e
+  bears_alike go e h = subst (λ b. Alike (if b then go (object_born model.phase o (Instance number.class) slots) else None) e) (sym (model.bears name o statics s at.memory.fits)) h
+
   -- an object that was born
-  birth_of : (born : Objects) (a : Addr) → with_birth Idle o (Instance number.class) slots ≡ (born, Some a) → IsBirth model.Fits name statics s contents born a
+  birth_of : (born : Objects) (a : Addr) → object_born model.phase o (Instance number.class) slots ≡ (born, Some a) → IsBirth model.Fits name statics s contents born a
   birth_of born a e =
       model.births name o statics s at.memory.fits (Instance number.class) slots contents (new_instance_stands here.tree c number.class (class_named here.tree legal c parameters number is)) born a e
 
@@ -162,7 +167,7 @@ module _ (here : Setting) (model : MemoryModel here.tree) (name : Names) (m : Fr
   abbrev pushed : ObjectName → State → StateEffect
   pushed n s' = state_onward f below s' (Reference n ∷ f.stack)
 
-  plain_born : (born : Objects) (a : Addr) → with_birth Idle o (Instance number.class) slots ≡ (born, Some a) → Alike (born_turn m (born, Some a)) (state_birth here s f below contents pushed)
+  plain_born : (born : Objects) (a : Addr) → object_born model.phase o (Instance number.class) slots ≡ (born, Some a) → Alike (born_turn m (born, Some a)) (state_birth here s f below contents pushed)
   plain_born born a e =
       let birth : IsBirth model.Fits name statics s contents born a = birth_of born a e in
       let answer : Answer = (answer_of (with_place (with_stack m (Ref a ∷ m.running.stack)) (m.running.place + 1)) born statics printed (Comes GoesOn)) in
@@ -176,8 +181,8 @@ module _ (here : Setting) (model : MemoryModel here.tree) (name : Names) (m : Fr
             (reference a (next_name s) birth.named, values_extend name birth.names birth.extends m.running.stack f.stack (own_frame here model name m o statics printed s f below (Named.NewObject c parameters) (Resolved.NewObject number) at).stack));
       }
 
-  plain_alike : Alike (new_plain_object_turn number.class slots m o) (state_birth here s f below contents pushed)
-  plain_alike = by_birth here.tree model name o statics s at.memory.fits (Instance number.class) slots (λ w. Alike (born_turn m w) (state_birth here s f below contents pushed)) (refused pushed (λ r. (after f (Reference (next_name s) ∷ f.stack), below, refl))) plain_born
+  plain_alike : Alike (new_plain_object_turn model.phase number.class slots m o) (state_birth here s f below contents pushed)
+  plain_alike = bears_alike (born_turn m) (state_birth here s f below contents pushed) (by_birth here.tree model name o statics s at.memory.fits (Instance number.class) slots (λ w. Alike (born_turn m w) (state_birth here s f below contents pushed)) (refused pushed (λ r. (after f (Reference (next_name s) ∷ f.stack), below, refl))) plain_born)
 
   -- ---- a constructor with code
 
@@ -185,7 +190,7 @@ module _ (here : Setting) (model : MemoryModel here.tree) (name : Names) (m : Fr
   entered_by n s' = frame_for here s f below c built (Reference n ∷ arguments) (Some n) s' rest
 
   module _ (deep : is_full m ≡ false) (typed_birth : IsTypedEffect here.tree (state_birth here s f below contents entered_by)) where
-    framed_born : (born : Objects) (a : Addr) → with_birth Idle o (Instance number.class) slots ≡ (born, Some a) →
+    framed_born : (born : Objects) (a : Addr) → object_born model.phase o (Instance number.class) slots ≡ (born, Some a) →
         Alike (constructs (called_as (c, built) (is_numbered here.tree legal c parameters number is).0) m (born, Some a)) (state_birth here s f below contents entered_by)
     framed_born born a e =
         record {
@@ -230,44 +235,45 @@ module _ (here : Setting) (model : MemoryModel here.tree) (name : Names) (m : Fr
         by_code None t = elim t [ ]
         by_code (Some code) t = (new_frame c built code (Reference (next_name s) ∷ arguments) (Some (next_name s)), after f rest ∷ below, refl)
 
-    framed_alike : Alike (constructs (called_as (c, built) (is_numbered here.tree legal c parameters number is).0) m (with_birth Idle o (Instance number.class) slots)) (state_birth here s f below contents entered_by)
+    framed_alike : Alike (bears model.phase o (Instance number.class) slots (constructs (called_as (c, built) (is_numbered here.tree legal c parameters number is).0) m)) (state_birth here s f below contents entered_by)
     framed_alike =
-        by_birth here.tree model name o statics s at.memory.fits (Instance number.class) slots (λ w. Alike (constructs (called_as (c, built) (is_numbered here.tree legal c parameters number is).0) m w) (state_birth here s f below contents entered_by)) (refused entered_by enters) framed_born
+        bears_alike (constructs (called_as (c, built) (is_numbered here.tree legal c parameters number is).0) m) (state_birth here s f below contents entered_by)
+        (by_birth here.tree model name o statics s at.memory.fits (Instance number.class) slots (λ w. Alike (constructs (called_as (c, built) (is_numbered here.tree legal c parameters number is).0) m w) (state_birth here s f below contents entered_by)) (refused entered_by enters) framed_born)
 
   -- ---- either
 
   -- the depth is looked at before memory
   by_depth : (b : Bool) → is_full m ≡ b →
       IsTypedEffect here.tree (if b then StateRaises StackOverflow else state_birth here s f below contents entered_by) →
-      Alike (if b then Some (m, o, Raises StackOverflow) else constructs (called_as (c, built) (is_numbered here.tree legal c parameters number is).0) m (with_birth Idle o (Instance number.class) slots))
+      Alike (if b then Some (m, o, Raises StackOverflow) else bears model.phase o (Instance number.class) slots (constructs (called_as (c, built) (is_numbered here.tree legal c parameters number is).0) m))
       (if b then StateRaises StackOverflow else state_birth here s f below contents entered_by)
   by_depth true deep t = too_deep
   by_depth false deep t = framed_alike deep t
 
   -- in the method of its number
   by_number : IsTypedEffect here.tree (if is_too_deep here s f below then StateRaises StackOverflow else state_birth here s f below contents entered_by) →
-      Alike (given (number_of here.tree (c, built)) (λ n. new_object_turn number.class slots (called_as (c, built) n) m o)) (if is_too_deep here s f below then StateRaises StackOverflow else state_birth here s f below contents entered_by)
+      Alike (given (number_of here.tree (c, built)) (λ n. new_object_turn model.phase number.class slots (called_as (c, built) n) m o)) (if is_too_deep here s f below then StateRaises StackOverflow else state_birth here s f below contents entered_by)
   by_number t =
       let framed : Bool → StateEffect = λ b. if b then StateRaises StackOverflow else state_birth here s f below contents entered_by in
       let same : is_full m ≡ is_too_deep here s f below = depth_is here model name m o statics printed s f below c parameters number is at in
       let own = is_numbered here.tree legal c parameters number is in
-      subst (λ x. Alike (given x (λ n. new_object_turn number.class slots (called_as (c, built) n) m o)) (framed (is_too_deep here s f below))) (sym own.1)
-      (subst (λ b. Alike (new_object_turn number.class slots (called_as (c, built) own.0) m o) (framed b)) same
+      subst (λ x. Alike (given x (λ n. new_object_turn model.phase number.class slots (called_as (c, built) n) m o)) (framed (is_too_deep here s f below))) (sym own.1)
+      (subst (λ b. Alike (new_object_turn model.phase number.class slots (called_as (c, built) own.0) m o) (framed b)) same
       (by_depth (is_full m) refl (subst (λ b. IsTypedEffect here.tree (framed b)) (sym same) t)))
 
   by_action : (x : Option Action) → action_of c built ≡ x →
       IsTypedEffect here.tree (if is_some x then state_birth here s f below contents (λ n s'. state_onward f below s' (Reference n ∷ rest))
       else if is_too_deep here s f below then StateRaises StackOverflow else state_birth here s f below contents entered_by) →
-      Alike (option_map_or (λ (a : Action). new_plain_object_turn number.class slots m o) x (given (number_of here.tree (c, built)) (λ n. new_object_turn number.class slots (called_as (c, built) n) m o)))
+      Alike (option_map_or (λ (a : Action). new_plain_object_turn model.phase number.class slots m o) x (given (number_of here.tree (c, built)) (λ n. new_object_turn model.phase number.class slots (called_as (c, built) n) m o)))
       (if is_some x then state_birth here s f below contents (λ n s'. state_onward f below s' (Reference n ∷ rest))
       else if is_too_deep here s f below then StateRaises StackOverflow else state_birth here s f below contents entered_by)
   by_action (Some a) acts t =
       let whole : rest ≡ f.stack = ap (λ n. drop n f.stack) (plain_has_none here.tree legal c parameters number is a acts) in
-      subst (λ us. Alike (new_plain_object_turn number.class slots m o) (state_birth here s f below contents (λ n s'. state_onward f below s' (Reference n ∷ us)))) (sym whole) plain_alike
+      subst (λ us. Alike (new_plain_object_turn model.phase number.class slots m o) (state_birth here s f below contents (λ n s'. state_onward f below s' (Reference n ∷ us)))) (sym whole) plain_alike
   by_action None acts t = by_number t
 
   -- newobj
-  pub new_object_alike : DoesAlike here model name m o statics printed s f below (operation_turn here.tree here.thread (Resolved.NewObject number) m o statics printed) (execute here s f below (Named.NewObject c parameters))
+  pub new_object_alike : DoesAlike here model name m o statics printed s f below (operation_turn here.tree (mutator_in here model) (Resolved.NewObject number) m o statics printed) (execute here s f below (Named.NewObject c parameters))
   new_object_alike =
       subst (λ turn. Alike turn (execute here s f below (Named.NewObject c parameters))) (sym turn_is)
-      (subst (Alike (made here.tree number.class slots (c, built) m o)) (sym executes) (by_action (action_of c built) refl typed))
+      (subst (Alike (made here.tree (mutator_in here model) number.class slots (c, built) m o)) (sym executes) (by_action (action_of c built) refl typed))

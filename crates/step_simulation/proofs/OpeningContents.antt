@@ -1,5 +1,5 @@
 -- What a machine holds at first stands for the opening state.
-use Rattle.std.proofs.Common.{◌≡◌, ◌⊎◌, inl, inr, ℕ, IsTrue, [], ◌∷◌, length, Option, Some, None, option_map, option_and_then, slice_get, refl, sym, ap, ◌∙◌, arith}
+use Rattle.std.proofs.Common.{◌≡◌, false, inl, inr, ℕ, IsTrue, [], ◌∷◌, length, Option, Some, None, option_map, option_and_then, slice_get, refl, sym, ap, ◌∙◌, arith}
 use Rattle.simulation.specs.cil_model.declared.limits.Limits.{Limits}
 use Rattle.simulation.specs.cil_model.declared.trees.Code.{Code}
 use Rattle.simulation.specs.cil_model.declared.trees.Method.{Method}
@@ -25,9 +25,15 @@ use Rattle.simulation.specs.object_memory.declared.monitors.Monitor.TheVariants.
 use Rattle.simulation.specs.object_memory.Objects.{no_objects}
 use Rattle.simulation.specs.MachineContents.{Content}
 use Rattle.simulation.specs.StandsFor.{IsHeap, StandsBy, Represents}
-use Rattle.simulation.specs.Turns.{content_at, opening_content}
+use Rattle.simulation.specs.Turns.{content_at, opening_content, thread_at}
 use Rattle.simulation.proofs.LimitRanges.{budget_is_some, depth_is_some, words_are_few}
 use Rattle.simulation.proofs.Zeros.{fields_stand}
+use Rattle.step_simulation.proofs.Seats.{first_fits}
+use Rattle.step_simulation.proofs.SoundContents.{idle_is_sound}
+use Rattle.simulation.specs.cil_model.declared.phases.Phase.TheVariants.{Idle}
+use Rattle.simulation.specs.collector.Phases.{no_progress}
+use Rattle.simulation.specs.collector.Soundness.{IsSoundHeap}
+use Rattle.simulation.proofs.collector.BetweenCycles.{quiet_is_sound}
 use Rattle.step_simulation.proofs.Beginnings.{beginning_stands}
 use Rattle.step_simulation.proofs.LiteralNames.{same_for_each, free_first, literal_names, IsNamedLiteral, named_literal, literal_named, literals_small, literals_apart}
 
@@ -57,6 +63,24 @@ module _ (tree : Tree) (limits : Limits) (accepted : IsAccepted tree) (in_range 
     };
     each_literal = literal_named tree;
   }
+
+  -- it is sound
+  first_sound : IsSoundHeap tree Idle false limits.words no_progress (no_objects limits.words (length (literals_of tree))).spaces
+  first_sound =
+      quiet_is_sound tree false limits.words no_progress (no_objects limits.words (length (literals_of tree))).spaces
+      (record {
+        spaces = record {
+          old = record { start = inl refl; fits = omega arith; few = words_are_few limits in_range };
+          new = record { start = inr refl; fits = omega arith; few = omega arith };
+          apart = refl;
+        };
+        held = refl;
+        old_words = refl;
+        new_words = refl;
+        none_new = λ early. refl;
+        none_grey = λ idle. refl;
+      })
+      (λ a c lies. none_is_some c lies)
 
   -- the thread is at the beginning of the entry point
   first_stands : (entry : ClassName × Method) (code : Code) → code_of entry.1.kind ≡ Some code → (n : ℕ) → slice_get (all_methods tree) n ≡ Some entry → StandsBy (literal_names tree) (content_at tree limits entry n) (opening_at tree limits entry code)
@@ -91,7 +115,7 @@ module _ (tree : Tree) (limits : Limits) (accepted : IsAccepted tree) (in_range 
             limits = in_range;
             typed = opening_typed tree limits accepted (opening_at tree limits entry code) opened;
             counted = opening_counted tree limits (budget_is_some limits in_range) (opening_at tree limits entry code) opened;
-            space = refl;
+            sound = idle_is_sound (content_at tree limits entry numbered.0) (opening_at tree limits entry code) (literal_names tree) (first_stands entry code is numbered.0 numbered.2) (first_fits (thread_at limits entry [] numbered.0) refl) first_sound;
             stands = record { name = literal_names tree; by = first_stands entry code is numbered.0 numbered.2 };
           },
         )

@@ -20,7 +20,9 @@ use Rattle.simulation.specs.object_memory.declared.values.Value.{Value}
 use Rattle.simulation.specs.object_memory.declared.values.ValueKind.{ValueKind}
 use Rattle.simulation.specs.object_memory.Cells.{Cell, store_slot as with_cell_slot}
 use Rattle.simulation.specs.object_memory.Values.{value_word, value_in}
-use Rattle.simulation.specs.object_memory.Objects.{Objects, with_slot, object_cell}
+use Rattle.simulation.specs.object_memory.Objects.{Objects, object_cell}
+use Rattle.simulation.specs.collector.References.{holds_reference, is_reference_value}
+use Rattle.simulation.specs.instructions.barriers.Barriers.{is_storable, stored_value}
 use Rattle.simulation.specs.threads_monitors.Frames.{Frames, with_place, with_stack}
 use Rattle.simulation.specs.threads_monitors.declared.effects.Effect.TheVariants.{GoesOn, Raises}
 use Rattle.simulation.specs.instructions.Frames.{given, onward, leaves}
@@ -94,10 +96,10 @@ module _ (here : Setting) (model : MemoryModel here.tree) (name : Names) (m : Fr
   }
 
   -- the memory with another word in a slot of an object, which changes alike
-  memory_with : (a : Addr) (n : ℕ) → name a.number ≡ Some (Born n) → (cell : Cell) → object_cell o a ≡ Some cell → (slot : ℕ) (v : Value) (u : StateValue) → slot < length cell.slots → IsValue name v u →
-      (object : HeapObject) → IsCell here.tree name (with_cell_slot slot (value_word v) cell) object → IsModelled here.tree model name (with_slot o a slot (value_word v)) statics printed (with_object s (Born n) object)
-  memory_with a n named cell lies slot v u inside is object stands = record {
-    fits = model.slots name o statics s at.memory.fits a n named cell lies slot v u inside is object stands;
+  memory_with : (a : Addr) (n : ℕ) → name a.number ≡ Some (Born n) → (cell : Cell) → object_cell o a ≡ Some cell → (slot : ℕ) (v : Value) (u : StateValue) → slot < length cell.slots → is_reference_value v ≡ holds_reference here.tree cell.kind slot → IsValue name v u →
+      (object : HeapObject) → IsCell here.tree name (with_cell_slot slot (value_word v) cell) object → IsModelled here.tree model name (stored_value model.phase o a slot v) statics printed (with_object s (Born n) object)
+  memory_with a n named cell lies slot v u inside sort is object stands = record {
+    fits = model.slots name o statics s at.memory.fits a n named cell lies slot v u inside sort is object stands;
     printed_is = at.memory.printed_is;
   }
 
@@ -116,12 +118,16 @@ module _ (here : Setting) (model : MemoryModel here.tree) (name : Names) (m : Fr
         (slot_turn (λ w. beside o (leaves (value_in kind w) (with_stack m rest)))) (left_alike (value_in kind word) u stands rest rest' k shorter)
 
     -- another value is stored there, and the object changes alike
-    pub replaced_alike : (n : ℕ) → name a.number ≡ Some (Born n) → (v : Value) (u : StateValue) → IsValue name v u → (object : HeapObject) → IsCell here.tree name (with_cell_slot slot (value_word v) cell) object → (rest : List Value) (rest' : List StateValue) → Agree (IsValue name) rest rest' →
-        Alike (objects_turn (store_slot v slot a (with_stack m rest) o)) (onward_frame f below (with_object s (Born n) object) rest')
-    replaced_alike n named v u is object stands rest rest' k =
-        alike_turn (objects_turn (store_slot v slot a (with_stack m rest) o)) (objects_turn (beside (with_slot o a slot (value_word v)) (onward (with_stack m rest)))) (onward_frame f below (with_object s (Born n) object) rest')
-        (slot_turn (λ w. beside (with_slot o a slot (value_word v)) (onward (with_stack m rest))))
-        (stored_alike (with_slot o a slot (value_word v)) (with_object s (Born n) object) refl (memory_with a n named cell lies slot v u (slice_get_within cell.slots slot word there) is object stands) rest rest' k)
+    pub replaced_alike : (n : ℕ) → name a.number ≡ Some (Born n) → (v : Value) (u : StateValue) → IsValue name v u → is_reference_value v ≡ holds_reference here.tree cell.kind slot → (object : HeapObject) → IsCell here.tree name (with_cell_slot slot (value_word v) cell) object → (rest : List Value) (rest' : List StateValue) → Agree (IsValue name) rest rest' →
+        Alike (objects_turn (store_slot model.phase v slot a (with_stack m rest) o)) (onward_frame f below (with_object s (Born n) object) rest')
+    replaced_alike n named v u is sort object stands rest rest' k =
+        alike_turn (objects_turn (store_slot model.phase v slot a (with_stack m rest) o)) (objects_turn stored) (onward_frame f below (with_object s (Born n) object) rest')
+        (slot_turn (λ w. if is_storable model.phase o a slot v then stored else None) ∙
+        ap (λ b. objects_turn (if b then stored else None)) (model.storable name o statics s at.memory.fits a n named cell lies slot v u (slice_get_within cell.slots slot word there) is))
+        (stored_alike (stored_value model.phase o a slot v) (with_object s (Born n) object) refl (memory_with a n named cell lies slot v u (slice_get_within cell.slots slot word there) sort is object stands) rest rest' k)
+      where
+        stored : ObjectTurn
+        stored = beside (stored_value model.phase o a slot v) (onward (with_stack m rest))
 
   -- ---- operands
 

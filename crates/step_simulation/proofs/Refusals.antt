@@ -1,5 +1,5 @@
 -- A step is refused memory exactly where the object that it would make exceeds the room.
-use Rattle.std.proofs.Common.{◌≡◌, ◌↔◌, ◌⊎◌, ◌≤◌, ◌<◌, ◌+◌, ◌-◌, if◌then◌else◌, ℕ, zero, suc, Bool, true, false, IsTrue, List, [], ◌∷◌, ◌++◌, Option, Some, None, slice_get, refl, inl, inr, sym, ap, ◌∙◌, arith}
+use Rattle.std.proofs.Common.{◌≡◌, ◌↔◌, ◌⊎◌, ◌≤◌, ◌<◌, ◌+◌, ◌-◌, if◌then◌else◌, ℕ, zero, suc, Bool, true, false, IsTrue, List, [], ◌∷◌, ◌++◌, Option, Some, None, slice_get, refl, inl, inr, sym, ap, ◌∙◌, subst, arith}
 use Rattle.std.specs.Prelude.{nat_le}
 use Rattle.std.proofs.lemmas.Bool.Decides.{nat_tests}
 use Rattle.std.proofs.lemmas.List.Sums.{sum_by_push}
@@ -17,12 +17,14 @@ use Rattle.simulation.specs.reference_machine.States.{Contents, Frame as StateFr
 use Rattle.simulation.specs.reference_machine.Steps.{Outcome, Answers, goes_on, settled, step}
 use Rattle.simulation.proofs.reference_machine.StepLaws.{same_after}
 use Rattle.simulation.proofs.reference_machine.UnrefusedLaws.{memory_is_refused}
+use Rattle.simulation.specs.object_memory.Objects.{free_space}
+use Rattle.simulation.specs.object_memory.Spaces.{room_for}
 use Rattle.simulation.specs.threads_monitors.Frames.{Frames}
 use Rattle.simulation.specs.threads_monitors.declared.threads.Standing.{Standing}
 use Rattle.simulation.specs.threads_monitors.declared.threads.Standing.TheVariants.{Live, Ended}
 use Rattle.simulation.specs.threads_monitors.declared.threads.Thread.{Thread}
 use Rattle.simulation.specs.interpreter.Instructions.{IsDone, Answer}
-use Rattle.simulation.specs.MachineContents.{Content}
+use Rattle.simulation.specs.MachineContents.{Content, mutator_of}
 use Rattle.simulation.specs.StandsFor.{Represents}
 use Rattle.simulation.specs.Turns.{IsStandingTurn, IsThreadTurn, IsTurn}
 use Rattle.simulation.proofs.Instructions.{ExceedsRoom as ExceedsFree, InstructionsAreAlike, is_refused_outcome}
@@ -31,7 +33,7 @@ use Rattle.step_simulation.proofs.Settings.{setting_of, is_alive, is_running, do
 use Rattle.step_simulation.proofs.Settling.{done, step_is}
 use Rattle.step_simulation.proofs.Steps.{step_follows}
 use Rattle.simulation.proofs.cil_model.SameLaws.{never}
-use Rattle.step_simulation.proofs.OneBlock.{one_block}
+use Rattle.step_simulation.proofs.OneBlock.{one_block, idle_phase}
 
 -- ---- a test of room
 
@@ -60,10 +62,10 @@ born_by s contents t (suc left) frames = record { report = _; after = _; is = re
 
 module _ (each : InstructionsAreAlike) (c : Content) (s : State) (r : Represents c s) (t left : ℕ) (m : Frames) (there : slice_get c.threads t ≡ Some (record { standing = Live m; steps_left = left })) where
   abbrev Exceeds : StateEffect → Type 0
-  Exceeds e = ExceedsFree (setting_of c t false) (one_block c.tree) r.stands.name m c.objects c.statics c.printed s (is_alive c s r t left m there).running (is_alive c s r t left m there).below e
+  Exceeds e = ExceedsFree (setting_of c t false) (one_block c.tree c.limits.words) r.stands.name m c.objects c.statics c.printed s (is_alive c s r t left m there).running (is_alive c s r t left m there).below e
 
   -- the instruction's object exceeds what is free
-  instruction_exceeds : (a : Answer) → IsDone c.tree t m c.objects c.statics c.printed a → is_refused_outcome a.outcome ≡ true → Exceeds (done c s r t left m there false)
+  instruction_exceeds : (a : Answer) → IsDone c.tree (mutator_of c t) m c.objects c.statics c.printed a → is_refused_outcome a.outcome ≡ true → Exceeds (done c s r t left m there false)
   instruction_exceeds a d refused =
       let x = does_alike each c s r t left m there false d.operation d.at d.constant in
       let same : x.answer ≡ a = same_Some x.answer a (sym x.is ∙ sym d.is) in
@@ -84,7 +86,7 @@ module _ (each : InstructionsAreAlike) (c : Content) (s : State) (r : Represents
         object = record { contents = e.contents; monitor = Free; thread = None };
         unrefused = step_is c s r t left m there false ∙ ap (settled s t (left - 1) frames) e.is ∙ born.is;
         is_born = born.objects;
-        exceeds = (let full = r.stands.by.memory.heap.full in let space = r.space in let more = e.exceeds in beyond (cell_words c.tree e.contents) (c.limits.words - words_of_all c.tree s.objects) (omega (arith, full, space, more)));
+        exceeds = (let full = r.stands.by.memory.heap.full in let space = r.sound.heap.blocks.old_words in let more : free_space c.objects < cell_words c.tree e.contents = subst (λ p. room_for p c.objects.spaces < cell_words c.tree e.contents) (idle_phase c.tree c.limits.words) e.exceeds in beyond (cell_words c.tree e.contents) (c.limits.words - words_of_all c.tree s.objects) (omega (arith, full, space, more)));
       }
 
 -- ---- where the object exceeds the room, the step is refused
@@ -100,7 +102,7 @@ module _ (each : InstructionsAreAlike) (c : Content) (s : State) (r : Represents
       let same = same_program c after (Step t) turn in
       let full : words_of_all c.tree s'.objects ≡ words_of_all after.0.tree s'.objects = ap (λ x. words_of_all x s'.objects) (sym same.0) in
       let limit : after.0.limits.words ≡ c.limits.words = ap (λ (l : Limits). l.words) same.1 in
-      omega (arith, full, limit, h.stands.by.memory.heap.full, h.stands.by.memory.heap.inside.old.fits, h.space)
+      omega (arith, full, limit, h.stands.by.memory.heap.full, h.stands.by.memory.heap.inside.old.fits, h.sound.heap.blocks.old_words)
 
   exceeding_is_refused : ExceedsRoom c.tree c.limits s t → IsTrue (is_refusal after.1)
   exceeding_is_refused x = by_report (is_refusal after.1) refl (step_follows each c s r t after turn)

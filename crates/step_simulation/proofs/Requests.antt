@@ -49,7 +49,7 @@ module _ (c : Content) (s : State) (r : Represents c s) (t left : ℕ) (m : Fram
 
   -- the instruction asks for this
   abbrev pub Asks : Action → Addr → Answer → Type 0
-  Asks action object a = AsksFor here (one_block c.tree) r.stands.name m c.objects c.statics c.printed s running below action object a (done c s r t left m there false)
+  Asks action object a = AsksFor here (one_block c.tree c.limits.words) r.stands.name m c.objects c.statics c.printed s running below action object a (done c s r t left m there false)
 
   own : IsFrame c.tree r.stands.name m.running running
   own = (is_alive c s r t left m there).frames.frames.0
@@ -108,15 +108,15 @@ module _ (c : Content) (s : State) (r : Represents c s) (t left : ℕ) (m : Fram
           subst (λ l. 0 < length l) (sym (ap (λ y. unwrap_or (option_map (λ (k : Cell). k.slots) y) []) x.lies ∙ x.slots)) (omega arith)
 
   module _ (operation : Operation) (at : IsAt c.tree m operation) (constant : HasSmallConstant operation) where
-    abbrev pub setting : IsSetting here (one_block c.tree) r.stands.name m c.objects c.statics c.printed s running below instruction operation
+    abbrev pub setting : IsSetting here (one_block c.tree c.limits.words) r.stands.name m c.objects c.statics c.printed s running below instruction operation
     setting = in_setting c s r t left m there false operation at constant
 
     pub place_below : nat_lt m.running.place MOST_INSTRUCTIONS ≡ true
-    place_below = place_is_small here (one_block c.tree) r.stands.name m c.objects c.statics c.printed s running below instruction operation setting
+    place_below = place_is_small here (one_block c.tree c.limits.words) r.stands.name m c.objects c.statics c.printed s running below instruction operation setting
 
     -- the frames once what was asked for is done
     pub popped_frames : (operand : StateValue) (rest : List StateValue) → running.stack ≡ operand ∷ rest → AreFrames c.tree c.limits r.stands.name (after_request GoesOn m) (after running rest ∷ below)
     popped_frames operand rest stack =
         subst (λ p. AreFrames c.tree c.limits r.stands.name (with_place (with_stack m (drop 1 m.running.stack)) (p + 1)) (after running rest ∷ below)) (sym own.place)
-        (moved_frames here (one_block c.tree) r.stands.name m c.objects c.statics c.printed s running below instruction operation setting r.stands.name (λ a n is. is)
+        (moved_frames here (one_block c.tree c.limits.words) r.stands.name m c.objects c.statics c.printed s running below instruction operation setting r.stands.name (λ a n is. is)
         m.running.arguments m.running.locals (drop 1 m.running.stack) running.arguments running.locals rest (running.place + 1) own.arguments own.locals (rest_agrees operand rest stack))

@@ -33,7 +33,7 @@ use Rattle.simulation.proofs.Instructions.{IsSetting, GoesAlike, DoesAlike}
 use Rattle.simulation.proofs.Going.{own_frame, room_left}
 use Rattle.simulation.proofs.Operands.{fine, one_operand}
 use Rattle.simulation.proofs.cil_model.SameLaws.{if_false, never, if_true}
-use Rattle.simulation.proofs.MemoryModels.{MemoryModel}
+use Rattle.simulation.proofs.MemoryModels.{MemoryModel, mutator_in}
 
 -- ---- what a frame is given
 
@@ -156,7 +156,7 @@ module _ (here : Setting) (model : MemoryModel here.tree) (name : Names) (m : Fr
   by_object None (Some n) h typed = elim h [ ]
   by_object (Some a) None h typed = elim h [ ]
 
-  pub return_alike : DoesAlike here model name m o statics printed s f below (operation_turn here.tree here.thread Resolved.Return m o statics printed) (execute here s f below Named.Return)
+  pub return_alike : DoesAlike here model name m o statics printed s f below (operation_turn here.tree (mutator_in here model) Resolved.Return m o statics printed) (execute here s f below Named.Return)
   return_alike =
       let own : IsFrame here.tree name m.running f = own_frame here model name m o statics printed s f below Named.Return Resolved.Return at in
       let turn_is : return_rule here.tree m ≡ return_turn (is_some f.method.signature.return_type) m = ap (λ x. given x (λ (found : ClassName × Method). return_turn (is_some found.1.signature.return_type) m)) own.method in

@@ -17,6 +17,7 @@ use Rattle.simulation.specs.interpreter.Calls.{CallTurn, act_turn, called_as, be
 use Rattle.simulation.specs.interpreter.Instructions.{of_calls}
 use Rattle.simulation.proofs.Statements.{MethodsRunAlike}
 use Rattle.simulation.proofs.Instructions.{DoesAlike}
+use Rattle.simulation.proofs.MemoryModels.{mutator_in}
 use Rattle.step_simulation.proofs.Numbering.{method_numbered}
 use Rattle.step_simulation.proofs.Entering.{enters_alike}
 use Rattle.step_simulation.proofs.Acting.{acts_alike}
@@ -37,6 +38,6 @@ methods_run_alike here model name m o statics printed s f below i operation at f
     called = given (number_of here.tree found) (λ n. beside_console printed (beside o (call_turn (called_as found n) m)))
 
     by_action : (a : Option Action) → IsTypedEffect here.tree (option_map_or (λ x. act here s f below x arguments rest) a framed) →
-        DoesAlike here model name m o statics printed s f below (of_calls o statics printed (option_map_or (λ x. act_turn here.tree here.thread x m o printed) a called)) (option_map_or (λ x. act here s f below x arguments rest) a framed)
+        DoesAlike here model name m o statics printed s f below (of_calls o statics printed (option_map_or (λ x. act_turn here.tree (mutator_in here model) x m o printed) a called)) (option_map_or (λ x. act here s f below x arguments rest) a framed)
     by_action None t = enters_alike here model name m o statics printed s f below i operation at found (method_numbered here.tree at.running.accepted.legal class place found placed) enough t
     by_action (Some a) t = acts_alike here model name m o statics printed s f below i operation at a (length (argument_types found.1 found.0)) enough t

@@ -18,14 +18,16 @@ use Rattle.simulation.specs.resolved_code.declared.operations.Operation.{Operati
 use Rattle.simulation.specs.threads_monitors.Frames.{Frames}
 use Rattle.simulation.specs.threads_monitors.declared.threads.Standing.TheVariants.{Live}
 use Rattle.simulation.specs.interpreter.Instructions.{HasSmallConstant, IsAt, line_at, operation_turn}
-use Rattle.simulation.specs.MachineContents.{Content}
+use Rattle.simulation.specs.MachineContents.{Content, mutator_of}
 use Rattle.simulation.specs.Ready.{IsReady}
 use Rattle.simulation.specs.StandsFor.{Names, IsFrame, AreFrames, IsThread, StandsAlike, Represents}
 use Rattle.simulation.proofs.AgreeLaws.{agree_at}
 use Rattle.simulation.proofs.Instructions.{IsSetting, DoesAlike, InstructionsAreAlike}
 use Rattle.simulation.proofs.LimitRanges.{budget_is_small}
 use Rattle.simulation.proofs.cil_model.Lists.{none_is_some}
-use Rattle.step_simulation.proofs.OneBlock.{one_block, modelled}
+use Rattle.step_simulation.proofs.OneBlock.{one_block, idle_phase, modelled}
+use Rattle.step_simulation.proofs.Seats.{in_first_phase}
+use Rattle.step_simulation.proofs.SoundContents.{idle_heap}
 
 -- ---- a live thread
 
@@ -66,7 +68,7 @@ module _ (c : Content) (s : State) (r : Represents c s) (t left : ℕ) (m : Fram
 
     -- that which a resolved one there stands for
     pub in_setting : (operation : Operation) → IsAt c.tree m operation → HasSmallConstant operation →
-        IsSetting (setting_of c t refused) (one_block c.tree) r.stands.name m c.objects c.statics c.printed s is_alive.running is_alive.below is_running.0 operation
+        IsSetting (setting_of c t refused) (one_block c.tree c.limits.words) r.stands.name m c.objects c.statics c.printed s is_alive.running is_alive.below is_running.0 operation
     in_setting operation at constant = record {
       running = is_running.2;
       counted = r.counted;
@@ -74,7 +76,7 @@ module _ (c : Content) (s : State) (r : Represents c s) (t left : ℕ) (m : Fram
       resolved = subst (λ x. IsOperation c.tree (lines_of f.method) x operation) same_instruction (subst (λ (x : ClassName × Method). IsOperation c.tree (lines_of x.1) at.line.instruction operation) same_method at.stands);
       constant = constant;
       frames = is_alive.frames;
-      memory = modelled c.tree r.stands.name c.objects c.statics c.printed s r.stands.by.memory;
+      memory = modelled c.tree c.limits.words r.stands.name c.objects c.statics c.printed s r.stands.by.memory (idle_heap c r.sound);
     }
       where
         f : StateFrame
@@ -99,12 +101,17 @@ module _ (c : Content) (s : State) (r : Represents c s) (t left : ℕ) (m : Fram
 module _ (each : InstructionsAreAlike) where
   pub does_alike : (c : Content) (s : State) (r : Represents c s) (t left : ℕ) (m : Frames) (there : slice_get c.threads t ≡ Some (record { standing = Live m; steps_left = left })) (refused : Bool) →
       (operation : Operation) → IsAt c.tree m operation → HasSmallConstant operation →
-      DoesAlike (setting_of c t refused) (one_block c.tree) r.stands.name m c.objects c.statics c.printed s (is_alive c s r t left m there).running (is_alive c s r t left m there).below
-      (operation_turn c.tree t operation m c.objects c.statics c.printed)
+      DoesAlike (setting_of c t refused) (one_block c.tree c.limits.words) r.stands.name m c.objects c.statics c.printed s (is_alive c s r t left m there).running (is_alive c s r t left m there).below
+      (operation_turn c.tree (mutator_of c t) operation m c.objects c.statics c.printed)
       (execute (setting_of c t refused) s (is_alive c s r t left m there).running (is_alive c s r t left m there).below (is_running c s r t left m there refused).0)
   does_alike c s r t left m there refused operation at constant =
-      each (setting_of c t refused) (one_block c.tree) r.stands.name m c.objects c.statics c.printed s (is_alive c s r t left m there).running (is_alive c s r t left m there).below
-      (is_running c s r t left m there refused).0 operation (in_setting c s r t left m there refused operation at constant)
+      subst
+      (λ u. DoesAlike (setting_of c t refused) (one_block c.tree c.limits.words) r.stands.name m c.objects c.statics c.printed s (is_alive c s r t left m there).running (is_alive c s r t left m there).below
+      (operation_turn c.tree u operation m c.objects c.statics c.printed)
+      (execute (setting_of c t refused) s (is_alive c s r t left m there).running (is_alive c s r t left m there).below (is_running c s r t left m there refused).0))
+      (ap (λ p. record { number = t; phase = p }) (idle_phase c.tree c.limits.words ∙ sym (in_first_phase c.posts r.sound.up_to t)))
+      (each (setting_of c t refused) (one_block c.tree c.limits.words) r.stands.name m c.objects c.statics c.printed s (is_alive c s r t left m there).running (is_alive c s r t left m there).below
+      (is_running c s r t left m there refused).0 operation (in_setting c s r t left m there refused operation at constant))
 
   pub live_is_ready : (c : Content) (s : State) → Represents c s → (t left : ℕ) (m : Frames) → slice_get c.threads t ≡ Some (record { standing = Live m; steps_left = left }) → IsReady c t m
   live_is_ready c s r t left m there = record {

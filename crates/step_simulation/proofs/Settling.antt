@@ -17,7 +17,10 @@ use Rattle.simulation.proofs.type_soundness.WholeSteps.{step_typed}
 use Rattle.simulation.proofs.type_soundness.AllSteps.{instruction_typed}
 use Rattle.simulation.proofs.CountedSteps.{step_counted}
 use Rattle.simulation.specs.object_memory.declared.values.Value.{Value}
-use Rattle.simulation.specs.object_memory.Objects.{Objects, whole_space}
+use Rattle.simulation.specs.cil_model.declared.phases.Phase.TheVariants.{Idle}
+use Rattle.simulation.specs.object_memory.Objects.{Objects}
+use Rattle.simulation.specs.collector.Phases.{no_progress}
+use Rattle.simulation.specs.collector.Soundness.{IsSoundHeap}
 use Rattle.simulation.specs.threads_monitors.Frames.{Frames}
 use Rattle.simulation.specs.threads_monitors.Threads.{end_after, report_of, standing_after}
 use Rattle.simulation.specs.threads_monitors.declared.effects.Effect.{Effect}
@@ -27,7 +30,8 @@ use Rattle.simulation.specs.threads_monitors.declared.threads.Thread.{Thread}
 use Rattle.simulation.specs.Agreement.{Agree}
 use Rattle.simulation.specs.MachineContents.{Content}
 use Rattle.simulation.specs.StandsFor.{Names, AreFrames, IsThread, IsMemory, StandsBy, StandsFor, Represents}
-use Rattle.simulation.specs.Turns.{counted}
+use Rattle.simulation.specs.phase_handshake.Handshakes.{Handshakes}
+use Rattle.simulation.specs.Turns.{counted, seats_after}
 use Rattle.simulation.proofs.AgreeLaws.{agree_set, agree_weaken}
 use Rattle.simulation.proofs.Extending.{thread_extends}
 use Rattle.simulation.proofs.Memories.{memory_beside}
@@ -35,7 +39,9 @@ use Rattle.simulation.specs.interpreter.declared.outcomes.Outcome.TheVariants.{C
 use Rattle.simulation.proofs.Instructions.{LeavesMemory, ComesAlike, is_refused_fault, is_refused_effect}
 use Rattle.simulation.proofs.LimitRanges.{budget_is_some}
 use Rattle.step_simulation.proofs.Settings.{setting_of, is_alive, is_running}
-use Rattle.step_simulation.proofs.OneBlock.{one_block, memory_of}
+use Rattle.step_simulation.proofs.OneBlock.{one_block, memory_of, sound_of}
+use Rattle.step_simulation.proofs.Seats.{AreFitting}
+use Rattle.step_simulation.proofs.SoundContents.{idle_heap, idle_is_sound}
 use Rattle.simulation.specs.interpreter.Instructions.{Answer}
 
 -- a thread with a step left isn't spent
@@ -115,16 +121,20 @@ refusal_of (Raises x) m left = refusal_of_fault x
 same_state : (o : Outcome) (x y : Report) (s s' : State) → o ≡ Answers x s → o ≡ Answers y s' → s ≡ s'
 same_state o x y s s' h k = cc
 
--- what the step of a thread comes to on both machines, where the heap keeps its size
+-- what the step of a thread comes to on both machines, where posts and seats fit the threads after it
 abbrev pub Follows : Content → State → ℕ → Content × Report → Type 0
-Follows c s t after = whole_space after.0.objects ≡ whole_space c.objects → (s' : State) × (step c.tree c.limits s t (is_refusal after.1) ≡ Answers after.1 s') × Represents after.0 s'
+Follows c s t after = AreFitting after.0.posts after.0.threads → (s' : State) × (step c.tree c.limits s t (is_refusal after.1) ≡ Answers after.1 s') × Represents after.0 s'
+
+-- the heap of a content is sound, between cycles
+abbrev pub HasIdleHeap : Content → Objects → Type 0
+HasIdleHeap c o = IsSoundHeap c.tree Idle false c.limits.words no_progress o.spaces
 
 -- a content that stands for the state after a step
-pub followed : (c : Content) (s : State) → Represents c s → (t : ℕ) (threads : List Thread) (o : Objects) (statics : List Value) (printed : List ℕ) (report : Report) (s' : State) →
-    step c.tree c.limits s t (is_refusal report) ≡ Answers report s' → StandsFor (record c { threads = threads; objects = o; statics = statics; printed = printed }) s' →
-    Follows c s t (record c { threads = threads; objects = o; statics = statics; printed = printed }, report)
-followed c s r t threads o statics printed report s' is stands =
-    λ kept. let typed = step_typed instruction_typed c.tree c.limits r.accepted t (is_refusal report) s r.typed in (
+pub followed : (c : Content) (s : State) → Represents c s → (t : ℕ) (threads : List Thread) (h : Handshakes) (o : Objects) (statics : List Value) (printed : List ℕ) (report : Report) (s' : State) →
+    step c.tree c.limits s t (is_refusal report) ≡ Answers report s' → StandsFor (record c { threads = threads; objects = o; statics = statics; printed = printed }) s' → HasIdleHeap c o →
+    Follows c s t (record c { threads = threads; posts = h; objects = o; statics = statics; printed = printed }, report)
+followed c s r t threads h o statics printed report s' is stands heap =
+    λ fit. let typed = step_typed instruction_typed c.tree c.limits r.accepted t (is_refusal report) s r.typed in (
       s',
       is,
       record {
@@ -132,8 +142,8 @@ followed c s r t threads o statics printed report s' is stands =
         limits = r.limits;
         typed = subst (IsTyped c.tree) (same_state (step c.tree c.limits s t (is_refusal report)) typed.0 report typed.1 s' typed.2 is) typed.3;
         counted = step_counted c.tree c.limits (budget_is_some c.limits r.limits) t (is_refusal report) s r.counted report s' is;
-        space = kept ∙ r.space;
-        stands = stands;
+        sound = idle_is_sound (record c { threads = threads; posts = h; objects = o; statics = statics; printed = printed }) s' stands.name (record { memory = stands.by.memory; threads = stands.by.threads }) fit heap;
+        stands = record { name = stands.name; by = record { memory = stands.by.memory; threads = stands.by.threads } };
       },
     )
 
@@ -156,40 +166,44 @@ module _ (c : Content) (s : State) (r : Represents c s) (t left : ℕ) (m : Fram
       ap (λ n. state_settled s t (n - 1) u.frames (done refused)) (sym (is_alive c s r t left m there).steps)
 
   -- a thread that is settled as its instruction's effect says
-  pub finish : (names : Names) (threads base : List Thread) (o : Objects) (statics : List Value) (printed : List ℕ) (s' : State) → ((x : Thread) → slice_set threads t x ≡ slice_set base t x) →
-      (by : StandsBy names (record c { threads = base; objects = o; statics = statics; printed = printed }) s') →
+  pub finish : (names : Names) (threads base : List Thread) (h : Handshakes) (o : Objects) (statics : List Value) (printed : List ℕ) (s' : State) → ((x : Thread) → slice_set threads t x ≡ slice_set base t x) →
+      (by : StandsBy names (record c { threads = base; objects = o; statics = statics; printed = printed }) s') → HasIdleHeap c o →
       (refused : Bool) (effect : Effect) → refused ≡ is_refused_effect effect → (m' : Frames) →
       IsEffect names (record c { threads = base; objects = o; statics = statics; printed = printed }) s' by t s (is_alive c s r t left m there).thread.frames effect m' (done refused) →
-      Follows c s t (counted (record c { threads = threads; objects = o; statics = statics; printed = printed }) t left effect m')
-  finish names threads base o statics printed s' same by refused effect refuses m' is =
+      Follows c s t (counted (record c { threads = threads; posts = h; objects = o; statics = statics; printed = printed }) t left effect m')
+  finish names threads base h o statics printed s' same by heap refused effect refuses m' is =
       let settled = settles names (record c { threads = base; objects = o; statics = statics; printed = printed }) s' by t s (is_alive c s r t left m there).thread.frames effect m' (done refused) is (left - 1) in
       let x : Thread × Report = standing_after (end_after effect (left - 1)) m' (left - 1) effect in
-      followed c s r t (slice_set threads t x.0) o statics printed x.1 settled.0
+      followed c s r t (slice_set threads t x.0) (seats_after h t x.1) o statics printed x.1 settled.0
       (ap (step c.tree c.limits s t) (refusal_of effect m' (left - 1) ∙ sym refuses) ∙ step_is refused ∙ settled.1)
       (subst (λ ts. StandsFor (record c { threads = ts; objects = o; statics = statics; printed = printed }) settled.0) (sym (same x.0)) settled.2)
+      heap
 
   -- memory that an instruction leaves as it was
-  memory_left : (a : Answer) → LeavesMemory (setting_of c t false) (one_block c.tree) r.stands.name m c.objects c.statics c.printed s (is_alive c s r t left m there).running (is_alive c s r t left m there).below a →
+  memory_left : (a : Answer) → LeavesMemory (setting_of c t false) (one_block c.tree c.limits.words) r.stands.name m c.objects c.statics c.printed s (is_alive c s r t left m there).running (is_alive c s r t left m there).below a →
       StandsBy r.stands.name (record c { threads = c.threads; objects = a.objects; statics = a.statics; printed = a.printed }) s
   memory_left a (one, two, three) = record {
     memory = subst (λ o. IsMemory c.tree r.stands.name o a.statics a.printed s) (sym one) (subst (λ v. IsMemory c.tree r.stands.name c.objects v a.printed s) (sym two) (subst (λ p. IsMemory c.tree r.stands.name c.objects c.statics p s) (sym three) r.stands.by.memory));
     threads = r.stands.by.threads;
   }
 
+  heap_left : (a : Answer) → LeavesMemory (setting_of c t false) (one_block c.tree c.limits.words) r.stands.name m c.objects c.statics c.printed s (is_alive c s r t left m there).running (is_alive c s r t left m there).below a → HasIdleHeap c a.objects
+  heap_left a (one, two, three) = subst (HasIdleHeap c) (sym one) (idle_heap c r.sound)
+
   -- an instruction that asks nothing of other threads
   pub comes : (threads : List Thread) → ((x : Thread) → slice_set threads t x ≡ slice_set c.threads t x) → (refused : Bool) (effect : Effect) → refused ≡ is_refused_effect effect → (a : Answer) →
-      ComesAlike (setting_of c t refused) (one_block c.tree) r.stands.name m c.objects c.statics c.printed s (is_alive c s r t left m there).running (is_alive c s r t left m there).below (Comes effect) a (done refused) →
+      ComesAlike (setting_of c t refused) (one_block c.tree c.limits.words) r.stands.name m c.objects c.statics c.printed s (is_alive c s r t left m there).running (is_alive c s r t left m there).below (Comes effect) a (done refused) →
       Follows c s t (counted (record c { threads = threads; objects = a.objects; statics = a.statics; printed = a.printed }) t left effect a.frames)
   comes threads same refused GoesOn refuses a h =
-      finish h.names threads c.threads a.objects a.statics a.printed h.state same
+      finish h.names threads c.threads c.posts a.objects a.statics a.printed h.state same
       (record {
-        memory = memory_of c.tree h.names a.objects a.statics a.printed h.state h.memory;
+        memory = memory_of c.tree c.limits.words h.names a.objects a.statics a.printed h.state h.memory;
         threads = subst (Agree (IsThread c.tree c.limits h.names) c.threads) (sym h.others)
             (agree_weaken (IsThread c.tree c.limits r.stands.name) (IsThread c.tree c.limits h.names) (thread_extends r.stands.name h.names h.extends c.tree c.limits) c.threads s.threads r.stands.by.threads);
       })
-      refused GoesOn refuses a.frames (h.running, h.waiting, h.is, h.frames)
-  comes threads same refused Returns refuses a (is, left_memory) = finish r.stands.name threads c.threads a.objects a.statics a.printed s same (memory_left a left_memory) refused Returns refuses a.frames is
+      (sound_of c.tree c.limits.words h.names a.objects a.statics a.printed h.state h.memory) refused GoesOn refuses a.frames (h.running, h.waiting, h.is, h.frames)
+  comes threads same refused Returns refuses a (is, left_memory) = finish r.stands.name threads c.threads c.posts a.objects a.statics a.printed s same (memory_left a left_memory) (heap_left a left_memory) refused Returns refuses a.frames is
   comes threads same refused Blocks refuses a (is, frames, left_memory) =
-      finish r.stands.name threads c.threads a.objects a.statics a.printed s same (memory_left a left_memory) refused Blocks refuses a.frames
+      finish r.stands.name threads c.threads c.posts a.objects a.statics a.printed s same (memory_left a left_memory) (heap_left a left_memory) refused Blocks refuses a.frames
       (is, refl, subst (λ x. AreFrames c.tree c.limits r.stands.name x (is_alive c s r t left m there).thread.frames) (sym frames) (subst (AreFrames c.tree c.limits r.stands.name m) (sym (is_alive c s r t left m there).frames_are) (is_alive c s r t left m there).frames))
-  comes threads same refused (Raises x) refuses a (is, left_memory) = finish r.stands.name threads c.threads a.objects a.statics a.printed s same (memory_left a left_memory) refused (Raises x) refuses a.frames (is, refl)
+  comes threads same refused (Raises x) refuses a (is, left_memory) = finish r.stands.name threads c.threads c.posts a.objects a.statics a.printed s same (memory_left a left_memory) (heap_left a left_memory) refused (Raises x) refuses a.frames (is, refl)

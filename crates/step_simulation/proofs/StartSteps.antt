@@ -11,12 +11,14 @@ use Rattle.simulation.specs.reference_machine.States.{HeapObject, State, with_ob
 use Rattle.simulation.specs.reference_machine.Effects.{Raises as StateRaises, new_frame, after}
 use Rattle.simulation.specs.reference_machine.BuiltIn.{Start, start}
 use Rattle.simulation.specs.reference_machine.Values.{Reference}
+use Rattle.simulation.specs.phase_handshake.Handshakes.{joined}
 use Rattle.simulation.specs.resolved_code.declared.operations.Operation.{Operation}
 use Rattle.simulation.specs.object_memory.declared.addresses.Addr.{Addr}
 use Rattle.simulation.specs.object_memory.declared.kinds.Kind.TheVariants.{Instance}
 use Rattle.simulation.specs.object_memory.declared.values.Value.TheVariants.{Ref}
 use Rattle.simulation.specs.object_memory.Cells.{store_slot}
 use Rattle.simulation.specs.object_memory.Objects.{Objects, with_slot}
+use Rattle.simulation.specs.instructions.barriers.Barriers.{stored_int}
 use Rattle.simulation.specs.threads_monitors.Frames.{Frames}
 use Rattle.simulation.specs.threads_monitors.Threads.{start_fault, with_start}
 use Rattle.simulation.specs.threads_monitors.declared.effects.Effect.{Effect}
@@ -25,9 +27,9 @@ use Rattle.simulation.specs.threads_monitors.declared.threads.Standing.TheVarian
 use Rattle.simulation.specs.threads_monitors.declared.threads.Thread.{Thread}
 use Rattle.simulation.specs.interpreter.Instructions.{HasSmallConstant, IsAt, Answer, answer_of}
 use Rattle.simulation.specs.interpreter.declared.outcomes.Outcome.TheVariants.{Comes, Starts}
-use Rattle.simulation.specs.MachineContents.{Content}
+use Rattle.simulation.specs.MachineContents.{Content, mutator_of}
 use Rattle.simulation.specs.StandsFor.{reference, thread_word, IsCell, IsOfContents, IsMemory, IsThread, StandsBy, Represents}
-use Rattle.simulation.specs.Turns.{after_request, counted, started, thread_at, thread_for}
+use Rattle.simulation.specs.Turns.{after_request, counted, started, thread_at, thread_for, seated}
 use Rattle.simulation.proofs.AgreeLaws.{agree_append, agree_length}
 use Rattle.simulation.proofs.Instructions.{is_refused_fault}
 use Rattle.simulation.proofs.LimitRanges.{depth_is_some}
@@ -35,10 +37,15 @@ use Rattle.simulation.proofs.Memories.{memory_beside}
 use Rattle.step_simulation.proofs.Settling.{Follows, done, finish, comes}
 use Rattle.step_simulation.proofs.Beginnings.{beginning_stands}
 use Rattle.step_simulation.proofs.ThreadObjects.{IsThreadObject}
+use Rattle.step_simulation.proofs.Seats.{in_first_phase}
 use Rattle.step_simulation.proofs.Requests.{here, running, below, Asks, IsAskedOf, asked_of, popped_frames}
 use Rattle.step_simulation.proofs.Starts.{state_with, IsBegun, IsStarted, faulted, begun, is_started}
 use Rattle.simulation.proofs.cil_model.Lists.{none_is_some}
-use Rattle.step_simulation.proofs.OneBlock.{one_block, modelled, memory_of}
+use Rattle.simulation.specs.collector.References.{holds_reference}
+use Rattle.simulation.proofs.MemoryModels.{IsModelled}
+use Rattle.step_simulation.proofs.ReferenceSlots.{hidden_says}
+use Rattle.step_simulation.proofs.SoundContents.{idle_heap}
+use Rattle.step_simulation.proofs.OneBlock.{one_block, idle_phase, modelled, memory_of, sound_of}
 
 module _ (c : Content) (s : State) (r : Represents c s) (t left : ℕ) (m : Frames) (there : slice_get c.threads t ≡ Some (record { standing = Live m; steps_left = left })) where
   -- what is asked of the one operand
@@ -47,11 +54,11 @@ module _ (c : Content) (s : State) (r : Represents c s) (t left : ℕ) (m : Fram
   start_asked object a asks = asked_of c s r t left m there Start (λ rest n. start (here c s r t left m there) s (running c s r t left m there) (below c s r t left m there) n rest) (λ v rest. refl) object a asks
 
   -- the threads and objects once a step is counted
-  abbrev pub counted_with : List Thread × Objects × Effect → Content × Report
-  counted_with y = counted (record c { threads = y.0; objects = y.1 }) t left y.2 (after_request y.2 m)
+  abbrev pub counted_with : List Thread → List Thread × Objects × Effect → Content × Report
+  counted_with threads y = counted (record c { threads = y.0; posts = seated y.2 c.posts (length threads) t; objects = y.1 }) t left y.2 (after_request y.2 m)
 
   -- a step that ends by a fault
-  fault_follows : (fault : Fault) → false ≡ is_refused_fault fault → done c s r t left m there false ≡ StateRaises fault → Follows c s t (counted_with (c.threads, c.objects, Raises fault))
+  fault_follows : (fault : Fault) → false ≡ is_refused_fault fault → done c s r t left m there false ≡ StateRaises fault → Follows c s t (counted_with c.threads (c.threads, c.objects, Raises fault))
   fault_follows fault refuses e = comes c s r t left m there c.threads (λ x. refl) false (Raises fault) refuses (answer_of m c.objects c.statics c.printed (Comes (Raises fault))) (e, (refl, refl, refl))
 
   module _ (rest : List StateValue) (object : Addr) (number : ℕ) (x : IsThreadObject c.tree r.stands.name c.objects s object number) (named : r.stands.name object.number ≡ Some (Born number)) where
@@ -79,16 +86,25 @@ module _ (c : Content) (s : State) (r : Represents c s) (t left : ℕ) (m : Fram
       monitor = x.monitor;
     }
 
+    no_reference : holds_reference c.tree x.cell.kind 0 ≡ false
+    no_reference = ap (λ k. holds_reference c.tree k 0) x.kind ∙ hidden_says c.tree x.own x.class x.class_is x.is_thread
+
     slot_there : 0 < length x.cell.slots
     slot_there = subst (λ (l : List ℕ). 0 < length l) (sym x.slots) (omega arith)
 
+    -- the heap with the word is a memory of the model
+    marked_modelled : IsModelled c.tree (one_block c.tree c.limits.words) r.stands.name (with_slot c.objects object 0 told_word) c.statics c.printed (with_object s (Born number) marked)
+    marked_modelled = record {
+      fits =
+          subst (λ p. (one_block c.tree c.limits.words).Fits r.stands.name (stored_int p c.objects object 0 told_word) c.statics (with_object s (Born number) marked)) (idle_phase c.tree c.limits.words)
+          ((one_block c.tree c.limits.words).hidden r.stands.name c.objects c.statics s (modelled c.tree c.limits.words r.stands.name c.objects c.statics c.printed s r.stands.by.memory (idle_heap c r.sound)).fits object number named x.cell x.lies 0 told_word slot_there no_reference marked marked_cell);
+      printed_is = r.stands.by.memory.printed_is;
+    }
+
     marked_memory : IsMemory c.tree r.stands.name (with_slot c.objects object 0 told_word) c.statics c.printed (with_object s (Born number) marked)
     marked_memory =
-        memory_of c.tree r.stands.name (with_slot c.objects object 0 told_word) c.statics c.printed (with_object s (Born number) marked)
-        (record {
-          fits = (one_block c.tree).hidden r.stands.name c.objects c.statics s (modelled c.tree r.stands.name c.objects c.statics c.printed s r.stands.by.memory).fits object number named x.cell x.lies 0 told_word slot_there marked marked_cell;
-          printed_is = r.stands.by.memory.printed_is;
-        })
+        memory_of c.tree c.limits.words r.stands.name (with_slot c.objects object 0 told_word) c.statics c.printed (with_object s (Born number) marked)
+        marked_modelled
 
     module _ (b : IsBegun c s r t left m there rest object number x) where
       -- the thread that begins
@@ -108,31 +124,32 @@ module _ (c : Content) (s : State) (r : Represents c s) (t left : ℕ) (m : Fram
       }
 
       begun_follows : (operation : Operation) → IsAt c.tree m operation → HasSmallConstant operation → (operand : StateValue) → (running c s r t left m there).stack ≡ operand ∷ rest →
-          Follows c s t (counted_with (c.threads ++ beginning ∷ [], with_slot c.objects object 0 told_word, GoesOn))
+          Follows c s t (counted_with c.threads (c.threads ++ beginning ∷ [], with_slot c.objects object 0 told_word, GoesOn))
       begun_follows operation at constant operand stack =
-          finish c s r t left m there r.stands.name (c.threads ++ beginning ∷ []) (c.threads ++ beginning ∷ []) (with_slot c.objects object 0 told_word) c.statics c.printed
-          (state_with c s r t left m there rest object number x b.found b.code) (λ y. refl) begun_stands false GoesOn refl (after_request GoesOn m)
+          finish c s r t left m there r.stands.name (c.threads ++ beginning ∷ []) (c.threads ++ beginning ∷ []) (joined c.posts (length c.threads) t) (with_slot c.objects object 0 told_word) c.statics c.printed
+          (state_with c s r t left m there rest object number x b.found b.code) (λ y. refl) begun_stands (sound_of c.tree c.limits.words r.stands.name (with_slot c.objects object 0 told_word) c.statics c.printed (with_object s (Born number) marked) marked_modelled) false GoesOn refl (after_request GoesOn m)
           (after (running c s r t left m there) rest, below c s r t left m there, b.does, popped_frames c s r t left m there operation at constant operand rest stack)
 
   -- ---- Start
 
   module _ (operation : Operation) (at : IsAt c.tree m operation) (constant : HasSmallConstant operation) where
     start_follows : (object : Addr) → (asks : Asks c s r t left m there Start object (answer_of m c.objects c.statics c.printed (Starts object))) → (after' : Content × Report) →
-        option_map counted_with (started c.tree c.limits c.threads c.objects object) ≡ Some after' → Follows c s t after'
+        option_map (counted_with c.threads) (started (mutator_of c t).phase c.tree c.limits c.threads c.objects object) ≡ Some after' → Follows c s t after'
     start_follows object asks after' h = by_object (start_asked object (answer_of m c.objects c.statics c.printed (Starts object)) asks)
       where
-        leads : (y : List Thread × Objects × Effect) → started c.tree c.limits c.threads c.objects object ≡ Some y → Follows c s t (counted_with y) → Follows c s t after'
-        leads y is f = subst (Follows c s t) (same_Some (counted_with y) after' (sym (ap (option_map counted_with) is) ∙ h)) f
+        leads : (y : List Thread × Objects × Effect) → started (mutator_of c t).phase c.tree c.limits c.threads c.objects object ≡ Some y → Follows c s t (counted_with c.threads y) → Follows c s t after'
+        leads y is f = subst (Follows c s t) (same_Some (counted_with c.threads y) after' (sym (ap (option_map (counted_with c.threads)) is) ∙ h)) f
 
-        fault_starts : (fault : Fault) → start_fault c.threads c.objects object ≡ Some fault → started c.tree c.limits c.threads c.objects object ≡ Some (c.threads, c.objects, Raises fault)
-        fault_starts fault is = ap (λ o. option_map_or (λ y. Some (c.threads, c.objects, Raises y)) o (option_map (with_start c.threads c.objects object) (thread_for c.tree c.limits c.objects object))) is
+        fault_starts : (fault : Fault) → start_fault c.threads c.objects object ≡ Some fault → started (mutator_of c t).phase c.tree c.limits c.threads c.objects object ≡ Some (c.threads, c.objects, Raises fault)
+        fault_starts fault is = ap (λ o. option_map_or (λ y. Some (c.threads, c.objects, Raises y)) o (option_map (with_start (mutator_of c t).phase c.threads c.objects object) (thread_for c.tree c.limits c.objects object))) is
 
         thread_starts : (thread : Thread) → start_fault c.threads c.objects object ≡ None → thread_for c.tree c.limits c.objects object ≡ Some thread →
-            started c.tree c.limits c.threads c.objects object ≡ Some (c.threads ++ thread ∷ [], with_slot c.objects object 0 (length c.threads + 1), GoesOn)
+            started (mutator_of c t).phase c.tree c.limits c.threads c.objects object ≡ Some (c.threads ++ thread ∷ [], with_slot c.objects object 0 (length c.threads + 1), GoesOn)
         thread_starts thread is found =
-            ap (λ o. option_map_or (λ y. Some (c.threads, c.objects, Raises y)) o (option_map (with_start c.threads c.objects object) (thread_for c.tree c.limits c.objects object))) is ∙
-            ap (option_map (with_start c.threads c.objects object)) found ∙
-            ap (λ o. Some (option_map_or (λ f. (c.threads, c.objects, Raises f)) o (c.threads ++ thread ∷ [], with_slot c.objects object 0 (length c.threads + 1), GoesOn))) is
+            ap (λ o. option_map_or (λ y. Some (c.threads, c.objects, Raises y)) o (option_map (with_start (mutator_of c t).phase c.threads c.objects object) (thread_for c.tree c.limits c.objects object))) is ∙
+            ap (option_map (with_start (mutator_of c t).phase c.threads c.objects object)) found ∙
+            ap (λ o. Some (option_map_or (λ f. (c.threads, c.objects, Raises f)) o (c.threads ++ thread ∷ [], stored_int (mutator_of c t).phase c.objects object 0 (length c.threads + 1), GoesOn))) is ∙
+            ap (λ p. Some (c.threads ++ thread ∷ [], stored_int p c.objects object 0 (length c.threads + 1), GoesOn)) (in_first_phase c.posts r.sound.up_to t)
 
         by_object : IsAskedOf c s r t left m there (done c s r t left m there false) (λ n. start (here c s r t left m there) s (running c s r t left m there) (below c s r t left m there) n asks.rest) object → Follows c s t after'
         by_object (inl (is, e)) = leads (c.threads, c.objects, Raises NullReference) (fault_starts NullReference (ap (start_fault c.threads c.objects) is)) (fault_follows NullReference refl e)
@@ -147,8 +164,8 @@ module _ (c : Content) (s : State) (r : Represents c s) (t left : ℕ) (m : Fram
 
     -- a step that asks for a start
     pub starts : (threads : List Thread) → threads ≡ c.threads → (object : Addr) → Asks c s r t left m there Start object (answer_of m c.objects c.statics c.printed (Starts object)) → (after' : Content × Report) →
-        option_map counted_with (started c.tree c.limits threads c.objects object) ≡ Some after' → Follows c s t after'
-    starts threads same object asks after' h = start_follows object asks after' (subst (λ ts. option_map counted_with (started c.tree c.limits ts c.objects object) ≡ Some after') same h)
+        option_map (counted_with threads) (started (mutator_of c t).phase c.tree c.limits threads c.objects object) ≡ Some after' → Follows c s t after'
+    starts threads same object asks after' h = start_follows object asks after' (subst (λ ts. option_map (counted_with ts) (started (mutator_of c t).phase c.tree c.limits ts c.objects object) ≡ Some after') same h)
 
   -- ---- that it can be answered
 

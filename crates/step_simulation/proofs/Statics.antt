@@ -1,7 +1,8 @@
 -- Loads and stores of static fields.
-use Rattle.std.proofs.Common.{◌≡◌, ◌<◌, ◌+◌, ◌^◌, ℕ, Bool, true, IsTrue, ◌&&◌, if◌then◌else◌, List, [], ◌∷◌, find, length, Option, Some, None, option_map, option_and_then, slice_get, slice_set, refl, sym, ap, ◌∙◌, subst, arith}
+use Rattle.std.proofs.Common.{◌≡◌, ◌<◌, ◌+◌, ◌^◌, ℕ, Bool, true, IsTrue, ◌&&◌, if◌then◌else◌, List, [], ◌∷◌, find, length, Some, None, option_and_then, slice_get, slice_set, refl, sym, ap, ◌∙◌, subst, arith}
 use Rattle.std.specs.Prelude.{nat_lt}
 use Rattle.std.specs.List.{list_any}
+use Rattle.std.proofs.lemmas.Bool.{and_from}
 use Rattle.std.proofs.lemmas.Bool.Decides.{nat_tests}
 use Rattle.std.proofs.lemmas.List.{append-nil}
 use Rattle.std.proofs.lemmas.Option.{slice_get_within}
@@ -30,11 +31,11 @@ use Rattle.simulation.specs.resolved_code.declared.operations.Operation.{Operati
 use Rattle.simulation.specs.resolved_code.declared.operations.Operation.TheVariants as Resolved
 use Rattle.simulation.specs.object_memory.declared.values.Value.{Value}
 use Rattle.simulation.specs.object_memory.Objects.{Objects}
+use Rattle.simulation.specs.instructions.barriers.Barriers.{is_static_storable, stored_static}
 use Rattle.simulation.specs.threads_monitors.Frames.{Frames, with_place, with_stack}
-use Rattle.simulation.specs.threads_monitors.declared.effects.Effect.{Effect}
 use Rattle.simulation.specs.threads_monitors.declared.effects.Effect.TheVariants.{GoesOn}
 use Rattle.simulation.specs.instructions.Frames.{given, leaves, onward}
-use Rattle.simulation.specs.instructions.ObjectTurns.{load_static_turn, store_static_turn}
+use Rattle.simulation.specs.instructions.ObjectTurns.{load_static_turn, store_static_turn, StaticTurn, beside_statics}
 use Rattle.simulation.specs.interpreter.declared.outcomes.Outcome.TheVariants.{Comes}
 use Rattle.simulation.specs.interpreter.Instructions.{operation_turn, of_statics, answer_of}
 use Rattle.simulation.specs.interpreter.Operations.{small, static_in, static_at}
@@ -46,7 +47,7 @@ use Rattle.simulation.proofs.Instructions.{IsSetting, DoesAlike}
 use Rattle.simulation.proofs.Operands.{fine, one_operand}
 use Rattle.step_simulation.proofs.Parts.{alike_turn, given_alike, known_alike}
 use Rattle.step_simulation.proofs.Placed.{IsPlaced, placed, key_there, replaced_is}
-use Rattle.simulation.proofs.MemoryModels.{MemoryModel, IsModelled}
+use Rattle.simulation.proofs.MemoryModels.{MemoryModel, IsModelled, mutator_in}
 
 -- a number below the bound passes as one of 32 bits
 pub is_small : (n : ℕ) → n < 2 ^ 32 → small n ≡ Some n
@@ -98,21 +99,21 @@ module _ (here : Setting) (model : MemoryModel here.tree) (name : Names) (m : Fr
 
   module _ (r : FieldReference) (field : MemberNumber) (is : IsField here.tree true r field) (at : IsSetting here model name m o statics printed s f below (Named.LoadStaticField r) (Resolved.LoadStaticField field)) where
     -- the turn, by the number of the field
-    abbrev loads : ℕ → Option (Frames × List Value × Effect)
-    loads n = option_map (λ (t : Frames × Effect). (t.0, statics, t.1)) (load_static_turn n m statics)
+    abbrev loads : ℕ → StaticTurn
+    loads n = beside_statics (o, statics) (load_static_turn n m statics)
 
     -- once the value is found
     load_after : (n : ℕ) (v : Value) (u : StateValue) → slice_get statics n ≡ Some v → IsValue name v u → DoesAlike here model name m o statics printed s f below (of_statics o statics printed (loads n)) (next here s f below (u ∷ f.stack))
     load_after n v u there stands = record {
       answer = answer_of (with_place (with_stack m (v ∷ m.running.stack)) (m.running.place + 1)) o statics printed (Comes GoesOn);
-      is = ap (λ x. of_statics o statics printed (option_map (λ (t : Frames × Effect). (t.0, statics, t.1)) (given x (λ w. leaves w m)))) there ∙
-          ap (λ x. of_statics o statics printed (option_map (λ (t : Frames × Effect). (t.0, statics, t.1)) x)) (leaves_is here model name m o statics printed s f below (Named.LoadStaticField r) (Resolved.LoadStaticField field) at v m.running.stack (omega arith));
+      is = ap (λ x. of_statics o statics printed (beside_statics (o, statics) (given x (λ w. leaves w m)))) there ∙
+          ap (λ x. of_statics o statics printed (beside_statics (o, statics) x)) (leaves_is here model name m o statics printed s f below (Named.LoadStaticField r) (Resolved.LoadStaticField field) at v m.running.stack (omega arith));
       refuses = λ _ h. never h;
       alike = λ refused. next_alike here model name m o statics printed s f below (Named.LoadStaticField r) (Resolved.LoadStaticField field) at (v ∷ m.running.stack) (u ∷ f.stack) (stands, (own_frame here model name m o statics printed s f below (Named.LoadStaticField r) (Resolved.LoadStaticField field) at).stack);
     }
 
     -- the whole instruction
-    pub load_static_field_alike : DoesAlike here model name m o statics printed s f below (operation_turn here.tree here.thread (Resolved.LoadStaticField field) m o statics printed) (execute here s f below (Named.LoadStaticField r))
+    pub load_static_field_alike : DoesAlike here model name m o statics printed s f below (operation_turn here.tree (mutator_in here model) (Resolved.LoadStaticField field) m o statics printed) (execute here s f below (Named.LoadStaticField r))
     load_static_field_alike =
         let own = place (Named.LoadStaticField r) (Resolved.LoadStaticField field) at r field is in
         let there = held (Named.LoadStaticField r) (Resolved.LoadStaticField field) at r field is in
@@ -127,8 +128,8 @@ module _ (here : Setting) (model : MemoryModel here.tree) (name : Names) (m : Fr
 
   module _ (r : FieldReference) (field : MemberNumber) (is : IsField here.tree true r field) (at : IsSetting here model name m o statics printed s f below (Named.StoreStaticField r) (Resolved.StoreStaticField field)) where
     -- the turn, by the number of the field
-    abbrev stores : ℕ → Value → Frames → Option (Frames × List Value × Effect)
-    stores n v k = if nat_lt n (length statics) then option_map (λ (t : Frames × Effect). (t.0, slice_set statics n v, t.1)) (onward k) else None
+    abbrev stores : ℕ → Value → Frames → StaticTurn
+    stores n v k = if nat_lt n (length statics) && is_static_storable model.phase o v then beside_statics (stored_static model.phase o statics n v) (onward k) else None
 
     -- the number is one of the static fields
     inside : (n : ℕ) → n < length statics → nat_lt n (length statics) ≡ true
@@ -138,24 +139,28 @@ module _ (here : Setting) (model : MemoryModel here.tree) (name : Names) (m : Fr
     store_after : (n : ℕ) (v : Value) (u : StateValue) → IsValue name v u → (entries : List (FieldKey × StateValue)) → n < length statics → Agree HoldsStatic (slice_set statics n v) entries → (rest : List Value) (rest' : List StateValue) → Agree (IsValue name) rest rest' →
         DoesAlike here model name m o statics printed s f below (of_statics o statics printed (stores n v (with_stack m rest))) (onward_frame f below (record s { statics = entries }) rest')
     store_after n v u is entries near agree rest rest' k = record {
-      answer = answer_of (with_place (with_stack m rest) (m.running.place + 1)) o (slice_set statics n v) printed (Comes GoesOn);
-      is = ap (λ b. of_statics o statics printed (if b then option_map (λ (t : Frames × Effect). (t.0, slice_set statics n v, t.1)) (onward (with_stack m rest)) else None)) (inside n near) ∙
-          ap (λ x. of_statics o statics printed (option_map (λ (t : Frames × Effect). (t.0, slice_set statics n v, t.1)) x)) (onward_is here model name m o statics printed s f below (Named.StoreStaticField r) (Resolved.StoreStaticField field) at rest);
+      answer = answer_of (with_place (with_stack m rest) (m.running.place + 1)) memory_after.0 memory_after.1 printed (Comes GoesOn);
+      is = ap (λ b. of_statics o statics printed (if b then beside_statics memory_after (onward (with_stack m rest)) else None))
+          (and_from (nat_lt n (length statics)) (is_static_storable model.phase o v) (inside n near) (model.static_storable name o statics s at.memory.fits v u is)) ∙
+          ap (λ x. of_statics o statics printed (beside_statics memory_after x)) (onward_is here model name m o statics printed s f below (Named.StoreStaticField r) (Resolved.StoreStaticField field) at rest);
       refuses = λ _ h. never h;
-      alike = λ refused. onward_alike here model name m o statics printed s f below (Named.StoreStaticField r) (Resolved.StoreStaticField field) at name (λ b n' e. e) o (slice_set statics n v) printed (record s { statics = entries }) refl memory rest rest' k;
+      alike = λ refused. onward_alike here model name m o statics printed s f below (Named.StoreStaticField r) (Resolved.StoreStaticField field) at name (λ b n' e. e) memory_after.0 memory_after.1 printed (record s { statics = entries }) refl memory rest rest' k;
     }
       where
-        memory : IsModelled here.tree model name o (slice_set statics n v) printed (record s { statics = entries })
+        memory_after : Objects × List Value
+        memory_after = stored_static model.phase o statics n v
+
+        memory : IsModelled here.tree model name memory_after.0 memory_after.1 printed (record s { statics = entries })
         memory = record { fits = model.static_stores name o statics s at.memory.fits n v u near is entries agree; printed_is = at.memory.printed_is }
 
     -- the whole instruction
-    pub store_static_field_alike : DoesAlike here model name m o statics printed s f below (operation_turn here.tree here.thread (Resolved.StoreStaticField field) m o statics printed) (execute here s f below (Named.StoreStaticField r))
+    pub store_static_field_alike : DoesAlike here model name m o statics printed s f below (operation_turn here.tree (mutator_in here model) (Resolved.StoreStaticField field) m o statics printed) (execute here s f below (Named.StoreStaticField r))
     store_static_field_alike =
         let own = place (Named.StoreStaticField r) (Resolved.StoreStaticField field) at r field is in
         let there = held (Named.StoreStaticField r) (Resolved.StoreStaticField field) at r field is in
         let key' : FieldKey = key_of (is.declared_in, is.found) in
-        alike_turn here model name m o statics printed s f below (Named.StoreStaticField r) (Resolved.StoreStaticField field) at _ (of_statics o statics printed (store_static_turn own.place m statics)) _
-        (ap (λ x. of_statics o statics printed (given x (λ n. store_static_turn n m statics))) (number_is (Named.StoreStaticField r) (Resolved.StoreStaticField field) at r field is))
+        alike_turn here model name m o statics printed s f below (Named.StoreStaticField r) (Resolved.StoreStaticField field) at _ (of_statics o statics printed (store_static_turn model.phase own.place m o statics)) _
+        (ap (λ x. of_statics o statics printed (given x (λ n. store_static_turn model.phase n m o statics))) (number_is (Named.StoreStaticField r) (Resolved.StoreStaticField field) at r field is))
         (one_operand here model name m o statics printed s f below (Named.StoreStaticField r) (Resolved.StoreStaticField field) at (of_statics o statics printed) (stores own.place)
         (λ v rest. state_given (find_field here.tree true r) (λ found. state_given (replaced_entry (key_of found) v s.statics) (λ entries. onward_frame f below (record s { statics = entries }) rest)))
         (fine here model name m o statics printed s f below (Named.StoreStaticField r) (Resolved.StoreStaticField field) at)

@@ -22,7 +22,8 @@ use Rattle.simulation.specs.object_memory.declared.kinds.Kind.{Kind}
 use Rattle.simulation.specs.object_memory.declared.kinds.Kind.TheVariants.{Instance, Array}
 use Rattle.simulation.specs.object_memory.declared.values.Value.{Value}
 use Rattle.simulation.specs.object_memory.Cells.{Cell, store_slot as stored_slot}
-use Rattle.simulation.specs.object_memory.Objects.{Objects, with_slot}
+use Rattle.simulation.specs.object_memory.Objects.{Objects}
+use Rattle.simulation.specs.instructions.barriers.Barriers.{is_storable, stored_value}
 use Rattle.simulation.specs.object_memory.Values.{value_word}
 use Rattle.simulation.specs.threads_monitors.Frames.{Frames, with_place, with_stack}
 use Rattle.simulation.specs.threads_monitors.declared.effects.Effect.TheVariants.{GoesOn, Raises}
@@ -41,7 +42,11 @@ use Rattle.step_simulation.proofs.ObjectTypes.{may_stand_as_is, IsArrayAt, array
 use Rattle.simulation.proofs.Memories.{named_is_not_null}
 use Rattle.simulation.proofs.cil_model.SameLaws.{never}
 use Rattle.simulation.proofs.cil_model.Lists.{none_is_some}
-use Rattle.simulation.proofs.MemoryModels.{MemoryModel, IsModelled}
+use Rattle.simulation.proofs.MemoryModels.{MemoryModel, IsModelled, mutator_in}
+use Rattle.simulation.proofs.type_soundness.StateChanges.{element_typed, array_typed}
+use Rattle.simulation.specs.collector.References.{holds_reference, is_reference_value}
+use Rattle.step_simulation.proofs.ReferenceSlots.{element_says, is_reference_kind, same_kinds, value_says}
+use Rattle.step_simulation.proofs.Words.{kind_fits}
 
 -- an index is one on both
 index_is : (name : Names) (v : Value) (u : StateValue) → IsValue name v u → index_in v ≡ as_index u
@@ -103,12 +108,14 @@ module _ (here : Setting) (model : MemoryModel here.tree) (name : Names) (m : Fr
           ap (λ c. option_and_then (λ (held : DeclaredType × List StateValue). option_map (λ es. with_object s (Born n) (record there.object { contents = IsArray held.0 es })) (replaced_at place u held.1)) (elements_of_contents c)) there.contents ∙
           ap (λ x. option_map (λ es. with_object s (Born n) (record there.object { contents = IsArray t es })) (same_kind_or_none x u (slice_set elements place u))) old_is
 
-      changed_turn : store_slot v place a (with_stack m rest) o ≡ Some (with_place (with_stack m rest) (m.running.place + 1), with_slot o a place (value_word v), GoesOn)
+      changed_turn : store_slot model.phase v place a (with_stack m rest) o ≡ Some (with_place (with_stack m rest) (m.running.place + 1), stored_value model.phase o a place v, GoesOn)
       changed_turn =
           let slot = agree_get (IsWord name) there.cell.slots elements there.words place old old_is in
-          ap (λ x. given (option_map (λ (c : Cell). c.slots) x) (λ slots. given (slice_get slots place) (λ w. beside (with_slot o a place (value_word v)) (onward (with_stack m rest))))) there.lies ∙
-          ap (λ x. given x (λ w. beside (with_slot o a place (value_word v)) (onward (with_stack m rest)))) slot.1 ∙
-          ap (beside (with_slot o a place (value_word v))) (onward_is here model name m o statics printed s f below Named.StoreElementReference Resolved.StoreElementReference at rest)
+          ap (λ x. given (option_map (λ (c : Cell). c.slots) x) (λ slots. given (slice_get slots place) (λ w. if is_storable model.phase o a place v then beside (stored_value model.phase o a place v) (onward (with_stack m rest)) else None))) there.lies ∙
+          ap (λ x. given x (λ w. if is_storable model.phase o a place v then beside (stored_value model.phase o a place v) (onward (with_stack m rest)) else None)) slot.1 ∙
+          ap (λ b. if b then beside (stored_value model.phase o a place v) (onward (with_stack m rest)) else None)
+          (model.storable name o statics s at.memory.fits a n named there.cell there.lies place v u (slice_get_within there.cell.slots place slot.0 slot.1) stands) ∙
+          ap (beside (stored_value model.phase o a place v)) (onward_is here model name m o statics printed s f below Named.StoreElementReference Resolved.StoreElementReference at rest)
 
       changed_stands : IsCell here.tree name (stored_slot place (value_word v) there.cell) changed
       changed_stands = record {
@@ -116,11 +123,19 @@ module _ (here : Setting) (model : MemoryModel here.tree) (name : Names) (m : Fr
         monitor = there.monitor;
       }
 
-      changed_memory : IsModelled here.tree model name (with_slot o a place (value_word v)) statics printed (with_object s (Born n) changed)
-      changed_memory = record {
+      -- the slot is of the sort of what was there, and so of what comes
+      sort : same_kind old u ≡ true → is_reference_value v ≡ holds_reference here.tree there.cell.kind place
+      sort kinds =
+          let held : array_at s (Born n) ≡ Some (t, elements) = ap (option_and_then (λ (x : HeapObject). elements_of_contents x.contents)) there.is ∙ ap elements_of_contents there.contents in
+          let typed_old = element_typed here.tree at.running.accepted.legal s t elements place old (array_typed here.tree at.running.accepted.legal s at.running.typed (Born n) t elements held) old_is in
+          value_says name v u stands ∙ sym (same_kinds old u kinds) ∙ ap is_reference_kind (sym (kind_fits here.tree at.running.accepted.legal s old t typed_old)) ∙ sym (element_says here.tree there.holds t there.held place) ∙
+          ap (λ k. holds_reference here.tree k place) (sym there.kind)
+
+      changed_memory : same_kind old u ≡ true → IsModelled here.tree model name (stored_value model.phase o a place v) statics printed (with_object s (Born n) changed)
+      changed_memory kinds = record {
         fits =
             (let slot = agree_get (IsWord name) there.cell.slots elements there.words place old old_is in
-            model.slots name o statics s at.memory.fits a n named there.cell there.lies place v u (slice_get_within there.cell.slots place slot.0 slot.1) stands changed changed_stands);
+            model.slots name o statics s at.memory.fits a n named there.cell there.lies place v u (slice_get_within there.cell.slots place slot.0 slot.1) (sort kinds) stands changed changed_stands);
         printed_is = at.memory.printed_is;
       }
 
@@ -130,32 +145,32 @@ module _ (here : Setting) (model : MemoryModel here.tree) (name : Names) (m : Fr
 
       -- a value that the array admits is stored
       stored_alike : Typed (given_state (with_element s (Born n) place u) (λ s'. onward_frame f below s' rest')) →
-          Alike (store_slot v place a (with_stack m rest) o) (given_state (with_element s (Born n) place u) (λ s'. onward_frame f below s' rest'))
+          Alike (store_slot model.phase v place a (with_stack m rest) o) (given_state (with_element s (Born n) place u) (λ s'. onward_frame f below s' rest'))
       stored_alike typed =
-          subst (λ x. Alike (store_slot v place a (with_stack m rest) o) (given_state x (λ s'. onward_frame f below s' rest'))) (sym changed_state)
-          (by_kind (same_kind old u) (subst (λ x. Typed (given_state x (λ s'. onward_frame f below s' rest'))) changed_state typed))
+          subst (λ x. Alike (store_slot model.phase v place a (with_stack m rest) o) (given_state x (λ s'. onward_frame f below s' rest'))) (sym changed_state)
+          (by_kind (same_kind old u) refl (subst (λ x. Typed (given_state x (λ s'. onward_frame f below s' rest'))) changed_state typed))
         where
-          by_kind : (b : Bool) → Typed (stored b) → Alike (store_slot v place a (with_stack m rest) o) (stored b)
-          by_kind false typed' = elim typed' [ ]
-          by_kind true typed' = record {
-            answer = answer_of (with_place (with_stack m rest) (m.running.place + 1)) (with_slot o a place (value_word v)) statics printed (Comes GoesOn);
+          by_kind : (b : Bool) → same_kind old u ≡ b → Typed (stored b) → Alike (store_slot model.phase v place a (with_stack m rest) o) (stored b)
+          by_kind false kinds typed' = elim typed' [ ]
+          by_kind true kinds typed' = record {
+            answer = answer_of (with_place (with_stack m rest) (m.running.place + 1)) (stored_value model.phase o a place v) statics printed (Comes GoesOn);
             is = ap (of_objects o statics printed) changed_turn;
             refuses = λ _ h. never h;
-            alike = λ r. onward_alike here model name m o statics printed s f below Named.StoreElementReference Resolved.StoreElementReference at name (λ b k named'. named') (with_slot o a place (value_word v)) statics printed
-                (with_object s (Born n) changed) refl changed_memory rest rest' agree;
+            alike = λ r. onward_alike here model name m o statics printed s f below Named.StoreElementReference Resolved.StoreElementReference at name (λ b k named'. named') (stored_value model.phase o a place v) statics printed
+                (with_object s (Born n) changed) refl (changed_memory kinds) rest rest' agree;
           }
 
       -- the same by what the array's own elements admit
       abbrev turn_by : Option Bool → ObjectTurn
-      turn_by b = given b (λ holds. if holds then store_slot v place a (with_stack m rest) o else Some (with_stack m rest, o, Raises ArrayTypeMismatch))
+      turn_by b = given b (λ holds. if holds then store_slot model.phase v place a (with_stack m rest) o else Some (with_stack m rest, o, Raises ArrayTypeMismatch))
 
-      turn_is : store_admitted here.tree v place a (with_stack m rest) o ≡ turn_by (may_hold here s f below t u)
+      turn_is : store_admitted model.phase here.tree v place a (with_stack m rest) o ≡ turn_by (may_hold here s f below t u)
       turn_is =
           ap (λ x. given (option_and_then (λ (c : Cell). element_in c.kind) x) (λ e. turn_by (may_stand_as here.tree o v (held_type e)))) there.lies ∙
           ap (λ k. given (element_in k) (λ e. turn_by (may_stand_as here.tree o v (held_type e)))) there.kind ∙
           ap turn_by (may_stand_as_is here name o s f below (model.reads name o statics s at.memory.fits) v u t (held_type there.holds) there.held stands)
 
-      admitted_alike : Typed (tested u rest' (Born n) t place) → Alike (store_admitted here.tree v place a (with_stack m rest) o) (tested u rest' (Born n) t place)
+      admitted_alike : Typed (tested u rest' (Born n) t place) → Alike (store_admitted model.phase here.tree v place a (with_stack m rest) o) (tested u rest' (Born n) t place)
       admitted_alike typed = subst (λ turn. Alike turn (tested u rest' (Born n) t place)) (sym turn_is) (by_class (may_hold here s f below t u) typed)
         where
           by_class : (b : Option Bool) → Typed (tested_by u rest' (Born n) place b) → Alike (turn_by b) (tested_by u rest' (Born n) place b)
@@ -165,7 +180,7 @@ module _ (here : Setting) (model : MemoryModel here.tree) (name : Names) (m : Fr
 
     -- the machine's store to a place, if there is one
     abbrev ranged_turn : Addr → Option ℕ → ObjectTurn
-    ranged_turn a place = in_range place (with_stack m rest) o (λ slot. store_admitted here.tree v slot a (with_stack m rest) o)
+    ranged_turn a place = in_range place (with_stack m rest) o (λ slot. store_admitted model.phase here.tree v slot a (with_stack m rest) o)
 
     module _ (a : Addr) (n : ℕ) (named : name a.number ≡ Some (Born n)) (t : DeclaredType) (elements : List StateValue) (there : IsArrayAt here.tree name o s a n t elements) where
       -- at a place within the array, or beyond it
@@ -225,10 +240,10 @@ module _ (here : Setting) (model : MemoryModel here.tree) (name : Names) (m : Fr
         by_index (Some z) typed' = held_alike a n named z (array_at s n) refl typed'
 
   -- stelem.ref (III.4.27)
-  pub store_element_reference_alike : DoesAlike here model name m o statics printed s f below (operation_turn here.tree here.thread Resolved.StoreElementReference m o statics printed) (execute here s f below Named.StoreElementReference)
+  pub store_element_reference_alike : DoesAlike here model name m o statics printed s f below (operation_turn here.tree (mutator_in here model) Resolved.StoreElementReference m o statics printed) (execute here s f below Named.StoreElementReference)
   store_element_reference_alike =
       three_operands here model name m o statics printed s f below Named.StoreElementReference Resolved.StoreElementReference at (of_objects o statics printed)
-      (λ array index v j. object_of array j o (λ a. index_of index (λ z. given (slots_of o a) (λ slots. in_range (place_in z (length slots)) j o (λ slot. store_admitted here.tree v slot a j o)))))
+      (λ array index v j. object_of array j o (λ a. index_of index (λ z. given (slots_of o a) (λ slots. in_range (place_in z (length slots)) j o (λ slot. store_admitted model.phase here.tree v slot a j o)))))
       (λ array index u rest. element here s f below is_reference array index (λ n t k old. tested u rest n t k))
       (fine here model name m o statics printed s f below Named.StoreElementReference Resolved.StoreElementReference at)
       (λ array index v rest array' index' u rest' is is' h k l agree shorter typed. element_alike v u l rest rest' agree array index array' index' h k typed)

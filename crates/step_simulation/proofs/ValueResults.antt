@@ -1,5 +1,5 @@
 -- What operations on values answer, of both machines.
-use Rattle.std.proofs.Common.{ℤ, pos, Bool, true, false, not, List, Some, Result, Ok, Err, refl, ap, subst, lit<}
+use Rattle.std.proofs.Common.{◌≡◌, if◌then◌else◌, ℤ, pos, Bool, true, false, not, is_some, List, Some, None, Result, Ok, Err, refl, inl, inr, sym, ap, subst, lit<}
 use Rattle.std.specs.Int.{w32, w64}
 use Rattle.simulation.specs.cil_model.declared.instructions.BinaryOperation.{BinaryOperation}
 use Rattle.simulation.specs.cil_model.declared.instructions.UnaryOperation.{UnaryOperation}
@@ -13,26 +13,33 @@ use Rattle.simulation.specs.cil_model.declared.trees.Tree.{Tree}
 use Rattle.simulation.specs.reference_machine.Values.{Value as StateValue, Int32 as Int32Value, Int64 as Int64Value}
 use Rattle.simulation.specs.reference_machine.Arithmetic.{binary, binary_value, unary_value, shift_value, compare_values, branch_values, is_set as is_set_value, convert_32, convert_64, one_or_zero as one_or_zero_value, result_as}
 use Rattle.simulation.specs.reference_machine.States.{State}
+use Rattle.simulation.specs.object_memory.declared.addresses.Addr.{Addr}
 use Rattle.simulation.specs.object_memory.declared.values.Value.{Value}
 use Rattle.simulation.specs.object_memory.declared.values.Value.TheVariants.{Int32, Int64}
+use Rattle.simulation.specs.object_memory.Cells.{null}
 use Rattle.simulation.specs.object_memory.Objects.{Objects}
+use Rattle.simulation.specs.instructions.barriers.Barriers.{are_comparable}
 use Rattle.simulation.specs.instructions.Frames.{binary_result, unary_result, shift_result, comparison, branch_test, one_or_zero, is_set, in_32_bits, in_64_bits}
 use Rattle.simulation.specs.StandsFor.{Names, IsValue, int32, int64, native, null_reference, reference}
 use Rattle.step_simulation.proofs.Fitting.{FitsResult, binary_fits, unary_fits, shift_fits, cast_fits, widened_fits}
 use Rattle.step_simulation.proofs.Meeting.{Meets, IsResult, Same, meets_itself}
 use Rattle.simulation.proofs.Memories.{named_is_not_null}
-use Rattle.simulation.proofs.MemoryModels.{MemoryModel}
+use Rattle.simulation.proofs.MemoryModels.{MemoryModel, IsReference}
 
 module _ (tree : Tree) (model : MemoryModel tree) (name : Names) (o : Objects) (statics : List Value) (s : State) (fits : model.Fits name o statics s) where
   -- ---- tests
 
-  pub comparison_meets : (op : Comparison) (v w : Value) (u x : StateValue) → IsValue name v u → IsValue name w x → Meets Same (comparison o op v w) (compare_values op u x)
+  -- references that have names, or are null, can be compared
+  compared : (a b : Addr) → IsReference name a → IsReference name b → (x y : Bool) → x ≡ y → Meets Same (if are_comparable model.phase o a b then Some x else None) (Some y)
+  compared a b h k x y same = subst (λ c. Meets Same (if c then Some x else None) (Some y)) (sym (model.comparable name o statics s fits a b h k)) same
+
+  pub comparison_meets : (op : Comparison) (v w : Value) (u x : StateValue) → IsValue name v u → IsValue name w x → Meets Same (comparison model.phase o op v w) (compare_values op u x)
   comparison_meets Equal v w u x (int32 y fits) (int32 z fits') = refl
   comparison_meets Equal v w u x (int64 y fits) (int64 z fits') = refl
-  comparison_meets Equal v w u x null_reference null_reference = model.same_null name o statics s fits
-  comparison_meets Equal v w u x null_reference (reference b n is) = model.null_name name o statics s fits b n is
-  comparison_meets Equal v w u x (reference a m is) null_reference = model.name_null name o statics s fits a m is
-  comparison_meets Equal v w u x (reference a m is) (reference b n is') = model.same name o statics s fits a b m n is is'
+  comparison_meets Equal v w u x null_reference null_reference = compared null null (inl refl) (inl refl) _ _ (model.same_null name o statics s fits)
+  comparison_meets Equal v w u x null_reference (reference b n is) = compared null b (inl refl) (inr (ap is_some is)) _ _ (model.null_name name o statics s fits b n is)
+  comparison_meets Equal v w u x (reference a m is) null_reference = compared a null (inr (ap is_some is)) (inl refl) _ _ (model.name_null name o statics s fits a m is)
+  comparison_meets Equal v w u x (reference a m is) (reference b n is') = compared a b (inr (ap is_some is)) (inr (ap is_some is')) _ _ (model.same name o statics s fits a b m n is is')
   comparison_meets Equal v w u x h k = tt
   comparison_meets Greater v w u x (int32 y fits) (int32 z fits') = refl
   comparison_meets Greater v w u x (int64 y fits) (int64 z fits') = refl
@@ -41,14 +48,14 @@ module _ (tree : Tree) (model : MemoryModel tree) (name : Names) (o : Objects) (
   comparison_meets Less v w u x (int64 y fits) (int64 z fits') = refl
   comparison_meets Less v w u x h k = tt
 
-  pub branch_test_meets : (op : BranchComparison) (v w : Value) (u x : StateValue) → IsValue name v u → IsValue name w x → Meets Same (branch_test o op v w) (branch_values op u x)
+  pub branch_test_meets : (op : BranchComparison) (v w : Value) (u x : StateValue) → IsValue name v u → IsValue name w x → Meets Same (branch_test model.phase o op v w) (branch_values op u x)
   branch_test_meets op v w u x (int32 y fits) (int32 z fits') = meets_itself (branch_values op (Int32Value y) (Int32Value z))
   branch_test_meets op v w u x (int64 y fits) (int64 z fits') = meets_itself (branch_values op (Int64Value y) (Int64Value z))
   branch_test_meets BranchEqual v w u x h k = comparison_meets Equal v w u x h k
-  branch_test_meets NotEqual v w u x null_reference null_reference = ap not (model.same_null name o statics s fits)
-  branch_test_meets NotEqual v w u x null_reference (reference b n is) = ap not (model.null_name name o statics s fits b n is)
-  branch_test_meets NotEqual v w u x (reference a m is) null_reference = ap not (model.name_null name o statics s fits a m is)
-  branch_test_meets NotEqual v w u x (reference a m is) (reference b n is') = ap not (model.same name o statics s fits a b m n is is')
+  branch_test_meets NotEqual v w u x null_reference null_reference = compared null null (inl refl) (inl refl) _ _ (ap not (model.same_null name o statics s fits))
+  branch_test_meets NotEqual v w u x null_reference (reference b n is) = compared null b (inl refl) (inr (ap is_some is)) _ _ (ap not (model.null_name name o statics s fits b n is))
+  branch_test_meets NotEqual v w u x (reference a m is) null_reference = compared a null (inr (ap is_some is)) (inl refl) _ _ (ap not (model.name_null name o statics s fits a m is))
+  branch_test_meets NotEqual v w u x (reference a m is) (reference b n is') = compared a b (inr (ap is_some is)) (inr (ap is_some is')) _ _ (ap not (model.same name o statics s fits a b m n is is'))
   branch_test_meets op v w u x h k = tt
 
   pub is_set_meets : (v : Value) (u : StateValue) → IsValue name v u → Meets Same (is_set v) (is_set_value u)

@@ -39,7 +39,7 @@ use Rattle.step_simulation.proofs.ObjectClasses.{method_by, chosen_is}
 use Rattle.simulation.proofs.Memories.{named_is_not_null}
 use Rattle.step_simulation.proofs.ChosenMethods.{IsChosen, is_chosen, chosen_has_number}
 use Rattle.simulation.proofs.cil_model.SameLaws.{never}
-use Rattle.simulation.proofs.MemoryModels.{MemoryModel}
+use Rattle.simulation.proofs.MemoryModels.{MemoryModel, mutator_in}
 
 -- ---- the operand pushed first
 
@@ -85,27 +85,27 @@ module _ (methods_run_alike : MethodsRunAlike) where
 
       -- the machine's part once the object is known
       abbrev turn_on : Addr → CallTurn
-      turn_on a = if a.number == 0 then Some (call_answer m o printed (Comes (Raises NullReference))) else run_chosen here.tree here.thread a method m o printed
+      turn_on a = if a.number == 0 then Some (call_answer m o printed (Comes (Raises NullReference))) else run_chosen here.tree (mutator_in here model) a method m o printed
 
-      turn_on_is : (a : Addr) (n : ObjectName) → name a.number ≡ Some n → turn_on a ≡ given (method_by here.tree own (class_of s n)) (λ x. run_turn here.tree here.thread x m o printed)
+      turn_on_is : (a : Addr) (n : ObjectName) → name a.number ≡ Some n → turn_on a ≡ given (method_by here.tree own (class_of s n)) (λ x. run_turn here.tree (mutator_in here model) x m o printed)
       turn_on_is a n named =
-          ap (λ b. if b then Some (call_answer m o printed (Comes (Raises NullReference))) else run_chosen here.tree here.thread a method m o printed) (named_is_not_null here.tree name o s (model.reads name o statics s at.memory.fits) a.number n named) ∙
-          ap (λ x. given (option_and_then (chosen here.tree o a) x) (λ y. run_turn here.tree here.thread y m o printed)) finds.numbered ∙
-          ap (λ x. given x (λ y. run_turn here.tree here.thread y m o printed)) (chosen_is here.tree name o s (model.reads name o statics s at.memory.fits) own a n named)
+          ap (λ b. if b then Some (call_answer m o printed (Comes (Raises NullReference))) else run_chosen here.tree (mutator_in here model) a method m o printed) (named_is_not_null here.tree name o s (model.reads name o statics s at.memory.fits) a.number n named) ∙
+          ap (λ x. given (option_and_then (chosen here.tree o a) x) (λ y. run_turn here.tree (mutator_in here model) y m o printed)) finds.numbered ∙
+          ap (λ x. given x (λ y. run_turn here.tree (mutator_in here model) y m o printed)) (chosen_is here.tree name o s (model.reads name o statics s at.memory.fits) own a n named)
 
       module _ (few : nat_le count (length f.stack) ≡ true) (this : StateValue) (arguments : List StateValue) (taken : reverse (take count f.stack) ≡ this ∷ arguments) where
         -- the method that an object chooses runs alike
-        run_alike : (run : ClassName × Method) → IsChosen here.tree signature run → Typed (run_method here s f below run (this ∷ arguments) rest) → Alike (run_turn here.tree here.thread run m o printed) (run_method here s f below run (this ∷ arguments) rest)
+        run_alike : (run : ClassName × Method) → IsChosen here.tree signature run → Typed (run_method here s f below run (this ∷ arguments) rest) → Alike (run_turn here.tree (mutator_in here model) run m o printed) (run_method here s f below run (this ∷ arguments) rest)
         run_alike run is typed =
-            subst (λ vs. Alike (run_turn here.tree here.thread run m o printed) (run_method here s f below run vs rest)) taken
-            (subst (λ n. Alike (run_turn here.tree here.thread run m o printed) (run_method here s f below run (reverse (take n f.stack)) (drop n f.stack))) is.count
+            subst (λ vs. Alike (run_turn here.tree (mutator_in here model) run m o printed) (run_method here s f below run vs rest)) taken
+            (subst (λ n. Alike (run_turn here.tree (mutator_in here model) run m o printed) (run_method here s f below run (reverse (take n f.stack)) (drop n f.stack))) is.count
             (methods_run_alike here model name m o statics printed s f below (Named.CallVirtual c label signature) (Resolved.CallVirtual owner method) at run is.class is.place is.numbered
             (subst (λ n. nat_le n (length f.stack) ≡ true) (sym is.count) few)
             (subst (λ n. Typed (run_method here s f below run (reverse (take n f.stack)) (drop n f.stack))) (sym is.count) (subst (λ vs. Typed (run_method here s f below run vs rest)) (sym taken) typed))))
 
         chosen_alike : (a : Addr) (n : ObjectName) → name a.number ≡ Some n → (run : Option (ClassName × Method)) → method_by here.tree own (class_of s n) ≡ run →
             Typed (given_state run (λ x. run_method here s f below x (this ∷ arguments) rest)) →
-            Alike (given run (λ x. run_turn here.tree here.thread x m o printed)) (given_state run (λ x. run_method here s f below x (this ∷ arguments) rest))
+            Alike (given run (λ x. run_turn here.tree (mutator_in here model) x m o printed)) (given_state run (λ x. run_method here s f below x (this ∷ arguments) rest))
         chosen_alike a n named None is typed = elim typed [ ]
         chosen_alike a n named (Some run) is typed = run_alike run (chosen_has_number here.tree signature own is_found.declared is_found.signature is_found.static (class_of s n) run is) typed
 
@@ -153,7 +153,7 @@ module _ (methods_run_alike : MethodsRunAlike) where
     -- callvirt (III.4.2)
     pub call_virtual_alike : (c : ClassName) (label : List ℕ) (signature : Signature) (owner : ℕ) (method : MemberNumber) → class_name here.tree owner ≡ Some c → IsMethod here.tree true (virtual_reference c label signature) method →
         IsSetting here model name m o statics printed s f below (Named.CallVirtual c label signature) (Resolved.CallVirtual owner method) →
-        DoesAlike here model name m o statics printed s f below (operation_turn here.tree here.thread (Resolved.CallVirtual owner method) m o statics printed) (execute here s f below (Named.CallVirtual c label signature))
+        DoesAlike here model name m o statics printed s f below (operation_turn here.tree (mutator_in here model) (Resolved.CallVirtual owner method) m o statics printed) (execute here s f below (Named.CallVirtual c label signature))
     call_virtual_alike c label signature owner method named finds at =
         subst (λ x. Alike (given x (λ y. given (receiver m.running.stack (length (argument_types y.1 y.0))) (turn_on c label signature owner method finds at))) (execute here s f below (Named.CallVirtual c label signature))) (sym finds.numbered)
         (subst (λ x. Alike (given (receiver m.running.stack (length (argument_types finds.found finds.declared_in))) (turn_on c label signature owner method finds at)) (given_state x (λ y. operands here s f below (types c label signature owner method finds at) (run_virtual here s f below y)))) (sym finds.finds)

@@ -19,11 +19,14 @@ use Rattle.simulation.specs.object_memory.Objects.{Objects}
 use Rattle.simulation.specs.threads_monitors.Frames.{Frames}
 use Rattle.simulation.specs.threads_monitors.declared.threads.Standing.TheVariants.{Live}
 use Rattle.simulation.specs.interpreter.Instructions.{IsDone, operation_turn, Answer}
-use Rattle.simulation.specs.MachineContents.{Content}
+use Rattle.simulation.specs.MachineContents.{Content, mutator_of}
 use Rattle.simulation.specs.StandsFor.{Names, Represents}
 use Rattle.simulation.specs.Turns.{IsTurn, opening_content}
-use Rattle.simulation.proofs.MemoryModels.{MemoryModel}
+use Rattle.simulation.proofs.MemoryModels.{MemoryModel, mutator_in}
 use Rattle.simulation.proofs.Instructions.{IsSetting, DoesAlike, InstructionsAreAlike}
+use Rattle.simulation.specs.phase_handshake.Handshakes.{acknowledged}
+use Rattle.step_simulation.proofs.Seats.{acknowledged_fits}
+use Rattle.step_simulation.proofs.SoundContents.{are_fitting, idle_heap, idle_is_sound}
 use Rattle.step_simulation.proofs.FrameInstructions.{no_operation_alike, load_int32_alike, load_int64_alike, load_null_alike, load_string_alike, load_argument_alike, store_argument_alike, load_local_alike, store_local_alike, duplicate_alike, pop_alike, binary_alike, unary_alike, shift_alike, compare_alike, convert_int32_alike, convert_int64_alike, branch_alike, branch_true_alike, branch_false_alike, branch_compare_alike, switch_alike}
 use Rattle.step_simulation.proofs.Fields.{load_field_alike, store_field_alike}
 use Rattle.step_simulation.proofs.Statics.{load_static_field_alike, store_static_field_alike}
@@ -45,7 +48,7 @@ use Rattle.step_simulation.proofs.Refusals.{refused_beyond_room}
 module _ (here : Setting) (model : MemoryModel here.tree) (name : Names) (m : Frames) (o : Objects) (statics : List Value) (printed : List ℕ) (s : State) (f : StateFrame) (below : List StateFrame) where
   -- by what runs for the instruction
   by_operation : (i : Instruction) (operation : Operation) → IsOperation here.tree (lines_of f.method) i operation → IsSetting here model name m o statics printed s f below i operation →
-      DoesAlike here model name m o statics printed s f below (operation_turn here.tree here.thread operation m o statics printed) (execute here s f below i)
+      DoesAlike here model name m o statics printed s f below (operation_turn here.tree (mutator_in here model) operation m o statics printed) (execute here s f below i)
   by_operation _ _ no_operation at = no_operation_alike here model name m o statics printed s f below at
   by_operation _ _ (load_int32 z) at = load_int32_alike here model name m o statics printed s f below z at
   by_operation _ _ (load_int64 z) at = load_int64_alike here model name m o statics printed s f below z at
@@ -111,7 +114,16 @@ step_is_refused c s r t after turn = refused_beyond_room each_alike c s r t afte
 
 -- what is no step keeps the state
 pub acknowledgement_keeps : (c : Content) (s : State) → Represents c s → (t : ℕ) (after : Content × Report) → IsTurn c (Ack t) after → Represents after.0 s
-acknowledgement_keeps c s r t after turn = subst (λ (x : Content × Report). Represents x.0 s) (sym turn) r
+acknowledgement_keeps c s r t after turn =
+    subst (λ (x : Content × Report). Represents x.0 s) (sym turn)
+    (record {
+      accepted = r.accepted;
+      limits = r.limits;
+      typed = r.typed;
+      counted = r.counted;
+      sound = idle_is_sound (record c { posts = acknowledged c.posts t }) s r.stands.name (record { memory = r.stands.by.memory; threads = r.stands.by.threads }) (acknowledged_fits c.posts c.threads (are_fitting c r.sound) t) (idle_heap c r.sound);
+      stands = record { name = r.stands.name; by = record { memory = r.stands.by.memory; threads = r.stands.by.threads } };
+    })
 
 pub collection_keeps : (c : Content) (s : State) → Represents c s → (after : Content × Report) → IsTurn c Gc after → Represents after.0 s
 collection_keeps c s r after turn = subst (λ (x : Content × Report). Represents x.0 s) (sym turn) r
@@ -122,5 +134,5 @@ thread_is_ready c s r t left m there = thread_ready each_alike c s r t left m th
 
 -- and so has what it asks of other threads
 pub asked_is_answerable : (c : Content) (s : State) → Represents c s → (t left : ℕ) (m : Frames) → slice_get c.threads t ≡ Some (record { standing = Live m; steps_left = left }) →
-    (a : Answer) → IsDone c.tree t m c.objects c.statics c.printed a → IsAnswerable c t left a a.outcome
+    (a : Answer) → IsDone c.tree (mutator_of c t) m c.objects c.statics c.printed a → IsAnswerable c t left a a.outcome
 asked_is_answerable c s r t left m there a done = answerable each_alike c s r t left m there a done

@@ -14,7 +14,7 @@ ghost use Rattle.simulation.specs.reference_machine.Runs.{is_refusal, opening};
 ghost use Rattle.simulation.specs.threads_monitors.Frames.{Frames};
 ghost use Rattle.simulation.specs.threads_monitors.declared.threads.Standing.TheVariants.{Live};
 ghost use Rattle.simulation.specs.interpreter.Instructions.{IsDone, Answer};
-ghost use Rattle.simulation.specs.MachineContents.{Content};
+ghost use Rattle.simulation.specs.MachineContents.{Content, mutator_of};
 ghost use Rattle.simulation.specs.StandsFor.{Represents};
 ghost use Rattle.simulation.specs.Turns.{IsTurn, opening_content};
 ghost use Rattle.simulation.specs.Ready.{IsReady, IsAnswerable};
@@ -34,7 +34,7 @@ pub fn live_threads_are_ready()
 /// And what the instruction asks of other threads can be answered.
 pub fn what_is_asked_can_be_answered()
     ensures { (c : Content) (s : State) → Represents c s → (t left : ℕ) (m : Frames) → slice_get c.threads t ≡ Some (record { standing = Live m; steps_left = left }) →
-        (a : Answer) → IsDone c.tree t m c.objects c.statics c.printed a → IsAnswerable c t left a a.outcome }
+        (a : Answer) → IsDone c.tree (mutator_of c t) m c.objects c.statics c.printed a → IsAnswerable c t left a a.outcome }
 {}
 
 /// Each step of a machine has the report of the reference machine's, with the same births refused, and represents its state.

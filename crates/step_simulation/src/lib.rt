@@ -3,4 +3,4 @@
 
 pub mod laws;
 
-pub use simulation::interpreter_code;
+pub use simulation::{collector_code, interpreter_code};

@@ -2,7 +2,7 @@
 use Rattle.std.specs.Prelude.{ℕ, zero, suc, ◌+◌, ◌-◌, ◌==◌, nat_le, if◌then◌else◌, Bool, false, is_none, is_some, List, [], ◌∷◌, ◌++◌, length, Option, Some, None, slice_get, slice_index}
 use Rattle.std.specs.Option.{option_map_or}
 use Rattle.cil_model.specs.declared.limits.TheConstants.{MOST_THREADS}
-use Rattle.cil_model.specs.declared.phases.Phase.TheVariants.{Idle}
+use Rattle.cil_model.specs.declared.phases.Phase.{Phase}
 use Rattle.cil_model.specs.declared.reports.End.{End}
 use Rattle.cil_model.specs.declared.reports.End.TheVariants.{Done, Budget, Fault as ByFault}
 use Rattle.cil_model.specs.declared.reports.Fault.{Fault}
@@ -91,10 +91,10 @@ start_fault threads o a =
     else if nat_le MOST_THREADS (length threads) then Some TooManyThreads
     else None
 
--- the threads and objects after a start of this thread: it has the next number, which its object tells
-abbrev pub with_start : List Thread → Objects → Addr → Thread → List Thread × Objects × Effect
-with_start threads o a thread =
-    option_map_or (λ f. (threads, o, Raises f)) (start_fault threads o a) (threads ++ thread ∷ [], stored_int Idle o a 0 (length threads + 1), GoesOn)
+-- the threads and objects after a start of this thread by one in this phase: it has the next number, which its object tells
+abbrev pub with_start : Phase → List Thread → Objects → Addr → Thread → List Thread × Objects × Effect
+with_start phase threads o a thread =
+    option_map_or (λ f. (threads, o, Raises f)) (start_fault threads o a) (threads ++ thread ∷ [], stored_int phase o a 0 (length threads + 1), GoesOn)
 
 -- a thread that is live is waited for, the joining one itself too
 abbrev pub wait_for : List Thread → Option ℕ → Effect

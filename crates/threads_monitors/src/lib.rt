@@ -6,9 +6,11 @@ mod effects;
 mod frames;
 pub mod laws;
 mod monitors;
+mod mutators;
 mod threads;
 
 pub use effects::Effect;
 pub use frames::{FrameMemory, zero_value};
 pub use monitors::{enter, exit};
+pub use mutators::Mutator;
 pub use threads::{Beginning, Standing, Thread, is_live, join, start, start_fault, thread_on};

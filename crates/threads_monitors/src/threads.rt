@@ -1,9 +1,10 @@
 // Threads: what each step takes from their budgets, and how they start, wait for one another and end.
 
-ghost use Rattle.std.specs.Prelude.{◌≡◌, ◌≢◌, ◌<◌, ◌≤◌, ◌+◌, ◌*◌, ◌^◌, ◌∷◌, [], length, Some, None, IfOk, OnErr};
+ghost use Rattle.std.specs.Prelude.{◌≡◌, ◌≢◌, ◌<◌, ◌≤◌, ◌+◌, ◌*◌, ◌^◌, ◌∷◌, [], length, Some, None, IfOk, OnErr, true};
 ghost use Rattle.object_memory.specs.Cells.{null};
 ghost use Rattle.object_memory.specs.Objects.{object_slots};
 ghost use Rattle.object_memory.specs.declared.values.Value.TheVariants.{Ref};
+ghost use Rattle.barriers.specs.Barriers.{is_word_storable};
 ghost use Rattle.threads_monitors.specs.Threads.{end_of, is_live, new_thread, end_after, report_of, settled, start_fault, thread_on, with_start, is_live_at, join_effect};
 
 use crate::effects::Effect;
@@ -160,14 +161,16 @@ pub fn start(
     alloc: Global,
     threads: &mut Vec<Thread>,
     heap: &mut Heap,
+    phase: Phase,
     object: Addr,
     beginning: Beginning,
 ) -> Result<Effect, NoMemory>
     requires there { object ≢ null → 0 < length (object_slots heap.old object) }
+    requires ready { object ≢ null → is_word_storable phase heap.old object 0 ≡ true }
     requires some { 0 < beginning.depth }
     requires limits { beginning.depth * beginning.room < 2 ^ 32 }
     requires fits { 1 + length beginning.locals.now ≤ beginning.room }
-    ensures started { IfOk result (λ effect. (threads.new.items, heap.new, effect) ≡ with_start threads.old.items heap.old object (new_thread beginning.entry (Ref object ∷ []))) }
+    ensures started { IfOk result (λ effect. (threads.new.items, heap.new, effect) ≡ with_start phase threads.old.items heap.old object (new_thread beginning.entry (Ref object ∷ []))) }
     ensures refused { OnErr result ((threads.new.items ≡ threads.old.items) × (heap.new ≡ heap.old)) }
     ensures checked { OnErr result (start_fault threads.old.items heap.old object ≡ None) }
 {
@@ -177,7 +180,7 @@ pub fn start(
     threads.reserve(1)?;
     let thread = Thread::new(alloc, beginning, &[Value::Ref(object)])?;
     threads.push_reserved(thread);
-    barriers::store_int(heap, Phase::Idle, object, THREAD_SLOT, threads.len() as u64);
+    barriers::store_int(heap, phase, object, THREAD_SLOT, threads.len() as u64);
     Ok(Effect::GoesOn)
 }
 

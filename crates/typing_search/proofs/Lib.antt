@@ -1,4 +1,5 @@
 pub mod RiseLaws
+pub mod KeptLaws
 pub mod StackLaws
 pub mod TableLaws
 pub mod WayLaws

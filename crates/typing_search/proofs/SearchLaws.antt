@@ -1,6 +1,6 @@
 -- What a search does by numbers, in names.
 use Rattle.std.proofs.Common.{◌≡◌, ◌≤◌, ◌<◌, ◌+◌, ℕ, zero, suc, Bool, true, false, ℤ, pos, ◌≤ℤ◌, List, [], ◌∷◌, ◌++◌, length, map, take, drop, get_or, Option, Some, None, option_map, slice_get, slice_set, refl, sym, ap, ◌∙◌, subst, arith}
-use Rattle.std.specs.Prelude.{Contains, Err}
+use Rattle.std.specs.Prelude.{Contains, Result, Ok, Err, OnOk, IfErr}
 use Rattle.std.proofs.lemmas.List.{length-map, take_more, take_all, take-append-drop}
 use Rattle.std.proofs.lemmas.List.Elements.{Contains-append_left}
 use Rattle.std.proofs.lemmas.Bool.{false≢true}
@@ -18,6 +18,7 @@ use Rattle.typing_search.specs.declared.search.RaiseError.{RaiseError}
 use Rattle.typing_search.specs.declared.search.RaiseError.TheVariants.{Refused, OutOfMemory}
 use Rattle.typing_search.specs.declared.merging.StackMerge.{StackMerge}
 use Rattle.typing_search.specs.declared.search.Search.{Search}
+use Rattle.typing_search.proofs.StackLaws.{below_itself}
 use Rattle.typing_search.proofs.RiseLaws.{table_falls, first_falls}
 use Rattle.typing_search.proofs.TableLaws.{no_ways, next_way, rise_first, rise_merged, rise_same, off_the_end, too_high, apart, no_next_way}
 use Rattle.cil_model.proofs.Lists.{none_is_some, none_is_outside}
@@ -114,7 +115,15 @@ module _ (tree : Tree) where
         subst (λ (s : Search). IsRisen tree max_stack after (place ∷ []) old s) (sym unchanged)
         (rise_same tree max_stack (stack_types tree after) (typing_of tree old.rows.items) old.is_pending.items place (stack_types tree known) (row_at old.rows.items place (Some known) at) own, low)
 
-    pub rise_by_merge : (new : Search) (known : List StackEntry) (merge : StackMerge) → IsWhole old → slice_get old.rows.items place ≡ Some (Some known) →
+    -- a stack that comes again raises nothing
+    pub rise_equal : (known : List StackEntry) → slice_get old.rows.items place ≡ Some (Some known) → known ≡ after → IsRisen tree max_stack after (place ∷ []) old old
+    rise_equal known at e =
+        let own : AreMerged tree (stack_types tree known) (stack_types tree known) (stack_types tree known) =
+        record { above_first = below_itself tree (stack_types tree known); above_second = below_itself tree (stack_types tree known); least = λ above h k. h } in
+        let P : List StackEntry → Type 0 = λ v. AreMerged tree (stack_types tree known) (stack_types tree v) (stack_types tree known) in
+        rise_unchanged old known known at (subst P e own) refl refl
+
+    rise_by_merge : (new : Search) (known : List StackEntry) (merge : StackMerge) → IsWhole old → slice_get old.rows.items place ≡ Some (Some known) →
         AreMerged tree (stack_types tree known) (stack_types tree after) (stack_types tree merge.stack) → (merge.is_higher ≡ false → merge.stack ≡ known) →
         (merge.is_higher ≡ true → stack_rises tree (stack_types tree merge.stack) < stack_rises tree (stack_types tree known)) → (merge.is_higher ≡ false → new ≡ old) →
         (merge.is_higher ≡ true → new.rows.items ≡ slice_set old.rows.items place (Some merge.stack)) → (merge.is_higher ≡ true → new.is_pending.items ≡ slice_set old.is_pending.items place true) →
@@ -124,6 +133,16 @@ module _ (tree : Tree) where
         by_test : (b : Bool) → merge.is_higher ≡ b → IsRisen tree max_stack after (place ∷ []) old new
         by_test true h = rise_merging new known merge.stack w at merged (lower h) (rows h) (pending h)
         by_test false h = rise_unchanged new known merge.stack at merged (same h) (unchanged h)
+
+    -- the same where memory may be wanting
+    pub rise_merged_or_not : {T : Type 0} (r : Result T RaiseError) (new : Search) (known : List StackEntry) (merge : StackMerge) → IsWhole old → slice_get old.rows.items place ≡ Some (Some known) →
+        AreMerged tree (stack_types tree known) (stack_types tree after) (stack_types tree merge.stack) → (merge.is_higher ≡ false → merge.stack ≡ known) →
+        (merge.is_higher ≡ true → stack_rises tree (stack_types tree merge.stack) < stack_rises tree (stack_types tree known)) → (merge.is_higher ≡ false → new ≡ old) →
+        OnOk r (merge.is_higher ≡ true → new.rows.items ≡ slice_set old.rows.items place (Some merge.stack)) → OnOk r (merge.is_higher ≡ true → new.is_pending.items ≡ slice_set old.is_pending.items place true) →
+        IfErr r (λ e. e ≡ OutOfMemory) → IsRise tree max_stack after (place ∷ []) old new r
+    rise_merged_or_not (Ok done) new known merge w at merged same lower unchanged rows pending wants = rise_by_merge new known merge w at merged same lower unchanged rows pending
+    rise_merged_or_not (Err (Refused at' reason)) new known merge w at merged same lower unchanged rows pending wants = absurd (cc wants)
+    rise_merged_or_not (Err OutOfMemory) new known merge w at merged same lower unchanged rows pending wants = tt
 
   module _ (most : ℕ) (after : List StackEntry) (place : ℕ) (old : Search) where
     pub rise_high : most < length after → IsRefused tree (pos most) after (place ∷ []) old

@@ -15,6 +15,7 @@ use Rattle.typing_search.specs.StackMerges.{AreMerged, AreApart, IsEntryMerge, I
 use Rattle.typing_search.specs.declared.merging.MergeError.{MergeError}
 use Rattle.typing_search.specs.declared.merging.MergeError.TheVariants.{Apart, OutOfMemory}
 use Rattle.typing_search.specs.Rises.{rises, stack_rises}
+use Rattle.typing_search.proofs.KeptLaws.{taken_with}
 
 module _ (tree : Tree) where
   pub below_itself : (xs : List StackType) → AreBelow tree xs xs
@@ -77,13 +78,13 @@ module _ (tree : Tree) where
   pub whole : (xs ys ms : List StackEntry) → AllMerged xs ys ms → AreMerged tree (stack_types tree xs) (stack_types tree ys) (stack_types tree ms)
   whole xs ys ms h = record { above_first = above_first xs ys ms h; above_second = above_second xs ys ms h; least = least xs ys ms h }
 
-  pub merged_more : (xs ys ms ns : List StackEntry) (n : ℕ) (d e m : StackEntry) → n < length xs → n < length ys → AllMerged (take n xs) (take n ys) ms →
-      IsMerge tree (stack_type tree (get_or xs n d)) (stack_type tree (get_or ys n e)) (stack_type tree m) → ns ≡ ms ++ m ∷ [] → AllMerged (take (n + 1) xs) (take (n + 1) ys) ns
-  merged_more xs ys ms ns n d e m inside within all one more =
+  pub merged_more : (xs ys ms ns : List StackEntry) (n : ℕ) (x e m : StackEntry) → slice_get xs n ≡ Some x → n < length ys → AllMerged (take n xs) (take n ys) ms →
+      IsMerge tree (stack_type tree x) (stack_type tree (get_or ys n e)) (stack_type tree m) → ns ≡ ms ++ m ∷ [] → AllMerged (take (n + 1) xs) (take (n + 1) ys) ns
+  merged_more xs ys ms ns n x e m there within all one more =
       let P : List StackEntry → Type 0 = λ v. AllMerged v (take (n + 1) ys) ns in
-      let Q : List StackEntry → Type 0 = λ v. AllMerged (take n xs ++ get_or xs n d ∷ []) v ns in
-      let R : List StackEntry → Type 0 = λ v. AllMerged (take n xs ++ get_or xs n d ∷ []) (take n ys ++ get_or ys n e ∷ []) v in
-      subst P (sym (take_more xs n d inside)) (subst Q (sym (take_more ys n e within)) (subst R (sym more) (one_more (take n xs) (take n ys) ms (get_or xs n d) (get_or ys n e) m all one)))
+      let Q : List StackEntry → Type 0 = λ v. AllMerged (take n xs ++ x ∷ []) v ns in
+      let R : List StackEntry → Type 0 = λ v. AllMerged (take n xs ++ x ∷ []) (take n ys ++ get_or ys n e ∷ []) v in
+      subst P (sym (taken_with xs n x there)) (subst Q (sym (take_more ys n e within)) (subst R (sym more) (one_more (take n xs) (take n ys) ms x (get_or ys n e) m all one)))
 
   pub merged_whole : (xs ys ms rs : List StackEntry) (n : ℕ) → length xs ≤ n → length ys ≤ n → AllMerged (take n xs) (take n ys) ms → rs ≡ ms → AreMerged tree (stack_types tree xs) (stack_types tree ys) (stack_types tree rs)
   merged_whole xs ys ms rs n past beyond all made =
@@ -111,9 +112,9 @@ module _ (tree : Tree) where
   pub apart_heights : (xs ys : List StackEntry) → (length xs ≡ length ys → ⊥) → AreApart tree (stack_types tree xs) (stack_types tree ys)
   apart_heights xs ys differ above one other = differ (sym (length_named xs) ∙ as_high (stack_types tree xs) above one ∙ sym (as_high (stack_types tree ys) above other) ∙ length_named ys)
 
-  pub merge_fails : (xs ys : List StackEntry) (n : ℕ) (d d' : StackEntry) (e : MergeError) → n < length xs → n < length ys → IsEntryMerge tree (get_or xs n d) (get_or ys n d') (Err e) → IsStackMerge tree xs ys (Err e)
-  merge_fails xs ys n d d' (Apart reason) inside within none = apart_at xs ys n (get_or xs n d) (get_or ys n d') (slice_get-get_or xs n d inside) (slice_get-get_or ys n d' within) none
-  merge_fails xs ys n d d' OutOfMemory inside within none = tt
+  pub merge_fails : (xs ys : List StackEntry) (n : ℕ) (x d : StackEntry) (e : MergeError) → slice_get xs n ≡ Some x → n < length ys → IsEntryMerge tree x (get_or ys n d) (Err e) → IsStackMerge tree xs ys (Err e)
+  merge_fails xs ys n x d (Apart reason) there within none = apart_at xs ys n x (get_or ys n d) there (slice_get-get_or ys n d within) none
+  merge_fails xs ys n x d OutOfMemory there within none = tt
 
   -- ---- how far stacks may rise
 
@@ -153,9 +154,9 @@ module _ (tree : Tree) where
       lower false true k l e = let first = kept_low false ms xs k in let second = l.1 refl in sums (omega (arith, first, second))
       lower true b k l e = let first = k.1 refl in let second = one_low b m x l in sums (omega (arith, first, second))
 
-  pub kept_more : (h b r : Bool) (ms ns xs : List StackEntry) (m d : StackEntry) (n : ℕ) → n < length xs → IsKept h ms (take n xs) → IsOneKept b m (get_or xs n d) → r ≡ h || b → ns ≡ ms ++ m ∷ [] → IsKept r ns (take (n + 1) xs)
-  kept_more h b r ms ns xs m d n inside k l either more =
+  pub kept_more : (h b r : Bool) (ms ns xs : List StackEntry) (m x : StackEntry) (n : ℕ) → slice_get xs n ≡ Some x → IsKept h ms (take n xs) → IsOneKept b m x → r ≡ h || b → ns ≡ ms ++ m ∷ [] → IsKept r ns (take (n + 1) xs)
+  kept_more h b r ms ns xs m x n there k l either more =
       let P : Bool → Type 0 = λ v. IsKept v ns (take (n + 1) xs) in
       let Q : List StackEntry → Type 0 = λ v. IsKept (h || b) v (take (n + 1) xs) in
       let R : List StackEntry → Type 0 = λ v. IsKept (h || b) (ms ++ m ∷ []) v in
-      subst P (sym either) (subst Q (sym more) (subst R (sym (take_more xs n d inside)) (kept_one_more h b ms (take n xs) m (get_or xs n d) k l)))
+      subst P (sym either) (subst Q (sym more) (subst R (sym (taken_with xs n x there)) (kept_one_more h b ms (take n xs) m x k l)))

@@ -1,3 +1,4 @@
+pub mod Kept
 pub mod StackMerges
 pub mod Rises
 pub mod Ways

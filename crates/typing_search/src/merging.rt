@@ -12,6 +12,7 @@ ghost use Rattle.typing_search.specs.StackMerges.{IsEntryMerge, IsStackMerge};
 ghost use Rattle.typing_search.specs.Rises.{rises, stack_rises};
 ghost use Rattle.typing_search.specs.declared.merging.MergeError.TheVariants.{OutOfMemory};
 
+use crate::kept_stacks::KeptStack;
 use cil_model::sequences::Sequence;
 use flow_rules::entries::StackEntry;
 use flow_rules::type_tree::TypeTree;
@@ -172,7 +173,7 @@ fn either(one: bool, other: bool) -> bool
 /// of memory.
 pub fn merge_stacks(
     types: &TypeTree,
-    known: &[StackEntry],
+    known: &KeptStack,
     coming: &[StackEntry],
     alloc: Global,
 ) -> Result<StackMerge, MergeError>
@@ -189,7 +190,7 @@ pub fn merge_stacks(
     };
     let mut is_higher = false;
     for index in 0..known.len() {
-        let merge = merge_entries(types, known[index], coming[index])?;
+        let merge = merge_entries(types, known.entry(index), coming[index])?;
         append(merge.entry, &mut stack)?;
         is_higher = either(is_higher, merge.is_higher);
     }

@@ -15,8 +15,11 @@ ghost use Rattle.typing_search.specs.Tables.{IsPending};
 ghost use Rattle.typing_search.specs.Answers.{IsRow, IsResultAt, IsMergeAt, IsRise, AreOf, IsOnTheWay, IsVisit, IsTypingAnswer, IsWhole, work_left};
 ghost use Rattle.typing_search.specs.Evidence.{IsRefusedAt, IsToldOf, IsAnsweredBy, IsStackOf, IsShown, IsEvidence};
 ghost use Rattle.typing_search.specs.declared.refusals.TypingError.TheVariants.{OutOfMemory};
+ghost use Rattle.typing_search.specs.declared.search.RaiseError.TheVariants as OfRaise;
 
+use crate::kept_stacks::KeptStack;
 use crate::merging::{MergeError, StackMerge, merge_stacks};
+use crate::order::Order;
 use crate::refusals::{FailurePoint, IncomingStack, Reason, TypingError};
 use crate::stacks::stack_after;
 use crate::ways::ways_on;
@@ -32,11 +35,12 @@ use resolved_code::types::NumberedType;
 use std::alloc::Global;
 
 /// The stacks found so far, one a place where control was found to go; a flag a place, set where its ways on are still to be looked at;
-/// and where the look for the next of these places begins.
+/// the order in which these places are taken; and the rank in it at which the look for the next of them begins.
 #[derive(Drop)]
 struct Search {
-    rows: Vec<Option<Sequence<StackEntry>>>,
+    rows: Vec<Option<KeptStack>>,
     is_pending: Vec<bool>,
+    order: Order,
     from: usize,
 }
 
@@ -63,29 +67,29 @@ enum Row<'a> {
     /// Control was not found to go there.
     Unmapped,
     /// It goes there with this stack, or one below it.
-    Mapped(&'a [StackEntry]),
+    Mapped(&'a KeptStack),
 }
 
 /// What is known of a place.
-fn row_at(rows: &[Option<Sequence<StackEntry>>], place: usize) -> Row<'_>
+fn row_at(rows: &[Option<KeptStack>], place: usize) -> Row<'_>
     ensures { IsRow rows.now place result }
 {
     match rows.get(place) {
         None => Row::Absent,
         Some(None) => Row::Unmapped,
-        Some(Some(stack)) => Row::Mapped(stack.as_slice()),
+        Some(Some(stack)) => Row::Mapped(stack),
     }
 }
 
 /// The stack of a place, where control was found to go there.
-fn mapped_at(rows: &[Option<Sequence<StackEntry>>], place: usize) -> Option<&[StackEntry]>
+fn mapped_at(rows: &[Option<KeptStack>], place: usize) -> Option<&KeptStack>
     ensures mapped { IfSome result (λ stack. slice_get rows.now place ≡ Some (Some stack.now)) }
     ensures none { result ≡ None → (stack : List entries.StackEntry) → slice_get rows.now place ≡ Some (Some stack) → ⊥ }
 {
     match rows.get(place) {
         None => None,
         Some(None) => None,
-        Some(Some(stack)) => Some(stack.as_slice()),
+        Some(Some(stack)) => Some(stack),
     }
 }
 
@@ -106,12 +110,12 @@ fn place_behind(operations: &[Operation], place: usize) -> usize
     if place < places { place + 1 } else { places }
 }
 
-/// A copy. Fails for want of memory alone.
-fn copied(entries: &[StackEntry], alloc: Global) -> Result<Sequence<StackEntry>, NoMemory>
-    ensures { IfOk result (λ copy. copy ≡ entries.now) }
+/// The entries of a stack that is kept. Fails for want of memory alone.
+fn shown(kept: &KeptStack, alloc: Global) -> Result<Sequence<StackEntry>, NoMemory>
+    ensures { IfOk result (λ shown. shown ≡ kept.now) }
 {
-    match entries.to_vec(alloc) {
-        Ok(copy) => Ok(Sequence::new(copy)),
+    match kept.entries(alloc) {
+        Ok(entries) => Ok(Sequence::new(entries)),
         Err(_) => Err(NoMemory),
     }
 }
@@ -147,10 +151,10 @@ fn not_begun(error: RaiseError, alloc: Global) -> TypingError
 }
 
 /// The failure of an instruction that has no result on the stack before it.
-fn no_result(place: usize, mismatch: Mismatch, before: &[StackEntry], alloc: Global) -> TypingError
+fn no_result(place: usize, mismatch: Mismatch, before: &KeptStack, alloc: Global) -> TypingError
     ensures { IsStackOf place before.now result }
 {
-    match copied(before, alloc) {
+    match shown(before, alloc) {
         Ok(stack) => TypingError::Untyped(FailurePoint {
             place,
             reason: Reason::NoResult(mismatch),
@@ -162,11 +166,33 @@ fn no_result(place: usize, mismatch: Mismatch, before: &[StackEntry], alloc: Glo
     }
 }
 
+/// Whether two entries are one.
+fn is_same_entry(one: StackEntry, other: StackEntry) -> bool
+    ensures { result ≡ true → one ≡ other }
+{
+    one == other
+}
+
+/// Whether two stacks are one, entry by entry.
+fn are_same(known: &KeptStack, coming: &[StackEntry]) -> bool
+    ensures { result ≡ true → known.now ≡ coming.now }
+{
+    if known.len() != coming.len() {
+        return false;
+    }
+    for index in 0..known.len() {
+        if !is_same_entry(known.entry(index), coming[index]) {
+            return false;
+        }
+    }
+    true
+}
+
 /// The merge of the stack that a place has with one that comes there.
 fn merged(
     types: &TypeTree,
     place: usize,
-    known: &[StackEntry],
+    known: &KeptStack,
     coming: &[StackEntry],
     alloc: Global,
 ) -> Result<StackMerge, RaiseError>
@@ -189,7 +215,7 @@ fn result_at(
     method: &MethodTypes,
     operation: &Operation,
     place: usize,
-    before: &[StackEntry],
+    before: &KeptStack,
     alloc: Global,
 ) -> Result<Sequence<StackEntry>, TypingError>
     ensures found { (lines : List Line) (i : Instruction) → IsOperation method.now.types.now lines i operation.now → IsResultAt method.now.types.now result (flow_of method.now i before.now) }
@@ -214,7 +240,7 @@ fn ways_behind(operation: &Operation, next: usize, alloc: Global) -> Result<Vec<
 }
 
 /// Rows of which nothing is found. Fails for want of memory alone.
-fn unmapped(places: usize, alloc: Global) -> Result<Vec<Option<Sequence<StackEntry>>>, TypingError>
+fn unmapped(places: usize, alloc: Global) -> Result<Vec<Option<KeptStack>>, TypingError>
     ensures rows { IfOk result (λ rows. rows.items ≡ replicate places None) }
     ensures err { IfErr result (λ e. e ≡ OutOfMemory) }
 {
@@ -253,35 +279,71 @@ fn pending_from(is_pending: &[bool], from: usize) -> Option<usize>
     None
 }
 
-/// The next pending place: the first from here on, or else the first of all.
-fn pending_after(is_pending: &[bool], from: usize) -> Option<usize>
+/// The first pending place of an order from a rank on.
+fn pending_in_order(is_pending: &[bool], order: &Order, from: usize) -> Option<usize>
+    ensures { IfSome result (λ place. IsPending is_pending.now place) }
+{
+    for rank in from..order.count() {
+        let place = order.place(rank);
+        if place < is_pending.len() && is_pending[place] {
+            return Some(place);
+        }
+    }
+    None
+}
+
+/// The first pending place of an order, or else any.
+fn pending_again(is_pending: &[bool], order: &Order) -> Option<usize>
     ensures found { IfSome result (λ place. IsPending is_pending.now place) }
     ensures none { result ≡ None → (place : ℕ) → IsPending is_pending.now place → ⊥ }
 {
-    match pending_from(is_pending, from) {
+    match pending_in_order(is_pending, order, 0) {
         Some(place) => Some(place),
         None => pending_from(is_pending, 0),
     }
 }
 
+/// The next pending place: the first of the order from a rank on, or else the first of the order, or else any.
+fn pending_after(is_pending: &[bool], order: &Order, from: usize) -> Option<usize>
+    ensures found { IfSome result (λ place. IsPending is_pending.now place) }
+    ensures none { result ≡ None → (place : ℕ) → IsPending is_pending.now place → ⊥ }
+{
+    match pending_in_order(is_pending, order, from) {
+        Some(place) => Some(place),
+        None => pending_again(is_pending, order),
+    }
+}
+
+/// The order in which places are taken. Fails for want of memory alone.
+fn order_of(operations: &[Operation], alloc: Global) -> Result<Order, TypingError>
+    ensures { IfErr result (λ e. e ≡ OutOfMemory) }
+{
+    match Order::new(operations, alloc) {
+        Ok(order) => Ok(order),
+        Err(_) => Err(TypingError::OutOfMemory),
+    }
+}
+
 impl Search {
-    /// Nothing is found of so many places. Fails for want of memory alone.
-    fn new(places: usize, alloc: Global) -> Result<Self, TypingError>
-        ensures rows { IfOk result (λ s. s.rows.items ≡ replicate places None) }
+    /// Nothing is found of the places of these operations. Fails for want of memory alone.
+    fn new(operations: &[Operation], alloc: Global) -> Result<Self, TypingError>
+        ensures rows { IfOk result (λ s. s.rows.items ≡ replicate (length operations.now) None) }
         ensures whole { IfOk result (λ s. IsWhole s) }
         ensures err { IfErr result (λ e. e ≡ OutOfMemory) }
     {
-        let is_pending = none_pending(places, alloc)?;
-        let rows = unmapped(places, alloc)?;
+        let is_pending = none_pending(operations.len(), alloc)?;
+        let rows = unmapped(operations.len(), alloc)?;
+        let order = order_of(operations, alloc)?;
         Ok(Search {
             rows,
             is_pending,
+            order,
             from: 0,
         })
     }
 
     /// Sets the stack of a place, which is then pending.
-    fn set(&mut self, place: usize, stack: Sequence<StackEntry>)
+    fn set(&mut self, place: usize, stack: KeptStack)
         requires inside { place < length self.old.rows.items }
         requires whole { IsWhole self.old }
         ensures rows { self.new.rows.items ≡ slice_set self.old.rows.items place (Some stack) }
@@ -304,7 +366,7 @@ impl Search {
         ensures { (tree : Tree) → IsRise tree (pos most) after.now (place ∷ []) self.old self.new result }
     {
         if is_low(after.len(), most) {
-            let Ok(stack) = copied(after, alloc) else {
+            let Ok(stack) = KeptStack::new(after, alloc) else {
                 return Err(RaiseError::OutOfMemory);
             };
             self.set(place, stack);
@@ -314,20 +376,26 @@ impl Search {
         Err(RaiseError::Refused { place, reason })
     }
 
-    /// Takes a further stack to a place.
-    fn merge(&mut self, place: usize, merge: StackMerge)
+    /// Takes a further stack to a place. Fails for want of memory alone.
+    fn merge(&mut self, place: usize, merge: &StackMerge, alloc: Global) -> Result<(), RaiseError>
         requires inside { place < length self.old.rows.items }
         requires whole { IsWhole self.old }
-        ensures same { merge.is_higher ≡ false → self.new ≡ self.old }
-        ensures rows { merge.is_higher ≡ true → self.new.rows.items ≡ slice_set self.old.rows.items place (Some merge.stack) }
-        ensures pending { merge.is_higher ≡ true → self.new.is_pending.items ≡ slice_set self.old.is_pending.items place true }
+        ensures same { merge.now.is_higher ≡ false → self.new ≡ self.old }
+        ensures rows { OnOk result (merge.now.is_higher ≡ true → self.new.rows.items ≡ slice_set self.old.rows.items place (Some merge.now.stack)) }
+        ensures pending { OnOk result (merge.now.is_higher ≡ true → self.new.is_pending.items ≡ slice_set self.old.is_pending.items place true) }
+        ensures err { IfErr result (λ e. e ≡ OfRaise.OutOfMemory) }
     {
-        if merge.is_higher {
-            self.set(place, merge.stack);
+        if !merge.is_higher {
+            return Ok(());
         }
+        let Ok(stack) = KeptStack::new(merge.stack.as_slice(), alloc) else {
+            return Err(RaiseError::OutOfMemory);
+        };
+        self.set(place, stack);
+        Ok(())
     }
 
-    /// Takes a stack to a place.
+    /// Takes a stack to a place. Where it is the stack that the place has, nothing is merged.
     fn raise(
         &mut self,
         types: &TypeTree,
@@ -346,9 +414,11 @@ impl Search {
             }
             Row::Unmapped => self.map(place, after, most, alloc),
             Row::Mapped(known) => {
+                if are_same(known, after) {
+                    return Ok(());
+                }
                 let merge = merged(types, place, known, after, alloc)?;
-                self.merge(place, merge);
-                Ok(())
+                self.merge(place, &merge, alloc)
             }
         }
     }
@@ -376,7 +446,7 @@ impl Search {
         ensures { IfOk result (λ copy. IsShown self.now.rows.items place copy) }
     {
         match mapped_at(self.rows.as_slice(), place) {
-            Some(stack) => copied(stack, alloc),
+            Some(stack) => shown(stack, alloc),
             None => Ok(Sequence::new(Vec::new(alloc))),
         }
     }
@@ -434,9 +504,9 @@ impl Search {
         ensures empty { result ≡ None → (place : ℕ) → IsPending self.old.is_pending.items place → ⊥ }
         ensures rows { self.new.rows ≡ self.old.rows }
     {
-        let place = pending_after(self.is_pending.as_slice(), self.from)?;
+        let place = pending_after(self.is_pending.as_slice(), &self.order, self.from)?;
         self.is_pending[place] = false;
-        self.from = place;
+        self.from = self.order.rank(place);
         Some(place)
     }
 
@@ -480,10 +550,10 @@ fn least_typing(
     operations: &[Operation],
     most: usize,
     alloc: Global,
-) -> Result<Sequence<Option<Sequence<StackEntry>>>, TypingError>
+) -> Result<Sequence<Option<KeptStack>>, TypingError>
     ensures { (code : Code) → AreOf method.now operations.now (pos most) code → IsTypingAnswer method.now.types.now (types_named method.now.types.now method.now.arguments.now) (option_map (type_named method.now.types.now) method.now.return_type) code result }
 {
-    let mut search = Search::new(operations.len(), alloc)?;
+    let mut search = Search::new(operations, alloc)?;
     match search.raise(method.types, 0, [].as_slice(), most, alloc) {
         Ok(()) => {}
         Err(error) => return Err(not_begun(error, alloc)),
@@ -494,6 +564,7 @@ fn least_typing(
     let Search {
         rows,
         is_pending: _,
+        order: _,
         from: _,
     } = search;
     Ok(Sequence::new(rows))
@@ -504,7 +575,7 @@ fn typing_of_body(
     method: &MethodTypes,
     body: &Body,
     alloc: Global,
-) -> Result<Sequence<Option<Sequence<StackEntry>>>, TypingError>
+) -> Result<Sequence<Option<KeptStack>>, TypingError>
     ensures { (code : Code) → IsBody method.now.types.now code body.now → types_named method.now.types.now method.now.locals.now ≡ code.locals → IsTypingAnswer method.now.types.now (types_named method.now.types.now method.now.arguments.now) (option_map (type_named method.now.types.now) method.now.return_type) code result }
 {
     let Some(most) = most_values(body.max_stack) else {
@@ -521,7 +592,7 @@ pub fn find_typing(
     return_type: Option<NumberedType>,
     body: &Body,
     alloc: Global,
-) -> Result<Sequence<Option<Sequence<StackEntry>>>, TypingError>
+) -> Result<Sequence<Option<KeptStack>>, TypingError>
     ensures { (code : Code) → IsBody types.now code body.now → IsTypingAnswer types.now (types_named types.now arguments.now) (option_map (type_named types.now) return_type) code result }
 {
     let method = MethodTypes {

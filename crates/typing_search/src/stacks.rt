@@ -8,6 +8,7 @@ ghost use Rattle.flow_rules.specs.Flow.{flow_of};
 ghost use Rattle.typing_search.specs.Answers.{IsResult};
 ghost use Rattle.flow_rules.specs.declared.mismatches.FlowError.TheVariants.{OutOfMemory};
 
+use crate::kept_stacks::KeptStack;
 use cil_model::sequences::Sequence;
 use flow_rules::entries::StackEntry;
 use flow_rules::flow::flow;
@@ -17,14 +18,14 @@ use flow_rules::type_stack::TypeStack;
 use resolved_code::operations::Operation;
 use std::alloc::Global;
 
-/// The stack of these entries, the top first. Fails for want of memory alone.
-fn stack_of(entries: &[StackEntry], alloc: Global) -> Result<TypeStack, FlowError>
-    ensures stack { IfOk result (λ stack. stack ≡ entries.now) }
+/// A stack that is kept, to work on. Fails for want of memory alone.
+fn stack_of(kept: &KeptStack, alloc: Global) -> Result<TypeStack, FlowError>
+    ensures stack { IfOk result (λ stack. stack ≡ kept.now) }
     ensures err { IfErr result (λ e. e ≡ OutOfMemory) }
 {
     let mut stack = TypeStack::new(alloc);
-    for place in (0..entries.len()).rev() {
-        stack.push(entries[place])?;
+    for place in (0..kept.len()).rev() {
+        stack.push(kept.entry(place))?;
     }
     Ok(stack)
 }
@@ -57,7 +58,7 @@ fn entries_of(mut stack: TypeStack, alloc: Global) -> Result<Sequence<StackEntry
 pub fn stack_after(
     method: &MethodTypes,
     operation: &Operation,
-    before: &[StackEntry],
+    before: &KeptStack,
     alloc: Global,
 ) -> Result<Sequence<StackEntry>, FlowError>
     ensures { (lines : List Line) (i : Instruction) → IsOperation method.now.types.now lines i operation.now → IsResult method.now.types.now result (flow_of method.now i before.now) }

@@ -14,17 +14,17 @@ ghost use Rattle.verifier.specs.Verdicts.{AreVerdicts, IsMethodVerdict};
 use crate::arguments::arguments_of;
 use crate::refusals::{VerifyError, refused};
 use cil_model::sequences::Sequence;
-use flow_rules::entries::StackEntry;
 use flow_rules::type_tree::TypeTree;
 use name_tables::lookups::MemberNumber;
 use programs::Program;
 use resolved_code::classes::{Body, ResolvedMethod, body_of};
 use std::alloc::Global;
+use typing_search::kept_stacks::KeptStack;
 use typing_search::refusals::TypingError;
 use typing_search::search::find_typing;
 
 /// The stacks before the instructions of a method, the top of each first; none where control never reaches an instruction.
-pub type Typing = Sequence<Option<Sequence<StackEntry>>>;
+pub type Typing = Sequence<Option<KeptStack>>;
 
 /// The typing of a method without code.
 fn empty_typing(alloc: Global) -> Typing
@@ -36,29 +36,30 @@ fn empty_typing(alloc: Global) -> Typing
 /// The typing of a method's code.
 fn typing_of_body(
     alloc: Global,
+    types: &TypeTree,
     program: &Program,
     class: usize,
     method: &ResolvedMethod,
     body: &Body,
 ) -> Result<Typing, TypingError>
+    requires { types.now ≡ program.now }
     ensures { (owner : ClassName) (m : Method) (code : Code) → class_name program.now class ≡ Some owner → IsResolvedMethod program.now m method.now → code_of m.kind ≡ Some code → IsBody program.now code body.now → IsMethodVerdict program.now owner m result }
 {
     let Ok(arguments) = arguments_of(alloc, class, method) else {
         return Err(TypingError::OutOfMemory);
     };
-    let types = TypeTree::new(program.tree(), program.classes());
-    find_typing(
-        &types,
-        arguments.as_slice(),
-        method.return_type,
-        body,
-        alloc,
-    )
+    find_typing(types, arguments.as_slice(), method.return_type, body, alloc)
 }
 
 /// The typing of the method of a number.
 #[tactic(auto, using(crate::proofs::MethodLaws::owner_named, crate::proofs::MethodLaws::not_absent, crate::proofs::MethodLaws::is_resolved, crate::proofs::MethodLaws::empty_verdict, crate::proofs::MethodLaws::code_there))]
-fn typing_of(alloc: Global, program: &Program, member: MemberNumber) -> Result<Typing, TypingError>
+fn typing_of(
+    alloc: Global,
+    types: &TypeTree,
+    program: &Program,
+    member: MemberNumber,
+) -> Result<Typing, TypingError>
+    requires { types.now ≡ program.now }
     ensures { (owner : ClassName) (m : Method) → method_at program.now (member.class, member.place) ≡ Some (owner, m) → IsMethodVerdict program.now owner m result }
 {
     let Some(method) = program.method(member) else {
@@ -66,8 +67,28 @@ fn typing_of(alloc: Global, program: &Program, member: MemberNumber) -> Result<T
     };
     match body_of(&method.kind) {
         None => Ok(empty_typing(alloc)),
-        Some(body) => typing_of_body(alloc, program, member.class, method, body),
+        Some(body) => typing_of_body(alloc, types, program, member.class, method, body),
     }
+}
+
+/// A typing of each method of these numbers, by the program's tree of types.
+fn typings_by(
+    alloc: Global,
+    types: &TypeTree,
+    program: &Program,
+    members: &[MemberNumber],
+) -> Result<Sequence<Typing>, VerifyError>
+    requires { types.now ≡ program.now }
+    ensures { methods_at program.now members.now ≡ map Some (source_methods program.now) → AreVerdicts program.now result }
+{
+    let mut typings = Vec::new(alloc);
+    for method in 0..members.len() {
+        match typing_of(alloc, types, program, members[method]) {
+            Ok(typing) => typings.push(typing)?,
+            Err(error) => return Err(refused(method, error)),
+        }
+    }
+    Ok(Sequence::new(typings))
 }
 
 /// A typing of each method of these numbers.
@@ -78,14 +99,8 @@ pub(crate) fn typings_of(
 ) -> Result<Sequence<Typing>, VerifyError>
     ensures { methods_at program.now members.now ≡ map Some (source_methods program.now) → AreVerdicts program.now result }
 {
-    let mut typings = Vec::new(alloc);
-    for method in 0..members.len() {
-        match typing_of(alloc, program, members[method]) {
-            Ok(typing) => typings.push(typing)?,
-            Err(error) => return Err(refused(method, error)),
-        }
-    }
-    Ok(Sequence::new(typings))
+    let types = TypeTree::new(program.tree(), program.classes(), alloc)?;
+    typings_by(alloc, &types, program, members)
 }
 
 /// The typing of a number.

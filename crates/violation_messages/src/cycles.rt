@@ -9,12 +9,12 @@ use std::fmt;
 /// The most bases that are named.
 const MOST_NAMED: usize = 8;
 
-/// A class that is met again among its bases, which stand behind it in a chain of numbers among all classes.
+/// A class that is met again among its bases, by its name and its number among all classes.
 #[derive(Clone, Copy)]
 pub struct OwnBase<'a> {
     pub class: ClassKey<'a>,
-    pub chain: &'a [usize],
-    pub names: &'a [ClassKey<'a>],
+    pub number: usize,
+    pub names: &'a NameTables<'a>,
 }
 
 /// Its bases are named in their order, until it is met again; no more than the first eight of them.
@@ -22,13 +22,18 @@ impl fmt::Display for OwnBase<'_> {
     fn fmt<W: fmt::Write>(&self, f: &mut fmt::Formatter<W>) -> fmt::Result {
         let class = ClassText(self.class);
         write!(f, "the bases of `{class}` lead back to it: `{class}`")?;
-        for number in self.chain.iter().skip(1).take(MOST_NAMED) {
-            let Some(base) = self.names.get(*number) else {
-                continue;
+        let mut class = self.number;
+        for _ in 0..MOST_NAMED {
+            let Some(base) = self.names.base(class) else {
+                break;
             };
-            let text = ClassText(*base);
+            class = base;
+            let Some(key) = self.names.classes.names().get(base) else {
+                break;
+            };
+            let text = ClassText(*key);
             write!(f, " extends `{text}`")?;
-            if *base == self.class {
+            if *key == self.class {
                 return Ok(());
             }
         }
@@ -45,8 +50,8 @@ pub(crate) fn own_base<'a>(
     let key = ClassKey::of_source(declared);
     let own_base = OwnBase {
         class: key,
-        chain: names.chain(key),
-        names: names.classes.names(),
+        number: names.classes.number(key)?,
+        names,
     };
     let part = ClassPart::Base;
     Some((own_base, Sites::at(Place::InClass { class, part })))

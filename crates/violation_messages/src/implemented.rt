@@ -36,16 +36,14 @@ impl fmt::Display for NotImplemented<'_> {
     }
 }
 
-/// The nearest class of a chain with a method of this name and signature.
-fn owner_along<'a>(
-    names: &NameTables<'a>,
-    chain: &[usize],
-    key: MethodKey,
-) -> Option<ClassKey<'a>> {
-    for class in chain {
-        if names.classes.method(*class, key).is_some() {
-            return names.classes.names().get(*class).copied();
+/// The nearest class from one on along its bases with a method of this name and signature.
+fn owner_along<'a>(names: &NameTables<'a>, first: usize, key: MethodKey) -> Option<ClassKey<'a>> {
+    let mut class = first;
+    for _ in 0..names.classes.longest_chain() {
+        if names.classes.method(class, key).is_some() {
+            return names.classes.names().get(class).copied();
         }
+        class = names.base(class)?;
     }
     None
 }
@@ -64,12 +62,12 @@ pub(crate) fn not_implemented<'a>(
     let owner = names.classes.number(interface)?;
     let methods = names.classes.class(owner)?.methods.as_slice();
     let method = key_of(*methods.get(listed.method)?);
-    let chain = names.chain(ClassKey::of_source(declared));
+    let number = names.classes.number(ClassKey::of_source(declared))?;
     let absent = NotImplemented {
         class: &declared.name,
         interface,
         method,
-        plain_in: owner_along(names, chain, method),
+        plain_in: owner_along(names, number, method),
     };
     let part = ClassPart::Interface(listed.interface);
     let place = Place::InClass { class, part };

@@ -107,23 +107,30 @@ fn tell_left_open<W: fmt::Write>(
 /// A method whose kind does not fit, and where.
 type Found<'a> = (Misfit<'a>, Sites);
 
-/// The class next to one along a chain, nearer to its beginning, that has a method of this name and signature.
-fn hiding_class(names: &NameTables, nearer: &[usize], key: MethodKey) -> Option<usize> {
-    for class in nearer.iter().rev() {
-        if names.classes.method(*class, key).is_some() {
-            return Some(*class);
-        }
-    }
-    None
+/// What stands between a class and one of its bases: the last class that is not abstract, since there first a method of that base is left
+/// open; and the last class that has a method of a name and signature.
+#[derive(Clone, Copy)]
+struct Nearer {
+    open: Option<usize>,
+    hiding: Option<usize>,
 }
 
-/// The last class of these that is not abstract: there first a method behind them is left open.
-fn open_class(names: &NameTables, nearer: &[usize]) -> Option<usize> {
-    for class in nearer.iter().rev() {
-        let declared = names.classes.class(*class)?;
-        if !declared.is_abstract {
-            return Some(*class);
+/// What stands between a class and one of its bases, by their numbers. None where it is no base of the class.
+fn nearer_than(names: &NameTables, first: usize, owner: usize, key: MethodKey) -> Option<Nearer> {
+    let mut open = None;
+    let mut hiding = None;
+    let mut class = first;
+    for _ in 0..names.classes.longest_chain() {
+        if class == owner {
+            return Some(Nearer { open, hiding });
         }
+        if names.classes.method(class, key).is_some() {
+            hiding = Some(class);
+        }
+        if !names.classes.class(class)?.is_abstract {
+            open = Some(class);
+        }
+        class = names.base(class)?;
     }
     None
 }
@@ -136,18 +143,17 @@ fn source_number(names: &NameTables, class: usize) -> Option<usize> {
 }
 
 fn left_open<'a>(names: &NameTables<'a>, class: &Class, open: MemberNumber) -> Option<Found<'a>> {
-    let chain = names.chain(ClassKey::of_source(class));
-    let owner = chain.iter().position(|number| *number == open.class)?;
-    let nearer = chain.get(..owner)?;
+    let first = names.classes.number(ClassKey::of_source(class))?;
     let methods = names.classes.class(open.class)?.methods.as_slice();
     let method = key_of(*methods.get(open.place)?);
+    let nearer = nearer_than(names, first, open.class, method)?;
     let keys = names.classes.names();
-    let number = source_number(names, open_class(names, nearer)?)?;
+    let number = source_number(names, nearer.open?)?;
     let misfit = Misfit::LeftOpen {
         class: &names.classes.tree.classes.as_slice().get(number)?.name,
         owner: *keys.get(open.class)?,
         method,
-        hidden_by: match hiding_class(names, nearer, method) {
+        hidden_by: match nearer.hiding {
             None => None,
             Some(hiding) => keys.get(hiding).copied(),
         },

@@ -176,13 +176,17 @@ fn static_field_at(class: usize, declared: &Class, place: usize) -> Option<Membe
 /// How many instance fields an object of a class has, those of its bases counted.
 fn count_fields(names: &NameTables, class: &Class) -> usize {
     let mut count = 0usize;
-    for number in names.chain(ClassKey::of_source(class)) {
-        let Some(declared) = names.classes.class(*number) else {
-            continue;
+    let mut next = names.classes.number(ClassKey::of_source(class));
+    for _ in 0..names.classes.longest_chain() {
+        let Some(number) = next else {
+            return count;
         };
-        let fields = declared.fields.as_slice();
-        let own = fields.iter().filter(|field| !field.is_static).count();
-        count = count.saturating_add(own);
+        if let Some(declared) = names.classes.class(number) {
+            let fields = declared.fields.as_slice();
+            let own = fields.iter().filter(|field| !field.is_static).count();
+            count = count.saturating_add(own);
+        }
+        next = names.base(number);
     }
     count
 }

@@ -244,17 +244,24 @@ fn unknown_in_heading(
 
 // ---- instructions
 
+fn field_named<'a>(fields: &[&'a Field], name: &Text) -> Option<&'a Field> {
+    for field in fields {
+        if field.name.is_same(name) {
+            return Some(*field);
+        }
+    }
+    None
+}
+
 /// The nearest field of this name, from a class on through its bases.
 fn near_field<'a>(names: &NameTables<'a>, owner: ClassKey, name: &Text) -> Option<&'a Field> {
-    for class in names.chain(owner) {
-        let Some(declared) = names.classes.class(*class) else {
-            continue;
-        };
-        for field in declared.fields.as_slice() {
-            if field.name.is_same(name) {
-                return Some(*field);
-            }
+    let mut class = names.classes.number(owner)?;
+    for _ in 0..names.classes.longest_chain() {
+        let declared = names.classes.class(class)?;
+        if let Some(field) = field_named(declared.fields.as_slice(), name) {
+            return Some(field);
         }
+        class = names.base(class)?;
     }
     None
 }
@@ -283,14 +290,15 @@ fn near_method<'a>(
     owner: ClassKey,
     name: Option<&Text>,
 ) -> Option<&'a Method> {
-    let most = if name.is_some() { usize::MAX } else { 1 };
-    for class in names.chain(owner).iter().take(most) {
-        let Some(declared) = names.classes.class(*class) else {
-            continue;
-        };
+    let longest = names.classes.longest_chain();
+    let most = if name.is_some() { longest } else { 1 };
+    let mut class = names.classes.number(owner)?;
+    for _ in 0..most {
+        let declared = names.classes.class(class)?;
         if let Some(method) = method_named(declared.methods.as_slice(), name) {
             return Some(method);
         }
+        class = names.base(class)?;
     }
     None
 }

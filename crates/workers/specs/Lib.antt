@@ -1,3 +1,2 @@
 pub use Rattle.shared_machine.specs as shared_machine
-pub mod Records
 pub mod Work

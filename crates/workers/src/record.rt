@@ -1,16 +1,14 @@
 //! What workers did, as the text of a schedule.
 
-ghost use Rattle.std.specs.Prelude.{◌≡◌, ◌≢◌, ◌+◌, ◌<◌, ◌++◌, length, replicate, IfErr, IfOk, OnErr, OnOk, string_bytes};
+ghost use Rattle.std.specs.Prelude.{◌≡◌, ◌≢◌, IfErr, IfOk, string_bytes};
+ghost use Rattle.schedule_text.specs.Items.{events_of as events_in};
 ghost use Rattle.schedule_text.specs.Writings.{IsNotWritten, IsWritten};
-ghost use Rattle.schedule_text.specs.declared.errors.ScheduleError.TheVariants.{OutOfMemory, TooLong};
-ghost use Rattle.schedule_text.specs.declared.errors.TheConstants.{MOST_EVENTS};
+ghost use Rattle.schedule_text.specs.declared.errors.ScheduleError.TheVariants.{OutOfMemory};
 ghost use Rattle.shared_machine.specs.Histories.{events_of};
-ghost use Rattle.workers.specs.Records.{IsNotListed};
 
-use cil_model::events::Event;
-use schedule_text::{MOST_EVENTS, ScheduleError, write_schedule};
-use shared_machine::{History, Run};
-use std::alloc::Global;
+use schedule_text::{Item, ScheduleError, write_schedule};
+use shared_machine::History;
+use std::alloc::{AllocError, Global};
 
 /// The text of a schedule that has the events of a history, in order: whoever replays it has the machine do them again.
 ///
@@ -21,34 +19,22 @@ pub fn write_record(alloc: Global, history: &History) -> Result<String, Schedule
     ensures written { IfOk result (λ text. IsWritten (events_of history.now.entries) (string_bytes text)) }
     ensures refused { IfErr result (λ error. error ≢ OutOfMemory → IsNotWritten (events_of history.now.entries) error) }
 {
-    let events = events(alloc, history)?;
-    write_schedule(alloc, events.as_slice())
+    let items = items_of(alloc, history)?;
+    write_schedule(alloc, items.as_slice())
 }
 
-/// The events of a history, in order. `TooLong` where there are more than 1,000,000.
-fn events(alloc: Global, history: &History) -> Result<Vec<Event>, ScheduleError>
-    ensures listed { IfOk result (λ events. events.items ≡ events_of history.now.entries) }
-    ensures refused { IfErr result (IsNotListed (length (events_of history.now.entries))) }
+/// The events of a history, in order, as an item for each of its runs. Only want of memory is an error.
+fn items_of(alloc: Global, history: &History) -> Result<Vec<Item>, AllocError>
+    ensures { IfOk result (λ items. events_in items.items ≡ events_of history.now.entries) }
 {
-    let mut events = Vec::new(alloc);
+    let mut items = Vec::new(alloc);
     let runs = history.runs();
     for run in runs {
-        add_run(&mut events, run)?;
+        items.reserve(1)?;
+        items.push_reserved(Item {
+            event: run.entry.event,
+            count: run.times as usize,
+        });
     }
-    Ok(events)
-}
-
-/// Adds the event of a run as often as the run has it. `TooLong` where there would be more than 1,000,000 events.
-fn add_run(events: &mut Vec<Event>, run: &Run) -> Result<(), ScheduleError>
-    ensures added { OnOk result (events.new.items ≡ events.old.items ++ replicate run.now.times run.now.entry.event) }
-    ensures refused { IfErr result (IsNotListed (length events.old.items + run.now.times)) }
-{
-    for _time in 0..run.times {
-        if events.as_slice().len() >= MOST_EVENTS {
-            return Err(ScheduleError::TooLong);
-        }
-        events.reserve(1)?;
-        events.push_reserved(run.entry.event);
-    }
-    Ok(())
+    Ok(items)
 }

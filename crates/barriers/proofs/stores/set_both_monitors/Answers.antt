@@ -1,4 +1,4 @@
-use Rattle.std.proofs.Common.{◌≡◌, ◌∙◌, ap}
+use Rattle.std.proofs.Common.{◌∙◌, ap}
 use Rattle.std.specs.Prelude.{Some, None}
 use Rattle.object_memory.specs.Objects.{object_cell}
 use Rattle.barriers.proofs.Keeping.{both_stored, one_stored, other_told, other_there}

@@ -1,6 +1,6 @@
 use Rattle.barriers.proofs.Keeping.{other_slot}
-use Rattle.std.proofs.Common.{◌∙◌, ap, subst}
-use Rattle.std.specs.Prelude.{Some, option_map}
+use Rattle.std.proofs.Common.{◌∙◌, ap}
+use Rattle.std.specs.Prelude.{Some}
 use Rattle.barriers.proofs.stores.set_both_slots.Goals as goal
 
 pub set_slot-requires-in-Some : goal.set_slot-requires-in-Some

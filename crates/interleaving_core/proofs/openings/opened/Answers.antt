@@ -44,4 +44,4 @@ returns-clause-opening c =
     let classes : c.as_slice.result.now ≡ tree.classes = c.as_slice.ensures ∙ ap (λ t. t.classes) (c.tree.ensures.whole ∙ c.program-2.ensures) in
     let statics : c.in_ok-statics.statics.items ≡ flat_map (λ (x : Class). zeros_of (declared_fields x)) tree.classes = c.in_ok-statics.ensures ∙ ap (flat_map (λ (x : Class). zeros_of (declared_fields x))) classes in
     ap (λ (t : Tree). opening_content t limits) (sym same)
-    ∙ opened_as tree legal limits entry.0 c.number-entry.result entry.2 there c.push.new.self.items threads c.in_ok-heap.heap objects c.in_ok-statics.statics.items statics c.new-3.result.items c.new-3.ensures.items
+    ∙ opened_as tree legal limits entry.0 c.number-entry.result entry.2 there c.push.new.self.items threads c.new-3.result c.new-3.ensures c.none.result c.none.ensures c.in_ok-heap.heap objects c.in_ok-statics.statics.items statics c.new-4.result.items c.new-4.ensures.items

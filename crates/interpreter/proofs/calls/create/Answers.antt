@@ -15,14 +15,14 @@ new_plain_object-requires c =
     let found = there_is (slice_get (all_methods c.args.program.now) c.args.number) (given_there (slice_get (all_methods c.args.program.now) c.args.number) _ c.requires) in
     let known : IsTableMethod c.args.program.now found.0 c.method-entry.result.now = c.method-entry.ensures.entry found.0 found.1 in
     let acts : action_of found.0.0 found.0.1 ≡ Some (action_named c.in-Some.field-0) = sym known.action ∙ ap (option_map action_named) c.in-Some.is in
-    subst IsSome (made_plain c.args.program.now 0 c.args.number found.0 found.1 c.args.frames.now c.args.heap.now [] c.args.class c.args.slots (action_named c.in-Some.field-0) acts) c.requires
+    subst IsSome (made_plain c.args.program.now c.args.mutator c.args.number found.0 found.1 c.args.frames.now c.args.heap.now [] c.args.class c.args.slots (action_named c.in-Some.field-0) acts) c.requires
 
 pub returns-in-Some : goal.returns-in-Some
 returns-in-Some c =
     let found = there_is (slice_get (all_methods c.args.program.now) c.args.number) (given_there (slice_get (all_methods c.args.program.now) c.args.number) _ c.requires) in
     let known : IsTableMethod c.args.program.now found.0 c.method-entry.result.now = c.method-entry.ensures.entry found.0 found.1 in
     let acts : action_of found.0.0 found.0.1 ≡ Some (action_named c.in-Some.field-0) = sym known.action ∙ ap (option_map action_named) c.in-Some.is in
-    c.new_plain_object.ensures ∙ sym (made_plain c.args.program.now 0 c.args.number found.0 found.1 c.args.frames.now c.args.heap.now [] c.args.class c.args.slots (action_named c.in-Some.field-0) acts)
+    c.new_plain_object.ensures ∙ sym (made_plain c.args.program.now c.args.mutator c.args.number found.0 found.1 c.args.frames.now c.args.heap.now [] c.args.class c.args.slots (action_named c.in-Some.field-0) acts)
 
 pub new_object-requires : goal.new_object-requires
 new_object-requires c =
@@ -30,8 +30,8 @@ new_object-requires c =
     let known : IsTableMethod c.args.program.now found.0 c.method-entry.result.now = c.method-entry.ensures.entry found.0 found.1 in
     let acts : action_of found.0.0 found.0.1 ≡ None = sym known.action ∙ ap (option_map action_named) c.in-None.is in
     let callee = called_alike c.args.program.now found.0 c.method-entry.result.now c.args.number c.as_slice.result.now known c.as_slice.ensures.value in
-    let runs = made_called c.args.program.now 0 c.args.number found.0 found.1 c.args.frames.now c.args.heap.now [] c.args.class c.args.slots acts (c.method-entry.ensures.number found.0 found.1)
-    ∙ ap (λ x. new_object_turn c.args.class c.args.slots x c.args.frames.now c.args.heap.now) (sym callee) in
+    let runs = made_called c.args.program.now c.args.mutator c.args.number found.0 found.1 c.args.frames.now c.args.heap.now [] c.args.class c.args.slots acts (c.method-entry.ensures.number found.0 found.1)
+    ∙ ap (λ x. new_object_turn c.args.mutator.phase c.args.class c.args.slots x c.args.frames.now c.args.heap.now) (sym callee) in
     subst IsSome runs c.requires
 
 pub returns-in-None : goal.returns-in-None
@@ -40,6 +40,6 @@ returns-in-None c =
     let known : IsTableMethod c.args.program.now found.0 c.method-entry.result.now = c.method-entry.ensures.entry found.0 found.1 in
     let acts : action_of found.0.0 found.0.1 ≡ None = sym known.action ∙ ap (option_map action_named) c.in-None.is in
     let callee = called_alike c.args.program.now found.0 c.method-entry.result.now c.args.number c.as_slice.result.now known c.as_slice.ensures.value in
-    let runs = made_called c.args.program.now 0 c.args.number found.0 found.1 c.args.frames.now c.args.heap.now [] c.args.class c.args.slots acts (c.method-entry.ensures.number found.0 found.1)
-    ∙ ap (λ x. new_object_turn c.args.class c.args.slots x c.args.frames.now c.args.heap.now) (sym callee) in
+    let runs = made_called c.args.program.now c.args.mutator c.args.number found.0 found.1 c.args.frames.now c.args.heap.now [] c.args.class c.args.slots acts (c.method-entry.ensures.number found.0 found.1)
+    ∙ ap (λ x. new_object_turn c.args.mutator.phase c.args.class c.args.slots x c.args.frames.now c.args.heap.now) (sym callee) in
     c.new_object.ensures ∙ sym runs

@@ -17,7 +17,7 @@ act-requires c =
     let found = there_is (slice_get (all_methods c.args.program.now) c.args.number) (given_there (slice_get (all_methods c.args.program.now) c.args.number) _ c.requires) in
     let known : IsTableMethod c.args.program.now found.0 c.method-entry.result.now = c.method-entry.ensures.entry found.0 found.1 in
     let acts : action_of found.0.0 found.0.1 ≡ Some (action_named c.in-Some.action) = sym known.action ∙ ap (option_map action_named) c.in-Some.is in
-    let runs = run_acts c.args.program.now c.args.thread c.args.number found.0 found.1 c.args.frames.now c.args.store.now.heap c.args.store.now.console.items (action_named c.in-Some.action) acts in
+    let runs = run_acts c.args.program.now c.args.mutator c.args.number found.0 found.1 c.args.frames.now c.args.store.now.heap c.args.store.now.console.items (action_named c.in-Some.action) acts in
     subst IsSome runs c.requires
 
 pub call-requires : goal.call-requires
@@ -25,17 +25,17 @@ call-requires c =
     let found = there_is (slice_get (all_methods c.args.program.now) c.args.number) (given_there (slice_get (all_methods c.args.program.now) c.args.number) _ c.requires) in
     let known : IsTableMethod c.args.program.now found.0 c.method-entry.result.now = c.method-entry.ensures.entry found.0 found.1 in
     let acts : action_of found.0.0 found.0.1 ≡ None = sym known.action ∙ ap (option_map action_named) c.in-None.is in
-    let runs = run_calls c.args.program.now c.args.thread c.args.number found.0 found.1 c.args.frames.now c.args.store.now.heap c.args.store.now.console.items acts (c.method-entry.ensures.number found.0 found.1) in
+    let runs = run_calls c.args.program.now c.args.mutator c.args.number found.0 found.1 c.args.frames.now c.args.store.now.heap c.args.store.now.console.items acts (c.method-entry.ensures.number found.0 found.1) in
     let callee = called_alike c.args.program.now found.0 c.method-entry.result.now c.args.number c.as_slice.result.now known c.as_slice.ensures.value in
     subst (λ x. IsSome (call_turn x c.args.frames.now)) (sym callee)
-    (call_there c.args.program.now c.args.thread c.args.number found.0 found.1 c.args.frames.now c.args.store.now.heap c.args.store.now.console.items (call_turn (called_as found.0 c.args.number) c.args.frames.now) (subst IsSome runs c.requires))
+    (call_there c.args.program.now c.args.mutator c.args.number found.0 found.1 c.args.frames.now c.args.store.now.heap c.args.store.now.console.items (call_turn (called_as found.0 c.args.number) c.args.frames.now) (subst IsSome runs c.requires))
 
 pub returns-in-Some-clause-done : goal.returns-in-Some-clause-done
 returns-in-Some-clause-done c =
     let found = there_is (slice_get (all_methods c.args.program.now) c.args.number) (given_there (slice_get (all_methods c.args.program.now) c.args.number) _ c.requires) in
     let known : IsTableMethod c.args.program.now found.0 c.method-entry.result.now = c.method-entry.ensures.entry found.0 found.1 in
     let acts : action_of found.0.0 found.0.1 ≡ Some (action_named c.in-Some.action) = sym known.action ∙ ap (option_map action_named) c.in-Some.is in
-    let runs = run_acts c.args.program.now c.args.thread c.args.number found.0 found.1 c.args.frames.now c.args.store.now.heap c.args.store.now.console.items (action_named c.in-Some.action) acts in
+    let runs = run_acts c.args.program.now c.args.mutator c.args.number found.0 found.1 c.args.frames.now c.args.store.now.heap c.args.store.now.console.items (action_named c.in-Some.action) acts in
     subst (λ t. IfOk c.act.result (λ outcome. Some (call_answer c.act.new.frames c.act.new.store.heap c.act.new.store.console.items outcome) ≡ t)) (sym runs) c.act.ensures.done
 
 pub returns-in-None-clause-done : goal.returns-in-None-clause-done
@@ -43,7 +43,7 @@ returns-in-None-clause-done c =
     let found = there_is (slice_get (all_methods c.args.program.now) c.args.number) (given_there (slice_get (all_methods c.args.program.now) c.args.number) _ c.requires) in
     let known : IsTableMethod c.args.program.now found.0 c.method-entry.result.now = c.method-entry.ensures.entry found.0 found.1 in
     let acts : action_of found.0.0 found.0.1 ≡ None = sym known.action ∙ ap (option_map action_named) c.in-None.is in
-    let runs = run_calls c.args.program.now c.args.thread c.args.number found.0 found.1 c.args.frames.now c.args.store.now.heap c.args.store.now.console.items acts (c.method-entry.ensures.number found.0 found.1) in
+    let runs = run_calls c.args.program.now c.args.mutator c.args.number found.0 found.1 c.args.frames.now c.args.store.now.heap c.args.store.now.console.items acts (c.method-entry.ensures.number found.0 found.1) in
     let callee = called_alike c.args.program.now found.0 c.method-entry.result.now c.args.number c.as_slice.result.now known c.as_slice.ensures.value in
     ap (λ t. beside_console c.args.store.now.console.items (beside c.args.store.now.heap t)) (c.call.ensures ∙ ap (λ x. call_turn x c.args.frames.now) callee) ∙ sym runs
 
@@ -52,5 +52,5 @@ returns-in-Some-clause-prints c =
     let found = there_is (slice_get (all_methods c.args.program.now) c.args.number) (given_there (slice_get (all_methods c.args.program.now) c.args.number) _ c.requires) in
     let known : IsTableMethod c.args.program.now found.0 c.method-entry.result.now = c.method-entry.ensures.entry found.0 found.1 in
     let acts : action_of found.0.0 found.0.1 ≡ Some (action_named c.in-Some.action) = sym known.action ∙ ap (option_map action_named) c.in-Some.is in
-    let runs = run_acts c.args.program.now c.args.thread c.args.number found.0 found.1 c.args.frames.now c.args.store.now.heap c.args.store.now.console.items (action_named c.in-Some.action) acts in
+    let runs = run_acts c.args.program.now c.args.mutator c.args.number found.0 found.1 c.args.frames.now c.args.store.now.heap c.args.store.now.console.items (action_named c.in-Some.action) acts in
     subst (λ t. OnErr c.act.result (prints c.args.store.now.console.items t ≡ true)) (sym runs) c.act.ensures.prints

@@ -6,33 +6,33 @@ use Rattle.interpreter.proofs.calls.run_virtual.Goals as goal
 
 pub receiver-object-requires : goal.receiver-object-requires
 receiver-object-requires c =
-    ap is_some (receiving c.args.program.now c.args.thread c.args.number c.args.operands c.args.frames.now c.args.store.now.heap c.args.store.now.console.items c.requires).object_is
+    ap is_some (receiving c.args.program.now c.args.mutator c.args.number c.args.operands c.args.frames.now c.args.store.now.heap c.args.store.now.console.items c.requires).object_is
 
 pub returns-then-is_null-clause-done : goal.returns-then-is_null-clause-done
 returns-then-is_null-clause-done c =
-    sym (on_null c.args.program.now c.args.thread c.args.number c.args.operands c.args.frames.now c.args.store.now.heap c.args.store.now.console.items c.requires c.receiver-object.result c.receiver-object.ensures (sym c.is_null.ensures ∙ c.if-is_null.true))
+    sym (on_null c.args.program.now c.args.mutator c.args.number c.args.operands c.args.frames.now c.args.store.now.heap c.args.store.now.console.items c.requires c.receiver-object.result c.receiver-object.ensures (sym c.is_null.ensures ∙ c.if-is_null.true))
 
 pub class_number-requires : goal.class_number-requires
 class_number-requires c =
-    ap is_some (choosing c.args.program.now c.args.thread c.args.number c.args.operands c.args.frames.now c.args.store.now.heap c.args.store.now.console.items c.requires c.receiver-object.result c.receiver-object.ensures (sym c.is_null.ensures ∙ c.if-is_null.false)).class_is
+    ap is_some (choosing c.args.program.now c.args.mutator c.args.number c.args.operands c.args.frames.now c.args.store.now.heap c.args.store.now.console.items c.requires c.receiver-object.result c.receiver-object.ensures (sym c.is_null.ensures ∙ c.if-is_null.false)).class_is
 
 pub target-target-requires : goal.target-target-requires
 target-target-requires c =
-    target_there c.args.program.now c.args.thread c.args.number c.args.operands c.args.frames.now c.args.store.now.heap c.args.store.now.console.items c.requires c.receiver-object.result c.receiver-object.ensures (sym c.is_null.ensures ∙ c.if-is_null.false) c.class_number.result c.class_number.ensures
+    target_there c.args.program.now c.args.mutator c.args.number c.args.operands c.args.frames.now c.args.store.now.heap c.args.store.now.console.items c.requires c.receiver-object.result c.receiver-object.ensures (sym c.is_null.ensures ∙ c.if-is_null.false) c.class_number.result c.class_number.ensures
 
 pub run-requires : goal.run-requires
 run-requires c =
-    subst IsSome (target_runs c.args.program.now c.args.thread c.args.number c.args.operands c.args.frames.now c.args.store.now.heap c.args.store.now.console.items c.requires c.receiver-object.result c.receiver-object.ensures (sym c.is_null.ensures ∙ c.if-is_null.false) c.class_number.result c.target-target.result
+    subst IsSome (target_runs c.args.program.now c.args.mutator c.args.number c.args.operands c.args.frames.now c.args.store.now.heap c.args.store.now.console.items c.requires c.receiver-object.result c.receiver-object.ensures (sym c.is_null.ensures ∙ c.if-is_null.false) c.class_number.result c.target-target.result
     c.class_number.ensures c.target-target.ensures) c.requires
 
 pub returns-clause-done : goal.returns-clause-done
 returns-clause-done c =
     subst (λ t. IfOk c.run.result (λ outcome. Some (call_answer c.run.new.frames c.run.new.store.heap c.run.new.store.console.items outcome) ≡ t))
-    (sym (target_runs c.args.program.now c.args.thread c.args.number c.args.operands c.args.frames.now c.args.store.now.heap c.args.store.now.console.items c.requires c.receiver-object.result c.receiver-object.ensures (sym c.is_null.ensures ∙ c.if-is_null.false) c.class_number.result c.target-target.result
+    (sym (target_runs c.args.program.now c.args.mutator c.args.number c.args.operands c.args.frames.now c.args.store.now.heap c.args.store.now.console.items c.requires c.receiver-object.result c.receiver-object.ensures (sym c.is_null.ensures ∙ c.if-is_null.false) c.class_number.result c.target-target.result
     c.class_number.ensures c.target-target.ensures)) c.run.ensures.done
 
 pub returns-clause-prints : goal.returns-clause-prints
 returns-clause-prints c =
     subst (λ t. OnErr c.run.result (prints c.args.store.now.console.items t ≡ true))
-    (sym (target_runs c.args.program.now c.args.thread c.args.number c.args.operands c.args.frames.now c.args.store.now.heap c.args.store.now.console.items c.requires c.receiver-object.result c.receiver-object.ensures (sym c.is_null.ensures ∙ c.if-is_null.false) c.class_number.result c.target-target.result
+    (sym (target_runs c.args.program.now c.args.mutator c.args.number c.args.operands c.args.frames.now c.args.store.now.heap c.args.store.now.console.items c.requires c.receiver-object.result c.receiver-object.ensures (sym c.is_null.ensures ∙ c.if-is_null.false) c.class_number.result c.target-target.result
     c.class_number.ensures c.target-target.ensures)) c.run.ensures.prints

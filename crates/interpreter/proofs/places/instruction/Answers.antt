@@ -14,12 +14,12 @@ instruction-instruction-requires c =
 pub execute-requires : goal.execute-requires
 execute-requires c =
     let at = linked_here c.args.program.now c.args.frames.now c.method.result c.place.result c.instruction-instruction.result.now c.method.ensures c.place.ensures c.instruction-instruction.ensures in
-    has_answer c.args.program.now c.args.frames.now c.instruction-instruction.result.now at c.args.thread c.args.store.now.heap c.args.store.now.statics.items c.args.store.now.console.items c.requires.there
+    has_answer c.args.program.now c.args.frames.now c.instruction-instruction.result.now at c.args.mutator c.args.store.now.heap c.args.store.now.statics.items c.args.store.now.console.items c.requires.there
 
 pub returns-clause-done : goal.returns-clause-done
 returns-clause-done c =
     let at = linked_here c.args.program.now c.args.frames.now c.method.result c.place.result c.instruction-instruction.result.now c.method.ensures c.place.ensures c.instruction-instruction.ensures in
-    let same = does_the_same c.args.program.now c.args.frames.now c.instruction-instruction.result.now at c.args.thread c.args.store.now.heap c.args.store.now.statics.items c.args.store.now.console.items c.requires.there in
+    let same = does_the_same c.args.program.now c.args.frames.now c.instruction-instruction.result.now at c.args.mutator c.args.store.now.heap c.args.store.now.statics.items c.args.store.now.console.items c.requires.there in
     IfOk-weaker c.execute.result _ _
     (λ outcome e. record {
       operation = resolved c.args.program.now c.args.frames.now c.instruction-instruction.result.now at;
@@ -31,7 +31,7 @@ returns-clause-done c =
 pub returns-clause-prints : goal.returns-clause-prints
 returns-clause-prints c =
     let at = linked_here c.args.program.now c.args.frames.now c.method.result c.place.result c.instruction-instruction.result.now c.method.ensures c.place.ensures c.instruction-instruction.ensures in
-    let same = does_the_same c.args.program.now c.args.frames.now c.instruction-instruction.result.now at c.args.thread c.args.store.now.heap c.args.store.now.statics.items c.args.store.now.console.items c.requires.there in
+    let same = does_the_same c.args.program.now c.args.frames.now c.instruction-instruction.result.now at c.args.mutator c.args.store.now.heap c.args.store.now.statics.items c.args.store.now.console.items c.requires.there in
     on_err_weaker c.execute.result
-    (λ h. instruction_prints c.args.program.now c.args.thread c.args.frames.now c.args.store.now.heap c.args.store.now.statics.items c.args.store.now.console.items (resolved c.args.program.now c.args.frames.now c.instruction-instruction.result.now at)
+    (λ h. instruction_prints c.args.program.now c.args.mutator c.args.frames.now c.args.store.now.heap c.args.store.now.statics.items c.args.store.now.console.items (resolved c.args.program.now c.args.frames.now c.instruction-instruction.result.now at)
     (is_at c.args.program.now c.args.frames.now c.instruction-instruction.result.now at) (is_small c.args.program.now c.args.frames.now c.instruction-instruction.result.now at) (sym (ap (is_printing c.args.store.now.console.items) same) ∙ h)) c.execute.ensures.prints

@@ -3,6 +3,7 @@ use Rattle.std.specs.List.{list_any, list_all}
 use Rattle.cil_model.specs.declared.types.ClassName.{ClassName}
 use Rattle.cil_model.specs.declared.trees.Method.{Method}
 use Rattle.cil_model.specs.Chains.{methods_declared}
+use Rattle.name_tables.specs.Methods.{line_of}
 use Rattle.name_tables.specs.Sameness.{identity_of}
 use Rattle.programs.specs.Found.{is_virtual_found}
 use Rattle.programs.proofs.Tests.{all_after}
@@ -10,6 +11,9 @@ use Rattle.metadata.proofs.implemented.absent_in_list.Goals as goal
 
 pub loop-interface-preserved : goal.loop-interface-preserved
 loop-interface-preserved c =
-    let t = c.args.names.now.classes.tree.now in
-    all_after (λ (i : ClassName). list_all (λ (m : Method). list_any (is_virtual_found t (identity_of m)) c.args.chain.now) (methods_declared t i)) c.args.interfaces.now c.loop-interface.interface c.index-interfaces-interface.result (omega arith) c.index-interfaces-interface.is
-    (sym c.absent_in.ensures ∙ ap is_none c.in_default.is) ∙ c.loop-interface.invariant
+    let t = c.args.methods.now.names.now.classes.tree.now in
+    record {
+      rest = all_after (λ (i : ClassName). list_all (λ (m : Method). list_any (is_virtual_found t (identity_of m)) (line_of t c.args.class)) (methods_declared t i)) c.args.interfaces.now c.loop-interface.interface c.index-interfaces-interface.result (omega arith) c.index-interfaces-interface.is
+          (sym c.absent_in.ensures.absent ∙ ap is_none c.in_default.is) ∙ c.loop-interface.invariant.rest;
+      known = c.absent_in.ensures.known;
+    }

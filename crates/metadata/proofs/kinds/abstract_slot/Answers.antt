@@ -1,19 +1,33 @@
-use Rattle.std.proofs.Common.{sym, ap, subst, ◌∙◌}
+use Rattle.std.proofs.Common.{◌≡◌, List, [], ℕ, Some, sym, ap, ◌∙◌}
 use Rattle.std.specs.List.{list_any}
+use Rattle.cil_model.specs.Chains.{longest_chain}
 use Rattle.name_tables.specs.Keys.{class_of_key}
+use Rattle.name_tables.specs.Methods.{line_of}
 use Rattle.name_tables.specs.Numbers.{chain_numbers}
-use Rattle.programs.specs.Found.{class_leaves_open, IsSettled}
-use Rattle.metadata.proofs.OpenLaws.{none_left_open}
+use Rattle.name_tables.proofs.NumberLaws.{numbers_of_unknown}
+use Rattle.name_tables.proofs.MemberLaws.{line_of_class}
+use Rattle.programs.specs.Found.{class_leaves_open}
 use Rattle.programs.proofs.SlotLaws.{abstract_slot}
+use Rattle.metadata.proofs.OpenLaws.{none_left_open}
 use Rattle.metadata.proofs.kinds.abstract_slot.Goals as goal
+
+pub returns-in_default : goal.returns-in_default
+returns-in_default c =
+    let t = c.args.slots.now.methods.now.names.now.classes.tree.now in
+    let k = class_of_key c.args.class in
+    let none : chain_numbers t k ≡ [] = numbers_of_unknown t (longest_chain t) k (sym c.number.ensures ∙ c.in_default.is) in
+    sym (sym (abstract_slot t k) ∙ ap (λ ns. list_any (class_leaves_open t ns) ns) none)
 
 pub returns-then-is_settled : goal.returns-then-is_settled
 returns-then-is_settled c =
-    let t = c.args.names.now.classes.tree.now in
-    let ns = chain_numbers t (class_of_key c.args.class) in
-    sym (sym (abstract_slot t (class_of_key c.args.class)) ∙ none_left_open t ns ns (subst (IsSettled t) c.chain-chain.ensures (c.is_settled.ensures c.if-is_settled.true)))
+    let t = c.args.slots.now.methods.now.names.now.classes.tree.now in
+    let k = class_of_key c.args.class in
+    let ns = line_of t (Some c.in-Some.number) in
+    let same : ns ≡ chain_numbers t k = line_of_class t k c.in-Some.number (sym c.number.ensures ∙ c.in-Some.is) in
+    sym (sym (abstract_slot t k) ∙ ap (λ (xs : List ℕ). list_any (class_leaves_open t xs) xs) (sym same) ∙ none_left_open t ns ns (c.is_settled.ensures c.if-is_settled.true))
 
 pub returns : goal.returns
 returns c =
-    let t = c.args.names.now.classes.tree.now in
-    c.first_left_open.ensures ∙ ap (λ ms. list_any (class_leaves_open t ms) ms) c.chain-chain.ensures ∙ abstract_slot t (class_of_key c.args.class)
+    let t = c.args.slots.now.methods.now.names.now.classes.tree.now in
+    let k = class_of_key c.args.class in
+    c.in_ok-slot_left_open.ensures ∙ ap (λ (xs : List ℕ). list_any (class_leaves_open t xs) xs) (line_of_class t k c.in-Some.number (sym c.number.ensures ∙ c.in-Some.is)) ∙ abstract_slot t k

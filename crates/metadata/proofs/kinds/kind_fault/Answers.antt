@@ -9,9 +9,9 @@ use Rattle.metadata.proofs.kinds.kind_fault.Goals as goal
 
 pub returns : goal.returns
 returns c =
-    let t = c.args.names.now.classes.tree.now in
+    let t = c.args.slots.now.methods.now.names.now.classes.tree.now in
     let k = c.args.class.now in
     let complete : Bool → List Method → Bool = λ is_abstract ms.
     (is_abstract || (not (list_any (λ (m : Method). is_abstract_method m.kind) ms) && not (has_abstract_slot t (source_name k)))) && not (list_any (overrides_no_virtual t (source_name k)) ms) in
     let fits : ClassKind → Bool = λ x. cond (is_interface_kind x) (list_all is_interface_method (method_members k)) (complete (is_abstract_kind x) (method_members k)) in
-    c.class_fault.ensures ∙ ap (complete c.in-Class.is_abstract) (ap (map (λ m. m.now)) c.as_slice-in-Class.ensures.value ∙ c.in_ok-methods.ensures) ∙ sym (ap fits c.in-Class.is)
+    c.in_ok-class_fault-in-Class.ensures ∙ ap (complete c.in-Class.is_abstract) (ap (map (λ m. m.now)) c.as_slice-in-Class.ensures.value ∙ c.in_ok-methods.ensures) ∙ sym (ap fits c.in-Class.is)

@@ -14,7 +14,7 @@ returns-then-not-has_few_instance_fields c =
     let t = c.args.names.now.classes.tree.now in
     let o = source_name c.args.class.now in
     let few : c.has_few_instance_fields.result ≡ nat_le (length (instance_fields t o)) MOST_INSTANCE_FIELDS =
-    c.has_few_instance_fields.ensures ∙ ap (λ ns. nat_le (sum_by (instance_count t) ns) MOST_INSTANCE_FIELDS) (c.chain.ensures ∙ ap (chain_numbers t) c.of_source.ensures) ∙ ap (λ n. nat_le n MOST_INSTANCE_FIELDS) (sym (instance_total t o)) in
+    c.has_few_instance_fields.ensures ∙ ap (λ ns. nat_le (sum_by (instance_count t) ns) MOST_INSTANCE_FIELDS) (c.as_slice.ensures.value ∙ c.in_ok-chain.ensures ∙ ap (chain_numbers t) c.of_source.ensures) ∙ ap (λ n. nat_le n MOST_INSTANCE_FIELDS) (sym (instance_total t o)) in
     sym (ap (λ b. b && list_all (is_small_method o) (method_members c.args.class.now)) (sym few ∙ c.if-not-has_few_instance_fields.true))
 
 pub returns : goal.returns
@@ -22,6 +22,6 @@ returns c =
     let t = c.args.names.now.classes.tree.now in
     let o = source_name c.args.class.now in
     let few : c.has_few_instance_fields.result ≡ nat_le (length (instance_fields t o)) MOST_INSTANCE_FIELDS =
-    c.has_few_instance_fields.ensures ∙ ap (λ ns. nat_le (sum_by (instance_count t) ns) MOST_INSTANCE_FIELDS) (c.chain.ensures ∙ ap (chain_numbers t) c.of_source.ensures) ∙ ap (λ n. nat_le n MOST_INSTANCE_FIELDS) (sym (instance_total t o)) in
-    c.passed_by_methods.ensures o ∙ ap (list_all (is_small_method o)) (ap (map (λ m. m.now)) c.as_slice.ensures.value ∙ c.in_ok-methods.ensures) ∙
+    c.has_few_instance_fields.ensures ∙ ap (λ ns. nat_le (sum_by (instance_count t) ns) MOST_INSTANCE_FIELDS) (c.as_slice.ensures.value ∙ c.in_ok-chain.ensures ∙ ap (chain_numbers t) c.of_source.ensures) ∙ ap (λ n. nat_le n MOST_INSTANCE_FIELDS) (sym (instance_total t o)) in
+    c.passed_by_methods.ensures o ∙ ap (list_all (is_small_method o)) (ap (map (λ m. m.now)) c.as_slice-2.ensures.value ∙ c.in_ok-methods.ensures) ∙
     sym (ap (λ b. b && list_all (is_small_method o) (method_members c.args.class.now)) (sym few ∙ c.if-not-has_few_instance_fields.false))

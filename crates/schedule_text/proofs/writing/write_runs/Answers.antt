@@ -1,18 +1,35 @@
-use Rattle.std.proofs.Common.{[], rules, sym, subst, string_bytes}
-use Rattle.std.proofs.lemmas.List.Sorted.{answers_always}
-use Rattle.schedule_text.specs.Items.{same_event}
-use Rattle.schedule_text.specs.Writings.{AreRuns, IsTextOf}
-use Rattle.schedule_text.proofs.WritingLemmas.{empty_of, joined_none, no_runs, run_written}
+use Rattle.std.proofs.Common.{arith, refl, string_bytes}
+use Rattle.schedule_text.specs.declared.errors.TheConstants.{MOST_EVENTS}
+use Rattle.schedule_text.proofs.WritingLemmas.{few_more, few_next, last_run, no_run, run_ends, run_grows}
 use Rattle.schedule_text.proofs.writing.write_runs.Goals as goal
+use Rattle.schedule_text.proofs.writing.write_runs.Goals.{in-Some, in-None+in_ok-append_item-in-None, then-run-gt0+in_ok-append_item, else-run-gt0}
 
-pub loop-run-preserved-in-Continue-1 : goal.loop-run-preserved-in-Continue-1
-loop-run-preserved-in-Continue-1 c =
-    let steps = c.in-Some.ensures.steps in
-    let first = c.in-Some-first.ensures in
-    run_written c.args.events.now c.loop-run.run-iterator.rest.now c.in-Some.run'.now c.next.new.self.rest.now c.in-Some-first.event.now (string_bytes c.loop-run.text) (string_bytes c.append_item.new.text)
-    steps.0 (sym first.item.1) steps.1 (steps.2 same_event (answers_always _ _ _ (λ f a r f' k. search rules))).1 c.in_ok-append_item.ensures c.loop-run.invariant
+pub loop-item-preserved : goal.loop-item-preserved
+loop-item-preserved c =
+    let items = c.args.items.now in
+    let i = c.loop-item.item-index in
+    let run = c.loop-item.run in
+    let text = string_bytes c.loop-item.text in
+    elim c.match-longer.branch [
+      | in-Some w ↦ rw (w.text-is, w.run-is) (record {
+        written = run_grows items i _ c.loop-item-test.true run text c.loop-item.invariant.written w.in-Some.more w.in-Some.ensures.one;
+        few = few_more items i _ c.loop-item-test.true run MOST_EVENTS c.loop-item.invariant.few w.in-Some.more w.in-Some.ensures.one;
+      })
+      | in-None+in_ok-append_item-in-None w ↦
+          let another = w.in-None.ensures.another refl in
+          rw (w.text-is, w.run-is) (record {
+            written = run_ends items i _ c.loop-item-test.true run text c.loop-item.invariant.written (string_bytes w.append_item.new.text) another.0 another.1 another.2 w.in_ok-append_item-in-None.ensures;
+            few = few_next items i _ c.loop-item-test.true run MOST_EVENTS c.loop-item.invariant.few;
+          })
+    ]
 
 pub returns : goal.returns
 returns c =
-    let left = c.in-None.ensures.steps in
-    subst (IsTextOf c.args.events.now) (joined_none (string_bytes c.loop-run.text)) (c.loop-run.invariant [] (subst (λ rest. AreRuns rest []) (empty_of c.loop-run.run-iterator.rest.now left.0) no_runs))
+    let items = c.args.items.now in
+    let i = c.loop-item.item-index in
+    let run = c.loop-item.run in
+    let text = string_bytes c.loop-item.text in
+    elim c.if-run-gt0.branch [
+      | then-run-gt0+in_ok-append_item w ↦ rw w.text-is (last_run items i c.loop-item-test.false run text c.loop-item.invariant.written (string_bytes w.append_item-then-run-gt0.new.text) w.if-run-gt0.true w.in_ok-append_item.ensures)
+      | else-run-gt0 w ↦ rw w.text-is (no_run items i c.loop-item-test.false run text c.loop-item.invariant.written (omega (arith, w.if-run-gt0.false)))
+    ]

@@ -1,18 +1,14 @@
-use Rattle.std.proofs.Common.{◌≡◌, ◌<◌, ◌+◌, List, Option, length, arith, sym, subst}
-use Rattle.flow_rules.specs.declared.entries.StackEntry.{StackEntry}
-use Rattle.verifier.specs.Verdicts.{AreOfMethods}
-use Rattle.verifier.proofs.TypingLaws.{next_kept, next_refused}
+use Rattle.std.proofs.Common.{sym, subst, ◌∙◌}
+use Rattle.cil_model.specs.Legality.{IsLegal}
+use Rattle.cil_model.specs.declared.trees.Tree.{Tree}
+use Rattle.resolved_code.specs.Resolved.{AreResolved}
 use Rattle.verifier.proofs.typings.typings_of.Goals as goal
 
-pub returns-in-Err : goal.returns-in-Err
-returns-in-Err c all =
-    let below : c.loop-method.method < length c.args.members.now = omega (arith, c.loop-method-test.true) in
-    let invariant = c.loop-method.invariant all in
-    next_refused c.args.program.now c.args.members.now c.loop-method.typings.items c.loop-method.method _ all below invariant.0 invariant.1 c.in-Err.error c.refused.result c.in-Err.ensures c.refused.ensures
+pub new-requires : goal.new-requires
+new-requires c = record {
+  legal = subst IsLegal (sym c.tree.ensures.whole) c.tree.ensures.legal;
+  resolved = subst (λ (tree : Tree). AreResolved tree c.classes.result.now) (sym c.tree.ensures.whole) c.classes.ensures;
+}
 
-pub loop-method-preserved : goal.loop-method-preserved
-loop-method-preserved c all =
-    let below : c.loop-method.method < length c.args.members.now = omega (arith, c.loop-method-test.true) in
-    let invariant = c.loop-method.invariant all in
-    subst (λ (typings : List (List (Option (List StackEntry)))). (length typings ≡ c.loop-method.method + 1) × AreOfMethods c.args.program.now typings) (sym c.in_ok-push-in-Ok.ensures.items)
-    (next_kept c.args.program.now c.args.members.now c.loop-method.typings.items c.loop-method.method _ all below invariant.0 invariant.1 c.in-Ok.typing c.in-Ok.ensures)
+pub typings_by-requires : goal.typings_by-requires
+typings_by-requires c = c.in_ok-types.ensures ∙ c.tree.ensures.whole

@@ -1,3 +1,4 @@
+use Rattle.phase_handshake.specs.Handshakes.{own_phase}
 use Rattle.step_simulation.specs.simulation.Turns.{live_thread}
 use Rattle.interleaving_core.specs.Views.{content_of}
 use Rattle.step_simulation.specs.simulation.interpreter.declared.outcomes.Outcome.TheVariants.{Starts}
@@ -9,23 +10,26 @@ pub start-requires-clause-slot : goal.start-requires-clause-slot
 start-requires-clause-slot c = (of_live (content_of c.args.self.now) c.args.number (Starts c.args.object) c.requires.live c.requires.can).1.0.slot
 
 pub start-requires-clause-there : goal.start-requires-clause-there
-start-requires-clause-there c = (of_live (content_of c.args.self.now) c.args.number (Starts c.args.object) c.requires.live c.requires.can).1.1
+start-requires-clause-there c = (of_live (content_of c.args.self.now) c.args.number (Starts c.args.object) c.requires.live c.requires.can).1.2
+
+pub start-requires-clause-ready : goal.start-requires-clause-ready
+start-requires-clause-ready c = (of_live (content_of c.args.self.now) c.args.number (Starts c.args.object) c.requires.live c.requires.can).1.1
 
 pub answer-requires-clause-live : goal.answer-requires-clause-live
 answer-requires-clause-live c =
-    live_after c.args.self.now.program c.args.self.now.limits c.args.self.now.threads.items c.args.self.now.store.heap c.args.object c.args.number c.requires.live
+    live_after (own_phase c.args.self.now.posts c.args.number) c.args.self.now.program c.args.self.now.limits c.args.self.now.threads.items c.args.self.now.store.heap c.args.object c.args.number c.requires.live
     (c.start.new.self.threads.items, c.start.new.self.store.heap, c.in_ok-effect.effect) c.in_ok-effect.ensures.started
 
 pub answer-requires-clause-operand : goal.answer-requires-clause-operand
 answer-requires-clause-operand c left m is =
     (c.requires.can left m
-    (started_back c.args.self.now.program c.args.self.now.limits c.args.self.now.threads.items c.args.self.now.store.heap c.args.object c.args.number c.requires.live
+    (started_back (own_phase c.args.self.now.posts c.args.number) c.args.self.now.program c.args.self.now.limits c.args.self.now.threads.items c.args.self.now.store.heap c.args.object c.args.number c.requires.live
     (c.start.new.self.threads.items, c.start.new.self.store.heap, c.in_ok-effect.effect) c.in_ok-effect.ensures.started (live_thread left m) is)).0.operand
 
 pub answer-requires-clause-behind : goal.answer-requires-clause-behind
 answer-requires-clause-behind c left m is =
     (c.requires.can left m
-    (started_back c.args.self.now.program c.args.self.now.limits c.args.self.now.threads.items c.args.self.now.store.heap c.args.object c.args.number c.requires.live
+    (started_back (own_phase c.args.self.now.posts c.args.number) c.args.self.now.program c.args.self.now.limits c.args.self.now.threads.items c.args.self.now.store.heap c.args.object c.args.number c.requires.live
     (c.start.new.self.threads.items, c.start.new.self.store.heap, c.in_ok-effect.effect) c.in_ok-effect.ensures.started (live_thread left m) is)).0.behind
 
 pub returns-clause-finished : goal.returns-clause-finished
@@ -33,5 +37,5 @@ returns-clause-finished c left m there =
     start_finished (content_of c.args.self.now) c.args.number left m c.args.object (content_of c.answer.new.self, c.answer.result) (c.start.new.self.threads.items, c.start.new.self.store.heap, c.in_ok-effect.effect)
     (content_of c.start.new.self) c.in_ok-effect.ensures.started c.in_ok-effect.ensures.others
     (c.answer.ensures left m
-    (started_keeps c.args.self.now.program c.args.self.now.limits c.args.self.now.threads.items c.args.self.now.store.heap c.args.object c.args.number (live_thread left m)
+    (started_keeps (own_phase c.args.self.now.posts c.args.number) c.args.self.now.program c.args.self.now.limits c.args.self.now.threads.items c.args.self.now.store.heap c.args.object c.args.number (live_thread left m)
     (c.start.new.self.threads.items, c.start.new.self.store.heap, c.in_ok-effect.effect) there c.in_ok-effect.ensures.started))

@@ -1,6 +1,7 @@
+use Rattle.std.proofs.Common.{ap}
 use Rattle.std.proofs.lemmas.Result.{IfOk-weaker}
 use Rattle.interleaving_core.specs.Views.{content_of}
-use Rattle.interleaving_core.proofs.Indexed.{instructed, reached_live, reached_with}
+use Rattle.interleaving_core.proofs.Indexed.{instructed, reached_live, reached_with, ready_for}
 use Rattle.interleaving_core.proofs.engine.Engine.instruct.Goals as goal
 
 pub instruct-requires-clause-live : goal.instruct-requires-clause-live
@@ -14,10 +15,12 @@ instruct-requires-clause-place c m e =
 pub instruct-requires-clause-there : goal.instruct-requires-clause-there
 instruct-requires-clause-there c m e =
     let there = reached_with c.args.self.now.threads.items c.args.number c.from.result c.from.ensures c.index_mut.result.now c.index_mut.ensures.value c.requires.live m e in
-    (c.requires.ready.ready c.args.number c.index_mut.result.now.steps_left m there).there
+    ready_for (content_of c.args.self.now) c.args.number m (record { number = c.args.number; phase = c.phase.result }) (ap (λ p. record { number = c.args.number; phase = p }) c.phase.ensures)
+    (c.requires.ready.ready c.args.number c.index_mut.result.now.steps_left m there)
 
 pub returns-clause-instructed : goal.returns-clause-instructed
 returns-clause-instructed c =
     IfOk-weaker c.instruct.result _ _
-    (λ outcome done. instructed (content_of c.args.self.now) c.args.number c.from.result c.from.ensures c.index_mut.result.now c.index_mut.ensures.value c.requires.live c.instruct.new.thread c.instruct.new.store.heap
+    (λ outcome done. instructed (content_of c.args.self.now) c.args.number c.from.result c.from.ensures c.index_mut.result.now c.index_mut.ensures.value
+    (record { number = c.args.number; phase = c.phase.result }) (ap (λ p. record { number = c.args.number; phase = p }) c.phase.ensures) c.requires.live c.instruct.new.thread c.instruct.new.store.heap
     c.instruct.new.store.statics.items c.instruct.new.store.console.items outcome done) c.instruct.ensures.done

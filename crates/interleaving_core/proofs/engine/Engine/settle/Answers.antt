@@ -1,7 +1,11 @@
+use Rattle.std.proofs.Common.{sym, ap, ◌∙◌}
+use Rattle.std.specs.Prelude.{slice_set}
+use Rattle.phase_handshake.specs.Handshakes.{Handshakes}
 use Rattle.interleaving_core.specs.Views.{content_of}
 use Rattle.interleaving_core.proofs.Indexed.{counted_is}
 use Rattle.interleaving_core.proofs.engine.Engine.settle.Goals as goal
 
 pub returns : goal.returns
 returns c left m there =
-    counted_is (content_of c.args.self.now) c.args.number c.from.result c.from.ensures c.index_mut.result.now c.index_mut.ensures.value left m there c.settle.new.self c.settle.result c.args.effect c.settle.ensures
+    counted_is (content_of c.args.self.now) c.args.number c.from.result c.from.ensures c.index_mut.result.now c.index_mut.ensures.value left m there c.settle-report.new.self c.settle-report.result c.args.effect c.settle-report.ensures
+    ∙ ap (λ (h : Handshakes). (record (content_of c.args.self.now) { threads = slice_set c.args.self.now.threads.items c.from.result c.settle-report.new.self; posts = h }, c.settle-report.result)) (sym c.leave_if_ended.ensures)

@@ -1,10 +1,10 @@
 use Rattle.std.proofs.Common.{◌≡◌, None, sym, ap, ◌∙◌}
 use Rattle.std.specs.Prelude.{[], ◌∷◌}
-use Rattle.std.proofs.lemmas.Result.{IfOk-weaker}
 use Rattle.object_memory.specs.declared.values.Value.TheVariants.{Ref}
 use Rattle.threads_monitors.specs.Threads.{new_thread, start_fault}
 use Rattle.threads_monitors.specs.declared.threads.Thread.{Thread}
 use Rattle.std.specs.Prelude.{List}
+use Rattle.step_simulation.specs.simulation.Turns.{started}
 use Rattle.interleaving_core.proofs.Indexed.{started_is}
 use Rattle.interleaving_core.proofs.engine.Engine.start.Goals as goal
 
@@ -18,6 +18,6 @@ pub returns-clause-started : goal.returns-clause-started
 returns-clause-started c =
     let free : start_fault c.args.self.now.threads.items c.args.self.now.store.heap c.args.object ≡ None =
     ap (λ (threads : List Thread). start_fault threads c.args.self.now.store.heap c.args.object) (sym c.deref.ensures.value) ∙ sym c.start_fault.ensures ∙ c.in_default.is in
-    IfOk-weaker c.start.result _ _
-    (λ effect e. started_is c.args.self.now.program c.args.self.now.limits c.args.self.now.threads.items c.args.self.now.store.heap c.args.object (new_thread c.beginning_on-beginning.result (Ref c.args.object ∷ []))
-    (c.start.new.threads.items, c.start.new.heap, effect) free c.beginning_on-beginning.ensures.begins e) c.start.ensures.started
+    started_is c.phase.result c.args.self.now.program c.args.self.now.limits c.args.self.now.threads.items c.args.self.now.store.heap c.args.object (new_thread c.beginning_on-beginning.result (Ref c.args.object ∷ []))
+    (c.start.new.threads.items, c.start.new.heap, c.in_ok-effect.effect) free c.beginning_on-beginning.ensures.begins c.in_ok-effect.ensures.started
+    ∙ ap (λ p. started p c.args.self.now.program c.args.self.now.limits c.args.self.now.threads.items c.args.self.now.store.heap c.args.object) c.phase.ensures

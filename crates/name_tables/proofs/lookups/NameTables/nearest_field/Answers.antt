@@ -12,12 +12,9 @@ returns-in_default c =
     let t = c.args.self.now.classes.tree.now in
     sym (ap (nearest_number (field_place t c.args.key)) (numbers_of_unknown t (longest_chain t) (class_of_key c.args.owner) (sym c.number.ensures ∙ c.in_default.is)))
 
-pub returns-in-Ok : goal.returns-in-Ok
-returns-in-Ok c =
+pub returns : goal.returns
+returns c =
     let t = c.args.self.now.classes.tree.now in
     let e : class_number t (class_of_key c.args.owner) ≡ Some c.in-Some.class = sym c.number.ensures ∙ c.in-Some.is in
-    c.member_number.ensures ∙ c.in-Ok.ensures ∙
+    c.member_number.ensures ∙ c.find.ensures ∙
     nearest_in_table t c.args.self.now.fields.inheritance.forest (field_key_number c.args.self.now.fields.keys) (field_place t) c.args.self.now.fields_are c.args.key (class_of_key c.args.owner) c.in-Some.class e
-
-pub returns-in-Err : goal.returns-in-Err
-returns-in-Err c = c.field_along.ensures ∙ ap (nearest_number (field_place c.args.self.now.classes.tree.now c.args.key)) c.chain.ensures

@@ -2,7 +2,7 @@ use Rattle.std.proofs.Common.{◌≡◌, List, Option, Some, slice_get, pos, sym
 use Rattle.std.proofs.lemmas.Option.{slice_get_within}
 use Rattle.std.proofs.lemmas.Result.{err_from_is_err_and}
 use Rattle.flow_rules.specs.declared.entries.StackEntry.{StackEntry}
-use Rattle.typing_search.proofs.SearchLaws.{rise_off, rise_refused, rise_by_merge}
+use Rattle.typing_search.proofs.SearchLaws.{rise_off, rise_refused, rise_equal, rise_merged_or_not}
 use Rattle.typing_search.proofs.search.Search.raise.Goals as goal
 
 pub returns-in-Absent : goal.returns-in-Absent
@@ -18,6 +18,11 @@ map-requires-clause-unmapped c =
 pub returns-in-Unmapped : goal.returns-in-Unmapped
 returns-in-Unmapped c = c.map.ensures c.args.types.now
 
+pub returns-then-are_same : goal.returns-then-are_same
+returns-then-are_same c =
+    let same : slice_get c.as_slice.result.now c.args.place ≡ slice_get c.args.self.now.rows.items c.args.place = ap (λ (v : List (Option (List StackEntry))). slice_get v c.args.place) c.as_slice.ensures.value in
+    rise_equal c.args.types.now (pos c.args.most) c.args.after.now c.args.place c.args.self.now c.in-Mapped.known.now (sym same ∙ c.in-Mapped.ensures) (c.are_same.ensures c.if-are_same.true)
+
 pub returns-in_err-merge-in-Mapped : goal.returns-in_err-merge-in-Mapped
 returns-in_err-merge-in-Mapped c =
     let same : slice_get c.as_slice.result.now c.args.place ≡ slice_get c.args.self.now.rows.items c.args.place = ap (λ (v : List (Option (List StackEntry))). slice_get v c.args.place) c.as_slice.ensures.value in
@@ -32,4 +37,4 @@ merge-requires-clause-inside c =
 pub returns-in_ok-merge-in-Mapped : goal.returns-in_ok-merge-in-Mapped
 returns-in_ok-merge-in-Mapped c =
     let same : slice_get c.as_slice.result.now c.args.place ≡ slice_get c.args.self.now.rows.items c.args.place = ap (λ (v : List (Option (List StackEntry))). slice_get v c.args.place) c.as_slice.ensures.value in
-    rise_by_merge c.args.types.now (pos c.args.most) c.args.after.now c.args.place c.args.self.now c.merge.new.self c.in-Mapped.known.now c.in_ok-merge-in-Mapped.merge c.requires.whole (sym same ∙ c.in-Mapped.ensures) c.in_ok-merge-in-Mapped.ensures.merged c.in_ok-merge-in-Mapped.ensures.same c.in_ok-merge-in-Mapped.ensures.higher c.merge.ensures.same c.merge.ensures.rows c.merge.ensures.pending
+    rise_merged_or_not c.args.types.now (pos c.args.most) c.args.after.now c.args.place c.args.self.now c.merge.result c.merge.new.self c.in-Mapped.known.now c.in_ok-merge-in-Mapped.merge c.requires.whole (sym same ∙ c.in-Mapped.ensures) c.in_ok-merge-in-Mapped.ensures.merged c.in_ok-merge-in-Mapped.ensures.same c.in_ok-merge-in-Mapped.ensures.higher c.merge.ensures.same c.merge.ensures.rows c.merge.ensures.pending c.merge.ensures.err

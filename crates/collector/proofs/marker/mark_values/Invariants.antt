@@ -1,0 +1,13 @@
+use Rattle.std.proofs.Common.{◌≡◌, true, drop}
+use Rattle.collector.specs.Conditions.{AreThere}
+use Rattle.collector.specs.Marking.{with_all_marked}
+use Rattle.collector.proofs.marker.mark_values.Given as goal
+
+-- what is left to mark, after what was marked, comes to all
+abbrev pub invariant-loop-value : goal.invariant-loop-value
+invariant-loop-value l =
+    record {
+      is_open : l.heap.spaces.is_open ≡ true;
+      there : AreThere l.heap l.values;
+      rest : with_all_marked l.heap (drop l.value-index l.values) ≡ with_all_marked l.fn.heap l.values;
+    }

@@ -1,0 +1,55 @@
+-- The work of Allocate and of Copy: each marked object of the old block gets its copy in the new one, and each object with two copies has its words
+-- copied, one at a time (Hudson and Moss, "Sapphire"; this profile).
+use Rattle.std.specs.Prelude.{ℕ, zero, suc, ◌+◌, ◌-◌, nat_lt, ◌&&◌, if◌then◌else◌, Bool, true, false, is_none, length, Option, Some, None}
+use Rattle.std.specs.Option.{option_map_or}
+use Rattle.cil_model.specs.declared.trees.Tree.{Tree}
+use Rattle.object_memory.specs.declared.addresses.Addr.{Addr}
+pub use Rattle.object_memory.specs.Cells.{address_behind}
+use Rattle.object_memory.specs.Cells.{Cell, Cells, cell_in, size, store_monitor, store_slot}
+use Rattle.object_memory.specs.Spaces.{found_in, has_other, with_shell}
+use Rattle.object_memory.specs.Objects.{Objects, with_cell}
+use Rattle.collector.specs.Marking.{word_of}
+use Rattle.collector.specs.Soundness.{copied_word}
+use Rattle.collector.specs.declared.progress.Progress.{Progress}
+
+-- ---- copies
+
+-- a marked object has to have a copy
+abbrev pub needs_copy : Cell → Bool
+needs_copy c = c.marked && is_none c.other
+
+abbrev pub shell_made : Objects → Addr → Cell → Objects
+shell_made o a c = if needs_copy c then record o { spaces = with_shell o.spaces a c } else o
+
+-- the next object of the old block is looked at; and whether there was one
+abbrev pub shell_step : Progress → Objects → Option Cell → Progress × Objects × Bool
+shell_step p o None = (p, o, false)
+shell_step p o (Some c) = (record p { place = p.place + size c }, shell_made o (address_behind o.spaces.old p.place) c, true)
+
+abbrev pub looked_on : Progress → Objects → Progress × Objects × Bool
+looked_on p o = shell_step p o (cell_in o.spaces.old (address_behind o.spaces.old p.place))
+
+-- ---- words
+
+-- a word of the old copy in the new one: the monitor, or a slot with its forward
+abbrev pub word_copied : Tree → Objects → (from : Cell) → (to : Addr) → ℕ → Objects
+word_copied tree o from to zero = with_cell (store_monitor from.monitor) o to
+word_copied tree o from to (suc slot) = with_cell (store_slot slot (copied_word tree o.spaces from slot (word_of from slot))) o to
+
+-- how far the collector is behind a word of the object at an address
+abbrev pub behind_word : Progress → Cells → Addr → Cell → ℕ → Progress
+behind_word p s a c word =
+    if nat_lt word (length c.slots) then record p { place = a.number - s.start; copied_words = word + 1 } else record p { place = a.number - s.start + size c; copied_words = 0 }
+
+-- the next word of an object with two copies
+abbrev pub object_copied : Tree → Progress → Objects → Addr → Cell → Addr → Progress × Objects × Bool
+object_copied tree p o a c b = (behind_word p o.spaces.old a c p.copied_words, word_copied tree o c b p.copied_words, true)
+
+-- the next object with two copies, from the place on
+abbrev pub copied_at : Tree → Progress → Objects → Option ℕ → Progress × Objects × Bool
+copied_at tree p o None = (p, o, false)
+copied_at tree p o (Some at) =
+    option_map_or (λ (c : Cell). option_map_or (object_copied tree p o (record { number = at }) c) c.other (p, o, false)) (cell_in o.spaces.old (record { number = at })) (p, o, false)
+
+abbrev pub copied_on : Tree → Progress → Objects → Progress × Objects × Bool
+copied_on tree p o = copied_at tree p o (found_in has_other o.spaces.old (o.spaces.old.start + p.place))

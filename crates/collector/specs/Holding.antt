@@ -1,0 +1,88 @@
+-- Which references a thread and a static field may hold, by what is posted and what the thread has acknowledged (Hudson and Moss, "Sapphire"; this
+-- profile).
+use Rattle.std.specs.Prelude.{◌≡◌, ◌≢◌, ℕ, nat_lt, not, ◌&&◌, if◌then◌else◌, Bool, true, false}
+use Rattle.cil_model.specs.declared.phases.Phase.{Phase}
+use Rattle.cil_model.specs.declared.phases.Phase.TheVariants.{Idle, Mark, Allocate, Copy, PreFlip, HeapFlip, ThreadFlip, Reclaim}
+use Rattle.object_memory.specs.declared.addresses.Addr.{Addr}
+use Rattle.object_memory.specs.Spaces.{Spaces}
+use Rattle.phase_handshake.specs.Handshakes.{Handshakes}
+use Rattle.phase_handshake.specs.declared.posts.Seat.{Seat}
+use Rattle.collector.specs.References.{Test}
+use Rattle.collector.specs.Phases.{is_live, is_marked_address, is_marked_old, is_new_address, no_progress}
+use Rattle.collector.specs.Soundness.{IsListed}
+use Rattle.collector.specs.declared.progress.Progress.{Progress}
+
+-- ---- what may be held
+
+-- what is live; of that only what is marked; or only what is new
+pub data Hold : Type 0 where
+  AnyLive : Hold
+  MarkedOnly : Hold
+  NewOnly : Hold
+
+abbrev pub passes : Hold → Phase → Spaces → Test
+passes AnyLive posted m a = is_live posted m a
+passes MarkedOnly posted m a = is_marked_address m a
+passes NewOnly posted m a = is_new_address m a
+
+-- ---- threads
+
+-- from ThreadFlip on, once its frames are flipped
+abbrev pub is_flipping : Phase → Bool
+is_flipping Idle = false
+is_flipping Mark = false
+is_flipping Allocate = false
+is_flipping Copy = false
+is_flipping PreFlip = false
+is_flipping HeapFlip = false
+is_flipping ThreadFlip = true
+is_flipping Reclaim = true
+
+abbrev pub is_marking : Phase → Bool
+is_marking Idle = false
+is_marking Mark = true
+is_marking Allocate = false
+is_marking Copy = false
+is_marking PreFlip = false
+is_marking HeapFlip = false
+is_marking ThreadFlip = false
+is_marking Reclaim = false
+
+-- A thread holds nothing old after its own flip, and nothing unmarked where it answered a round since whose post nothing was marked.
+abbrev pub hold_of : Handshakes → Bool → Seat → Hold
+hold_of h has_marked seat =
+    if is_flipping seat.phase && is_flipping h.posted then NewOnly
+    else if is_marking h.posted && (h.has_round && (seat.answered && not has_marked)) then MarkedOnly
+    else AnyLive
+
+abbrev pub may_hold : Handshakes → Spaces → Seat → Test
+may_hold h m seat a = passes (hold_of h m.has_marked seat) h.posted m a
+
+-- ---- static fields
+
+-- A static field holds nothing old once it is flipped, and nothing unmarked once the static fields were scanned.
+abbrev pub static_hold_of : Phase → Progress → ℕ → Hold
+static_hold_of Idle p number = AnyLive
+static_hold_of Mark p number = if p.scanned_statics then MarkedOnly else AnyLive
+static_hold_of Allocate p number = AnyLive
+static_hold_of Copy p number = AnyLive
+static_hold_of PreFlip p number = AnyLive
+static_hold_of HeapFlip p number = if nat_lt number p.flipped_statics then NewOnly else AnyLive
+static_hold_of ThreadFlip p number = NewOnly
+static_hold_of Reclaim p number = NewOnly
+
+abbrev pub static_may_hold : Phase → Spaces → Progress → ℕ → Test
+static_may_hold posted m p number a = passes (static_hold_of posted p number) posted m a
+
+-- ---- threads that are late
+
+-- As long as a thread has not acknowledged the posted phase, the collector has not begun its work; in Mark no round is posted, and each marked object
+-- is grey.
+pub record HasNotBegun (posted : Phase) (has_round : Bool) (p : Progress) (m : Spaces) : Type 0 where
+  pub nothing : p ≡ no_progress
+  pub no_round : posted ≡ Mark → has_round ≡ false
+  pub all_grey : posted ≡ Mark → (a : Addr) → is_marked_old m a ≡ true → IsListed m.grey a
+
+-- a thread in a phase is late, unless that is the posted one
+abbrev pub IsOnTime : Phase → Phase → Bool → Progress → Spaces → Type 0
+IsOnTime own posted has_round p m = own ≢ posted → HasNotBegun posted has_round p m

@@ -1,0 +1,49 @@
+// The work of HeapFlip and of Reclaim: static fields get forwards, and the new block becomes the only one.
+
+ghost use Rattle.std.specs.Prelude.{◌≡◌, ◌<◌, ◌^◌, true, length};
+ghost use Rattle.cil_model.specs.declared.phases.Phase.TheVariants.{Reclaim};
+ghost use Rattle.collector.specs.Conditions.{AreThere, IsSoundIn};
+ghost use Rattle.collector.specs.Flips.{cleared_on, flipped_on, retired};
+
+use crate::progress::Progress;
+use crate::walks::next_noted;
+use barriers::forward;
+use object_memory::{Heap, Value};
+
+/// Flips the next static field: a reference becomes its forward, and an integer stays. False where each field was flipped; nothing
+/// changes then.
+pub fn flip_static_step(progress: &mut Progress, heap: &Heap, statics: &mut [Value]) -> bool
+    requires there { AreThere heap.now statics.old }
+    requires few { length statics.old < 2 ^ 32 }
+    ensures { (progress.new, statics.new, result) ≡ flipped_on progress.old heap.now statics.old }
+{
+    let number = progress.flipped_statics as usize;
+    if number >= statics.len() {
+        return false;
+    }
+    statics[number] = forward(heap, statics[number]);
+    progress.flipped_statics += 1;
+    true
+}
+
+/// Takes mark and other copy off the next object of the new block that has either, from the place on; the others are passed over in the
+/// same step. False where none has; nothing changes then.
+pub fn clear_step(progress: &mut Progress, heap: &mut Heap) -> bool
+    requires { IsSoundIn Reclaim progress.old heap.old }
+    ensures { (progress.new, heap.new, result) ≡ cleared_on progress.old heap.old }
+{
+    let Some(next) = next_noted(heap, progress.place) else {
+        return false;
+    };
+    progress.place = next.place + heap.size(next.object);
+    heap.clear(next.object);
+    true
+}
+
+/// Gives the old block back: the new one is the only one, and the cycle is over.
+pub fn retire(heap: &mut Heap)
+    requires { heap.old.spaces.is_open ≡ true }
+    ensures { heap.new ≡ retired heap.old }
+{
+    let _block = heap.close();
+}

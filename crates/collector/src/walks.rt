@@ -1,0 +1,58 @@
+// The next object of a block that there is work at, from a place on.
+
+ghost use Rattle.std.specs.Prelude.{◌≡◌, ◌+◌, Some, IfSome, IsSome, option_map};
+ghost use Rattle.object_memory.specs.Cells.{Cell, cell_in};
+ghost use Rattle.object_memory.specs.Spaces.{AreSpaces, IsPlace, found_in, has_other, is_noted};
+ghost use Rattle.collector.specs.Conditions.{found_at};
+
+use object_memory::{Addr, Heap};
+
+/// An object of a block, and how many words of the block lie before it.
+#[derive(Clone, Copy, Debug, PartialEq, Eq)]
+pub(crate) struct Found {
+    pub place: u32,
+    pub object: Addr,
+}
+
+/// The first object of the old block that has another copy, at a place or behind it.
+pub(crate) fn next_copied(heap: &Heap, place: u32) -> Option<Found>
+    requires spaces { AreSpaces heap.now.spaces }
+    requires place { IsPlace heap.now.spaces.old (heap.now.spaces.old.start + place) }
+    ensures found { result ≡ option_map (found_at heap.now.spaces.old) (found_in has_other heap.now.spaces.old (heap.now.spaces.old.start + place)) }
+    ensures there { IfSome result (λ f. IsSome (cell_in heap.now.spaces.old f.object)) }
+{
+    let mut at = place;
+    while let Some(object) = heap.old_at(at) {
+        if heap.other(object).is_some() {
+            return Some(Found { place: at, object });
+        }
+        at += heap.size(object);
+    }
+    None
+}
+
+/// The first object of the new block that has a mark or another copy, at a place or behind it.
+pub(crate) fn next_noted(heap: &Heap, place: u32) -> Option<Found>
+    requires spaces { AreSpaces heap.now.spaces }
+    requires place { IsPlace heap.now.spaces.new (heap.now.spaces.new.start + place) }
+    ensures found { result ≡ option_map (found_at heap.now.spaces.new) (found_in is_noted heap.now.spaces.new (heap.now.spaces.new.start + place)) }
+    ensures there { IfSome result (λ f. IsSome (cell_in heap.now.spaces.new f.object)) }
+{
+    let mut at = place;
+    while let Some(object) = heap.new_at(at) {
+        if is_noted(heap, object) {
+            return Some(Found { place: at, object });
+        }
+        at += heap.size(object);
+    }
+    None
+}
+
+/// Whether an object of the new block has a mark or another copy.
+fn is_noted(heap: &Heap, object: Addr) -> bool
+    requires spaces { AreSpaces heap.now.spaces }
+    requires there { IsSome (cell_in heap.now.spaces.new object) }
+    ensures { (c : Cell) → cell_in heap.now.spaces.new object ≡ Some c → result ≡ is_noted c }
+{
+    heap.is_marked(object) || heap.other(object).is_some()
+}

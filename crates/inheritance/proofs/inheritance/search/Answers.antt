@@ -1,0 +1,13 @@
+use Rattle.std.proofs.Common.{map}
+use Rattle.inheritance.proofs.LedgerLaws.{entered_ends}
+use Rattle.inheritance.proofs.inheritance.search.Goals as goal
+
+pub returns : goal.returns
+returns c =
+    let f = c.args.forest.now in
+    let r = c.loop-time.invariant in
+    record {
+      ordered = r.up_to.ordered;
+      ended = λ class entry e. entered_ends f (map (λ v. v.items) c.loop-time.ledger.changes.items) class entry (r.entered class entry e);
+      right = λ class entry e key h. let was = r.entered class entry e in was.right key f.most h was.short;
+    }

@@ -1,0 +1,7 @@
+use Rattle.std.proofs.Common.{◌<◌, ℕ, map}
+use Rattle.inheritance.specs.Changes.{changes_of}
+use Rattle.inheritance.specs.Marked.{AreNoted, AreLater}
+use Rattle.inheritance.proofs.marked.note_rows.Given as goal
+
+abbrev pub invariant-loop-key : goal.invariant-loop-key
+invariant-loop-key l = AreLater l.initial.ends l.ends × ((q : ℕ) → q < l.key → AreNoted (map (λ v. v.items) l.marks) l.ends (changes_of (map (λ v. v.items) l.rows) q))

@@ -1,0 +1,74 @@
+-- What comparisons of references and exits from monitors come to, where their rules have an answer.
+use Rattle.std.proofs.Common.{◌≡◌, ◌==◌, Bool, true, false, ◌&&◌, ◌||◌, if◌then◌else◌, is_some, slice_get, List, [], ◌∷◌, Some, None, refl, sym, ap, ◌∙◌, subst}
+use Rattle.std.specs.Prelude.{IsSome}
+use Rattle.cil_model.specs.declared.instructions.BranchComparison.{BranchComparison}
+use Rattle.cil_model.specs.declared.instructions.BranchComparison.TheVariants as Branch
+use Rattle.cil_model.specs.declared.instructions.Comparison.{Comparison}
+use Rattle.cil_model.specs.declared.instructions.Comparison.TheVariants as Compare
+use Rattle.cil_model.specs.declared.phases.Phase.{Phase}
+use Rattle.object_memory.specs.declared.addresses.Addr.{Addr}
+use Rattle.object_memory.specs.declared.values.Value.{Value}
+use Rattle.object_memory.specs.declared.values.Value.TheVariants.{Ref}
+use Rattle.object_memory.specs.Objects.{Objects, monitor_at}
+use Rattle.barriers.specs.Barriers.{are_comparable, are_same, is_monitor_storable}
+use Rattle.threads_monitors.specs.Frames.{Frames, with_stack}
+use Rattle.threads_monitors.specs.Monitors.{with_exit}
+use Rattle.threads_monitors.specs.declared.effects.Effect.{Effect}
+use Rattle.threads_monitors.specs.declared.effects.Effect.TheVariants.{GoesOn, Returns, Blocks, Raises}
+use Rattle.threads_monitors.specs.declared.mutators.Mutator.{Mutator}
+use Rattle.instructions.specs.BuiltInTurns.{carried, exit_turn, reference_from}
+use Rattle.instructions.specs.Frames.{branch_reference, branch_test, comparison, same_reference}
+use Rattle.instructions.specs.ObjectTurns.{ObjectTurn}
+
+-- ---- comparisons
+
+module _ (phase : Phase) (o : Objects) (a b : Addr) where
+  -- references are compared for being one
+  pub compared_is : (op : Comparison) → IsSome (comparison phase o op (Ref a) (Ref b)) → comparison phase o op (Ref a) (Ref b) ≡ Some (are_same phase o a b)
+  compared_is op there = by_test (are_comparable phase o a b) op there
+    where
+      by_test : (t : Bool) (op : Comparison) → IsSome (if t then same_reference op (are_same phase o a b) else None) → (if t then same_reference op (are_same phase o a b) else None) ≡ Some (are_same phase o a b)
+      by_test true Compare.Equal h = refl
+      by_test true Compare.Greater h = absurd cc
+      by_test true Compare.Less h = absurd cc
+      by_test false op h = absurd cc
+
+  -- and branches are taken on that alone
+  pub never_ordered : (op : BranchComparison) → IsSome (branch_test phase o op (Ref a) (Ref b)) → (op ≡ Branch.Equal → ⊥) → (op ≡ Branch.NotEqual → ⊥) → ⊥
+  never_ordered op there = by_test (are_comparable phase o a b) op there
+    where
+      by_test : (t : Bool) (op : BranchComparison) → IsSome (if t then branch_reference op (are_same phase o a b) else None) → (op ≡ Branch.Equal → ⊥) → (op ≡ Branch.NotEqual → ⊥) → ⊥
+      by_test true Branch.Equal h equal other = equal refl
+      by_test true Branch.NotEqual h equal other = other refl
+      by_test true Branch.GreaterOrEqual h equal other = cc
+      by_test true Branch.Greater h equal other = cc
+      by_test true Branch.LessOrEqual h equal other = cc
+      by_test true Branch.Less h equal other = cc
+      by_test false op h equal other = cc
+
+-- ---- exits
+
+-- where the thread doesn't go on its operand stays
+carried_stays : (m n : Frames) (x : Objects × Effect) → (x.1 ≡ GoesOn → ⊥) → carried m n x ≡ Some (m, x.0, x.1)
+carried_stays m n (o, GoesOn) other = absurd (other refl)
+carried_stays m n (o, Returns) other = refl
+carried_stays m n (o, Blocks) other = refl
+carried_stays m n (o, Raises f) other = refl
+
+module _ (mutator : Mutator) (m : Frames) (o : Objects) where
+  abbrev leaves_by : List Value → ObjectTurn
+  leaves_by stack = reference_from stack m (λ a n. if (a.number == 0) || (is_some (monitor_at o a) && is_monitor_storable mutator.phase o a) then carried m n (with_exit mutator o a) else None)
+
+  pub exit_stays : (a : Addr) (x : Objects × Effect) → slice_get m.running.stack 0 ≡ Some (Ref a) → IsSome (exit_turn mutator m o) → x ≡ with_exit mutator o a → (x.1 ≡ GoesOn → ⊥) → exit_turn mutator m o ≡ Some (m, x.0, x.1)
+  exit_stays a x top there is other = by_stack m.running.stack top there
+    where
+      by_test : (t : Bool) (rest : List Value) → IsSome (if t then carried m (with_stack m rest) (with_exit mutator o a) else None) → (if t then carried m (with_stack m rest) (with_exit mutator o a) else None) ≡ Some (m, x.0, x.1)
+      by_test true rest h = ap (carried m (with_stack m rest)) (sym is) ∙ carried_stays m (with_stack m rest) x other
+      by_test false rest h = absurd cc
+
+      by_stack : (stack : List Value) → slice_get stack 0 ≡ Some (Ref a) → IsSome (leaves_by stack) → leaves_by stack ≡ Some (m, x.0, x.1)
+      by_stack [] e h = absurd cc
+      by_stack (v ∷ rest) e h =
+          let same : v ≡ Ref a = cc in
+          subst (λ w. leaves_by (w ∷ rest) ≡ Some (m, x.0, x.1)) (sym same)
+          (by_test ((a.number == 0) || (is_some (monitor_at o a) && is_monitor_storable mutator.phase o a)) rest (subst (λ w. IsSome (leaves_by (w ∷ rest))) same h))

@@ -1,0 +1,16 @@
+use Rattle.std.proofs.Common.{◌≡◌, Some}
+use Rattle.std.specs.List.{list_any}
+use Rattle.inheritance.specs.Lines.{line_within}
+use Rattle.name_tables.specs.Keys.{method_of_key}
+use Rattle.name_tables.specs.Members.{base_numbers}
+use Rattle.name_tables.specs.Methods.{line_of}
+use Rattle.programs.specs.Found.{is_virtual_found}
+use Rattle.metadata.proofs.implemented.has_virtual_along.Given as goal
+
+abbrev pub invariant-loop-left : goal.invariant-loop-left
+invariant-loop-left l =
+    list_any (is_virtual_found l.names.classes.tree.now (method_of_key l.key)) (line_within (base_numbers l.names.classes.tree.now) l.left l.next) ≡
+    list_any (is_virtual_found l.names.classes.tree.now (method_of_key l.key)) (line_of l.names.classes.tree.now (Some l.fn.first))
+
+abbrev pub decreases-loop-left : goal.decreases-loop-left
+decreases-loop-left l = l.left

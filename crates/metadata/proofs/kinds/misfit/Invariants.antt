@@ -1,7 +1,0 @@
-use Rattle.std.proofs.Common.{◌≡◌, drop}
-use Rattle.std.specs.List.{list_all}
-use Rattle.cil_model.specs.Legality.{kinds_fit}
-use Rattle.metadata.proofs.kinds.misfit.Given as goal
-
-abbrev pub invariant-loop-class : goal.invariant-loop-class
-invariant-loop-class l = list_all (kinds_fit l.names.classes.tree.now) (drop l.class l.declared-items) ≡ list_all (kinds_fit l.names.classes.tree.now) l.declared-items

@@ -1,7 +1,0 @@
-use Rattle.std.proofs.Common.{◌≡◌, drop}
-use Rattle.std.specs.List.{list_any}
-use Rattle.programs.specs.Found.{class_stays_open}
-use Rattle.metadata.proofs.kinds.some_stays_open.Given as goal
-
-abbrev pub invariant-loop-class : goal.invariant-loop-class
-invariant-loop-class l = list_any (class_stays_open l.names.classes.tree.now l.chain) (drop l.class-index l.classes) ≡ list_any (class_stays_open l.names.classes.tree.now l.chain) l.classes

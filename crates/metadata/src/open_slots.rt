@@ -1,0 +1,260 @@
+// Which classes leave no slot open to an abstract method, found in one walk over all classes.
+
+ghost use Rattle.std.specs.Prelude.{◌≡◌, ℕ, true, false, Some, IfOk, map, slice_get};
+ghost use Rattle.std.specs.List.{list_any};
+ghost use Rattle.std.specs.Option.{option_map_or};
+ghost use Rattle.cil_model.specs.Chains.{is_abstract_method};
+ghost use Rattle.name_tables.specs.Keys.{method_of_key};
+ghost use Rattle.name_tables.specs.Methods.{line_of};
+ghost use Rattle.name_tables.specs.Numbers.{method_found};
+ghost use Rattle.name_tables.specs.Sameness.{MethodIdentity};
+ghost use Rattle.programs.specs.Found.{top_open, hidden_open, is_override, IsSettled};
+ghost use Rattle.metadata.specs.Open.{marks_in, hides_one, AreClear, AreSettled};
+
+use cil_model::memory::NoMemory;
+use cil_model::trees::Method;
+use inheritance::{Endless, classes_behind_bases};
+use name_tables::keys::MethodKey;
+use name_tables::kinds::{is_abstract_method, is_new_slot_method, is_virtual};
+use name_tables::lookups::{MemberNumber, NameTables};
+use name_tables::methods::MethodTables;
+use std::alloc::Global;
+
+/// The methods of classes, and of which classes it is known that they leave no slot open.
+#[derive(Drop)]
+pub struct OpenSlots<'m, 't, 'a> {
+    pub methods: &'m MethodTables<'t, 'a>,
+    settled: Vec<bool>,
+    ghost are_settled: { AreSettled methods.now.names.now.classes.tree.now settled.items },
+}
+
+/// Whether a virtual method is without newslot, so that it fills the slot of the next virtual one behind it (ECMA-335 II.10.3.1).
+fn is_override(method: &Method) -> bool
+    ensures { result ≡ is_override method.now }
+{
+    is_virtual(&method.kind) && !is_new_slot_method(&method.kind)
+}
+
+/// Whether each of these methods is abstract.
+fn marks_of(alloc: Global, methods: &[&Method]) -> Result<Vec<bool>, NoMemory>
+    ensures { IfOk result (λ v. v.items ≡ map (λ m. is_abstract_method m.kind) (map (λ m. m.now) methods.now)) }
+{
+    let mut marks = Vec::new(alloc);
+    for method in methods {
+        marks.push(is_abstract_method(&method.kind))?;
+    }
+    Ok(marks)
+}
+
+/// Whether each method of each class is abstract.
+fn abstract_marks(alloc: Global, names: &NameTables) -> Result<Vec<Vec<bool>>, NoMemory>
+    ensures { IfOk result (λ v. map (λ row. row.items) v.items ≡ marks_in names.now.classes.tree.now) }
+{
+    let mut rows = Vec::new(alloc);
+    for table in names.classes.all() {
+        rows.push(marks_of(alloc, table.class.methods.as_slice())?)?;
+    }
+    Ok(rows)
+}
+
+/// Whether the method of this name and signature of the class of a number is abstract.
+fn is_abstract_at(names: &NameTables, key: MethodKey, class: usize) -> bool
+    ensures { result ≡ option_map_or (λ m. is_abstract_method m.kind) (method_found names.now.classes.tree.now (method_of_key key.entry) class) false }
+{
+    match names.classes.method(class, key) {
+        None => false,
+        Some(method) => is_abstract_method(&method.kind),
+    }
+}
+
+/// Whether the method of this name and signature of the class that a look-up found is abstract.
+fn is_abstract_found(names: &NameTables, key: MethodKey, found: Option<MemberNumber>) -> bool
+    ensures { result ≡ option_map_or (λ f. option_map_or (λ m. is_abstract_method m.kind) (method_found names.now.classes.tree.now (method_of_key key.entry) f.class) false) found false }
+{
+    match found {
+        None => false,
+        Some(found) => is_abstract_at(names, key, found.class),
+    }
+}
+
+/// Whether the nearest method of this name and signature, from a class on, may be abstract.
+fn may_be_top(methods: &MethodTables, class: Option<usize>, key: MethodKey) -> bool
+    ensures { result ≡ false → top_open methods.now.names.now.classes.tree.now (method_of_key key.entry) (line_of methods.now.names.now.classes.tree.now class) ≡ false }
+{
+    let Some(class) = class else {
+        return false;
+    };
+    match methods.nearest(class, key) {
+        Ok(found) => is_abstract_found(methods.names, key, found),
+        Err(Endless) => true,
+    }
+}
+
+/// Whether one of the methods of a class may hide an abstract one, from the class's base on.
+fn may_hide_one(methods: &MethodTables, base: Option<usize>, own: &[&Method]) -> bool
+    ensures { result ≡ false → list_any (hides_one methods.now.names.now.classes.tree.now (line_of methods.now.names.now.classes.tree.now base)) (map (λ m. m.now) own.now) ≡ false }
+{
+    for method in own {
+        if !is_override(method) {
+            let key = MethodKey::new(&method.name, &method.signature);
+            if may_be_top(methods, base, key) {
+                return true;
+            }
+        }
+    }
+    false
+}
+
+/// Whether a class is told of as false.
+fn is_told_false(told: &[bool], class: usize) -> bool
+    ensures { result ≡ true → slice_get told.now class ≡ Some false }
+{
+    match told.get(class) {
+        None => false,
+        Some(answer) => !*answer,
+    }
+}
+
+/// Whether a class, where there is one, is told to hide nothing.
+fn is_clear(may_hide: &[bool], class: Option<usize>) -> bool
+    ensures { result ≡ true → (n : ℕ) → class ≡ Some n → slice_get may_hide.now n ≡ Some false }
+{
+    match class {
+        None => true,
+        Some(class) => is_told_false(may_hide, class),
+    }
+}
+
+/// Whether a class hides no abstract method along its bases, where that is known of its base.
+fn stays_clear(methods: &MethodTables, may_hide: &[bool], class: usize) -> bool
+    requires { AreClear methods.now.names.now.classes.tree.now may_hide.now }
+    ensures { result ≡ true → (k : MethodIdentity) → hidden_open methods.now.names.now.classes.tree.now k (line_of methods.now.names.now.classes.tree.now (Some class)) ≡ false }
+{
+    let names = methods.names;
+    let base = names.base(class);
+    if !names.ends(class) {
+        return false;
+    }
+    if !is_clear(may_hide, base) {
+        return false;
+    }
+    match names.classes.class(class) {
+        None => false,
+        Some(declared) => !may_hide_one(methods, base, declared.methods.as_slice()),
+    }
+}
+
+/// Of each class, whether it may hide an abstract method along its bases. Fails for want of memory alone.
+fn hiding_classes(alloc: Global, methods: &MethodTables) -> Result<Vec<bool>, NoMemory>
+    ensures { IfOk result (λ v. AreClear methods.now.names.now.classes.tree.now v.items) }
+{
+    let bases = methods.names.bases();
+    let classes = classes_behind_bases(alloc, bases)?;
+    let count = bases.len();
+    let mut may_hide = vec![in alloc; true; count]?;
+    for place in 0..classes.len() {
+        let class = classes[place];
+        if class >= may_hide.len() {
+            continue;
+        }
+        if !stays_clear(methods, may_hide.as_slice(), class) {
+            continue;
+        }
+        may_hide[class] = false;
+    }
+    Ok(may_hide)
+}
+
+/// Whether a class is told of as false twice.
+fn is_neither(first: &[bool], second: &[bool], class: usize) -> bool
+    ensures first { result ≡ true → slice_get first.now class ≡ Some false }
+    ensures second { result ≡ true → slice_get second.now class ≡ Some false }
+{
+    is_told_false(first, class) && is_told_false(second, class)
+}
+
+/// Of each class, whether it is known that no slot is left open along its bases. Fails for want of memory alone.
+fn settled_classes(alloc: Global, methods: &MethodTables) -> Result<Vec<bool>, NoMemory>
+    ensures { IfOk result (λ v. AreSettled methods.now.names.now.classes.tree.now v.items) }
+{
+    let marks = abstract_marks(alloc, methods.names)?;
+    let may_stay = methods.finds_marked(alloc, marks.as_slice())?;
+    let may_hide = hiding_classes(alloc, methods)?;
+    let mut settled = Vec::new(alloc);
+    for class in 0..may_stay.len() {
+        settled.push(is_neither(may_stay.as_slice(), may_hide.as_slice(), class))?;
+    }
+    Ok(settled)
+}
+
+impl<'m, 't, 'a> OpenSlots<'m, 't, 'a> {
+    /// Looks at all classes. Takes time with the number of classes and methods, but for logarithms. Fails for want of memory alone.
+    pub fn new(alloc: Global, methods: &'m MethodTables<'t, 'a>) -> Result<Self, NoMemory>
+        ensures { IfOk result (λ s. s.methods.now.names.now.classes.tree.now ≡ methods.now.names.now.classes.tree.now) }
+    {
+        let settled = settled_classes(alloc, methods)?;
+        Ok(OpenSlots { methods, settled })
+    }
+
+    /// Whether it is known that a class leaves no slot open along its bases.
+    pub fn is_settled(&self, class: usize) -> bool
+        ensures { result ≡ true → IsSettled self.now.methods.now.names.now.classes.tree.now (line_of self.now.methods.now.names.now.classes.tree.now (Some class)) }
+    {
+        match self.settled.get(class) {
+            None => false,
+            Some(settled) => *settled,
+        }
+    }
+
+    /// The place of the abstract method of a class that is nearest from the first class on, where there is one.
+    fn top_of(&self, first: usize, class: usize) -> Option<usize> {
+        let declared = self.methods.names.classes.class(class)?;
+        for (place, method) in declared.methods.as_slice().iter().enumerate() {
+            let key = MethodKey::new(&method.name, &method.signature);
+            if is_abstract_method(&method.kind) {
+                if let Ok(Some(found)) = self.methods.nearest(first, key) {
+                    if found.class == class && found.place == place {
+                        return Some(place);
+                    }
+                }
+            }
+        }
+        None
+    }
+
+    /// The abstract method that a method of a class hides, where there is one.
+    fn hidden_by(&self, class: usize) -> Option<MemberNumber> {
+        let names = self.methods.names;
+        let declared = names.classes.class(class)?;
+        let base = names.base(class)?;
+        for method in declared.methods.as_slice() {
+            let key = MethodKey::new(&method.name, &method.signature);
+            if !is_override(method) && may_be_top(self.methods, Some(base), key) {
+                if let Ok(found) = self.methods.nearest(base, key) {
+                    return found;
+                }
+            }
+        }
+        None
+    }
+
+    /// A method that seems to be left open along these classes: the nearest one that is not overridden, or else one that is hidden. Its
+    /// contract says nothing: whoever asks tries the method.
+    pub fn suspect(&self, chain: &[usize]) -> Option<MemberNumber> {
+        let first = *chain.first()?;
+        for class in chain {
+            if let Some(place) = self.top_of(first, *class) {
+                return Some(MemberNumber {
+                    class: *class,
+                    place,
+                });
+            }
+        }
+        for class in chain {
+            if let Some(hidden) = self.hidden_by(*class) {
+                return Some(hidden);
+            }
+        }
+        None
+    }
+}

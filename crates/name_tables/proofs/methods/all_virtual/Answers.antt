@@ -1,0 +1,27 @@
+use Rattle.std.proofs.Common.{◌≡◌, map, sym, ap, ◌∙◌}
+use Rattle.cil_model.specs.declared.types.ClassName.{ClassName}
+use Rattle.cil_model.specs.Declarations.{Declaration}
+use Rattle.name_tables.specs.declared.class_tables.ClassTable.{ClassTable}
+use Rattle.name_tables.specs.Entries.{entry_of}
+use Rattle.name_tables.specs.Keys.{method_of_key}
+use Rattle.name_tables.specs.Methods.{virtuals_of}
+use Rattle.name_tables.specs.Numbers.{declarations}
+use Rattle.name_tables.specs.Sameness.{same_identity}
+use Rattle.name_tables.proofs.Lists.{map_of_map}
+use Rattle.name_tables.proofs.MemberLaws.{place_of_row}
+use Rattle.name_tables.proofs.methods.all_virtual.Goals as goal
+
+pub returns : goal.returns
+returns c =
+    let rows = map (λ row. row.now) c.as_slice-2.result.now in
+    let parts : map (map method_of_key) rows ≡ map (λ (e : ClassName × Declaration). virtuals_of e.1) (declarations c.args.classes.now.tree.now) =
+    ap (map (map method_of_key)) (ap (map (λ row. row.now)) c.as_slice-2.ensures.value ∙ c.in_ok-rows.ensures ∙ ap (map (λ row. row.items)) c.as_slice.ensures.value) ∙
+    map_of_map (λ row. row.items) (map method_of_key) c.in_ok-keys.keys.items ∙ c.in_ok-keys.ensures ∙
+    sym (map_of_map (λ (t : ClassTable). entry_of t.class) (λ (e : ClassName × Declaration). virtuals_of e.1) c.all.result.now) ∙ ap (map (λ (e : ClassName × Declaration). virtuals_of e.1)) c.all.ensures in
+    record {
+      bases = c.in_ok-table.ensures.bases ∙ c.in_ok-bases.ensures;
+      most = c.in_ok-table.ensures.most ∙ c.longest_chain.ensures;
+      places = λ key class.
+          c.in_ok-table.ensures.places key class ∙
+          place_of_row method_of_key (λ (e : ClassName × Declaration). virtuals_of e.1) (same_identity (method_of_key key)) rows (declarations c.args.classes.now.tree.now) parts class;
+    }

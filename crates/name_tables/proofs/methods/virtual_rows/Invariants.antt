@@ -1,0 +1,8 @@
+use Rattle.std.proofs.Common.{◌≡◌, map, take}
+use Rattle.name_tables.specs.Entries.{declaration_in}
+use Rattle.name_tables.specs.Keys.{method_of_key}
+use Rattle.name_tables.specs.Methods.{virtuals_of}
+use Rattle.name_tables.proofs.methods.virtual_rows.Given as goal
+
+abbrev pub invariant-loop-table : goal.invariant-loop-table
+invariant-loop-table l = map (λ row. map method_of_key row.items) l.rows.items ≡ map (λ t. virtuals_of (declaration_in t.class)) (take l.table-index l.tables)

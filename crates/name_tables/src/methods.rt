@@ -1,0 +1,231 @@
+// The methods that classes have and inherit by name and signature, whether they are static or not: all, and the virtual ones.
+
+ghost use Rattle.std.specs.Prelude.{◌≡◌, IfOk, Some, false, [], is_none, is_some, map, option_map, slice_get, slice_index_or, ℕ};
+ghost use Rattle.std.specs.List.{list_all};
+ghost use Rattle.inheritance.specs.Ledgers.{nearest_from};
+ghost use Rattle.inheritance.specs.Marked.{is_marked};
+ghost use Rattle.name_tables.specs.Entries.{declaration_in};
+ghost use Rattle.name_tables.specs.Keys.{method_of_key};
+ghost use Rattle.name_tables.specs.Members.{IsMemberTable};
+ghost use Rattle.name_tables.specs.Methods.{method_key_number, method_place, virtual_place, has_virtual, virtuals_of, line_of, methods_at, AreNumbers};
+ghost use Rattle.name_tables.specs.Numbers.{nearest_number};
+ghost use Rattle.name_tables.specs.Sameness.{MethodIdentity, identity_of};
+
+use crate::class_tables::ClassTable;
+use crate::inherited::{Inherited, numbers};
+use crate::keys::MethodKey;
+use crate::kinds::is_virtual;
+use crate::lookups::{MemberNumber, NameTables, member_number};
+use crate::members::base_numbers;
+use crate::tables::ClassTables;
+use cil_model::memory::NoMemory;
+use inheritance::Endless;
+use std::alloc::Global;
+
+/// The methods of a tree by name and signature; and of the methods of each class the numbers of their keys among the virtual ones.
+#[derive(Drop)]
+pub struct MethodTables<'t, 'a> {
+    pub names: &'t NameTables<'a>,
+    all: Inherited<MethodKey<'a>>,
+    overridable: Inherited<MethodKey<'a>>,
+    declared: Vec<Vec<usize>>,
+    ghost all_are: { IsMemberTable names.now.classes.tree.now all.inheritance.forest (method_key_number all.keys) (λ key. method_place names.now.classes.tree.now (method_of_key key)) },
+    ghost declared_are: { AreNumbers names.now.classes.tree.now overridable.keys (map (λ r. r.items) declared.items) },
+    ghost overridable_are: { IsMemberTable names.now.classes.tree.now overridable.inheritance.forest (method_key_number overridable.keys) (λ key. virtual_place names.now.classes.tree.now (method_of_key key)) },
+}
+
+fn has_virtual<'a>(table: &ClassTable<'a>, key: MethodKey<'a>) -> bool
+    ensures { result ≡ has_virtual (declaration_in table.now.class) (method_of_key key.entry) }
+{
+    match table.method(key) {
+        None => false,
+        Some(method) => is_virtual(&method.kind),
+    }
+}
+
+/// The virtual methods of a class.
+fn virtual_keys<'a>(alloc: Global, table: &ClassTable<'a>) -> Result<Vec<MethodKey<'a>>, NoMemory>
+    ensures { IfOk result (λ v. map method_of_key v.items ≡ virtuals_of (declaration_in table.now.class)) }
+{
+    let mut keys = Vec::new(alloc);
+    for key in table.method_keys() {
+        if has_virtual(table, *key) {
+            keys.push(*key)?;
+        }
+    }
+    Ok(keys)
+}
+
+fn virtual_rows<'a>(
+    alloc: Global,
+    tables: &[ClassTable<'a>],
+) -> Result<Vec<Vec<MethodKey<'a>>>, NoMemory>
+    ensures { IfOk result (λ v. map (λ row. map method_of_key row.items) v.items ≡ map (λ t. virtuals_of (declaration_in t.class)) tables.now) }
+{
+    let mut rows = Vec::new(alloc);
+    for table in tables {
+        rows.push(virtual_keys(alloc, table)?)?;
+    }
+    Ok(rows)
+}
+
+fn slices<'t, 'a>(
+    alloc: Global,
+    rows: &'t [Vec<MethodKey<'a>>],
+) -> Result<Vec<&'t [MethodKey<'a>]>, NoMemory>
+    ensures { IfOk result (λ v. map (λ row. row.now) v.items ≡ map (λ row. row.items) rows.now) }
+{
+    let mut slices = Vec::new(alloc);
+    for row in rows {
+        slices.push(row.as_slice())?;
+    }
+    Ok(slices)
+}
+
+fn method_rows<'t, 'a>(
+    alloc: Global,
+    tables: &'t [ClassTable<'a>],
+) -> Result<Vec<&'t [MethodKey<'a>]>, NoMemory>
+    ensures { IfOk result (λ v. map (λ row. map method_of_key row.now) v.items ≡ map (λ t. map identity_of (declaration_in t.class).methods) tables.now) }
+{
+    let mut rows = Vec::new(alloc);
+    for table in tables {
+        rows.push(table.method_keys())?;
+    }
+    Ok(rows)
+}
+
+/// The methods of all classes.
+fn all_methods<'a>(
+    alloc: Global,
+    classes: &ClassTables<'a>,
+) -> Result<Inherited<MethodKey<'a>>, NoMemory>
+    ensures { IfOk result (λ t. IsMemberTable classes.now.tree.now t.inheritance.forest (method_key_number t.keys) (λ key. method_place classes.now.tree.now (method_of_key key))) }
+{
+    let bases = base_numbers(alloc, classes)?;
+    let rows = method_rows(alloc, classes.all())?;
+    let table = Inherited::new(alloc, bases, rows.as_slice(), classes.longest_chain())?;
+    Ok(table)
+}
+
+/// The virtual methods of all classes.
+fn all_virtual<'a>(
+    alloc: Global,
+    classes: &ClassTables<'a>,
+) -> Result<Inherited<MethodKey<'a>>, NoMemory>
+    ensures { IfOk result (λ t. IsMemberTable classes.now.tree.now t.inheritance.forest (method_key_number t.keys) (λ key. virtual_place classes.now.tree.now (method_of_key key))) }
+{
+    let bases = base_numbers(alloc, classes)?;
+    let keys = virtual_rows(alloc, classes.all())?;
+    let rows = slices(alloc, keys.as_slice())?;
+    let table = Inherited::new(alloc, bases, rows.as_slice(), classes.longest_chain())?;
+    Ok(table)
+}
+
+/// The numbers of the methods of all classes among the virtual ones.
+fn all_numbers<'a>(
+    alloc: Global,
+    classes: &ClassTables<'a>,
+    overridable: &Inherited<MethodKey<'a>>,
+) -> Result<Vec<Vec<usize>>, NoMemory>
+    ensures { IfOk result (λ v. AreNumbers classes.now.tree.now overridable.now.keys (map (λ r. r.items) v.items)) }
+{
+    let rows = method_rows(alloc, classes.all())?;
+    let declared = numbers(alloc, &overridable.keys, rows.as_slice())?;
+    Ok(declared)
+}
+
+/// Whether a class from one on declares a virtual method of this number. An error where its bases are not seen to end.
+fn finds(overridable: &Inherited<MethodKey>, class: usize, number: usize) -> Result<bool, Endless>
+    ensures { IfOk result (λ found. found ≡ is_some (nearest_from overridable.now.inheritance.forest number overridable.now.inheritance.forest.most (Some class))) }
+{
+    if number >= overridable.inheritance.forest.keys {
+        return Err(Endless);
+    }
+    match overridable.inheritance.nearest(class, number) {
+        Ok(found) => Ok(found.is_some()),
+        Err(Endless) => Err(Endless),
+    }
+}
+
+/// The first of these numbers of which no class from one on declares a virtual method. An error where its bases are not seen to end.
+fn first_missing(
+    overridable: &Inherited<MethodKey>,
+    class: usize,
+    numbers: &[usize],
+) -> Result<Option<usize>, Endless>
+    ensures { IfOk result (λ place. is_none place ≡ list_all (λ n. is_some (nearest_from overridable.now.inheritance.forest n overridable.now.inheritance.forest.most (Some class))) numbers.now) }
+{
+    for place in 0..numbers.len() {
+        if !finds(overridable, class, numbers[place])? {
+            return Ok(Some(place));
+        }
+    }
+    Ok(None)
+}
+
+impl<'t, 'a> MethodTables<'t, 'a> {
+    /// Makes them from the tables of names. Fails for want of memory alone.
+    pub fn new(alloc: Global, names: &'t NameTables<'a>) -> Result<Self, NoMemory>
+        ensures { IfOk result (λ t. t.names.now.classes.tree.now ≡ names.now.classes.tree.now) }
+    {
+        let all = all_methods(alloc, &names.classes)?;
+        let overridable = all_virtual(alloc, &names.classes)?;
+        let declared = all_numbers(alloc, &names.classes, &overridable)?;
+        Ok(MethodTables {
+            names,
+            all,
+            overridable,
+            declared,
+        })
+    }
+
+    /// The nearest method of this name and signature, from a class on through its bases. An error where they are not seen to end.
+    pub fn nearest(&self, class: usize, key: MethodKey) -> Result<Option<MemberNumber>, Endless>
+        ensures { IfOk result (λ found. option_map (λ m. (m.class, m.place)) found ≡ nearest_number (method_place self.now.names.now.classes.tree.now (method_of_key key.entry)) (line_of self.now.names.now.classes.tree.now (Some class))) }
+    {
+        match self.all.nearest(class, key) {
+            Ok(found) => Ok(member_number(found)),
+            Err(Endless) => Err(Endless),
+        }
+    }
+
+    /// Whether a class, or one of its bases, declares a virtual method of this name and signature. An error where its bases are not
+    /// seen to end.
+    pub fn has_virtual(&self, class: usize, key: MethodKey) -> Result<bool, Endless>
+        ensures { IfOk result (λ found. found ≡ is_some (nearest_number (virtual_place self.now.names.now.classes.tree.now (method_of_key key.entry)) (line_of self.now.names.now.classes.tree.now (Some class)))) }
+    {
+        match self.overridable.nearest(class, key) {
+            Ok(found) => Ok(member_number(found).is_some()),
+            Err(Endless) => Err(Endless),
+        }
+    }
+
+    /// The numbers of the methods that a class declares.
+    fn numbers_at(&self, class: usize) -> &[usize]
+        ensures { result.now ≡ slice_index_or (map (λ r. r.items) self.now.declared.items) class [] }
+    {
+        match self.declared.get(class) {
+            None => &[],
+            Some(numbers) => numbers.as_slice(),
+        }
+    }
+
+    /// The place of the first method of an interface of whose name and signature no class from one on declares a virtual method. An
+    /// error where the class's bases are not seen to end.
+    pub fn first_absent(&self, interface: usize, class: usize) -> Result<Option<usize>, Endless>
+        ensures { IfOk result (λ place. is_none place ≡ list_all (λ m. is_some (nearest_number (virtual_place self.now.names.now.classes.tree.now (identity_of m)) (line_of self.now.names.now.classes.tree.now (Some class)))) (methods_at self.now.names.now.classes.tree.now interface)) }
+    {
+        let numbers = self.numbers_at(interface);
+        Ok(first_missing(&self.overridable, class, numbers)?)
+    }
+
+    /// Of each class, whether the nearest method of some name and signature is marked, by its class and place; so it is said too where
+    /// the class's bases are not seen to end. Fails for want of memory alone.
+    pub fn finds_marked(&self, alloc: Global, marks: &[Vec<bool>]) -> Result<Vec<bool>, NoMemory>
+        ensures { IfOk result (λ found. (class : ℕ) (k : MethodIdentity) → slice_get found.items class ≡ Some false → is_marked (map (λ v. v.items) marks.now) (nearest_number (method_place self.now.names.now.classes.tree.now k) (line_of self.now.names.now.classes.tree.now (Some class))) ≡ false) }
+    {
+        let found = self.all.inheritance.finds_marked(alloc, marks)?;
+        Ok(found)
+    }
+}

@@ -1,0 +1,10 @@
+// A thread, as the collector sees it.
+
+use cil_model::phases::Phase;
+
+/// A thread that changes the heap while it is collected: its number, and the phase that it has acknowledged.
+#[derive(Clone, Copy, PartialEq, Eq, Debug)]
+pub struct Mutator {
+    pub number: u8,
+    pub phase: Phase,
+}

@@ -1,0 +1,18 @@
+use Rattle.std.proofs.Common.{◌≡◌, ◌<◌, ◌+◌, List, Option, length, arith, sym, subst}
+use Rattle.flow_rules.specs.declared.entries.StackEntry.{StackEntry}
+use Rattle.verifier.specs.Verdicts.{AreOfMethods}
+use Rattle.verifier.proofs.TypingLaws.{next_kept, next_refused}
+use Rattle.verifier.proofs.typings.typings_by.Goals as goal
+
+pub returns-in-Err : goal.returns-in-Err
+returns-in-Err c all =
+    let below : c.loop-method.method < length c.args.members.now = omega (arith, c.loop-method-test.true) in
+    let invariant = c.loop-method.invariant all in
+    next_refused c.args.program.now c.args.members.now c.loop-method.typings.items c.loop-method.method _ all below invariant.0 invariant.1 c.in-Err.error c.refused.result c.in-Err.ensures c.refused.ensures
+
+pub loop-method-preserved : goal.loop-method-preserved
+loop-method-preserved c all =
+    let below : c.loop-method.method < length c.args.members.now = omega (arith, c.loop-method-test.true) in
+    let invariant = c.loop-method.invariant all in
+    subst (λ (typings : List (List (Option (List StackEntry)))). (length typings ≡ c.loop-method.method + 1) × AreOfMethods c.args.program.now typings) (sym c.in_ok-push-in-Ok.ensures.items)
+    (next_kept c.args.program.now c.args.members.now c.loop-method.typings.items c.loop-method.method _ all below invariant.0 invariant.1 c.in-Ok.typing c.in-Ok.ensures)
