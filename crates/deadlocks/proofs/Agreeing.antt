@@ -38,10 +38,10 @@ use Rattle.event_trace.specs.interleaving_core.declared.waits.Wait.{Wait}
 use Rattle.event_trace.specs.interleaving_core.declared.waits.Wait.TheVariants.{Monitor, Join}
 use Rattle.event_trace.proofs.interleaving_core.simulation.AgreeLaws.{agree_beyond, agree_get}
 use Rattle.event_trace.proofs.interleaving_core.simulation.Memories.{named_is_not_null}
-use Rattle.event_trace.proofs.interleaving_core.step_simulation.Monitors.{IsMonitorAt, monitor_there}
-use Rattle.event_trace.proofs.interleaving_core.step_simulation.OneBlock.{heap_reads, modelled, one_block}
+use Rattle.event_trace.proofs.interleaving_core.simulation.MemoryModels.{IsReadable}
+use Rattle.event_trace.proofs.interleaving_core.simulation.object_memory.Spaces.{slots_few}
+use Rattle.event_trace.proofs.interleaving_core.step_simulation.Monitors.{AreMonitors, monitors_there}
 use Rattle.event_trace.proofs.interleaving_core.step_simulation.Joins.{lives_alike}
-use Rattle.event_trace.proofs.interleaving_core.step_simulation.SoundContents.{idle_heap}
 use Rattle.event_trace.proofs.interleaving_core.step_simulation.ThreadObjects.{IsThreadObject, thread_object_is, thread_on_is}
 
 -- a machine's wait is for the same thread
@@ -64,6 +64,12 @@ module _ (c : Content) (s : State) (r : Represents c s) (t : ℕ) where
   abbrev here : Setting
   here = record { tree = c.tree; limits = c.limits; thread = t; is_refused = false }
 
+  -- what loads find
+  readable : IsReadable c.tree name c.objects s
+  readable =
+      let heap = r.stands.by.memory.heap in
+      record { null_unnamed = heap.null_unnamed; small = heap.small; sizes = slots_few c.objects r.sound.heap.blocks.spaces; born = heap.born; literals = heap.literals; each_literal = heap.each_literal }
+
   -- ---- monitors
 
   held_alike : (class : Option ℕ) (n : ObjectName) (m : AnyMonitor) (k : StateMonitor) → IsMonitor m k → AreWaitsAlike (held_by_another class t m) (state_held n t k)
@@ -79,10 +85,9 @@ module _ (c : Content) (s : State) (r : Represents c s) (t : ℕ) where
 
   enters_alike : (a : Addr) (n : ObjectName) → name a.number ≡ Some n → AreWaitsAlike (monitor_wait c.objects t a) (option_and_then (state_held n t) (monitor_of s n))
   enters_alike a n named =
-      let at : IsMonitorAt c.tree (one_block c.tree c.limits.words) name c.objects c.statics c.printed c.limits s a n =
-      monitor_there c.tree (one_block c.tree c.limits.words) name c.objects c.statics c.printed c.limits s (modelled c.tree c.limits.words name c.objects c.statics c.printed s r.stands.by.memory (idle_heap c r.sound)) r.counted a n named in
+      let at : AreMonitors c.objects s a n = monitors_there c.tree name c.objects s readable a n named in
       let machine : monitor_wait c.objects t a ≡ held_by_another (class_of_object c.objects a) t at.monitor =
-      ap (λ b. if b then None else option_and_then (held_by_another (class_of_object c.objects a) t) (monitor_at c.objects a)) (named_is_not_null c.tree name c.objects s (heap_reads c.tree name c.objects s r.stands.by.memory.heap) a.number n named)
+      ap (λ b. if b then None else option_and_then (held_by_another (class_of_object c.objects a) t) (monitor_at c.objects a)) (named_is_not_null c.tree name c.objects s readable a.number n named)
       ∙ ap (option_and_then (held_by_another (class_of_object c.objects a) t)) at.held in
       subst (λ w. AreWaitsAlike w (option_and_then (state_held n t) (monitor_of s n))) (sym machine)
       (subst (λ k. AreWaitsAlike (held_by_another (class_of_object c.objects a) t at.monitor) (option_and_then (state_held n t) k)) (sym at.state_held)
@@ -104,10 +109,10 @@ module _ (c : Content) (s : State) (r : Represents c s) (t : ℕ) where
   joins_alike : (f : StateFrame) (below : List StateFrame) (rest : List StateValue) (a : Addr) (n : ObjectName) → name a.number ≡ Some n → IsTypedEffect c.tree (act here s f below JoinAction (Reference n ∷ []) rest) →
       AreWaitsAlike (join_wait c.threads c.objects a) (option_and_then (λ (o : HeapObject). option_and_then (state_awaited s) o.thread) (object_at s n))
   joins_alike f below rest a n named typed =
-      let asked = thread_object_is here s f below name c.objects r.stands.by.memory.heap a (join here s f below rest) n named typed in
+      let asked = thread_object_is here s f below name c.objects readable a (join here s f below rest) n named typed in
       let x : IsThreadObject c.tree name c.objects s a asked.0 = asked.2 in
       let machine : join_wait c.threads c.objects a ≡ option_and_then (end_awaited c.threads) x.object.thread =
-      ap (λ b. if b then None else option_and_then (end_awaited c.threads) (thread_on c.objects a)) (named_is_not_null c.tree name c.objects s (heap_reads c.tree name c.objects s r.stands.by.memory.heap) a.number n named)
+      ap (λ b. if b then None else option_and_then (end_awaited c.threads) (thread_on c.objects a)) (named_is_not_null c.tree name c.objects s readable a.number n named)
       ∙ ap (option_and_then (end_awaited c.threads)) (thread_on_is c.tree name c.objects s a asked.0 x) in
       let state : object_at s n ≡ Some x.object = ap (object_at s) asked.1 ∙ x.is in
       subst (λ w. AreWaitsAlike w (option_and_then (λ (o : HeapObject). option_and_then (state_awaited s) o.thread) (object_at s n))) (sym machine)

@@ -1,13 +1,15 @@
 -- Threads keep their budgets.
-use Rattle.std.proofs.Common.{◌≡◌, ◌⊎◌, ◌<◌, ◌+◌, ◌-◌, ◌==◌, ℕ, zero, suc, true, false, cond, List, [], ◌∷◌, ◌++◌, Option, Some, None, slice_get, slice_set, refl, inl, inr, sym, ap, ◌∙◌, subst, arith}
+use Rattle.std.proofs.Common.{◌≡◌, ◌⊎◌, ◌<◌, ◌+◌, ◌-◌, ◌==◌, if◌then◌else◌, ℕ, zero, suc, Bool, true, false, cond, List, [], ◌∷◌, ◌++◌, Option, Some, None, slice_get, slice_set, refl, inl, inr, sym, ap, ◌∙◌, subst, arith}
 use Rattle.std.proofs.lemmas.Bool.Decides.{nat_tests}
 use Rattle.std.proofs.lemmas.List.Sums.{sum_by-cons}
 use Rattle.std.specs.Option.{option_map_or}
 use Rattle.cil_model.specs.declared.events.Event.{Event}
 use Rattle.cil_model.specs.declared.events.Event.TheVariants.{Step, Ack, Gc}
+use Rattle.cil_model.specs.declared.limits.Limits.{Limits}
 use Rattle.cil_model.specs.declared.reports.End.{End}
 use Rattle.cil_model.specs.declared.reports.Report.{Report}
-use Rattle.cil_model.specs.declared.reports.Report.TheVariants.{Absent, Waiting}
+use Rattle.cil_model.specs.declared.reports.Report.TheVariants.{Absent}
+use Rattle.object_memory.specs.Objects.{Objects}
 use Rattle.threads_monitors.specs.Frames.{Frames}
 use Rattle.threads_monitors.specs.Threads.{end_after, is_live, is_live_at, report_of, standing_after}
 use Rattle.threads_monitors.specs.declared.effects.Effect.{Effect}
@@ -15,11 +17,13 @@ use Rattle.threads_monitors.specs.declared.effects.Effect.TheVariants.{GoesOn, R
 use Rattle.threads_monitors.specs.declared.threads.Standing.{Standing}
 use Rattle.threads_monitors.specs.declared.threads.Standing.TheVariants.{Live, Ended}
 use Rattle.threads_monitors.specs.declared.threads.Thread.{Thread}
-use Rattle.phase_handshake.specs.Handshakes.{Handshakes, left as without_seat}
+use Rattle.phase_handshake.specs.Handshakes.{Handshakes, acknowledged, left as without_seat}
 use Rattle.step_simulation.specs.simulation.interpreter.declared.outcomes.Outcome.{Outcome}
 use Rattle.step_simulation.specs.simulation.Budgets.{KeepsBudgets, made_step, steps_left_of, steps_made}
 use Rattle.step_simulation.specs.simulation.MachineContents.{Content}
-use Rattle.step_simulation.specs.simulation.Turns.{IsStandingTurn, IsThreadTurn, IsTurn, counted, finished, left_by, live_thread, acknowledgement, seats_after}
+use Rattle.step_simulation.specs.simulation.Collecting.{acknowledgement, collected, flips_frames, objects_after, standing_flipped, thread_flipped, with_acknowledgement, with_flipped}
+use Rattle.step_simulation.specs.simulation.Turns.{IsStandingTurn, IsThreadTurn, IsTurn, counted, finished, left_by, live_thread, seats_after}
+use Rattle.step_simulation.proofs.simulation.CollectedRests.{collected_keeps}
 use Rattle.step_simulation.proofs.Finished.{HasBegun, finished_by}
 use Rattle.cil_model.proofs.Lists.{none_is_some, get_before, set_is_there}
 use Rattle.step_simulation.specs.simulation.interpreter.Instructions.{Answer}
@@ -187,12 +191,56 @@ module _ (c : Content) (live : LiveHaveSteps c.limits.budget c.threads) (some : 
           by_way threads (inl (is, seats)) = subst AreAsBefore (sym is) replaced
           by_way threads (inr (more, seats)) = joined_by threads more
 
+  -- ---- events that are no steps
+
+  -- where the threads and the limits stay
+  rest_keeps : (d : Content) (r : Report) → d.threads ≡ c.threads → d.limits ≡ c.limits → KeepsBudgets c d ((Gc, r) ∷ [])
+  rest_keeps d r threads limits = record {
+    counted = λ t. none_made t Gc r (steps_left_of d t) refl ∙ (ap (λ ts. left_in d.limits.budget ts t) threads ∙ ap (λ (l : Limits). left_in l.budget c.threads t) limits);
+    live = λ t. subst (λ ts. is_live_at ts t ≡ true → 0 < left_in d.limits.budget ts t) (sym threads) (subst (λ (l : Limits). is_live_at c.threads t ≡ true → 0 < left_in l.budget c.threads t) (sym limits) (live t));
+  }
+
+  -- a thread whose frames are flipped is as live as it was
+  flipped_live : (o : Objects) (x : Thread) → is_live (thread_flipped o x) ≡ true → is_live x ≡ true
+  flipped_live o x = by_standing x.standing
+    where
+      by_standing : (s : Standing) → is_live (record x { standing = standing_flipped o s }) ≡ true → is_live (record x { standing = s }) ≡ true
+      by_standing (Live m) h = refl
+      by_standing (Ended e) h = h
+
+  -- an acknowledgement
+  module _ (n : ℕ) where
+    abbrev acknowledged_with : List Thread → Content
+    acknowledged_with threads = record c { threads = threads; posts = acknowledged c.posts n; objects = objects_after c n }
+
+    kept_with : (threads : List Thread) → ((t : ℕ) → left_in c.limits.budget threads t ≡ left_in c.limits.budget c.threads t) → LiveHaveSteps c.limits.budget threads →
+        KeepsBudgets c (acknowledged_with threads) ((Ack n, acknowledgement c n) ∷ [])
+    kept_with threads same have = record { counted = λ t. none_made t (Ack n) (acknowledgement c n) (left_in c.limits.budget threads t) refl ∙ same t; live = have }
+
+    flipped_keeps : (o : Option Thread) → slice_get c.threads n ≡ o → KeepsBudgets c (acknowledged_with (with_flipped c.objects c.threads n o)) ((Ack n, acknowledgement c n) ∷ [])
+    flipped_keeps None is = kept_with c.threads (λ t. refl) live
+    flipped_keeps (Some x) is =
+        kept_with (slice_set c.threads n (thread_flipped c.objects x))
+        (λ t. left_kept c.limits.budget c.threads n t (thread_flipped c.objects x) x is refl)
+        (live_set c.limits.budget c.threads n (thread_flipped c.objects x) (λ h. has_steps (flipped_live c.objects x h)) live)
+      where
+        has_steps : is_live x ≡ true → 0 < x.steps_left
+        has_steps lives =
+            subst (λ (o : Option Thread). 0 < option_map_or (λ (thread : Thread). thread.steps_left) o c.limits.budget) is
+            (live n (ap (λ (o : Option Thread). option_map_or is_live o false) is ∙ lives))
+
+    by_flip : (b : Bool) → KeepsBudgets c (acknowledged_with (if b then with_flipped c.objects c.threads n (slice_get c.threads n) else c.threads)) ((Ack n, acknowledgement c n) ∷ [])
+    by_flip true = flipped_keeps (slice_get c.threads n) refl
+    by_flip false = kept_with c.threads (λ t. refl) live
+
+    acknowledged_keeps : KeepsBudgets c (with_acknowledgement c n).0 ((Ack n, (with_acknowledgement c n).1) ∷ [])
+    acknowledged_keeps = by_flip (flips_frames c n)
+
   -- an event keeps the budgets
   pub turn_keeps : (e : Event) (after : Content × Report) → IsTurn c e after → KeepsBudgets c after.0 ((e, after.1) ∷ [])
-  turn_keeps (Ack n) after h =
-      let as_before = unmoved (Ack n) (acknowledgement c n) (λ t. refl) in
-      subst (λ (x : Content × Report). KeepsBudgets c x.0 ((Ack n, x.1) ∷ [])) (sym h) (record { counted = as_before.counted; live = as_before.live })
-  turn_keeps Gc after h = unmoved_as Gc Waiting after h (λ t. refl)
+  turn_keeps (Ack n) after h = subst (λ (x : Content × Report). KeepsBudgets c x.0 ((Ack n, x.1) ∷ [])) (sym h) (acknowledged_keeps n)
+  turn_keeps Gc after h =
+      subst (λ (x : Content × Report). KeepsBudgets c x.0 ((Gc, x.1) ∷ [])) (sym h) (rest_keeps (collected c).0 (collected c).1 (collected_keeps c).threads (collected_keeps c).limits)
   turn_keeps (Step n) after h = by_thread (slice_get c.threads n) refl h
     where
       by_standing : (left : ℕ) (standing : Standing) → slice_get c.threads n ≡ Some (record { standing = standing; steps_left = left }) → IsStandingTurn c n left standing after → KeepsBudgets c after.0 ((Step n, after.1) ∷ [])

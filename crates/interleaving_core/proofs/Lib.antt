@@ -10,6 +10,9 @@ pub mod Refusing
 pub mod Asking
 pub mod Stepping
 pub mod Indexed
+pub mod HeldMarks
+pub mod Acknowledged
+pub mod Collecting
 pub mod Requests
 pub mod Ends
 pub mod AwaitedObjects

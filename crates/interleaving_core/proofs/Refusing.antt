@@ -18,7 +18,7 @@ use Rattle.step_simulation.specs.simulation.interpreter.Instructions.{IsDone, Pr
 use Rattle.step_simulation.specs.simulation.interpreter.declared.outcomes.Outcome.{Outcome}
 use Rattle.step_simulation.specs.simulation.interpreter.declared.outcomes.Outcome.TheVariants.{Comes, Starts, Joins}
 use Rattle.step_simulation.specs.simulation.MachineContents.{Content, mutator_of}
-use Rattle.step_simulation.specs.simulation.Turns.{IsThreadTurn, IsTurn, PrintsOrStarts, after_request, counted, finished, left_by, live_thread, started, thread_for, seated}
+use Rattle.step_simulation.specs.simulation.Turns.{IsThreadTurn, IsTurn, TakesMemory, after_request, counted, finished, left_by, live_thread, started, thread_for, seated}
 use Rattle.step_simulation.specs.simulation.Ready.{IsAnswerable}
 use Rattle.interleaving_core.specs.Finishing.{IsInstructed}
 use Rattle.step_simulation.proofs.Finished.{finished_printed}
@@ -74,7 +74,7 @@ module _ (c : Content) (t left : ℕ) (m : Frames) (there : slice_get c.threads 
   turn_is a done after is = subst (λ (o : Option Thread). IsThreadTurn c t o after) (sym there) (a, done, is)
 
   -- an instruction that prints
-  pub print_refused : ((a : Answer) → IsDone c.tree (mutator_of c t) m c.objects c.statics c.printed a → IsAnswerable c t left a a.outcome) → Prints c.tree (mutator_of c t) m c.objects c.statics c.printed → PrintsOrStarts c (Step t)
+  pub print_refused : ((a : Answer) → IsDone c.tree (mutator_of c t) m c.objects c.statics c.printed a → IsAnswerable c t left a a.outcome) → Prints c.tree (mutator_of c t) m c.objects c.statics c.printed → TakesMemory c (Step t)
   print_refused can prints =
       let a = prints.0 in
       let answerable = can a prints.1 in
@@ -83,9 +83,9 @@ module _ (c : Content) (t left : ℕ) (m : Frames) (there : slice_get c.threads 
 
 -- an instruction that starts a thread
 pub start_refused : (c : Content) (t : ℕ) (outcome : Outcome) (middle : Content) (half : IsInstructed c t outcome middle) → IsAnswerable c t half.left half.answer half.answer.outcome →
-    (object : Addr) → outcome ≡ Starts object → start_fault middle.threads middle.objects object ≡ None → PrintsOrStarts c (Step t)
+    (object : Addr) → outcome ≡ Starts object → start_fault middle.threads middle.objects object ≡ None → TakesMemory c (Step t)
 start_refused c t outcome middle half answerable object starts free =
     let is : half.answer.outcome ≡ Starts object = half.comes ∙ starts in
     let free' : start_fault (left_by c t half.left half.answer).threads half.answer.objects object ≡ None = subst (λ (x : Content). start_fault x.threads x.objects object ≡ None) half.is free in
     let more = one_more c t half.left half.answer object (subst (IsAnswerable c t half.left half.answer) is answerable) free' in
-    (more.0, turn_is c t half.left half.frames half.there half.answer half.done more.0 (subst (λ (o : Outcome). finished c t half.left half.answer o ≡ Some more.0) (sym is) more.1), inr more.2)
+    (more.0, turn_is c t half.left half.frames half.there half.answer half.done more.0 (subst (λ (o : Outcome). finished c t half.left half.answer o ≡ Some more.0) (sym is) more.1), inr (inl more.2))

@@ -25,6 +25,7 @@ use Rattle.interleaving_core.proofs.Following.{SameProgram, turn_follows}
 pub can_go_on : (e : Engine) → IsSound e → CanGoOn e
 can_go_on e sound = record {
   limits = sound.represents.limits;
+  content = sound.represents.sound;
   ready = λ t left m there. thread_is_ready (content_of e) sound.state sound.represents t left m there;
   answerable = λ t left m there a done. asked_is_answerable (content_of e) sound.state sound.represents t left m there a done;
 }

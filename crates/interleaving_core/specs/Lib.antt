@@ -1,4 +1,5 @@
 pub use Rattle.step_simulation.specs.simulation as simulation
+pub mod Acknowledging
 pub mod Views
 pub mod Finishing
 pub mod Refusals

@@ -11,6 +11,7 @@ use Rattle.threads_monitors.specs.declared.threads.Thread.{Thread}
 use Rattle.step_simulation.specs.simulation.interpreter.Instructions.{IsDone, Answer}
 use Rattle.step_simulation.specs.simulation.MachineContents.{Content, mutator_of}
 use Rattle.step_simulation.specs.simulation.StandsFor.{Represents}
+use Rattle.step_simulation.specs.simulation.Sound.{IsSound as IsSoundContent}
 use Rattle.step_simulation.specs.simulation.Ready.{IsReady, IsAnswerable}
 use Rattle.interleaving_core.specs.declared.engine.Engine.{Engine}
 
@@ -18,9 +19,10 @@ use Rattle.interleaving_core.specs.declared.engine.Engine.{Engine}
 abbrev pub content_of : Engine → Content
 content_of e = record { tree = e.program; limits = e.limits; threads = e.threads.items; posts = e.posts; progress = e.progress; objects = e.store.heap; statics = e.store.statics.items; printed = e.store.console.items }
 
--- each live thread is ready, and what its instruction asks of other threads can be answered
+-- the content is sound, each live thread is ready, and what its instruction asks of other threads can be answered
 pub record CanGoOn (e : Engine) : Type 0 where
   pub limits : IsTrue (are_in_range e.limits)
+  pub content : IsSoundContent (content_of e)
   pub ready : (t left : ℕ) (m : Frames) → slice_get e.threads.items t ≡ Some (record { standing = Live m; steps_left = left }) → IsReady (content_of e) t m
   pub answerable : (t left : ℕ) (m : Frames) → slice_get e.threads.items t ≡ Some (record { standing = Live m; steps_left = left }) → (a : Answer) →
       IsDone e.program (mutator_of (content_of e) t) m e.store.heap e.store.statics.items e.store.console.items a → IsAnswerable (content_of e) t left a a.outcome

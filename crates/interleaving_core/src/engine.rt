@@ -7,7 +7,7 @@ ghost use Rattle.object_memory.specs.Cells.{null};
 ghost use Rattle.object_memory.specs.Objects.{object_slots};
 ghost use Rattle.object_memory.specs.declared.addresses.Addr.{Addr as AnyAddr};
 ghost use Rattle.cil_model.specs.declared.limits.TheConstants.{MOST_INSTRUCTIONS, MOST_THREADS};
-ghost use Rattle.cil_model.specs.declared.events.Event.TheVariants.{Step as StepOf, Ack as AckOf, Gc as GcOf};
+ghost use Rattle.cil_model.specs.declared.events.Event.TheVariants.{Step as StepOf};
 ghost use Rattle.step_simulation.specs.simulation.instructions.barriers.Barriers.{is_word_storable};
 ghost use Rattle.threads_monitors.specs.Frames.{Frames};
 ghost use Rattle.threads_monitors.specs.Threads.{is_live, is_live_at, start_fault};
@@ -15,7 +15,7 @@ ghost use Rattle.step_simulation.specs.simulation.interpreter.declared.outcomes.
 ghost use Rattle.step_simulation.specs.simulation.interpreter.Instructions.{Prints};
 ghost use Rattle.step_simulation.specs.simulation.MachineContents.{mutator_of};
 ghost use Rattle.step_simulation.specs.simulation.Ready.{CanFinish};
-ghost use Rattle.step_simulation.specs.simulation.Turns.{IsTurn, PrintsOrStarts, answered, counted, finish, live_thread, seated, started, thread_for};
+ghost use Rattle.step_simulation.specs.simulation.Turns.{IsTurn, TakesMemory, answered, counted, finish, live_thread, seated, started, thread_for};
 ghost use Rattle.interleaving_core.specs.Views.{CanGoOn, content_of, end_at};
 ghost use Rattle.interleaving_core.specs.Positions.{position_at};
 ghost use Rattle.interleaving_core.specs.Waits.{wait_at};
@@ -50,18 +50,18 @@ pub struct Engine {
 }
 
 impl Engine {
-    /// What an event does. Want of memory, which a print or a start alone can meet, changes nothing.
+    /// What an event does. Want of memory, which a print, a start or the opening of a cycle alone can meet, changes nothing.
     pub fn step(&mut self, alloc: Global, event: Event) -> Result<Report, NoMemory>
         requires ready { CanGoOn self.old }
         ensures turns { IfOk result (λ report. IsTurn (content_of self.old) event (content_of self.new, report)) }
-        ensures memory { OnErr result (PrintsOrStarts (content_of self.old) event) }
+        ensures memory { OnErr result (TakesMemory (content_of self.old) event) }
         ensures refused { OnErr result (content_of self.new ≡ content_of self.old) }
     {
         match event {
             Event::Step(thread) if self.is_live(thread) => self.step_thread(alloc, thread),
             Event::Step(_) => Ok(Report::Absent),
             Event::Ack(thread) => Ok(self.acknowledge(thread)),
-            Event::Gc => Ok(self.collect()),
+            Event::Gc => self.collect(alloc),
         }
     }
 
@@ -70,7 +70,7 @@ impl Engine {
         requires ready { CanGoOn self.old }
         requires live { is_live_at self.old.threads.items number ≡ true }
         ensures turns { IfOk result (λ report. IsTurn (content_of self.old) (StepOf number) (content_of self.new, report)) }
-        ensures memory { OnErr result (PrintsOrStarts (content_of self.old) (StepOf number)) }
+        ensures memory { OnErr result (TakesMemory (content_of self.old) (StepOf number)) }
         ensures refused { OnErr result (content_of self.new ≡ content_of self.old) }
     {
         let outcome = self.instruct(number)?;
@@ -184,26 +184,6 @@ impl Engine {
         )?;
         seat_started(&mut self.posts, effect, number, starter);
         Ok(effect)
-    }
-
-    /// An acknowledgement of a thread: of the posted phase, or else of the posted round. Where neither is open to it, nothing changes.
-    fn acknowledge(&mut self, thread: u8) -> Report
-        ensures { IsTurn (content_of self.old) (AckOf thread) (content_of self.new, result) }
-    {
-        if self.posts.acknowledge(thread) {
-            Report::Acked
-        } else if self.is_live(thread) {
-            Report::NothingPosted
-        } else {
-            Report::Absent
-        }
-    }
-
-    /// An event of the collector. There is none yet, so it waits.
-    fn collect(&mut self) -> Report
-        ensures { IsTurn (content_of self.old) GcOf (content_of self.new, result) }
-    {
-        Report::Waiting
     }
 
     /// Whether the thread was started and hasn't ended.

@@ -1,7 +1,9 @@
 //! The machine: its threads, its heap, and what it does on each event.
 #![tactic(auto)]
 
+mod acknowledgements;
 mod beginnings;
+mod collections;
 mod engine;
 mod machine;
 mod openings;

@@ -6,13 +6,14 @@ ghost use Rattle.cil_model.specs.Ranges.{are_in_range, is_between};
 ghost use Rattle.cil_model.specs.declared.limits.TheConstants.{MOST_THREADS};
 ghost use Rattle.reference_machine.specs.Runs.{opening};
 ghost use Rattle.reference_machine.specs.States.{State};
+ghost use Rattle.object_memory.specs.Cells.{used_words};
 ghost use Rattle.object_memory.specs.Objects.{used_space, whole_space};
 ghost use Rattle.threads_monitors.specs.Threads.{end_of, is_live, is_live_at};
 ghost use Rattle.interleaving_core.specs.Views.{end_at};
 ghost use Rattle.interleaving_core.specs.Positions.{position_at};
 ghost use Rattle.interleaving_core.specs.Waits.{wait_at};
 ghost use Rattle.step_simulation.specs.simulation.StandsFor.{Represents};
-ghost use Rattle.step_simulation.specs.simulation.Turns.{IsTurn, PrintsOrStarts, opening_content};
+ghost use Rattle.step_simulation.specs.simulation.Turns.{IsTurn, TakesMemory, opening_content};
 ghost use Rattle.interleaving_core.specs.Refusals.{number_of};
 ghost use Rattle.step_simulation.specs.simulation.Runs.{AreTurns, FollowsReference};
 ghost use Rattle.interleaving_core.specs.declared.machine.Refused.TheVariants.{Limits as BadLimits, OutOfMemory};
@@ -99,12 +100,12 @@ impl Machine {
 
     /// What the machine does on one event, and what it reports.
     ///
-    /// Want of memory, which a print or a start alone can meet, changes nothing and isn't counted.
+    /// Want of memory, which a print, a start or the opening of a cycle alone can meet, changes nothing and isn't counted.
     pub fn step(&mut self, alloc: Global, event: Event) -> Result<Report, NoMemory>
         ensures turns { IfOk result (λ report. IsTurn self.old event (self.new, report)) }
         ensures follows { IfOk result (λ report. FollowsReference self.old self.new ((event, report) ∷ [])) }
         ensures same { (self.new.tree ≡ self.old.tree) × (self.new.limits ≡ self.old.limits) }
-        ensures memory { OnErr result (PrintsOrStarts self.old event) }
+        ensures memory { OnErr result (TakesMemory self.old event) }
         ensures refused { OnErr result (self.new ≡ self.old) }
     {
         self.engine.step(alloc, event)
@@ -208,16 +209,16 @@ impl Machine {
         self.engine.threads.len()
     }
 
-    /// The words that objects take, in the one space, and in the space of copies, which there is none of without a collector.
+    /// The words that objects take in the old space, or the only one, and in the new one, which there is while a cycle is open.
     ///
-    /// The space keeps its size, which is the limit of words: so a birth is refused exactly where its cell has more words than the limit
-    /// less those of all births so far.
+    /// The old space has the size of the limit of words: so, as no cycle ends yet, a birth is refused exactly where its cell has more
+    /// words than the limit less those of all births so far.
     pub fn used(&self) -> (u32, u32)
-        ensures used { result ≡ (used_space self.now.objects, 0) }
+        ensures used { result ≡ (used_space self.now.objects, used_words self.now.objects.spaces.new.cells) }
         ensures space { whole_space self.now.objects ≡ self.now.limits.words }
     {
-        let (words, _) = self.engine.store.heap.used_words();
-        (words as u32, 0)
+        let (old, new) = self.engine.store.heap.used_words();
+        (old as u32, new as u32)
     }
 }
 

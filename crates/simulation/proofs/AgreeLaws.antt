@@ -91,3 +91,11 @@ agree_map R S f g k [] [] h = h
 agree_map R S f g k (x ∷ xs) (y ∷ ys) h = (k x y h.0, agree_map R S f g k xs ys h.1)
 agree_map R S f g k [] (y ∷ ys) h = elim h [ ]
 agree_map R S f g k (x ∷ xs) [] h = elim h [ ]
+
+-- another element at a place that is in each relation that the one before is in
+pub agree_changed : {A B : Type 0} (R : A → B → Type 0) (xs : List A) (ys : List B) (t : ℕ) (x z : A) → slice_get xs t ≡ Some x → ((y : B) → R x y → R z y) → Agree R xs ys → Agree R (slice_set xs t z) ys
+agree_changed R [] [] t x z is f h = h
+agree_changed R (w ∷ xs) (y ∷ ys) zero x z is f h = (f y (subst (λ k. R k y) (same_Some w x is) h.0), h.1)
+agree_changed R (w ∷ xs) (y ∷ ys) (suc t) x z is f h = (h.0, agree_changed R xs ys t x z is f h.1)
+agree_changed R [] (y ∷ ys) t x z is f h = elim h [ ]
+agree_changed R (w ∷ xs) [] t x z is f h = elim h [ ]

@@ -4,7 +4,6 @@ use Rattle.std.proofs.lemmas.Bool.Decides.{nat_tests}
 use Rattle.interpreter.specs.cil_model.declared.trees.Tree.{Tree}
 use Rattle.interpreter.specs.cil_model.Fields.{FieldKey}
 use Rattle.interpreter.specs.cil_model.Same.{same_text}
-use Rattle.interpreter.specs.reference_machine.Rooms.{words_of_all}
 use Rattle.interpreter.specs.reference_machine.Values.{ObjectName, Value as StateValue}
 use Rattle.interpreter.specs.reference_machine.States.{State, entry_at}
 use Rattle.interpreter.specs.object_memory.declared.values.Value.{Value}
@@ -20,20 +19,13 @@ module _ (tree : Tree) (name : Names) (o : Objects) (s : State) (heap : IsReadab
   named_is_not_null zero n is = none_is_some n (sym heap.null_unnamed ∙ is)
   named_is_not_null (suc a) n is = grind (arith, nat_tests)
 
-  -- nor is null the address of an object
-  pub null_is_not_named : (a : ℕ) (n : ObjectName) → name a ≡ Some n → (0 == a) ≡ false
-  null_is_not_named zero n is = none_is_some n (sym heap.null_unnamed ∙ is)
-  null_is_not_named (suc a) n is = grind (arith, nat_tests)
-
 module _ (tree : Tree) (name : Names) (o : Objects) (s s' : State) (objects : s'.objects ≡ s.objects) (monitors : s'.literal_monitors ≡ s.literal_monitors) where
   -- a heap is the same beside other threads, static fields and printed bytes
   pub heap_beside : IsHeap tree name o s → IsHeap tree name o s'
   heap_beside h = record {
-    inside = h.inside;
-    full = h.full ∙ ap (words_of_all tree) (sym objects);
     null_unnamed = h.null_unnamed;
     small = h.small;
-    apart = h.apart;
+    names = h.names;
     born = λ a n named. let b = h.born a n named in record { no_literal = b.no_literal; cell = b.cell; lies = b.lies; object = b.object; is = ap (λ os. slice_get os n) objects ∙ b.is; stands = b.stands };
     literals = λ a characters named. let l = h.literals a characters named in record {
       number = l.number;

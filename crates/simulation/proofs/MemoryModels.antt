@@ -20,9 +20,11 @@ use Rattle.interpreter.specs.object_memory.Spaces.{room_for}
 use Rattle.interpreter.specs.instructions.barriers.Barriers.{are_comparable, are_same, can_bear, is_monitor_storable, is_static_storable, is_storable, is_word_storable, object_born, stored_int, stored_monitor, stored_static, stored_value}
 use Rattle.interpreter.specs.object_memory.Values.{value_word}
 use Rattle.interpreter.specs.threads_monitors.declared.mutators.Mutator.{Mutator}
+use Rattle.type_soundness.specs.TypedStates.{IsTyped}
 use Rattle.collector.specs.References.{holds_reference, is_reference_value}
 use Rattle.simulation.specs.Agreement.{Agree}
 use Rattle.simulation.specs.StandsFor.{Names, Extends, IsValue, IsMonitor, IsOfContents, IsCell, IsBornAt, IsLiteralAt}
+use Rattle.simulation.proofs.ReferenceSlots.{IsLinked}
 
 -- what loads find: each named address has its object or its literal, each literal its name, and null none; no object has more slots than
 -- there may be words
@@ -59,8 +61,8 @@ IsReference name a = (a ≡ null) ⊎ IsSome (name a.number)
 pub record MemoryModel (tree : Tree) : Type 1 where
   pub phase : Phase
   pub Fits : Names → Objects → List Value → State → Type 0
-  -- reading
-  pub reads : (name : Names) (o : Objects) (ss : List Value) (s : State) → Fits name o ss s → IsReadable tree name o s
+  -- reading, of a typed state
+  pub reads : (name : Names) (o : Objects) (ss : List Value) (s : State) → Fits name o ss s → IsTyped tree s → IsReadable tree name o s
   pub statics : (name : Names) (o : Objects) (ss : List Value) (s : State) → Fits name o ss s → AreStatics name ss s.statics
   pub beside : (name : Names) (o : Objects) (ss : List Value) (s s' : State) → Fits name o ss s → IsBeside s s' → Fits name o ss s'
   -- comparing, of named addresses and null
@@ -69,27 +71,27 @@ pub record MemoryModel (tree : Tree) : Type 1 where
   pub same_null : (name : Names) (o : Objects) (ss : List Value) (s : State) → Fits name o ss s → are_same phase o null null ≡ true
   pub null_name : (name : Names) (o : Objects) (ss : List Value) (s : State) → Fits name o ss s → (b : Addr) (k : ObjectName) → name b.number ≡ Some k → are_same phase o null b ≡ false
   pub name_null : (name : Names) (o : Objects) (ss : List Value) (s : State) → Fits name o ss s → (a : Addr) (n : ObjectName) → name a.number ≡ Some n → are_same phase o a null ≡ false
-  -- storing: a value to a slot that is of its sort, a word to a slot that holds no reference, a monitor of an object, one of a literal, a value to a static field
+  -- storing: a value to a slot that is of its sort, a word to a slot that holds no reference, a monitor of an object, each of a typed state and so that the slots of the object still hold references where its values are; a monitor of a literal; a value to a static field
   pub storable : (name : Names) (o : Objects) (ss : List Value) (s : State) → Fits name o ss s →
       (a : Addr) (n : ℕ) → name a.number ≡ Some (Born n) → (cell : Cell) → object_cell o a ≡ Some cell →
       (slot : ℕ) (v : Value) (u : StateValue) → slot < length cell.slots → IsValue name v u → is_storable phase o a slot v ≡ true
-  pub slots : (name : Names) (o : Objects) (ss : List Value) (s : State) → Fits name o ss s →
+  pub slots : (name : Names) (o : Objects) (ss : List Value) (s : State) → Fits name o ss s → IsTyped tree s →
       (a : Addr) (n : ℕ) → name a.number ≡ Some (Born n) → (cell : Cell) → object_cell o a ≡ Some cell →
       (slot : ℕ) (v : Value) (u : StateValue) → slot < length cell.slots → is_reference_value v ≡ holds_reference tree cell.kind slot → IsValue name v u →
-      (object : HeapObject) → IsCell tree name (store_slot slot (value_word v) cell) object →
+      (object : HeapObject) → IsLinked tree cell.kind object.contents → IsCell tree name (store_slot slot (value_word v) cell) object →
       Fits name (stored_value phase o a slot v) ss (with_object s (Born n) object)
   pub word_storable : (name : Names) (o : Objects) (ss : List Value) (s : State) → Fits name o ss s →
       (a : Addr) (n : ℕ) → name a.number ≡ Some (Born n) → (cell : Cell) → object_cell o a ≡ Some cell →
       (slot : ℕ) → slot < length cell.slots → is_word_storable phase o a slot ≡ true
-  pub hidden : (name : Names) (o : Objects) (ss : List Value) (s : State) → Fits name o ss s →
+  pub hidden : (name : Names) (o : Objects) (ss : List Value) (s : State) → Fits name o ss s → IsTyped tree s →
       (a : Addr) (n : ℕ) → name a.number ≡ Some (Born n) → (cell : Cell) → object_cell o a ≡ Some cell →
       (slot w : ℕ) → slot < length cell.slots → holds_reference tree cell.kind slot ≡ false →
-      (object : HeapObject) → IsCell tree name (store_slot slot w cell) object →
+      (object : HeapObject) → IsLinked tree cell.kind object.contents → IsCell tree name (store_slot slot w cell) object →
       Fits name (stored_int phase o a slot w) ss (with_object s (Born n) object)
   pub monitor_storable : (name : Names) (o : Objects) (ss : List Value) (s : State) → Fits name o ss s → (a : Addr) (n : ObjectName) → name a.number ≡ Some n → is_monitor_storable phase o a ≡ true
-  pub monitors : (name : Names) (o : Objects) (ss : List Value) (s : State) → Fits name o ss s →
+  pub monitors : (name : Names) (o : Objects) (ss : List Value) (s : State) → Fits name o ss s → IsTyped tree s →
       (a : Addr) (n : ℕ) → name a.number ≡ Some (Born n) → (cell : Cell) → object_cell o a ≡ Some cell →
-      (monitor : Monitor) (object : HeapObject) → IsCell tree name (store_monitor monitor cell) object →
+      (monitor : Monitor) (object : HeapObject) → IsLinked tree cell.kind object.contents → IsCell tree name (store_monitor monitor cell) object →
       Fits name (stored_monitor phase o a monitor) ss (with_object s (Born n) object)
   pub literals : (name : Names) (o : Objects) (ss : List Value) (s : State) → Fits name o ss s →
       (a : Addr) (characters : List ℕ) → name a.number ≡ Some (Literal characters) → (monitor : Monitor) (u : StateMonitor) → IsMonitor monitor u →

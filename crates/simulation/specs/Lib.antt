@@ -15,6 +15,8 @@ pub mod Agreement
 pub mod Counts
 pub mod MachineContents
 pub mod Sound
+pub mod Collecting
+pub mod Reached
 pub mod StandsFor
 pub mod Turns
 pub mod Ready

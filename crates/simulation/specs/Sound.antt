@@ -1,8 +1,8 @@
 -- What is always true of what a machine with a collector holds: of posts and seats, of the heap, and of what threads and static fields hold (Hudson and
 -- Moss, "Sapphire"; this profile). It speaks of no object of the reference machine.
-use Rattle.std.specs.Prelude.{◌≡◌, ◌≤◌, ℕ, true, List, Option, Some, is_some, slice_get}
+use Rattle.std.specs.Prelude.{◌≡◌, ◌≤◌, ℕ, true, List, Some, is_some, slice_get}
 use Rattle.interpreter.specs.cil_model.declared.phases.Phase.{Phase}
-use Rattle.interpreter.specs.cil_model.declared.phases.Phase.TheVariants.{Idle, Mark}
+use Rattle.interpreter.specs.cil_model.declared.phases.Phase.TheVariants.{Copy, Mark}
 use Rattle.interpreter.specs.object_memory.declared.addresses.Addr.{Addr}
 use Rattle.interpreter.specs.object_memory.declared.values.Value.{Value}
 use Rattle.collector.specs.References.{ValuePasses}
@@ -19,9 +19,9 @@ use Rattle.simulation.specs.MachineContents.{Content}
 
 -- ---- posts and seats
 
--- the last phase that the collector of a machine posts: it posts none yet
+-- the last phase that the collector of a machine posts: the flips are still to come
 abbrev pub last_phase : Phase
-last_phase = Idle
+last_phase = Copy
 
 -- no later phase is posted or acknowledged
 pub record AreUpTo (last : Phase) (h : Handshakes) : Type 0 where

@@ -1,10 +1,9 @@
 -- When what a machine holds stands for a state of the reference machine: the same, with addresses in the place of names (this profile).
-use Rattle.std.specs.Prelude.{◌≡◌, ◌≤◌, ◌<◌, ℕ, suc, ℤ, if◌then◌else◌, List, [], ◌∷◌, ◌++◌, length, Option, Some, None, slice_get, FitsSigned, IsTrue}
+use Rattle.std.specs.Prelude.{◌≡◌, ◌⊎◌, ◌≤◌, ◌<◌, ℕ, suc, ℤ, if◌then◌else◌, List, [], ◌∷◌, ◌++◌, length, Option, Some, None, slice_get, FitsSigned, IsTrue}
 use Rattle.std.specs.Int.{w32, w64}
 use Rattle.interpreter.specs.cil_model.declared.limits.Limits.{Limits}
 use Rattle.interpreter.specs.cil_model.declared.trees.Tree.{Tree}
 use Rattle.interpreter.specs.cil_model.declared.types.ClassName.{ClassName}
-use Rattle.interpreter.specs.cil_model.declared.phases.Phase.TheVariants.{Idle}
 use Rattle.interpreter.specs.cil_model.declared.reports.End.{End}
 use Rattle.interpreter.specs.cil_model.Same.{same_text}
 use Rattle.interpreter.specs.cil_model.Chains.{is_thread_class}
@@ -13,8 +12,8 @@ use Rattle.interpreter.specs.cil_model.Typings.{IsAccepted}
 use Rattle.interpreter.specs.cil_model.Fields.{FieldKey}
 use Rattle.interpreter.specs.cil_model.Mentions.{literals_of}
 use Rattle.interpreter.specs.reference_machine.Values.{ObjectName, Born, Literal, Value as StateValue, Int32 as Int32Value, Int64 as Int64Value, Native as NativeValue, Null, Reference}
-use Rattle.interpreter.specs.reference_machine.States.{Monitor as StateMonitor, Free as IsFree, Held as IsHeld, Contents, Instance as IsInstance, Array as IsArray, HeapObject, Frame as StateFrame, Thread as StateThread, State, entry_at}
 use Rattle.interpreter.specs.reference_machine.Rooms.{words_of_all}
+use Rattle.interpreter.specs.reference_machine.States.{Monitor as StateMonitor, Free as IsFree, Held as IsHeld, Contents, Instance as IsInstance, Array as IsArray, HeapObject, Frame as StateFrame, Thread as StateThread, State, entry_at}
 use Rattle.type_soundness.specs.TypedStates.{IsTyped}
 use Rattle.simulation.specs.Counts.{IsCounted}
 use Rattle.interpreter.specs.resolved_code.Numbered.{class_name, type_at}
@@ -26,12 +25,11 @@ use Rattle.interpreter.specs.object_memory.declared.monitors.Monitor.{Monitor}
 use Rattle.interpreter.specs.object_memory.declared.monitors.Monitor.TheVariants.{Free, Held}
 use Rattle.interpreter.specs.object_memory.declared.values.Value.{Value}
 use Rattle.interpreter.specs.object_memory.declared.values.Value.TheVariants.{Int32, Int64, Native, Ref}
-use Rattle.interpreter.specs.object_memory.Cells.{Cell, literal, literal_number, null}
+use Rattle.interpreter.specs.object_memory.Cells.{Cell, cell_in, literal, literal_number, null, used_words}
 use Rattle.interpreter.specs.object_memory.Objects.{Objects, object_cell, used_space}
-use Rattle.interpreter.specs.object_memory.Spaces.{AreSpaces}
+use Rattle.interpreter.specs.object_memory.Spaces.{Spaces, other_of}
 use Rattle.interpreter.specs.object_memory.Values.{value_word}
 use Rattle.interpreter.specs.loaded_program.AllMethods.{all_methods}
-use Rattle.interpreter.specs.instructions.barriers.Barriers.{AreOfOneObject}
 use Rattle.interpreter.specs.instructions.TypeTurns.{held_type}
 use Rattle.interpreter.specs.threads_monitors.Frames.{Frame, Frames}
 use Rattle.interpreter.specs.threads_monitors.declared.threads.Standing.{Standing}
@@ -122,18 +120,20 @@ pub record IsLiteralAt (tree : Tree) (o : Objects) (s : State) (a : ℕ) (charac
   pub state_held : entry_at same_text characters s.literal_monitors ≡ Some state_monitor
   pub stands : IsMonitor monitor state_monitor
 
--- addresses of one name are of one object, for threads between cycles
-abbrev pub HasOneObject : Names → Objects → Type 0
-HasOneObject name o = (a b : ℕ) (n : ObjectName) → name a ≡ Some n → name b ≡ Some n → AreOfOneObject Idle o (record { number = a }) (record { number = b })
+-- one address is that of the other copy of an old object
+abbrev pub AreTwins : Spaces → ℕ → ℕ → Type 0
+AreTwins m a b = (other_of (cell_in m.old (record { number = a })) ≡ Some (record { number = b })) ⊎ (other_of (cell_in m.old (record { number = b })) ≡ Some (record { number = a }))
 
--- Each named address has its object or its literal, and addresses of one name are of one object. The objects lie within their space, and
--- are all that were born.
+-- named addresses have one name exactly where they are equal or the two copies of one object
+pub record HasOneName (name : Names) (m : Spaces) : Type 0 where
+  pub one : (a b : ℕ) (n : ObjectName) → name a ≡ Some n → name b ≡ Some n → (a ≡ b) ⊎ AreTwins m a b
+  pub twins : (a b : ℕ) (n k : ObjectName) → name a ≡ Some n → name b ≡ Some k → AreTwins m a b → n ≡ k
+
+-- each named address has its object or its literal, and the two copies of an object have one name
 pub record IsHeap (tree : Tree) (name : Names) (o : Objects) (s : State) : Type 0 where
-  pub inside : AreSpaces o.spaces
-  pub full : used_space o ≡ words_of_all tree s.objects
   pub null_unnamed : name 0 ≡ None
   pub small : (a : ℕ) (n : ObjectName) → name a ≡ Some n → a < ADDRESSES
-  pub apart : HasOneObject name o
+  pub names : HasOneName name o.spaces
   pub born : (a n : ℕ) → name a ≡ Some (Born n) → IsBornAt tree name o s a n
   pub literals : (a : ℕ) (characters : List ℕ) → name a ≡ Some (Literal characters) → IsLiteralAt tree o s a characters
   pub each_literal : (n : ℕ) (characters : List ℕ) → slice_get (literals_of tree) n ≡ Some characters → name (literal n).number ≡ Some (Literal characters)
@@ -193,6 +193,11 @@ pub record StandsFor (c : Content) (s : State) : Type 0 where
   pub name : Names
   pub by : StandsBy name c s
 
+-- As long as no phase beyond Copy is posted, so that no cycle ends, the old block has the words of all births, and the new one no more words than it.
+pub record IsFull (tree : Tree) (o : Objects) (objects : List HeapObject) : Type 0 where
+  pub old : used_space o ≡ words_of_all tree objects
+  pub new : used_words o.spaces.new.cells ≤ used_space o
+
 -- Within limits that a run may have, an accepted program's sound machine stands for a typed state, whose monitors are counted.
 pub record Represents (c : Content) (s : State) : Type 0 where
   pub accepted : IsAccepted c.tree
@@ -201,3 +206,4 @@ pub record Represents (c : Content) (s : State) : Type 0 where
   pub counted : IsCounted c.limits s
   pub sound : IsSound c
   pub stands : StandsFor c s
+  pub full : IsFull c.tree c.objects s.objects

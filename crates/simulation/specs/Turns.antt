@@ -1,5 +1,5 @@
--- What a machine does on each event (this profile). Each machine without a collector is proved to do exactly this.
-use Rattle.std.specs.Prelude.{◌≡◌, ◌⊎◌, ◌<◌, ℕ, ◌+◌, if◌then◌else◌, List, [], ◌∷◌, map, length, drop, Option, Some, None, option_map, option_and_then, slice_get, slice_set}
+-- What a machine does on each event (this profile). Each machine is proved to do exactly this.
+use Rattle.std.specs.Prelude.{◌≡◌, ◌⊎◌, ◌<◌, ℕ, ◌+◌, true, false, List, [], ◌∷◌, map, length, drop, Option, Some, None, option_map, option_and_then, slice_get, slice_set}
 use Rattle.std.specs.Option.{option_map_or}
 use Rattle.interpreter.specs.cil_model.declared.types.ClassName.{ClassName}
 use Rattle.interpreter.specs.cil_model.declared.types.DeclaredType.{DeclaredType}
@@ -10,11 +10,11 @@ use Rattle.interpreter.specs.cil_model.declared.events.Event.{Event}
 use Rattle.interpreter.specs.cil_model.declared.events.Event.TheVariants.{Step, Ack, Gc}
 use Rattle.interpreter.specs.cil_model.declared.phases.Phase.{Phase}
 use Rattle.interpreter.specs.cil_model.declared.reports.Report.{Report}
-use Rattle.interpreter.specs.cil_model.declared.reports.Report.TheVariants.{Absent, Acked, Ended as HasEnded, NothingPosted, Waiting}
+use Rattle.interpreter.specs.cil_model.declared.reports.Report.TheVariants.{Absent, Ended as HasEnded}
 use Rattle.interpreter.specs.cil_model.Bodies.{entry_points}
 use Rattle.interpreter.specs.cil_model.Fields.{FieldKey, static_fields}
 use Rattle.interpreter.specs.cil_model.Mentions.{literals_of}
-use Rattle.collector.specs.phase_handshake.Handshakes.{Handshakes, acknowledged, first_handshakes, is_open, joined, left as without_seat}
+use Rattle.collector.specs.phase_handshake.Handshakes.{Handshakes, first_handshakes, joined, left as without_seat}
 use Rattle.collector.specs.Phases.{no_progress}
 use Rattle.interpreter.specs.name_tables.declared.lookups.MemberNumber.{MemberNumber}
 use Rattle.interpreter.specs.object_memory.declared.addresses.Addr.{Addr}
@@ -24,7 +24,7 @@ use Rattle.interpreter.specs.object_memory.Objects.{Objects, no_objects}
 use Rattle.interpreter.specs.loaded_program.MethodNumbers.{number_of}
 use Rattle.interpreter.specs.loaded_program.Prepared.{kind_of_type, local_kinds}
 use Rattle.interpreter.specs.threads_monitors.Frames.{Frames, new_frame, with_place, with_stack, zero_value}
-use Rattle.interpreter.specs.threads_monitors.Threads.{is_live_at, join_effect, settled, start_fault, with_start}
+use Rattle.interpreter.specs.threads_monitors.Threads.{join_effect, settled, start_fault, with_start}
 use Rattle.interpreter.specs.threads_monitors.declared.effects.Effect.{Effect}
 use Rattle.interpreter.specs.threads_monitors.declared.effects.Effect.TheVariants.{GoesOn, Returns, Blocks, Raises}
 use Rattle.interpreter.specs.threads_monitors.declared.threads.Standing.{Standing}
@@ -35,6 +35,7 @@ use Rattle.interpreter.specs.Instructions.{IsDone, Answer}
 use Rattle.interpreter.specs.declared.outcomes.Outcome.{Outcome}
 use Rattle.interpreter.specs.declared.outcomes.Outcome.TheVariants.{Comes, Starts, Joins}
 use Rattle.simulation.specs.MachineContents.{Content, frame_room, mutator_of}
+use Rattle.simulation.specs.Collecting.{collected, with_acknowledgement}
 
 -- ---- the beginning
 
@@ -136,16 +137,16 @@ abbrev pub IsThreadTurn : Content → ℕ → Option Thread → Content × Repor
 IsThreadTurn c t None after = after ≡ (c, Absent)
 IsThreadTurn c t (Some thread) after = IsStandingTurn c t thread.steps_left thread.standing after
 
--- what an acknowledgement of a thread is answered
-abbrev pub acknowledgement : Content → ℕ → Report
-acknowledgement c t = if is_open c.posts t then Acked else if is_live_at c.threads t then NothingPosted else Absent
-
--- what an event does. Nothing is posted, and nothing is collected, until there is a collector.
+-- what an event does
 abbrev pub IsTurn : Content → Event → Content × Report → Type 0
 IsTurn c (Step t) after = IsThreadTurn c t (slice_get c.threads t) after
-IsTurn c (Ack t) after = after ≡ (record c { posts = acknowledged c.posts t }, acknowledgement c t)
-IsTurn c Gc after = after ≡ (c, Waiting)
+IsTurn c (Ack t) after = after ≡ with_acknowledgement c t
+IsTurn c Gc after = after ≡ collected c
 
--- the event prints or starts a thread: what was printed, or the threads, are more after its turn
-abbrev pub PrintsOrStarts : Content → Event → Type 0
-PrintsOrStarts c e = (after : Content × Report) × IsTurn c e after × ((length c.printed < length after.0.printed) ⊎ (length c.threads < length after.0.threads))
+-- a cycle is open in the second that wasn't in the first
+abbrev pub OpensCycle : Content → Content → Type 0
+OpensCycle c d = (c.objects.spaces.is_open ≡ false) × (d.objects.spaces.is_open ≡ true)
+
+-- the event prints, starts a thread or opens a cycle: what was printed, or the threads, are more after its turn, or a cycle is open that wasn't before
+abbrev pub TakesMemory : Content → Event → Type 0
+TakesMemory c e = (after : Content × Report) × IsTurn c e after × ((length c.printed < length after.0.printed) ⊎ ((length c.threads < length after.0.threads) ⊎ OpensCycle c after.0))

@@ -70,7 +70,7 @@ module _ (here : Setting) (model : MemoryModel here.tree) (name : Names) (m : Fr
           is =
               ap (λ x. of_calls o statics printed (option_map (λ (y : Frames × List ℕ × Effect). call_answer y.0 o y.1 (Comes y.2)) (top_of x m (λ w n. given (line_of (literals_of here.tree) w) (λ l. printed_line l printed n))))) top ∙
               ap (λ x. of_calls o statics printed (option_map (λ (y : Frames × List ℕ × Effect). call_answer y.0 o y.1 (Comes y.2)) (given x (λ l. printed_line l printed (with_stack m rest)))))
-              (line_alike here.tree name o s (model.reads name o statics s at.memory.fits) v u stands line is) ∙
+              (line_alike here.tree name o s (model.reads name o statics s at.memory.fits at.running.typed) v u stands line is) ∙
               ap (λ x. of_calls o statics printed (option_map (λ (y : Frames × List ℕ × Effect). call_answer y.0 o y.1 (Comes y.2)) (option_map (λ (y : Frames × Effect). (y.0, printed ++ line, y.1)) x))) (onward_popped rest);
           refuses = λ _ h. never h;
           alike = λ r.

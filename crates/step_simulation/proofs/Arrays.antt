@@ -37,9 +37,9 @@ use Rattle.simulation.specs.StandsFor.{Names, IsValue, IsWord, IsOfContents, IsC
 use Rattle.simulation.proofs.AgreeLaws.{agree_get, agree_set}
 use Rattle.simulation.proofs.Instructions.{IsSetting, DoesAlike}
 use Rattle.simulation.proofs.Operands.{fine, two_operands, three_operands}
-use Rattle.step_simulation.proofs.Words.{word_value, kind_fits}
-use Rattle.step_simulation.proofs.ReferenceSlots.{element_says, is_reference_kind, same_kinds, value_says}
-use Rattle.step_simulation.proofs.Things.{IsArrayThere}
+use Rattle.simulation.proofs.Words.{word_value, kind_fits}
+use Rattle.simulation.proofs.ReferenceSlots.{IsLinked, element_linked, element_says, is_reference_kind, same_kinds, value_says}
+use Rattle.step_simulation.proofs.Things.{IsArrayThere, there_is_linked}
 use Rattle.step_simulation.proofs.Parts.{given_alike, loaded_alike, replaced_alike, element_alike}
 use Rattle.simulation.proofs.MemoryModels.{MemoryModel, mutator_in}
 
@@ -87,16 +87,16 @@ module _ (here : Setting) (model : MemoryModel here.tree) (name : Names) (m : Fr
     -- ---- a slot
 
     -- an array's element is loaded
-    slot_loaded : (a : Addr) (n : ObjectName) (t : DeclaredType) (elements : List StateValue) → name a.number ≡ Some n → array_at s n ≡ Some (t, elements) → (array : IsArrayThere here.tree name o s (model.reads name o statics s at.memory.fits) a n t elements) →
+    slot_loaded : (a : Addr) (n : ObjectName) (t : DeclaredType) (elements : List StateValue) → name a.number ≡ Some n → array_at s n ≡ Some (t, elements) → (array : IsArrayThere here.tree name o s (model.reads name o statics s at.memory.fits at.running.typed) a n t elements) →
         (kind : ValueKind) → kind ≡ kind_of_type t → (slot : ℕ) (old : StateValue) → slice_get elements slot ≡ Some old → (rest : List Value) (rest' : List StateValue) → Agree (IsValue name) rest rest' → length rest ≤ length m.running.stack →
         DoesAlike here model name m o statics printed s f below (of_objects o statics printed (load_slot kind slot a (with_stack m rest) o)) (next here s f below (old ∷ rest'))
     slot_loaded a n t elements named there array kind fits slot old found rest rest' k shorter =
         let held = agree_get (IsWord name) array.thing.cell.slots elements array.values slot old found in
         let same = fits ∙ kind_fits here.tree at.running.accepted.legal s old t (element_typed here.tree at.running.accepted.legal s t elements slot old (array_typed here.tree at.running.accepted.legal s at.running.typed n t elements there) found) in
-        loaded_alike here model name m o statics printed s f below i operation at a array.thing.cell array.thing.lies slot held.0 held.1 kind old (word_value name (model.reads name o statics s at.memory.fits).small held.0 old kind held.2 same) rest rest' k shorter
+        loaded_alike here model name m o statics printed s f below i operation at a array.thing.cell array.thing.lies slot held.0 held.1 kind old (word_value name (model.reads name o statics s at.memory.fits at.running.typed).small held.0 old kind held.2 same) rest rest' k shorter
 
     -- an array's element is stored
-    slot_stored : (a : Addr) (n : ObjectName) (t : DeclaredType) (elements : List StateValue) → name a.number ≡ Some n → array_at s n ≡ Some (t, elements) → (array : IsArrayThere here.tree name o s (model.reads name o statics s at.memory.fits) a n t elements) →
+    slot_stored : (a : Addr) (n : ObjectName) (t : DeclaredType) (elements : List StateValue) → name a.number ≡ Some n → array_at s n ≡ Some (t, elements) → (array : IsArrayThere here.tree name o s (model.reads name o statics s at.memory.fits at.running.typed) a n t elements) →
         (v : Value) (u : StateValue) → IsValue name v u → (slot : ℕ) (old : StateValue) → slice_get elements slot ≡ Some old → (rest : List Value) (rest' : List StateValue) → Agree (IsValue name) rest rest' →
         IsTypedEffect here.tree (state_given (with_element s n slot u) (λ s'. onward_frame f below s' rest')) →
         DoesAlike here model name m o statics printed s f below (of_objects o statics printed (store_slot model.phase v slot a (with_stack m rest) o)) (state_given (with_element s n slot u) (λ s'. onward_frame f below s' rest'))
@@ -125,13 +125,19 @@ module _ (here : Setting) (model : MemoryModel here.tree) (name : Names) (m : Fr
             value_says name v u stands ∙ sym (same_kinds old u kinds) ∙ ap is_reference_kind (sym (kind_fits here.tree at.running.accepted.legal s old t typed_old)) ∙ sym (element_says here.tree array.kind t array.type_is slot) ∙
             ap (λ k. holds_reference here.tree k slot) (sym array.kind_is)
 
+        -- and so are all
+        linked : same_kind old u ≡ true → IsLinked here.tree cell.kind (IsArray t (slice_set elements slot u))
+        linked kinds =
+            element_linked here.tree cell.kind t elements slot old u found (same_kinds old u kinds)
+            (subst (IsLinked here.tree cell.kind) array.holds (there_is_linked here.tree name o s (model.reads name o statics s at.memory.fits at.running.typed) at.running.accepted.legal at.running.typed a n array.object array.thing))
+
         after : (s' : State) → with_element s n slot u ≡ Some s' → IsTypedEffect here.tree (onward_frame f below s' rest') →
             DoesAlike here model name m o statics printed s f below (of_objects o statics printed (store_slot model.phase v slot a (with_stack m rest) o)) (onward_frame f below s' rest')
         after s' is t' =
             let stored = element_stored s array.thing.number array.object t elements slot u s' array.thing.there array.holds (subst (λ x. with_element s x slot u ≡ Some s') array.thing.name_is is) in
             let same : s' ≡ with_object s (Born array.thing.number) object = stored.0 in
             subst (λ x. DoesAlike here model name m o statics printed s f below (of_objects o statics printed (store_slot model.phase v slot a (with_stack m rest) o)) (onward_frame f below x rest')) (sym same)
-            (replaced_alike here model name m o statics printed s f below i operation at a cell array.thing.lies slot held.0 held.1 array.thing.number (named ∙ ap Some array.thing.name_is) v u stands (sort (stored.1 old found)) object changed rest rest' k)
+            (replaced_alike here model name m o statics printed s f below i operation at a cell array.thing.lies slot held.0 held.1 array.thing.number (named ∙ ap Some array.thing.name_is) v u stands (sort (stored.1 old found)) object (linked (stored.1 old found)) changed rest rest' k)
 
     -- ---- ldelem and stelem
 

@@ -58,7 +58,7 @@ module _ (here : Setting) (model : MemoryModel here.tree) (name : Names) (m : Fr
         (λ u rest'. given_state (may_hold here s f below t u) (λ holds. if holds then next here s f below (u ∷ rest') else otherwise' rest')) typed
         (λ v rest u rest' is is' h k shorter typed'.
         subst (λ b. Alike (of_objects o statics printed (given b (λ holds. if holds then beside o (leaves v (with_stack m rest)) else otherwise (with_stack m rest) o))) (given_state (may_hold here s f below t u) (λ holds. if holds then next here s f below (u ∷ rest') else otherwise' rest')))
-        (sym (may_stand_as_is here name o s f below (model.reads name o statics s at.memory.fits) v u t n numbered h)) (by_class v rest u rest' h k shorter (may_hold here s f below t u) typed'))
+        (sym (may_stand_as_is here name o s f below (model.reads name o statics s at.memory.fits at.running.typed) v u t n numbered h)) (by_class v rest u rest' h k shorter (may_hold here s f below t u) typed'))
       where
         by_class : (v : Value) (rest : List Value) (u : StateValue) (rest' : List StateValue) → IsValue name v u → Agree (IsValue name) rest rest' → length rest ≤ length m.running.stack → (holds : Option Bool) →
             IsTypedEffect here.tree (given_state holds (λ b. if b then next here s f below (u ∷ rest') else otherwise' rest')) →

@@ -38,9 +38,9 @@ use Rattle.simulation.specs.StandsFor.{Names, IsValue, IsWord, thread_word, IsIn
 use Rattle.simulation.proofs.AgreeLaws.{agree_get, agree_set}
 use Rattle.simulation.proofs.Instructions.{IsSetting, DoesAlike}
 use Rattle.simulation.proofs.Operands.{fine, one_operand, two_operands}
-use Rattle.step_simulation.proofs.Words.{word_value, kind_fits, kind_of_state}
-use Rattle.step_simulation.proofs.ReferenceSlots.{is_reference_kind, same_hidden, same_kinds, slot_says, value_says}
-use Rattle.step_simulation.proofs.Things.{IsInstanceThere, instance_there}
+use Rattle.simulation.proofs.Words.{word_value, kind_fits, kind_of_state}
+use Rattle.simulation.proofs.ReferenceSlots.{IsLinked, field_linked, is_reference_kind, is_reference_state, same_hidden, same_kinds, slot_says, value_says}
+use Rattle.step_simulation.proofs.Things.{IsInstanceThere, instance_there, there_is_linked}
 use Rattle.step_simulation.proofs.Parts.{alike_turn, given_alike, known_alike, loaded_alike, replaced_alike, object_alike}
 use Rattle.step_simulation.proofs.FieldSlots.{slot_get, slot_set, position, slot, slot_is, held_is, IsFieldAt, field_at_slot}
 use Rattle.simulation.proofs.cil_model.Lists.{none_is_some}
@@ -120,8 +120,8 @@ module _ (here : Setting) (model : MemoryModel here.tree) (name : Names) (m : Fr
     -- ---- a field that is there
 
     module _ (a : Addr) (n : ObjectName) (named : name a.number ≡ Some n) (v : StateValue) (own : IsFieldOf s n own_key v) where
-      thing : IsInstanceThere here.tree name o s (model.reads name o statics s at.memory.fits) a n own.class own.fields own.object
-      thing = instance_there here.tree name o s (model.reads name o statics s at.memory.fits) a n own.class own.fields own.object named own.there own.holds
+      thing : IsInstanceThere here.tree name o s (model.reads name o statics s at.memory.fits at.running.typed) a n own.class own.fields own.object
+      thing = instance_there here.tree name o s (model.reads name o statics s at.memory.fits at.running.typed) a n own.class own.fields own.object named own.there own.holds
 
       -- the field is at its place
       at_slot : IsFieldAt here.tree at.running.accepted.legal r field is s own.class own.fields v
@@ -150,7 +150,7 @@ module _ (here : Setting) (model : MemoryModel here.tree) (name : Names) (m : Fr
           let kind : ValueKind = kind_of_type is.found.field_type in
           let holds : IsWord name word.0 v = subst (λ x. IsWord name word.0 x) at_slot.value_is word.2 in
           loaded_alike here model name m o statics printed s f below i operation at a thing.thing.cell thing.thing.lies own_slot word.0 word_there kind v
-          (word_value name (model.reads name o statics s at.memory.fits).small word.0 v kind holds (kind_fits here.tree at.running.accepted.legal s v is.found.field_type at_slot.typed)) rest rest' k shorter
+          (word_value name (model.reads name o statics s at.memory.fits at.running.typed).small word.0 v kind holds (kind_fits here.tree at.running.accepted.legal s v is.found.field_type at_slot.typed)) rest rest' k shorter
 
       -- another value is stored
       module _ (w : Value) (u : StateValue) (stands : IsValue name w u) where
@@ -185,11 +185,18 @@ module _ (here : Setting) (model : MemoryModel here.tree) (name : Names) (m : Fr
             ap (λ h. holds_reference here.tree (Instance thing.kind) (h + own_place)) (same_hidden here.tree own.class is.declared_in at_slot.hidden) ∙
             ap (λ k. holds_reference here.tree k own_slot) (sym thing.kind_is)
 
+        -- and so are all
+        linked : same_kind v u ≡ true → IsLinked here.tree thing.thing.cell.kind (IsInstance own.class changed_fields)
+        linked kinds =
+            subst (λ fs. IsLinked here.tree thing.thing.cell.kind (IsInstance own.class fs)) (sym (at_slot.changed u))
+            (field_linked here.tree thing.thing.cell.kind own.class own.fields own_place at_slot.entry (at_slot.entry.0, u) at_slot.there (ap is_reference_state at_slot.value_is ∙ same_kinds v u kinds)
+            (subst (IsLinked here.tree thing.thing.cell.kind) own.holds (there_is_linked here.tree name o s (model.reads name o statics s at.memory.fits at.running.typed) at.running.accepted.legal at.running.typed a n own.object thing.thing)))
+
         field_stored : same_kind v u ≡ true → (rest : List Value) (rest' : List StateValue) → Agree (IsValue name) rest rest' →
             DoesAlike here model name m o statics printed s f below (of_objects o statics printed (store_slot model.phase w own_slot a (with_stack m rest) o)) (onward_frame f below (with_object s n object_after) rest')
         field_stored kinds rest rest' k =
             subst (λ x. DoesAlike here model name m o statics printed s f below (of_objects o statics printed (store_slot model.phase w own_slot a (with_stack m rest) o)) (onward_frame f below (with_object s x object_after) rest')) (sym thing.thing.name_is)
-            (replaced_alike here model name m o statics printed s f below i operation at a thing.thing.cell thing.thing.lies own_slot word.0 word_there thing.thing.number (named ∙ ap Some thing.thing.name_is) w u stands (own_sort kinds) object_after stands_after rest rest' k)
+            (replaced_alike here model name m o statics printed s f below i operation at a thing.thing.cell thing.thing.lies own_slot word.0 word_there thing.thing.number (named ∙ ap Some thing.thing.name_is) w u stands (own_sort kinds) object_after (linked kinds) stands_after rest rest' k)
 
   -- ---- ldfld
 

@@ -16,7 +16,7 @@ use Rattle.simulation.specs.object_memory.declared.addresses.Addr.{Addr}
 use Rattle.simulation.specs.object_memory.declared.values.Value.TheVariants.{Ref}
 use Rattle.simulation.specs.object_memory.Objects.{Objects}
 use Rattle.simulation.specs.instructions.barriers.Barriers.{stored_int}
-use Rattle.simulation.specs.phase_handshake.Handshakes.{Handshakes, acknowledged, joined}
+use Rattle.simulation.specs.phase_handshake.Handshakes.{Handshakes, joined}
 use Rattle.simulation.specs.loaded_program.MethodNumbers.{number_of}
 use Rattle.simulation.specs.threads_monitors.Frames.{Frames}
 use Rattle.simulation.specs.threads_monitors.Threads.{join_effect, start_fault, thread_on, with_start, is_live_at, wait_for, is_live}
@@ -30,8 +30,10 @@ use Rattle.simulation.specs.interpreter.Instructions.{IsDone, Answer}
 use Rattle.simulation.specs.interpreter.declared.outcomes.Outcome.{Outcome}
 use Rattle.simulation.specs.interpreter.declared.outcomes.Outcome.TheVariants.{Comes, Starts, Joins}
 use Rattle.simulation.specs.MachineContents.{Content, mutator_of}
+use Rattle.simulation.specs.Collecting.{flips_frames, thread_flipped, threads_after, with_flipped}
+use Rattle.simulation.proofs.CollectedRests.{collected_keeps}
 use Rattle.simulation.specs.Turns.{IsStandingTurn, IsThreadTurn, IsTurn, after_request, counted, finished, left_by, run_member, started, thread_at, thread_for, live_thread, seated}
-use Rattle.step_simulation.proofs.Seats.{AreFitting, acknowledged_fits, begun_fits, counted_fits, live_fits, live_more, live_set}
+use Rattle.step_simulation.proofs.Seats.{AreFitting, begun_fits, counted_fits, live_fits, live_more, live_set}
 use Rattle.simulation.specs.reference_machine.Runs.{is_refusal}
 use Rattle.simulation.proofs.Instructions.{is_refused_effect, is_refused_fault, is_refused_outcome}
 use Rattle.step_simulation.proofs.Settling.{refusal_of}
@@ -210,14 +212,21 @@ module _ (c : Content) (t left : ℕ) (a : Answer) (after : Content × Report) w
 
 -- ---- any event
 
+-- an acknowledgement leaves as many threads
+acknowledged_threads : (c : Content) (t : ℕ) → length (threads_after c t) ≡ length c.threads
+acknowledged_threads c t = by_flip (flips_frames c t) (slice_get c.threads t)
+  where
+    by_flip : (b : Bool) (o : Option Thread) → length (if b then with_flipped c.objects c.threads t o else c.threads) ≡ length c.threads
+    by_flip false o = refl
+    by_flip true None = refl
+    by_flip true (Some x) = length-set c.threads t (thread_flipped c.objects x)
+
 module _ (c : Content) (after : Content × Report) where
-  -- what holds where nothing changes, after an acknowledgement, and after each step of a live thread
-  module _ (P : Content × Report → Type 0) (unchanged : (r : Report) → P (c, r)) (acknowledges : (t : ℕ) (r : Report) → P (record c { posts = acknowledged c.posts t }, r))
+  -- what holds where nothing changes, and after each step of a live thread
+  module _ (P : Content × Report → Type 0) (unchanged : (r : Report) → P (c, r))
       (stepped : (t left : ℕ) (m : Frames) (a : Answer) → slice_get c.threads t ≡ Some (live_thread left m) → IsDone c.tree (mutator_of c t) m c.objects c.statics c.printed a → finished c t left a a.outcome ≡ Some after → P after) where
-    turn_by : (e : Event) → IsTurn c e after → P after
-    turn_by (Ack t) h = subst P (sym h) (acknowledges t _)
-    turn_by Gc h = subst P (sym h) (unchanged _)
-    turn_by (Step t) h = by_thread (slice_get c.threads t) refl h
+    step_by : (t : ℕ) → IsTurn c (Step t) after → P after
+    step_by t h = by_thread (slice_get c.threads t) refl h
       where
         by_standing : (left : ℕ) (standing : Standing) → slice_get c.threads t ≡ Some (record { standing = standing; steps_left = left }) → IsStandingTurn c t left standing after → P after
         by_standing left (Live m) there k = stepped t left m k.0 there k.1 k.2
@@ -229,15 +238,16 @@ module _ (c : Content) (after : Content × Report) where
 
   -- the program and its limits stay
   pub same_program : (e : Event) → IsTurn c e after → (after.0.tree ≡ c.tree) × (after.0.limits ≡ c.limits)
-  same_program e =
-      turn_by (λ x. (x.0.tree ≡ c.tree) × (x.0.limits ≡ c.limits)) (λ r. (refl, refl)) (λ t r. (refl, refl)) (λ t left m a there done is. finished_program c t left a after a.outcome is) e
+  same_program (Step t) h = step_by (λ x. (x.0.tree ≡ c.tree) × (x.0.limits ≡ c.limits)) (λ r. (refl, refl)) (λ t left m a there done is. finished_program c t left a after a.outcome is) t h
+  same_program (Ack t) h = subst (λ (x : Content × Report). (x.0.tree ≡ c.tree) × (x.0.limits ≡ c.limits)) (sym h) (refl, refl)
+  same_program Gc h = let keeps = collected_keeps c in subst (λ (x : Content × Report). (x.0.tree ≡ c.tree) × (x.0.limits ≡ c.limits)) (sym h) (keeps.tree, keeps.limits)
 
   pub turn_few : (e : Event) → IsTurn c e after → length c.threads ≤ MOST_THREADS → length after.0.threads ≤ MOST_THREADS
-  turn_few e h few =
-      turn_by (λ x. length x.0.threads ≤ MOST_THREADS) (λ r. few) (λ t r. few) (λ t left m a there done is. finished_few c t left a after a.outcome is few) e h
+  turn_few (Step t) h few = step_by (λ x. length x.0.threads ≤ MOST_THREADS) (λ r. few) (λ t left m a there done is. finished_few c t left a after a.outcome is few) t h
+  turn_few (Ack t) h few = subst (λ (x : Content × Report). length x.0.threads ≤ MOST_THREADS) (sym h) (subst (λ n. n ≤ MOST_THREADS) (sym (acknowledged_threads c t)) few)
+  turn_few Gc h few = let keeps = collected_keeps c in subst (λ (x : Content × Report). length x.0.threads ≤ MOST_THREADS) (sym h) (subst (λ (ts : List Thread). length ts ≤ MOST_THREADS) (sym keeps.threads) few)
 
-  -- posts and seats fit the threads after each event
-  pub turn_keeps_fitting : (e : Event) → IsTurn c e after → AreFitting c.posts c.threads → AreFitting after.0.posts after.0.threads
-  turn_keeps_fitting e turn fit =
-      turn_by (λ x. AreFitting x.0.posts x.0.threads) (λ r. fit) (λ t r. acknowledged_fits c.posts c.threads fit t)
-      (λ t left m a there done is. finished_fitting c t left a after a.outcome is fit (ap (λ o. option_map_or is_live o false) there)) e turn
+  -- posts and seats fit the threads after each step
+  pub step_keeps_fitting : (t : ℕ) → IsTurn c (Step t) after → AreFitting c.posts c.threads → AreFitting after.0.posts after.0.threads
+  step_keeps_fitting t turn fit =
+      step_by (λ x. AreFitting x.0.posts x.0.threads) (λ r. fit) (λ t left m a there done is. finished_fitting c t left a after a.outcome is fit (ap (λ o. option_map_or is_live o false) there)) t turn

@@ -66,8 +66,8 @@ module _ (here : Setting) (model : MemoryModel here.tree) (name : Names) (m : Fr
   pub load_string_alike : (characters : List ℕ) (number : ℕ) → slice_get (literals_of here.tree) number ≡ Some characters →
       At (Named.LoadString characters) (Resolved.LoadString number) → Does (Named.LoadString characters) (Resolved.LoadString number)
   load_string_alike characters number is at =
-      let named : name (literal number).number ≡ Some (Literal characters) = (model.reads name o statics s at.memory.fits).each_literal number characters is in
-      let small : FIRST_LITERAL + number < ADDRESSES = (model.reads name o statics s at.memory.fits).small (literal number).number (Literal characters) named in
+      let named : name (literal number).number ≡ Some (Literal characters) = (model.reads name o statics s at.memory.fits at.running.typed).each_literal number characters is in
+      let small : FIRST_LITERAL + number < ADDRESSES = (model.reads name o statics s at.memory.fits at.running.typed).small (literal number).number (Literal characters) named in
       let few : number < FIRST_LITERAL = omega (arith, small) in
       subst (λ b. Alike here model name m o statics printed s f below _ _ at (if b then leaves (Ref (literal number)) m else None) (next here s f below (Reference (Literal characters) ∷ f.stack))) (sym (lt-ltb number FIRST_LITERAL few))
       (pushes_does here model name m o statics printed s f below _ _ at _ _ (reference (literal number) (Literal characters) named))
@@ -143,12 +143,12 @@ module _ (here : Setting) (model : MemoryModel here.tree) (name : Names) (m : Fr
   pub branch_true_alike : (label : List ℕ) (place : ℕ) → place_of label (lines_of f.method) ≡ Some place → At (Named.BranchTrue label) (Resolved.BranchTrue place) → Does (Named.BranchTrue label) (Resolved.BranchTrue place)
   branch_true_alike label place is at =
       one_given here model name m o statics printed s f below _ _ at Same is_set is_set_value (λ holds n. branch_if holds place n) (λ holds rest. branch_to here s f below holds label rest)
-      (is_set_meets here.tree model name o statics s at.memory.fits) (fine here model name m o statics printed s f below _ _ at) (λ a b e rest rest' k shorter t. branch_does here model name m o statics printed s f below _ _ at label place is a b e rest rest' k)
+      (is_set_meets here.tree model name o statics s at.memory.fits at.running.typed) (fine here model name m o statics printed s f below _ _ at) (λ a b e rest rest' k shorter t. branch_does here model name m o statics printed s f below _ _ at label place is a b e rest rest' k)
 
   pub branch_false_alike : (label : List ℕ) (place : ℕ) → place_of label (lines_of f.method) ≡ Some place → At (Named.BranchFalse label) (Resolved.BranchFalse place) → Does (Named.BranchFalse label) (Resolved.BranchFalse place)
   branch_false_alike label place is at =
       one_given here model name m o statics printed s f below _ _ at Opposite is_set (λ u. not_option (is_set_value u)) (λ holds n. branch_if (not holds) place n) (λ holds rest. branch_to here s f below holds label rest)
-      (λ v u h. meets_opposite (is_set v) (is_set_value u) (is_set_meets here.tree model name o statics s at.memory.fits v u h)) (fine here model name m o statics printed s f below _ _ at)
+      (λ v u h. meets_opposite (is_set v) (is_set_value u) (is_set_meets here.tree model name o statics s at.memory.fits at.running.typed v u h)) (fine here model name m o statics printed s f below _ _ at)
       (λ a b e rest rest' k shorter t. branch_does here model name m o statics printed s f below _ _ at label place is (not a) b e rest rest' k)
 
   pub branch_compare_alike : (op : BranchComparison) (label : List ℕ) (place : ℕ) → place_of label (lines_of f.method) ≡ Some place →

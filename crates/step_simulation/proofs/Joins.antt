@@ -27,7 +27,7 @@ use Rattle.simulation.proofs.Instructions.{GoesAlike, ComesAlike, is_refused_eff
 use Rattle.step_simulation.proofs.Settling.{Follows, done, comes}
 use Rattle.step_simulation.proofs.ThreadObjects.{thread_on_is}
 use Rattle.step_simulation.proofs.Requests.{here, running, below, instruction, Asks, IsAskedOf, asked_of, rest_agrees, setting}
-use Rattle.step_simulation.proofs.OneBlock.{one_block}
+use Rattle.step_simulation.proofs.Mutators.{own_model, own_names}
 
 -- ---- which threads live
 
@@ -56,7 +56,7 @@ module _ (c : Content) (s : State) (r : Represents c s) (t left : ℕ) (m : Fram
   abbrev IsJoined : Effect → Type 0
   IsJoined j =
       (false ≡ is_refused_effect j) ×
-      ComesAlike (here c s r t left m there) (one_block c.tree c.limits.words) r.stands.name m c.objects c.statics c.printed s (running c s r t left m there) (below c s r t left m there)
+      ComesAlike (here c s r t left m there) (own_model c s r t left m there) (own_names c s r t left m there) m c.objects c.statics c.printed s (running c s r t left m there) (below c s r t left m there)
       (Comes j) (answer_of (after_request j m) c.objects c.statics c.printed (Comes j)) (done c s r t left m there false)
 
   module _ (operand : StateValue) (rest : List StateValue) (stack : (running c s r t left m there).stack ≡ operand ∷ rest) where
@@ -64,8 +64,8 @@ module _ (c : Content) (s : State) (r : Represents c s) (t left : ℕ) (m : Fram
     joined_by true e = (refl, (e, refl, (refl, refl, refl)))
     joined_by false e = (
       refl,
-      subst (λ x. GoesAlike (here c s r t left m there) (one_block c.tree c.limits.words) r.stands.name m c.objects c.statics c.printed s (running c s r t left m there) (below c s r t left m there) (answer_of (after_request GoesOn m) c.objects c.statics c.printed (Comes GoesOn)) x) (sym e)
-          (next_alike (here c s r t left m there) (one_block c.tree c.limits.words) r.stands.name m c.objects c.statics c.printed s (running c s r t left m there) (below c s r t left m there) (instruction c s r t left m there) operation
+      subst (λ x. GoesAlike (here c s r t left m there) (own_model c s r t left m there) (own_names c s r t left m there) m c.objects c.statics c.printed s (running c s r t left m there) (below c s r t left m there) (answer_of (after_request GoesOn m) c.objects c.statics c.printed (Comes GoesOn)) x) (sym e)
+          (next_alike (here c s r t left m there) (own_model c s r t left m there) (own_names c s r t left m there) m c.objects c.statics c.printed s (running c s r t left m there) (below c s r t left m there) (instruction c s r t left m there) operation
           (setting c s r t left m there operation at constant) (drop 1 m.running.stack) rest (rest_agrees c s r t left m there operand rest stack)),
     )
 
@@ -81,7 +81,7 @@ module _ (c : Content) (s : State) (r : Represents c s) (t left : ℕ) (m : Fram
   join_alike object operand rest stack (inl (is, e)) = subst (λ x. IsJoined (join_effect c.threads c.objects x)) (sym is) (refl, (e, (refl, refl, refl)))
   join_alike object operand rest stack (inr (number, x, e, apart, named)) =
       subst (λ b. IsJoined (if b then Raises NullReference else wait_for c.threads (thread_on c.objects object))) (sym apart)
-      (subst (λ k. IsJoined (wait_for c.threads k)) (sym (thread_on_is c.tree r.stands.name c.objects s object number x)) (joined_with operand rest stack x.object.thread e))
+      (subst (λ k. IsJoined (wait_for c.threads k)) (sym (thread_on_is c.tree (own_names c s r t left m there) c.objects s object number x)) (joined_with operand rest stack x.object.thread e))
 
   -- a step that asks to join
   pub joins : (threads : List Thread) → threads ≡ c.threads → (object : Addr) → Asks c s r t left m there Join object (answer_of m c.objects c.statics c.printed (Joins object)) →

@@ -137,13 +137,13 @@ module _ (here : Setting) (model : MemoryModel here.tree) (name : Names) (m : Fr
       (λ v rest u rest' is is' stands k shorter t.
       object_alike here model name m o statics printed s f below Named.LoadLength Resolved.LoadLength at v u stands (with_stack m rest) _ _ t (λ a n named t'.
       given_alike here model name m o statics printed s f below Named.LoadLength Resolved.LoadLength at _ (array_at s n) _ t' (λ held there t''.
-      in_array a n held.0 held.1 (array_there here.tree name o s (model.reads name o statics s at.memory.fits) a n held.0 held.1 named there) rest rest' k shorter)))
+      in_array a n held.0 held.1 (array_there here.tree name o s (model.reads name o statics s at.memory.fits at.running.typed) a n held.0 held.1 named there) rest rest' k shorter)))
     where
-      in_array : (a : Addr) (n : ObjectName) (t : DeclaredType) (elements : List StateValue) → IsArrayThere here.tree name o s (model.reads name o statics s at.memory.fits) a n t elements → (rest : List Value) (rest' : List StateValue) → Agree (IsValue name) rest rest' → length rest ≤ length m.running.stack →
+      in_array : (a : Addr) (n : ObjectName) (t : DeclaredType) (elements : List StateValue) → IsArrayThere here.tree name o s (model.reads name o statics s at.memory.fits at.running.typed) a n t elements → (rest : List Value) (rest' : List StateValue) → Agree (IsValue name) rest rest' → length rest ≤ length m.running.stack →
           DoesAlike here model name m o statics printed s f below (of_objects o statics printed (given (slots_of o a) (λ slots. beside o (leaves (Native (pos (length slots))) (with_stack m rest))))) (next here s f below (NativeValue (pos (length elements)) ∷ rest'))
       in_array a n t elements array rest rest' k shorter =
           let slots : List ℕ = array.thing.cell.slots in
-          let few : length slots ≤ MOST_WORDS = (model.reads name o statics s at.memory.fits).sizes a array.thing.cell array.thing.lies in
+          let few : length slots ≤ MOST_WORDS = (model.reads name o statics s at.memory.fits at.running.typed).sizes a array.thing.cell array.thing.lies in
           alike_turn here model name m o statics printed s f below Named.LoadLength Resolved.LoadLength at _ (of_objects o statics printed (beside o (leaves (Native (pos (length slots))) (with_stack m rest)))) _
           (ap (λ (c : Option Cell). of_objects o statics printed (given (option_map (λ (y : Cell). y.slots) c) (λ xs. beside o (leaves (Native (pos (length xs))) (with_stack m rest))))) array.thing.lies)
           (left_alike here model name m o statics printed s f below Named.LoadLength Resolved.LoadLength at (Native (pos (length slots))) (NativeValue (pos (length elements)))

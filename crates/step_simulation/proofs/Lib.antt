@@ -1,10 +1,4 @@
 pub use Rattle.simulation.proofs as simulation
-pub mod Changes
-pub mod Births
-pub mod IdleHeaps
-pub mod OneBlock
-pub mod Words
-pub mod ReferenceSlots
 pub mod Things
 pub mod Parts
 pub mod Arrays
@@ -41,11 +35,12 @@ pub mod Constructors
 pub mod NewObjectBirths
 pub mod Frames
 pub mod NewObjects
-pub mod SoundContents
-pub mod Settings
-pub mod Settling
 pub mod ThreadObjects
 pub mod Seats
+pub mod Mutators
+pub mod AfterSteps
+pub mod Settings
+pub mod Settling
 pub mod Finished
 pub mod Requests
 pub mod Joins

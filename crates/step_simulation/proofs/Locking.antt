@@ -135,34 +135,34 @@ module _ (here : Setting) (model : MemoryModel here.tree) (name : Names) (m : Fr
 
     module _ (n : ObjectName) (named : name a.number ≡ Some n) where
       there : IsMonitorAt here.tree model name o statics printed here.limits s a n
-      there = monitor_there here.tree model name o statics printed here.limits s at.memory at.counted a n named
+      there = monitor_there here.tree model name o statics printed here.limits s at.memory at.running.accepted.legal at.running.typed at.counted a n named
 
       can_store : storable a ≡ true
       can_store = model.monitor_storable name o statics s at.memory.fits a n named
 
       not_null : (a.number == 0) ≡ false
-      not_null = named_is_not_null here.tree name o s (model.reads name o statics s at.memory.fits) a.number n named
+      not_null = named_is_not_null here.tree name o s (model.reads name o statics s at.memory.fits at.running.typed) a.number n named
 
       enters_object : Alike (act_turn here.tree (mutator_in here model) Enter m o printed) (act here s f below Enter (Reference n ∷ []) rest')
       enters_object =
-          subst (λ x. Alike (act_turn here.tree (mutator_in here model) Enter m o printed) (given_there x (enter here s f below n rest'))) (sym there.state_held) (
-          entry_alike a n named there (act_turn here.tree (mutator_in here model) Enter m o printed) there.monitor there.state_monitor there.stands (
+          subst (λ x. Alike (act_turn here.tree (mutator_in here model) Enter m o printed) (given_there x (enter here s f below n rest'))) (sym there.are.state_held) (
+          entry_alike a n named there (act_turn here.tree (mutator_in here model) Enter m o printed) there.are.monitor there.are.state_monitor there.are.stands (
           enter_is ∙
           ap (λ b. enters_by b (is_countable (monitor_at o a) && storable a) (if b then (o, Raises ArgumentNull) else with_monitor_or model.phase o a Blocks (option_and_then (entered here.thread) (monitor_at o a)))) not_null ∙
-          ap (λ x. enters_by false (is_countable x && storable a) (with_monitor_or model.phase o a Blocks (option_and_then (entered here.thread) x))) there.held ∙
-          ap (λ b. enters_by false b (with_monitor_or model.phase o a Blocks (entered here.thread there.monitor)))
-          (and_from (is_countable (Some there.monitor)) (storable a) (countable here.limits s there.monitor there.state_monitor at.budget there.stands there.counted) can_store)
+          ap (λ x. enters_by false (is_countable x && storable a) (with_monitor_or model.phase o a Blocks (option_and_then (entered here.thread) x))) there.are.held ∙
+          ap (λ b. enters_by false b (with_monitor_or model.phase o a Blocks (entered here.thread there.are.monitor)))
+          (and_from (is_countable (Some there.are.monitor)) (storable a) (countable here.limits s there.are.monitor there.are.state_monitor at.budget there.are.stands there.counted) can_store)
           )
           )
 
       exits_object : Alike (act_turn here.tree (mutator_in here model) Exit m o printed) (act here s f below Exit (Reference n ∷ []) rest')
       exits_object =
-          subst (λ x. Alike (act_turn here.tree (mutator_in here model) Exit m o printed) (given_there x (exit here s f below n rest'))) (sym there.state_held) (
-          exit_alike a n named there (act_turn here.tree (mutator_in here model) Exit m o printed) there.monitor there.state_monitor there.stands (
+          subst (λ x. Alike (act_turn here.tree (mutator_in here model) Exit m o printed) (given_there x (exit here s f below n rest'))) (sym there.are.state_held) (
+          exit_alike a n named there (act_turn here.tree (mutator_in here model) Exit m o printed) there.are.monitor there.are.state_monitor there.are.stands (
           exit_is ∙
           ap (λ b. enters_by b (is_some (monitor_at o a) && storable a) (if b then (o, Raises ArgumentNull) else with_monitor_or model.phase o a (Raises SynchronizationLock) (option_and_then (left here.thread) (monitor_at o a)))) not_null ∙
-          ap (λ x. enters_by false (is_some x && storable a) (with_monitor_or model.phase o a (Raises SynchronizationLock) (option_and_then (left here.thread) x))) there.held ∙
-          ap (λ b. enters_by false b (with_monitor_or model.phase o a (Raises SynchronizationLock) (left here.thread there.monitor))) can_store
+          ap (λ x. enters_by false (is_some x && storable a) (with_monitor_or model.phase o a (Raises SynchronizationLock) (option_and_then (left here.thread) x))) there.are.held ∙
+          ap (λ b. enters_by false b (with_monitor_or model.phase o a (Raises SynchronizationLock) (left here.thread there.are.monitor))) can_store
           )
           )
 

@@ -1,5 +1,5 @@
 -- What a machine holds at first stands for the opening state.
-use Rattle.std.proofs.Common.{◌≡◌, false, inl, inr, ℕ, IsTrue, [], ◌∷◌, length, Option, Some, None, option_map, option_and_then, slice_get, refl, sym, ap, ◌∙◌, arith}
+use Rattle.std.proofs.Common.{◌≡◌, ◌==◌, is_some, true, false, inl, inr, ℕ, IsTrue, List, [], ◌∷◌, length, Option, Some, None, option_map, option_and_then, slice_get, refl, sym, ap, ◌∙◌, arith}
 use Rattle.simulation.specs.cil_model.declared.limits.Limits.{Limits}
 use Rattle.simulation.specs.cil_model.declared.trees.Code.{Code}
 use Rattle.simulation.specs.cil_model.declared.trees.Method.{Method}
@@ -13,7 +13,8 @@ use Rattle.simulation.specs.cil_model.Ranges.{are_in_range}
 use Rattle.simulation.specs.cil_model.Typings.{IsAccepted}
 use Rattle.simulation.proofs.cil_model.Lists.{none_is_some}
 use Rattle.simulation.proofs.cil_model.Legal.{entry_alone}
-use Rattle.simulation.specs.reference_machine.States.{Free as IsFree, State}
+use Rattle.simulation.specs.reference_machine.Values.{ObjectName}
+use Rattle.simulation.specs.reference_machine.States.{Frame as StateFrame, Free as IsFree, State}
 use Rattle.simulation.specs.reference_machine.Runs.{opening, opening_at}
 use Rattle.simulation.proofs.type_soundness.Openings.{opens, opening_typed}
 use Rattle.simulation.proofs.type_soundness.SourceLaws.{kept_from, source_is_declared}
@@ -22,17 +23,31 @@ use Rattle.simulation.specs.loaded_program.AllMethods.{all_methods}
 use Rattle.simulation.specs.loaded_program.MethodNumbers.{number_of}
 use Rattle.simulation.proofs.loaded_program.NumberLaws.{declared_is_numbered}
 use Rattle.simulation.specs.object_memory.declared.monitors.Monitor.TheVariants.{Free}
+use Rattle.simulation.specs.object_memory.Cells.{literal_number, null}
 use Rattle.simulation.specs.object_memory.Objects.{no_objects}
+use Rattle.simulation.specs.object_memory.Spaces.{Spaces}
+use Rattle.simulation.specs.object_memory.declared.addresses.Addr.{Addr}
+use Rattle.simulation.specs.cil_model.declared.reports.End.{End}
+use Rattle.simulation.specs.phase_handshake.Handshakes.{first_handshakes}
+use Rattle.simulation.specs.phase_handshake.declared.posts.Seat.{Seat}
+use Rattle.simulation.specs.threads_monitors.Frames.{Frames}
+use Rattle.simulation.specs.threads_monitors.Roots.{roots}
+use Rattle.simulation.specs.threads_monitors.declared.threads.Standing.TheVariants.{Live}
 use Rattle.simulation.specs.MachineContents.{Content}
-use Rattle.simulation.specs.StandsFor.{IsHeap, StandsBy, Represents}
+use Rattle.simulation.specs.Sound.{IsSound}
+use Rattle.simulation.specs.StandsFor.{IsHeap, IsThread, StandsAlike, StandsBy, Represents}
 use Rattle.simulation.specs.Turns.{content_at, opening_content, thread_at}
 use Rattle.simulation.proofs.LimitRanges.{budget_is_some, depth_is_some, words_are_few}
 use Rattle.simulation.proofs.Zeros.{fields_stand}
-use Rattle.step_simulation.proofs.Seats.{first_fits}
-use Rattle.step_simulation.proofs.SoundContents.{idle_is_sound}
+use Rattle.simulation.proofs.AgreeLaws.{agree_at}
+use Rattle.simulation.proofs.CollectedNames.{permanent_passes}
+use Rattle.simulation.proofs.RootLaws.{roots_pass, statics_pass}
+use Rattle.simulation.proofs.collector.Truths.{or_second}
+use Rattle.step_simulation.proofs.Seats.{AreFitting, first_alone, first_fits}
 use Rattle.simulation.specs.cil_model.declared.phases.Phase.TheVariants.{Idle}
 use Rattle.simulation.specs.collector.Phases.{no_progress}
-use Rattle.simulation.specs.collector.Soundness.{IsSoundHeap}
+use Rattle.simulation.specs.collector.Holding.{Hold, hold_of, may_hold, passes, static_hold_of, static_may_hold}
+use Rattle.simulation.specs.collector.Soundness.{IsListed, IsSoundHeap}
 use Rattle.simulation.proofs.collector.BetweenCycles.{quiet_is_sound}
 use Rattle.step_simulation.proofs.Beginnings.{beginning_stands}
 use Rattle.step_simulation.proofs.LiteralNames.{same_for_each, free_first, literal_names, IsNamedLiteral, named_literal, literal_named, literals_small, literals_apart}
@@ -41,15 +56,12 @@ module _ (tree : Tree) (limits : Limits) (accepted : IsAccepted tree) (in_range 
   -- no object is there but the literals
   first_heap : (entry : ClassName × Method) (code : Code) → IsHeap tree (literal_names tree) (no_objects limits.words (length (literals_of tree))) (opening_at tree limits entry code)
   first_heap entry code = record {
-    inside = record {
-      old = record { start = inl refl; fits = omega arith; few = words_are_few limits in_range };
-      new = record { start = inr refl; fits = omega arith; few = omega arith };
-      apart = refl;
-    };
-    full = refl;
     null_unnamed = refl;
     small = literals_small tree accepted.legal;
-    apart = literals_apart tree;
+    names = record {
+      one = λ a b n is also. inl (literals_apart tree a b n is also);
+      twins = λ a b n k is also twins. elim twins [ inl other ↦ none_is_some (record { number = b }) other | inr other ↦ none_is_some (record { number = a }) other ];
+    };
     born = λ a n named. let x : IsNamedLiteral tree a _ = named_literal tree a _ named in let name = x.name in absurd cc;
     literals = λ a characters named. let x : IsNamedLiteral tree a _ = named_literal tree a _ named in let name = x.name in let same : x.characters ≡ characters = cc in let is : slice_get (literals_of tree) x.number ≡ Some characters = x.is ∙ ap Some same in record {
       number = x.number;
@@ -89,6 +101,40 @@ module _ (tree : Tree) (limits : Limits) (accepted : IsAccepted tree) (in_range 
     threads = (beginning_stands (literal_names tree) tree limits (depth_is_some limits in_range) entry code has_code n stands [] [] tt, tt);
   }
 
+  -- each thread may hold the literals, and so may static fields
+  literal_passes : (hold : Hold) (m : Spaces) (a : ℕ) (n : ObjectName) → literal_names tree a ≡ Some n → passes hold Idle m (record { number = a }) ≡ true
+  literal_passes hold m a n is =
+      let x : IsNamedLiteral tree a n = named_literal tree a n is in
+      permanent_passes hold Idle m (record { number = a }) (or_second (a == 0) (is_some (literal_number (record { number = a }))) (ap is_some x.numbered))
+
+  -- the first machine is sound
+  opening_sound : (entry : ClassName × Method) (code : Code) (n : ℕ) → StandsBy (literal_names tree) (content_at tree limits entry n) (opening_at tree limits entry code) → IsSound (content_at tree limits entry n)
+  opening_sound entry code n by = record {
+    up_to = fit.up_to;
+    seated = fit.seated;
+    heap = first_sound;
+    rounds = λ e. absurd cc;
+    on_time = λ t seat is late. absurd (late (ap (λ (x : Seat). x.phase) (first_alone t seat is)));
+    threads = λ t left fs seat at is a listed.
+        let found = agree_at (IsThread tree limits (literal_names tree)) (content_at tree limits entry n).threads (opening_at tree limits entry code).threads by.threads t (record { standing = Live fs; steps_left = left }) at in
+        by_end fs seat a listed found.0.frames found.0.ended found.2.standing;
+    statics = λ number v is.
+        statics_pass (literal_names tree) (static_may_hold Idle m no_progress number) (permanent_passes (static_hold_of Idle no_progress number) Idle m null refl) (literal_passes (static_hold_of Idle no_progress number) m)
+        (content_at tree limits entry n).statics (opening_at tree limits entry code).statics by.memory.static_values number v is;
+  }
+    where
+      fit : AreFitting first_handshakes (thread_at limits entry [] n ∷ [])
+      fit = first_fits (thread_at limits entry [] n) refl
+
+      m : Spaces
+      m = (no_objects limits.words (length (literals_of tree))).spaces
+
+      by_end : (fs : Frames) (seat : Seat) (a : Addr) → IsListed (roots fs) a → (gs : List StateFrame) (e : Option End) → StandsAlike tree limits (literal_names tree) (Live fs) gs e → may_hold first_handshakes m seat a ≡ true
+      by_end fs seat a listed gs None h =
+          let hold : Hold = hold_of first_handshakes m.has_marked seat in
+          roots_pass (literal_names tree) (may_hold first_handshakes m seat) (permanent_passes hold Idle m null refl) (literal_passes hold m) tree fs gs h.frames a listed
+      by_end fs seat a listed gs (Some e) h = elim h [ ]
+
   abbrev pub IsOpened : Type 0
   IsOpened = (c : Content) × (s : State) × (opening_content tree limits ≡ Some c) × (opening tree limits ≡ Some s) × Represents c s
 
@@ -115,8 +161,9 @@ module _ (tree : Tree) (limits : Limits) (accepted : IsAccepted tree) (in_range 
             limits = in_range;
             typed = opening_typed tree limits accepted (opening_at tree limits entry code) opened;
             counted = opening_counted tree limits (budget_is_some limits in_range) (opening_at tree limits entry code) opened;
-            sound = idle_is_sound (content_at tree limits entry numbered.0) (opening_at tree limits entry code) (literal_names tree) (first_stands entry code is numbered.0 numbered.2) (first_fits (thread_at limits entry [] numbered.0) refl) first_sound;
+            sound = opening_sound entry code numbered.0 (first_stands entry code is numbered.0 numbered.2);
             stands = record { name = literal_names tree; by = first_stands entry code is numbered.0 numbered.2 };
+            full = record { old = refl; new = omega arith };
           },
         )
 

@@ -38,6 +38,7 @@ use Rattle.simulation.proofs.Memories.{named_is_not_null}
 use Rattle.step_simulation.proofs.Things.{IsArrayThere, array_there}
 use Rattle.simulation.proofs.cil_model.SameLaws.{never}
 use Rattle.simulation.proofs.cil_model.Lists.{none_is_outside}
+use Rattle.simulation.proofs.ReferenceSlots.{IsLinked}
 use Rattle.simulation.proofs.MemoryModels.{MemoryModel, IsModelled}
 
 module _ (here : Setting) (model : MemoryModel here.tree) (name : Names) (m : Frames) (o : Objects) (statics : List Value) (printed : List ℕ) (s : State) (f : StateFrame) (below : List StateFrame) (i : Instruction) (operation : Operation)
@@ -97,9 +98,9 @@ module _ (here : Setting) (model : MemoryModel here.tree) (name : Names) (m : Fr
 
   -- the memory with another word in a slot of an object, which changes alike
   memory_with : (a : Addr) (n : ℕ) → name a.number ≡ Some (Born n) → (cell : Cell) → object_cell o a ≡ Some cell → (slot : ℕ) (v : Value) (u : StateValue) → slot < length cell.slots → is_reference_value v ≡ holds_reference here.tree cell.kind slot → IsValue name v u →
-      (object : HeapObject) → IsCell here.tree name (with_cell_slot slot (value_word v) cell) object → IsModelled here.tree model name (stored_value model.phase o a slot v) statics printed (with_object s (Born n) object)
-  memory_with a n named cell lies slot v u inside sort is object stands = record {
-    fits = model.slots name o statics s at.memory.fits a n named cell lies slot v u inside sort is object stands;
+      (object : HeapObject) → IsLinked here.tree cell.kind object.contents → IsCell here.tree name (with_cell_slot slot (value_word v) cell) object → IsModelled here.tree model name (stored_value model.phase o a slot v) statics printed (with_object s (Born n) object)
+  memory_with a n named cell lies slot v u inside sort is object linked stands = record {
+    fits = model.slots name o statics s at.memory.fits at.running.typed a n named cell lies slot v u inside sort is object linked stands;
     printed_is = at.memory.printed_is;
   }
 
@@ -118,13 +119,13 @@ module _ (here : Setting) (model : MemoryModel here.tree) (name : Names) (m : Fr
         (slot_turn (λ w. beside o (leaves (value_in kind w) (with_stack m rest)))) (left_alike (value_in kind word) u stands rest rest' k shorter)
 
     -- another value is stored there, and the object changes alike
-    pub replaced_alike : (n : ℕ) → name a.number ≡ Some (Born n) → (v : Value) (u : StateValue) → IsValue name v u → is_reference_value v ≡ holds_reference here.tree cell.kind slot → (object : HeapObject) → IsCell here.tree name (with_cell_slot slot (value_word v) cell) object → (rest : List Value) (rest' : List StateValue) → Agree (IsValue name) rest rest' →
+    pub replaced_alike : (n : ℕ) → name a.number ≡ Some (Born n) → (v : Value) (u : StateValue) → IsValue name v u → is_reference_value v ≡ holds_reference here.tree cell.kind slot → (object : HeapObject) → IsLinked here.tree cell.kind object.contents → IsCell here.tree name (with_cell_slot slot (value_word v) cell) object → (rest : List Value) (rest' : List StateValue) → Agree (IsValue name) rest rest' →
         Alike (objects_turn (store_slot model.phase v slot a (with_stack m rest) o)) (onward_frame f below (with_object s (Born n) object) rest')
-    replaced_alike n named v u is sort object stands rest rest' k =
+    replaced_alike n named v u is sort object linked stands rest rest' k =
         alike_turn (objects_turn (store_slot model.phase v slot a (with_stack m rest) o)) (objects_turn stored) (onward_frame f below (with_object s (Born n) object) rest')
         (slot_turn (λ w. if is_storable model.phase o a slot v then stored else None) ∙
         ap (λ b. objects_turn (if b then stored else None)) (model.storable name o statics s at.memory.fits a n named cell lies slot v u (slice_get_within cell.slots slot word there) is))
-        (stored_alike (stored_value model.phase o a slot v) (with_object s (Born n) object) refl (memory_with a n named cell lies slot v u (slice_get_within cell.slots slot word there) sort is object stands) rest rest' k)
+        (stored_alike (stored_value model.phase o a slot v) (with_object s (Born n) object) refl (memory_with a n named cell lies slot v u (slice_get_within cell.slots slot word there) sort is object linked stands) rest rest' k)
       where
         stored : ObjectTurn
         stored = beside (stored_value model.phase o a slot v) (onward (with_stack m rest))
@@ -141,7 +142,7 @@ module _ (here : Setting) (model : MemoryModel here.tree) (name : Names) (m : Fr
   object_alike v u null_reference k go go' t each = raised_alike k NullReference
   object_alike v u (reference a n is) k go go' t each =
       alike_turn (objects_turn (if a.number == 0 then Some (k, o, Raises NullReference) else go a)) (objects_turn (go a)) (go' n)
-      (ap (λ b. objects_turn (if b then Some (k, o, Raises NullReference) else go a)) (named_is_not_null here.tree name o s (model.reads name o statics s at.memory.fits) a.number n is)) (each a n is t)
+      (ap (λ b. objects_turn (if b then Some (k, o, Raises NullReference) else go a)) (named_is_not_null here.tree name o s (model.reads name o statics s at.memory.fits at.running.typed) a.number n is)) (each a n is t)
 
   -- an index or a length
   pub same_index : (v : Value) (u : StateValue) → IsValue name v u → index_in v ≡ as_index u
@@ -187,13 +188,13 @@ module _ (here : Setting) (model : MemoryModel here.tree) (name : Names) (m : Fr
   -- an element of an array that passes the test
   pub element_alike : (test : DeclaredType → Bool) (v w : Value) (u x : StateValue) → IsValue name v u → IsValue name w x → (k : Frames) (go : Addr → ℕ → ObjectTurn) (go' : ObjectName → DeclaredType → ℕ → StateValue → StateEffect) →
       Fine (element here s f below test u x go') →
-      ((a : Addr) (n : ObjectName) (t : DeclaredType) (elements : List StateValue) → name a.number ≡ Some n → array_at s n ≡ Some (t, elements) → IsArrayThere here.tree name o s (model.reads name o statics s at.memory.fits) a n t elements → IsTrue (test t) →
+      ((a : Addr) (n : ObjectName) (t : DeclaredType) (elements : List StateValue) → name a.number ≡ Some n → array_at s n ≡ Some (t, elements) → IsArrayThere here.tree name o s (model.reads name o statics s at.memory.fits at.running.typed) a n t elements → IsTrue (test t) →
       (slot : ℕ) (old : StateValue) → slice_get elements slot ≡ Some old → Fine (go' n t slot old) → Alike (objects_turn (go a slot)) (go' n t slot old)) →
       Alike (objects_turn (object_of v k o (λ a. index_of w (λ z. given (slots_of o a) (λ slots. in_range (place_in z (length slots)) k o (λ slot. go a slot)))))) (element here s f below test u x go')
   element_alike test v w u x is is' k go go' t each = object_alike v u is k _ _ t at_address
     where
       in_array : (a : Addr) (n : ObjectName) (type : DeclaredType) (elements : List StateValue) → name a.number ≡ Some n → array_at s n ≡ Some (type, elements) → (z : ℤ) (b : Bool) → test type ≡ b → Fine (tested_by go' n type elements z b) →
-          IsArrayThere here.tree name o s (model.reads name o statics s at.memory.fits) a n type elements → Alike (objects_turn (index_turn k go a z)) (tested_by go' n type elements z b)
+          IsArrayThere here.tree name o s (model.reads name o statics s at.memory.fits at.running.typed) a n type elements → Alike (objects_turn (index_turn k go a z)) (tested_by go' n type elements z b)
       in_array a n type elements named there z false passed t' array = elim t' [ ]
       in_array a n type elements named there z true passed t' array =
           alike_turn (objects_turn (index_turn k go a z)) (objects_turn (slots_turn k go a z array.thing.cell.slots)) (tested_by go' n type elements z true)
@@ -206,4 +207,4 @@ module _ (here : Setting) (model : MemoryModel here.tree) (name : Names) (m : Fr
           given_alike (objects_turn (index_of w (index_turn k go a))) (as_index x) _ t' (λ z index t''.
           alike_turn (objects_turn (index_of w (index_turn k go a))) (objects_turn (index_turn k go a z)) _ (ap (λ j. objects_turn (given j (index_turn k go a))) (same_index w x is' ∙ index))
           (given_alike (objects_turn (index_turn k go a z)) (array_at s n) _ t'' (λ held there t'''.
-          in_array a n held.0 held.1 named there z (test held.0) refl t''' (array_there here.tree name o s (model.reads name o statics s at.memory.fits) a n held.0 held.1 named there))))
+          in_array a n held.0 held.1 named there z (test held.0) refl t''' (array_there here.tree name o s (model.reads name o statics s at.memory.fits at.running.typed) a n held.0 held.1 named there))))

@@ -1,5 +1,5 @@
 -- A step is refused memory exactly where the object that it would make exceeds the room.
-use Rattle.std.proofs.Common.{◌≡◌, ◌↔◌, ◌⊎◌, ◌≤◌, ◌<◌, ◌+◌, ◌-◌, if◌then◌else◌, ℕ, zero, suc, Bool, true, false, IsTrue, List, [], ◌∷◌, ◌++◌, Option, Some, None, slice_get, refl, inl, inr, sym, ap, ◌∙◌, subst, arith}
+use Rattle.std.proofs.Common.{◌≡◌, ◌↔◌, ◌⊎◌, ◌≤◌, ◌<◌, ◌+◌, ◌-◌, if◌then◌else◌, ℕ, zero, suc, Bool, true, false, IsTrue, List, [], ◌∷◌, ◌++◌, Option, Some, None, slice_get, refl, inl, inr, sym, ap, ◌∙◌, arith}
 use Rattle.std.specs.Prelude.{nat_le}
 use Rattle.std.proofs.lemmas.Bool.Decides.{nat_tests}
 use Rattle.std.proofs.lemmas.List.Sums.{sum_by_push}
@@ -18,7 +18,6 @@ use Rattle.simulation.specs.reference_machine.Steps.{Outcome, Answers, goes_on, 
 use Rattle.simulation.proofs.reference_machine.StepLaws.{same_after}
 use Rattle.simulation.proofs.reference_machine.UnrefusedLaws.{memory_is_refused}
 use Rattle.simulation.specs.object_memory.Objects.{free_space}
-use Rattle.simulation.specs.object_memory.Spaces.{room_for}
 use Rattle.simulation.specs.threads_monitors.Frames.{Frames}
 use Rattle.simulation.specs.threads_monitors.declared.threads.Standing.{Standing}
 use Rattle.simulation.specs.threads_monitors.declared.threads.Standing.TheVariants.{Live, Ended}
@@ -33,7 +32,7 @@ use Rattle.step_simulation.proofs.Settings.{setting_of, is_alive, is_running, do
 use Rattle.step_simulation.proofs.Settling.{done, step_is}
 use Rattle.step_simulation.proofs.Steps.{step_follows}
 use Rattle.simulation.proofs.cil_model.SameLaws.{never}
-use Rattle.step_simulation.proofs.OneBlock.{one_block, idle_phase}
+use Rattle.step_simulation.proofs.Mutators.{own_model, own_names, own_room}
 
 -- ---- a test of room
 
@@ -62,7 +61,7 @@ born_by s contents t (suc left) frames = record { report = _; after = _; is = re
 
 module _ (each : InstructionsAreAlike) (c : Content) (s : State) (r : Represents c s) (t left : ℕ) (m : Frames) (there : slice_get c.threads t ≡ Some (record { standing = Live m; steps_left = left })) where
   abbrev Exceeds : StateEffect → Type 0
-  Exceeds e = ExceedsFree (setting_of c t false) (one_block c.tree c.limits.words) r.stands.name m c.objects c.statics c.printed s (is_alive c s r t left m there).running (is_alive c s r t left m there).below e
+  Exceeds e = ExceedsFree (setting_of c t false) (own_model c s r t left m there) (own_names c s r t left m there) m c.objects c.statics c.printed s (is_alive c s r t left m there).running (is_alive c s r t left m there).below e
 
   -- the instruction's object exceeds what is free
   instruction_exceeds : (a : Answer) → IsDone c.tree (mutator_of c t) m c.objects c.statics c.printed a → is_refused_outcome a.outcome ≡ true → Exceeds (done c s r t left m there false)
@@ -86,7 +85,13 @@ module _ (each : InstructionsAreAlike) (c : Content) (s : State) (r : Represents
         object = record { contents = e.contents; monitor = Free; thread = None };
         unrefused = step_is c s r t left m there false ∙ ap (settled s t (left - 1) frames) e.is ∙ born.is;
         is_born = born.objects;
-        exceeds = (let full = r.stands.by.memory.heap.full in let space = r.sound.heap.blocks.old_words in let more : free_space c.objects < cell_words c.tree e.contents = subst (λ p. room_for p c.objects.spaces < cell_words c.tree e.contents) (idle_phase c.tree c.limits.words) e.exceeds in beyond (cell_words c.tree e.contents) (c.limits.words - words_of_all c.tree s.objects) (omega (arith, full, space, more)));
+        exceeds =
+            (let full = r.full.old in
+            let space = r.sound.heap.blocks.old_words in
+            let room = own_room c s r t left m there in
+            let beyond_room = e.exceeds in
+            let more : free_space c.objects < cell_words c.tree e.contents = omega (arith, room, beyond_room) in
+            beyond (cell_words c.tree e.contents) (c.limits.words - words_of_all c.tree s.objects) (omega (arith, full, space, more)));
       }
 
 -- ---- where the object exceeds the room, the step is refused
@@ -102,7 +107,7 @@ module _ (each : InstructionsAreAlike) (c : Content) (s : State) (r : Represents
       let same = same_program c after (Step t) turn in
       let full : words_of_all c.tree s'.objects ≡ words_of_all after.0.tree s'.objects = ap (λ x. words_of_all x s'.objects) (sym same.0) in
       let limit : after.0.limits.words ≡ c.limits.words = ap (λ (l : Limits). l.words) same.1 in
-      omega (arith, full, limit, h.stands.by.memory.heap.full, h.stands.by.memory.heap.inside.old.fits, h.sound.heap.blocks.old_words)
+      omega (arith, full, limit, h.full.old, h.sound.heap.blocks.spaces.old.fits, h.sound.heap.blocks.old_words)
 
   exceeding_is_refused : ExceedsRoom c.tree c.limits s t → IsTrue (is_refusal after.1)
   exceeding_is_refused x = by_report (is_refusal after.1) refl (step_follows each c s r t after turn)

@@ -32,7 +32,7 @@ use Rattle.step_simulation.proofs.Settings.{setting_of, is_alive, is_running, in
 use Rattle.step_simulation.proofs.Settling.{done}
 use Rattle.step_simulation.proofs.ThreadObjects.{reference_is, IsThreadObject, thread_object_is}
 use Rattle.simulation.proofs.Memories.{named_is_not_null}
-use Rattle.step_simulation.proofs.OneBlock.{one_block, heap_reads}
+use Rattle.step_simulation.proofs.Mutators.{own_model, own_names, own_reads}
 
 module _ (c : Content) (s : State) (r : Represents c s) (t left : ℕ) (m : Frames) (there : slice_get c.threads t ≡ Some (record { standing = Live m; steps_left = left })) where
   abbrev pub here : Setting
@@ -49,20 +49,20 @@ module _ (c : Content) (s : State) (r : Represents c s) (t left : ℕ) (m : Fram
 
   -- the instruction asks for this
   abbrev pub Asks : Action → Addr → Answer → Type 0
-  Asks action object a = AsksFor here (one_block c.tree c.limits.words) r.stands.name m c.objects c.statics c.printed s running below action object a (done c s r t left m there false)
+  Asks action object a = AsksFor here (own_model c s r t left m there) (own_names c s r t left m there) m c.objects c.statics c.printed s running below action object a (done c s r t left m there false)
 
-  own : IsFrame c.tree r.stands.name m.running running
+  own : IsFrame c.tree (own_names c s r t left m there) m.running running
   own = (is_alive c s r t left m there).frames.frames.0
 
   -- the stack without the operand
-  pub rest_agrees : (operand : StateValue) (rest : List StateValue) → running.stack ≡ operand ∷ rest → Agree (IsValue r.stands.name) (drop 1 m.running.stack) rest
-  rest_agrees operand rest stack = subst (Agree (IsValue r.stands.name) (drop 1 m.running.stack)) (ap (drop 1) stack) (agree_drop (IsValue r.stands.name) 1 m.running.stack running.stack own.stack)
+  pub rest_agrees : (operand : StateValue) (rest : List StateValue) → running.stack ≡ operand ∷ rest → Agree (IsValue (own_names c s r t left m there)) (drop 1 m.running.stack) rest
+  rest_agrees operand rest stack = subst (Agree (IsValue (own_names c s r t left m there)) (drop 1 m.running.stack)) (ap (drop 1) stack) (agree_drop (IsValue (own_names c s r t left m there)) 1 m.running.stack running.stack own.stack)
 
   -- what is asked of an object of a class of threads, or of null
   abbrev pub IsAskedOf : StateEffect → (ObjectName → HeapObject → StateEffect) → Addr → Type 0
   IsAskedOf e go object =
       ((object ≡ null) × (e ≡ StateRaises NullReference)) ⊎
-      ((number : ℕ) × (x : IsThreadObject c.tree r.stands.name c.objects s object number) × (e ≡ go (Born number) x.object) × ((object.number == 0) ≡ false) × (r.stands.name object.number ≡ Some (Born number)))
+      ((number : ℕ) × (x : IsThreadObject c.tree (own_names c s r t left m there) c.objects s object number) × (e ≡ go (Born number) x.object) × ((object.number == 0) ≡ false) × ((own_names c s r t left m there) object.number ≡ Some (Born number)))
 
   pub done_typed : IsTypedEffect c.tree (done c s r t left m there false)
   done_typed = instruction_typed here s running below instruction (is_running c s r t left m there false).2
@@ -70,21 +70,21 @@ module _ (c : Content) (s : State) (r : Represents c s) (t left : ℕ) (m : Fram
   pub asked_of : (action : Action) (go : List StateValue → ObjectName → HeapObject → StateEffect) →
       ((v : StateValue) (rest : List StateValue) → act here s running below action (v ∷ []) rest ≡ not_null v NullReference (λ n. thread_object here s running below n (go rest n))) →
       (object : Addr) (a : Answer) → (asks : Asks action object a) → IsAskedOf (done c s r t left m there false) (go asks.rest) object
-  asked_of action go acts object a asks = by_operand (reference_is r.stands.name (Ref object) asks.operand asks.stands object refl)
+  asked_of action go acts object a asks = by_operand (reference_is (own_names c s r t left m there) (Ref object) asks.operand asks.stands object refl)
     where
       does : done c s r t left m there false ≡ not_null asks.operand NullReference (λ n. thread_object here s running below n (go asks.rest n))
       does = asks.is ∙ acts asks.operand asks.rest
 
-      by_operand : ((object ≡ null) × (asks.operand ≡ Null)) ⊎ ((n : ObjectName) × (asks.operand ≡ Reference n) × (r.stands.name object.number ≡ Some n)) → IsAskedOf (done c s r t left m there false) (go asks.rest) object
+      by_operand : ((object ≡ null) × (asks.operand ≡ Null)) ⊎ ((n : ObjectName) × (asks.operand ≡ Reference n) × ((own_names c s r t left m there) object.number ≡ Some n)) → IsAskedOf (done c s r t left m there false) (go asks.rest) object
       by_operand (inl (is, operand)) = inl (is, does ∙ ap (λ v. not_null v NullReference (λ n. thread_object here s running below n (go asks.rest n))) operand)
       by_operand (inr (n, operand, named)) =
           let comes : done c s r t left m there false ≡ thread_object here s running below n (go asks.rest n) = does ∙ ap (λ v. not_null v NullReference (λ k. thread_object here s running below k (go asks.rest k))) operand in
-          let x = thread_object_is here s running below r.stands.name c.objects r.stands.by.memory.heap object (go asks.rest n) n named (subst (IsTypedEffect c.tree) comes done_typed) in
+          let x = thread_object_is here s running below (own_names c s r t left m there) c.objects (own_reads c s r t left m there) object (go asks.rest n) n named (subst (IsTypedEffect c.tree) comes done_typed) in
           inr (
             x.0,
             x.2,
             comes ∙ x.3 ∙ ap (λ k. go asks.rest k x.2.object) x.1,
-            named_is_not_null c.tree r.stands.name c.objects s (heap_reads c.tree r.stands.name c.objects s r.stands.by.memory.heap) object.number n named,
+            named_is_not_null c.tree (own_names c s r t left m there) c.objects s (own_reads c s r t left m there) object.number n named,
             named ∙ ap Some x.1,
           )
 
@@ -99,7 +99,7 @@ module _ (c : Content) (s : State) (r : Represents c s) (t left : ℕ) (m : Fram
     where
       stack_is_there : 0 < length m.running.stack
       stack_is_there =
-          let same : length m.running.stack ≡ suc (length asks.rest) = agree_length (IsValue r.stands.name) m.running.stack running.stack own.stack ∙ ap length asks.stack in
+          let same : length m.running.stack ≡ suc (length asks.rest) = agree_length (IsValue (own_names c s r t left m there)) m.running.stack running.stack own.stack ∙ ap length asks.stack in
           omega (arith, same)
 
       by_object : IsAskedOf (done c s r t left m there false) go object → object ≢ null → 0 < length (object_slots c.objects object)
@@ -108,15 +108,15 @@ module _ (c : Content) (s : State) (r : Represents c s) (t left : ℕ) (m : Fram
           subst (λ l. 0 < length l) (sym (ap (λ y. unwrap_or (option_map (λ (k : Cell). k.slots) y) []) x.lies ∙ x.slots)) (omega arith)
 
   module _ (operation : Operation) (at : IsAt c.tree m operation) (constant : HasSmallConstant operation) where
-    abbrev pub setting : IsSetting here (one_block c.tree c.limits.words) r.stands.name m c.objects c.statics c.printed s running below instruction operation
+    abbrev pub setting : IsSetting here (own_model c s r t left m there) (own_names c s r t left m there) m c.objects c.statics c.printed s running below instruction operation
     setting = in_setting c s r t left m there false operation at constant
 
     pub place_below : nat_lt m.running.place MOST_INSTRUCTIONS ≡ true
-    place_below = place_is_small here (one_block c.tree c.limits.words) r.stands.name m c.objects c.statics c.printed s running below instruction operation setting
+    place_below = place_is_small here (own_model c s r t left m there) (own_names c s r t left m there) m c.objects c.statics c.printed s running below instruction operation setting
 
     -- the frames once what was asked for is done
-    pub popped_frames : (operand : StateValue) (rest : List StateValue) → running.stack ≡ operand ∷ rest → AreFrames c.tree c.limits r.stands.name (after_request GoesOn m) (after running rest ∷ below)
+    pub popped_frames : (operand : StateValue) (rest : List StateValue) → running.stack ≡ operand ∷ rest → AreFrames c.tree c.limits (own_names c s r t left m there) (after_request GoesOn m) (after running rest ∷ below)
     popped_frames operand rest stack =
-        subst (λ p. AreFrames c.tree c.limits r.stands.name (with_place (with_stack m (drop 1 m.running.stack)) (p + 1)) (after running rest ∷ below)) (sym own.place)
-        (moved_frames here (one_block c.tree c.limits.words) r.stands.name m c.objects c.statics c.printed s running below instruction operation setting r.stands.name (λ a n is. is)
+        subst (λ p. AreFrames c.tree c.limits (own_names c s r t left m there) (with_place (with_stack m (drop 1 m.running.stack)) (p + 1)) (after running rest ∷ below)) (sym own.place)
+        (moved_frames here (own_model c s r t left m there) (own_names c s r t left m there) m c.objects c.statics c.printed s running below instruction operation setting (own_names c s r t left m there) (λ a n is. is)
         m.running.arguments m.running.locals (drop 1 m.running.stack) running.arguments running.locals rest (running.place + 1) own.arguments own.locals (rest_agrees operand rest stack))

@@ -1,17 +1,14 @@
 -- Posts and seats: what the end of a thread, the start of another and an acknowledgement leave of them.
-use Rattle.std.proofs.Common.{◌≡◌, ◌⊎◌, ◌≤◌, ◌<◌, ◌-◌, ◌==◌, ◌∙◌, ℕ, zero, suc, Bool, true, false, if◌then◌else◌, List, [], ◌∷◌, ◌++◌, length, replicate, get_or, Option, Some, None, option_and_then, slice_get, slice_set, refl, inl, inr, sym, ap, subst, arith}
+use Rattle.std.proofs.Common.{◌≡◌, ◌⊎◌, ◌≤◌, ◌<◌, ◌-◌, ◌∙◌, ℕ, zero, suc, true, false, List, [], ◌∷◌, ◌++◌, length, replicate, get_or, Option, Some, None, option_and_then, slice_get, slice_set, refl, inl, inr, sym, ap, arith}
 use Rattle.std.specs.Prelude.{is_some}
 use Rattle.std.specs.Option.{option_map_or}
-use Rattle.std.proofs.lemmas.Bool.{eqb-true, eq-eqb}
 use Rattle.std.proofs.lemmas.List.{length-replicate}
 use Rattle.std.proofs.lemmas.Option.{same_Some, slice_get-get_or}
 use Rattle.simulation.specs.cil_model.declared.limits.TheConstants.{MOST_THREADS}
-use Rattle.simulation.specs.cil_model.declared.phases.Phase.{Phase}
-use Rattle.simulation.specs.cil_model.declared.phases.Phase.TheVariants.{Idle, Mark, Allocate, Copy, PreFlip, HeapFlip, ThreadFlip, Reclaim}
 use Rattle.simulation.proofs.cil_model.Lists.{last_is_there, none_is_some, set_is_there, set_or_was}
 use Rattle.simulation.proofs.cil_model.SameLaws.{never}
-use Rattle.simulation.specs.phase_handshake.Handshakes.{Handshakes, acknowledged, first_handshakes, first_seat, is_open_to, is_phase, joined, left as without_seat, own_phase, phase_number, seat_after, seat_of}
-use Rattle.simulation.proofs.collector.phase_handshake.Closeness.{acknowledged_close, joined_close, left_close}
+use Rattle.simulation.specs.phase_handshake.Handshakes.{Handshakes, first_handshakes, first_seat, joined, left as without_seat, phase_number, seat_of}
+use Rattle.simulation.proofs.collector.phase_handshake.Closeness.{joined_close, left_close, seat_there}
 use Rattle.simulation.specs.phase_handshake.declared.posts.Seat.{Seat}
 use Rattle.simulation.specs.cil_model.declared.reports.End.{End}
 use Rattle.simulation.specs.threads_monitors.Frames.{Frames}
@@ -20,28 +17,17 @@ use Rattle.simulation.specs.threads_monitors.declared.effects.Effect.{Effect}
 use Rattle.simulation.specs.threads_monitors.declared.effects.Effect.TheVariants.{GoesOn, Returns, Blocks, Raises}
 use Rattle.simulation.specs.threads_monitors.declared.threads.Standing.TheVariants.{Live, Ended}
 use Rattle.simulation.specs.threads_monitors.declared.threads.Thread.{Thread}
-use Rattle.simulation.specs.Sound.{AreSeated, AreUpTo, last_phase}
+use Rattle.simulation.specs.cil_model.declared.reports.Report.{Report}
+use Rattle.simulation.specs.cil_model.declared.reports.Report.TheVariants.{Ended as HasEnded}
+use Rattle.simulation.specs.MachineContents.{Content}
+use Rattle.simulation.specs.Sound.{AreSeated, AreUpTo, IsSound, last_phase}
+use Rattle.simulation.proofs.SetSeats.{same_or_other, set_other}
 use Rattle.simulation.specs.Turns.{live_thread, seats_after}
 
 -- ---- places of lists
 
-same_or_other : (n t : ℕ) → (n ≡ t) ⊎ (n ≡ t → ⊥)
-same_or_other n t = by_test (n == t) refl
-  where
-    by_test : (b : Bool) → (n == t) ≡ b → (n ≡ t) ⊎ (n ≡ t → ⊥)
-    by_test true e = inl (eqb-true n t e)
-    by_test false e = inr (λ k. never (sym e ∙ eq-eqb n t k))
-
--- a change leaves every other place
-set_other : {X : Type 0} (xs : List X) (t n : ℕ) (x : X) → (n ≡ t → ⊥) → slice_get (slice_set xs t x) n ≡ slice_get xs n
-set_other [] t n x other = refl
-set_other (y ∷ ys) zero zero x other = absurd (other refl)
-set_other (y ∷ ys) zero (suc n) x other = refl
-set_other (y ∷ ys) (suc t) zero x other = refl
-set_other (y ∷ ys) (suc t) (suc n) x other = set_other ys t n x (λ e. other (ap suc e))
-
--- so does one more at the end
-append_other : {X : Type 0} (xs : List X) (n : ℕ) (x : X) → (n ≡ length xs → ⊥) → slice_get (xs ++ x ∷ []) n ≡ slice_get xs n
+-- one more at the end leaves every other place
+pub append_other : {X : Type 0} (xs : List X) (n : ℕ) (x : X) → (n ≡ length xs → ⊥) → slice_get (xs ++ x ∷ []) n ≡ slice_get xs n
 append_other [] zero x other = absurd (other refl)
 append_other [] (suc n) x other = refl
 append_other (y ∷ ys) zero x other = refl
@@ -74,14 +60,6 @@ live_get xs ys n e = ap (λ o. option_map_or is_live o false) e
 
 -- ---- seats
 
--- a seat, and its place
-seated_at : (seats : List (Option Seat)) (n : ℕ) (s : Seat) → option_and_then (λ (x : Option Seat). x) (slice_get seats n) ≡ Some s → slice_get seats n ≡ Some (Some s)
-seated_at seats n s e = by_place (slice_get seats n) e
-  where
-    by_place : (o : Option (Option Seat)) → option_and_then (λ (x : Option Seat). x) o ≡ Some s → o ≡ Some (Some s)
-    by_place None h = none_is_some s h
-    by_place (Some x) h = ap Some h
-
 -- places without seats
 empty_places : (m n : ℕ) → option_and_then (λ (x : Option Seat). x) (slice_get (replicate m None) n) ≡ None
 empty_places zero n = refl
@@ -95,31 +73,9 @@ pub record AreFitting (h : Handshakes) (threads : List Thread) : Type 0 where
   pub seated : AreSeated h threads
   pub up_to : AreUpTo last_phase h
 
--- the first phase is the only one up to itself
-first_of_all : (p : Phase) → phase_number p ≤ phase_number last_phase → p ≡ Idle
-first_of_all Idle few = refl
-first_of_all Mark few = absurd (omega (arith, few))
-first_of_all Allocate few = absurd (omega (arith, few))
-first_of_all Copy few = absurd (omega (arith, few))
-first_of_all PreFlip few = absurd (omega (arith, few))
-first_of_all HeapFlip few = absurd (omega (arith, few))
-first_of_all ThreadFlip few = absurd (omega (arith, few))
-first_of_all Reclaim few = absurd (omega (arith, few))
-
--- so it is posted, and each seat is in it
-pub first_is_posted : (h : Handshakes) → AreUpTo last_phase h → h.posted ≡ Idle
-first_is_posted h up_to = first_of_all h.posted up_to.posted
-
-pub seat_in_first : (h : Handshakes) → AreUpTo last_phase h → (t : ℕ) (s : Seat) → seat_of h t ≡ Some s → s.phase ≡ Idle
-seat_in_first h up_to t s is = first_of_all s.phase (up_to.own t s is)
-
--- a thread is in the first phase
-pub in_first_phase : (h : Handshakes) → AreUpTo last_phase h → (t : ℕ) → own_phase h t ≡ Idle
-in_first_phase h up_to t = by_seat (seat_of h t) refl
-  where
-    by_seat : (o : Option Seat) → seat_of h t ≡ o → option_map_or (λ (s : Seat). s.phase) o Idle ≡ Idle
-    by_seat None is = refl
-    by_seat (Some s) is = seat_in_first h up_to t s is
+-- so it is of a sound machine
+pub are_fitting : (c : Content) → IsSound c → AreFitting c.posts c.threads
+are_fitting c sound = record { seated = sound.seated; up_to = sound.up_to }
 
 -- ---- another seat
 
@@ -134,15 +90,29 @@ set_up_to : (h : Handshakes) → AreUpTo last_phase h → (t : ℕ) (o : Option 
 set_up_to h up_to t o fits = record { posted = up_to.posted; own = own }
   where
     own : (n : ℕ) (s : Seat) → seat_of (record h { seats = slice_set h.seats t o }) n ≡ Some s → phase_number s.phase ≤ phase_number last_phase
-    own n s is = by_place (set_or_was h.seats t n o (Some s) (seated_at (slice_set h.seats t o) n s is))
+    own n s is = by_place (set_or_was h.seats t n o (Some s) (seat_there (record h { seats = slice_set h.seats t o }) n s is))
       where
         by_place : (Some s ≡ o) ⊎ (slice_get h.seats n ≡ Some (Some s)) → phase_number s.phase ≤ phase_number last_phase
         by_place (inl new) = fits s (sym new)
         by_place (inr was) = up_to.own n s (ap (option_and_then (λ (x : Option Seat). x)) was)
 
 -- another place is as it was
-other_seat : (h : Handshakes) (t n : ℕ) (o : Option Seat) → (n ≡ t → ⊥) → seat_of (record h { seats = slice_set h.seats t o }) n ≡ seat_of h n
+pub other_seat : (h : Handshakes) (t n : ℕ) (o : Option Seat) → (n ≡ t → ⊥) → seat_of (record h { seats = slice_set h.seats t o }) n ≡ seat_of h n
 other_seat h t n o other = ap (option_and_then (λ (x : Option Seat). x)) (set_other h.seats t n o other)
+
+-- a seat that is there once one is set is that one, or was there
+pub set_seat : (h : Handshakes) (t n : ℕ) (o : Option Seat) (s : Seat) → seat_of (record h { seats = slice_set h.seats t o }) n ≡ Some s → (o ≡ Some s) ⊎ (seat_of h n ≡ Some s)
+set_seat h t n o s is = elim (set_or_was h.seats t n o (Some s) (seat_there (record h { seats = slice_set h.seats t o }) n s is)) [ inl new ↦ inl (sym new) | inr was ↦ inr (ap (option_and_then (λ (x : Option Seat). x)) was) ]
+
+-- the seats once a step is counted were there,
+pub counted_seat : (h : Handshakes) (t : ℕ) (report : Report) (n : ℕ) (s : Seat) → seat_of (seats_after h t report) n ≡ Some s → seat_of h n ≡ Some s
+counted_seat h t (HasEnded e) n s is = elim (set_seat h t n None s is) [ inl new ↦ none_is_some s new | inr was ↦ was ]
+counted_seat h t report n s is = is
+
+-- and posts are the same
+pub counted_posts : (h : Handshakes) (t : ℕ) (report : Report) → seats_after h t report ≡ record h { seats = (seats_after h t report).seats }
+counted_posts h t (HasEnded e) = refl
+counted_posts h t report = refl
 
 module _ (h : Handshakes) (threads : List Thread) (fit : AreFitting h threads) where
   -- ---- a thread that goes on, and one that ends
@@ -199,50 +169,12 @@ module _ (h : Handshakes) (threads : List Thread) (fit : AreFitting h threads) w
           ap (λ o. is_some (option_and_then (λ (x : Option Seat). x) o)) (sym here) ∙ ap (λ k. is_some (seat_of (joined h (length threads) t) k)) (sym same)
       live n (inr other) = live_get (threads ++ new ∷ []) threads n (append_other threads n new other) ∙ fit.seated.live n ∙ ap is_some (sym (other_seat h (length threads) n (seat_of h t) other))
 
-  -- ---- an acknowledgement
-
-  -- the seat of a thread that acknowledges is of no later phase than the posted one or its own
-  after_up_to : (s : Seat) → phase_number s.phase ≤ phase_number last_phase → phase_number (seat_after h.posted s).phase ≤ phase_number last_phase
-  after_up_to s few = by_test (is_phase s.phase h.posted)
-    where
-      by_test : (b : Bool) → phase_number (if b then record s { answered = true } else record s { phase = h.posted }).phase ≤ phase_number last_phase
-      by_test true = few
-      by_test false = fit.up_to.posted
-
-  pub acknowledged_fits : (t : ℕ) → AreFitting (acknowledged h t) threads
-  acknowledged_fits t = record { seated = record { close = acknowledged_close h fit.seated.close t; live = λ n. live n }; up_to = up_to }
-    where
-      after : Option Seat → Handshakes
-      after o = option_map_or (λ (s : Seat). if is_open_to h.posted h.has_round s then record h { seats = slice_set h.seats t (Some (seat_after h.posted s)) } else h) o h
-
-      up_to : AreUpTo last_phase (acknowledged h t)
-      up_to = by_seat (seat_of h t) refl
-        where
-          by_seat : (o : Option Seat) → seat_of h t ≡ o → AreUpTo last_phase (after o)
-          by_seat None is = fit.up_to
-          by_seat (Some s) is = by_open (is_open_to h.posted h.has_round s)
-            where
-              by_open : (b : Bool) → AreUpTo last_phase (if b then record h { seats = slice_set h.seats t (Some (seat_after h.posted s)) } else h)
-              by_open true =
-                  set_up_to h fit.up_to t (Some (seat_after h.posted s)) (λ x same. subst (λ (y : Seat). phase_number y.phase ≤ phase_number last_phase) (same_Some (seat_after h.posted s) x same) (after_up_to s (fit.up_to.own t s is)))
-              by_open false = fit.up_to
-
-      live : (n : ℕ) → is_live_at threads n ≡ is_some (seat_of (acknowledged h t) n)
-      live n = fit.seated.live n ∙ by_seat (seat_of h t) refl
-        where
-          by_seat : (o : Option Seat) → seat_of h t ≡ o → is_some (seat_of h n) ≡ is_some (seat_of (after o) n)
-          by_seat None is = refl
-          by_seat (Some s) is = by_open (is_open_to h.posted h.has_round s) (same_or_other n t)
-            where
-              by_open : (b : Bool) → (n ≡ t) ⊎ (n ≡ t → ⊥) → is_some (seat_of h n) ≡ is_some (seat_of (if b then record h { seats = slice_set h.seats t (Some (seat_after h.posted s)) } else h) n)
-              by_open false place = refl
-              by_open true (inl same) =
-                  let now : slice_get (slice_set h.seats t (Some (seat_after h.posted s))) t ≡ Some (Some (seat_after h.posted s)) = set_is_there h.seats t (Some (seat_after h.posted s)) (Some s) (seated_at h.seats t s is) in
-                  ap (λ k. is_some (seat_of h k)) same ∙ ap is_some is ∙ ap (λ o. is_some (option_and_then (λ (x : Option Seat). x) o)) (sym now) ∙
-                  ap (λ k. is_some (seat_of (record h { seats = slice_set h.seats t (Some (seat_after h.posted s)) }) k)) (sym same)
-              by_open true (inr other) = ap is_some (sym (other_seat h t n (Some (seat_after h.posted s)) other))
-
 -- ---- the beginning
+
+-- the first thread alone has a seat
+pub first_alone : (n : ℕ) (s : Seat) → seat_of first_handshakes n ≡ Some s → s ≡ first_seat
+first_alone zero s is = sym (same_Some first_seat s is)
+first_alone (suc n) s is = none_is_some s (sym (empty_places (MOST_THREADS - 1) n) ∙ is)
 
 pub first_fits : (first : Thread) → is_live first ≡ true → AreFitting first_handshakes (first ∷ [])
 first_fits first lives = record {
@@ -257,10 +189,6 @@ first_fits first lives = record {
   up_to = record { posted = omega arith; own = λ t s is. let same = ap (λ (x : Seat). phase_number x.phase) (first_alone t s is) in omega (arith, same) };
 }
   where
-    first_alone : (n : ℕ) (s : Seat) → seat_of first_handshakes n ≡ Some s → s ≡ first_seat
-    first_alone zero s is = sym (same_Some first_seat s is)
-    first_alone (suc n) s is = none_is_some s (sym (empty_places (MOST_THREADS - 1) n) ∙ is)
-
     live : (n : ℕ) → is_live_at (first ∷ []) n ≡ is_some (seat_of first_handshakes n)
     live zero = lives
     live (suc n) = ap is_some (sym (empty_places (MOST_THREADS - 1) n))

@@ -25,9 +25,7 @@ use Rattle.simulation.proofs.AgreeLaws.{agree_at}
 use Rattle.simulation.proofs.Instructions.{IsSetting, DoesAlike, InstructionsAreAlike}
 use Rattle.simulation.proofs.LimitRanges.{budget_is_small}
 use Rattle.simulation.proofs.cil_model.Lists.{none_is_some}
-use Rattle.step_simulation.proofs.OneBlock.{one_block, idle_phase, modelled}
-use Rattle.step_simulation.proofs.Seats.{in_first_phase}
-use Rattle.step_simulation.proofs.SoundContents.{idle_heap}
+use Rattle.step_simulation.proofs.Mutators.{normally, own_frames, own_memory, own_model, own_names, own_phase_is}
 
 -- ---- a live thread
 
@@ -47,16 +45,18 @@ pub record IsAlive (c : Content) (s : State) (name : Names) (t left : ℕ) (m : 
   pub frames : AreFrames c.tree c.limits name m (running ∷ below)
 
 module _ (c : Content) (s : State) (r : Represents c s) (t left : ℕ) (m : Frames) (there : slice_get c.threads t ≡ Some (record { standing = Live m; steps_left = left })) where
-  pub is_alive : IsAlive c s r.stands.name t left m
+  pub is_alive : IsAlive c s (own_names c s r t left m there) t left m
   is_alive =
-      let found : (u : StateThread) × (slice_get s.threads t ≡ Some u) × IsThread c.tree c.limits r.stands.name (record { standing = Live m; steps_left = left }) u =
-      agree_at (IsThread c.tree c.limits r.stands.name) c.threads s.threads r.stands.by.threads t (record { standing = Live m; steps_left = left }) there in
+      let found = agree_at (IsThread c.tree c.limits names) c.threads s.threads (normally c s r).by.threads t (record { standing = Live m; steps_left = left }) there in
       by_thread found.0 found.1 found.2.steps_left found.0.frames found.0.ended refl refl found.2.standing
     where
-      by_thread : (u : StateThread) → slice_get s.threads t ≡ Some u → left ≡ u.steps_left → (fs : List StateFrame) (e : Option End) → u.frames ≡ fs → u.ended ≡ e → StandsAlike c.tree c.limits r.stands.name (Live m) fs e →
-          IsAlive c s r.stands.name t left m
+      names : Names
+      names = (normally c s r).name
+
+      by_thread : (u : StateThread) → slice_get s.threads t ≡ Some u → left ≡ u.steps_left → (fs : List StateFrame) (e : Option End) → u.frames ≡ fs → u.ended ≡ e → StandsAlike c.tree c.limits names (Live m) fs e →
+          IsAlive c s (own_names c s r t left m there) t left m
       by_thread u at steps [] None is lives h = elim h.frames [ ]
-      by_thread u at steps (f ∷ fs) None is lives h = record { thread = u; there = at; running = f; below = fs; frames_are = is; lives = lives; steps = steps; frames = h }
+      by_thread u at steps (f ∷ fs) None is lives h = record { thread = u; there = at; running = f; below = fs; frames_are = is; lives = lives; steps = steps; frames = own_frames c s r t left m there (f ∷ fs) h }
       by_thread u at steps fs (Some e) is lives h = elim h [ ]
 
   module _ (refused : Bool) where
@@ -68,7 +68,7 @@ module _ (c : Content) (s : State) (r : Represents c s) (t left : ℕ) (m : Fram
 
     -- that which a resolved one there stands for
     pub in_setting : (operation : Operation) → IsAt c.tree m operation → HasSmallConstant operation →
-        IsSetting (setting_of c t refused) (one_block c.tree c.limits.words) r.stands.name m c.objects c.statics c.printed s is_alive.running is_alive.below is_running.0 operation
+        IsSetting (setting_of c t refused) (own_model c s r t left m there) (own_names c s r t left m there) m c.objects c.statics c.printed s is_alive.running is_alive.below is_running.0 operation
     in_setting operation at constant = record {
       running = is_running.2;
       counted = r.counted;
@@ -76,13 +76,13 @@ module _ (c : Content) (s : State) (r : Represents c s) (t left : ℕ) (m : Fram
       resolved = subst (λ x. IsOperation c.tree (lines_of f.method) x operation) same_instruction (subst (λ (x : ClassName × Method). IsOperation c.tree (lines_of x.1) at.line.instruction operation) same_method at.stands);
       constant = constant;
       frames = is_alive.frames;
-      memory = modelled c.tree c.limits.words r.stands.name c.objects c.statics c.printed s r.stands.by.memory (idle_heap c r.sound);
+      memory = own_memory c s r t left m there;
     }
       where
         f : StateFrame
         f = is_alive.running
 
-        own : IsFrame c.tree r.stands.name m.running f
+        own : IsFrame c.tree (own_names c s r t left m there) m.running f
         own = is_alive.frames.frames.0
 
         same_method : at.found ≡ (f.owner, f.method)
@@ -101,16 +101,16 @@ module _ (c : Content) (s : State) (r : Represents c s) (t left : ℕ) (m : Fram
 module _ (each : InstructionsAreAlike) where
   pub does_alike : (c : Content) (s : State) (r : Represents c s) (t left : ℕ) (m : Frames) (there : slice_get c.threads t ≡ Some (record { standing = Live m; steps_left = left })) (refused : Bool) →
       (operation : Operation) → IsAt c.tree m operation → HasSmallConstant operation →
-      DoesAlike (setting_of c t refused) (one_block c.tree c.limits.words) r.stands.name m c.objects c.statics c.printed s (is_alive c s r t left m there).running (is_alive c s r t left m there).below
+      DoesAlike (setting_of c t refused) (own_model c s r t left m there) (own_names c s r t left m there) m c.objects c.statics c.printed s (is_alive c s r t left m there).running (is_alive c s r t left m there).below
       (operation_turn c.tree (mutator_of c t) operation m c.objects c.statics c.printed)
       (execute (setting_of c t refused) s (is_alive c s r t left m there).running (is_alive c s r t left m there).below (is_running c s r t left m there refused).0)
   does_alike c s r t left m there refused operation at constant =
       subst
-      (λ u. DoesAlike (setting_of c t refused) (one_block c.tree c.limits.words) r.stands.name m c.objects c.statics c.printed s (is_alive c s r t left m there).running (is_alive c s r t left m there).below
+      (λ u. DoesAlike (setting_of c t refused) (own_model c s r t left m there) (own_names c s r t left m there) m c.objects c.statics c.printed s (is_alive c s r t left m there).running (is_alive c s r t left m there).below
       (operation_turn c.tree u operation m c.objects c.statics c.printed)
       (execute (setting_of c t refused) s (is_alive c s r t left m there).running (is_alive c s r t left m there).below (is_running c s r t left m there refused).0))
-      (ap (λ p. record { number = t; phase = p }) (idle_phase c.tree c.limits.words ∙ sym (in_first_phase c.posts r.sound.up_to t)))
-      (each (setting_of c t refused) (one_block c.tree c.limits.words) r.stands.name m c.objects c.statics c.printed s (is_alive c s r t left m there).running (is_alive c s r t left m there).below
+      (ap (λ p. record { number = t; phase = p }) (own_phase_is c s r t left m there))
+      (each (setting_of c t refused) (own_model c s r t left m there) (own_names c s r t left m there) m c.objects c.statics c.printed s (is_alive c s r t left m there).running (is_alive c s r t left m there).below
       (is_running c s r t left m there refused).0 operation (in_setting c s r t left m there refused operation at constant))
 
   pub live_is_ready : (c : Content) (s : State) → Represents c s → (t left : ℕ) (m : Frames) → slice_get c.threads t ≡ Some (record { standing = Live m; steps_left = left }) → IsReady c t m
@@ -122,7 +122,7 @@ module _ (each : InstructionsAreAlike) where
       f : StateFrame
       f = (is_alive c s r t left m there).running
 
-      own : IsFrame c.tree r.stands.name m.running f
+      own : IsFrame c.tree (own_names c s r t left m there) m.running f
       own = (is_alive c s r t left m there).frames.frames.0
 
       -- the line of the frame

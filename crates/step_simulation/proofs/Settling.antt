@@ -1,5 +1,5 @@
 -- What a step comes to on both machines, by the effect of its instruction.
-use Rattle.std.proofs.Common.{◌≡◌, ◌-◌, ◌==◌, if◌then◌else◌, is_none, ℕ, zero, suc, Bool, false, List, [], ◌∷◌, Some, None, slice_get, slice_set, refl, sym, ap, ◌∙◌, subst, arith}
+use Rattle.std.proofs.Common.{◌≡◌, ◌-◌, ◌==◌, if◌then◌else◌, is_none, ℕ, zero, suc, Bool, false, List, [], ◌∷◌, Option, Some, None, slice_get, slice_set, refl, sym, ap, ◌∙◌, subst, arith}
 use Rattle.std.proofs.lemmas.Bool.Decides.{nat_tests}
 use Rattle.std.specs.Option.{option_map_or}
 use Rattle.simulation.specs.cil_model.declared.reports.End.{End}
@@ -17,31 +17,35 @@ use Rattle.simulation.proofs.type_soundness.WholeSteps.{step_typed}
 use Rattle.simulation.proofs.type_soundness.AllSteps.{instruction_typed}
 use Rattle.simulation.proofs.CountedSteps.{step_counted}
 use Rattle.simulation.specs.object_memory.declared.values.Value.{Value}
-use Rattle.simulation.specs.cil_model.declared.phases.Phase.TheVariants.{Idle}
 use Rattle.simulation.specs.object_memory.Objects.{Objects}
-use Rattle.simulation.specs.collector.Phases.{no_progress}
-use Rattle.simulation.specs.collector.Soundness.{IsSoundHeap}
 use Rattle.simulation.specs.threads_monitors.Frames.{Frames}
-use Rattle.simulation.specs.threads_monitors.Threads.{end_after, report_of, standing_after}
+use Rattle.simulation.specs.threads_monitors.Threads.{end_after, report_of, settled, standing_after}
 use Rattle.simulation.specs.threads_monitors.declared.effects.Effect.{Effect}
 use Rattle.simulation.specs.threads_monitors.declared.effects.Effect.TheVariants.{GoesOn, Returns, Blocks, Raises}
 use Rattle.simulation.specs.threads_monitors.declared.threads.Standing.TheVariants.{Live, Ended}
 use Rattle.simulation.specs.threads_monitors.declared.threads.Thread.{Thread}
 use Rattle.simulation.specs.Agreement.{Agree}
 use Rattle.simulation.specs.MachineContents.{Content}
-use Rattle.simulation.specs.StandsFor.{Names, AreFrames, IsThread, IsMemory, StandsBy, StandsFor, Represents}
+use Rattle.simulation.specs.StandsFor.{Names, AreFrames, IsThread, StandsBy, StandsFor, IsFull, Represents}
 use Rattle.simulation.specs.phase_handshake.Handshakes.{Handshakes}
-use Rattle.simulation.specs.Turns.{counted, seats_after}
+use Rattle.simulation.specs.Turns.{counted, live_thread, seats_after}
 use Rattle.simulation.proofs.AgreeLaws.{agree_set, agree_weaken}
-use Rattle.simulation.proofs.Extending.{thread_extends}
+use Rattle.simulation.proofs.Extending.{frames_extend, thread_extends}
 use Rattle.simulation.proofs.Memories.{memory_beside}
 use Rattle.simulation.specs.interpreter.declared.outcomes.Outcome.TheVariants.{Comes}
 use Rattle.simulation.proofs.Instructions.{LeavesMemory, ComesAlike, is_refused_fault, is_refused_effect}
 use Rattle.simulation.proofs.LimitRanges.{budget_is_some}
 use Rattle.step_simulation.proofs.Settings.{setting_of, is_alive, is_running}
-use Rattle.step_simulation.proofs.OneBlock.{one_block, memory_of, sound_of}
+use Rattle.step_simulation.proofs.Mutators.{FitsOwn, fits_of, full_of, normally, own_memory, own_model, own_names, own_passes, seat}
+use Rattle.step_simulation.proofs.AfterSteps.{AreBeside, FramesPass, after_sound, beside_same}
+use Rattle.simulation.proofs.Collected.{frames_are_held}
+use Rattle.simulation.proofs.CollectedNames.{own_extends}
+use Rattle.simulation.proofs.MemoryModels.{IsModelled}
+use Rattle.simulation.specs.Sound.{IsSound}
+use Rattle.simulation.specs.object_memory.declared.addresses.Addr.{Addr}
+use Rattle.simulation.specs.collector.Soundness.{IsListed}
+use Rattle.simulation.specs.threads_monitors.Roots.{roots}
 use Rattle.step_simulation.proofs.Seats.{AreFitting}
-use Rattle.step_simulation.proofs.SoundContents.{idle_heap, idle_is_sound}
 use Rattle.simulation.specs.interpreter.Instructions.{Answer}
 
 -- a thread with a step left isn't spent
@@ -61,18 +65,18 @@ module _ (names : Names) (c : Content) (s : State) (by : StandsBy names c s) (t 
     };
   }
 
-  -- both answer the same report, and what is held then stands for the state
+  -- both answer the same report, and what is held then stands for the state, of the same objects
   abbrev Settles : Outcome → Thread × Report → Type 0
-  Settles outcome x = (s' : State) × (outcome ≡ Answers x.1 s') × StandsFor (record c { threads = slice_set c.threads t x.0 }) s'
+  Settles outcome x = (s' : State) × (outcome ≡ Answers x.1 s') × StandsFor (record c { threads = slice_set c.threads t x.0 }) s' × (s'.objects ≡ s.objects)
 
   ends : (left : ℕ) (e : End) → Settles (ended_as s t left e) (record { standing = Ended e; steps_left = left }, HasEnded e)
-  ends left e = (_, refl, thread_stands (record { standing = Ended e; steps_left = left }) (record { frames = []; steps_left = left; ended = Some e }) (record { standing = refl; steps_left = refl }))
+  ends left e = (_, refl, thread_stands (record { standing = Ended e; steps_left = left }) (record { frames = []; steps_left = left; ended = Some e }) (record { standing = refl; steps_left = refl }), refl)
 
   goes : (m : Frames) (fs : List StateFrame) → AreFrames c.tree c.limits names m fs → (effect : Effect) (left : ℕ) → Settles (goes_on (report_of effect) s t left fs) (standing_after (if left == 0 then Some Budget else None) m left effect)
   goes m fs h effect zero = ends 0 Budget
   goes m fs h effect (suc left) =
       subst (λ b. Settles (goes_on (report_of effect) s t (suc left) fs) (standing_after (if b then Some Budget else None) m (suc left) effect)) (sym (some_left left))
-      (_, refl, thread_stands (record { standing = Live m; steps_left = suc left }) (record { frames = fs; steps_left = suc left; ended = None }) (record { standing = h; steps_left = refl }))
+      (_, refl, thread_stands (record { standing = Live m; steps_left = suc left }) (record { frames = fs; steps_left = suc left; ended = None }) (record { standing = h; steps_left = refl }), refl)
 
   -- an effect that comes from the state before, where the thread had these frames, and the same of the reference machine
   abbrev pub IsEffect : State → List StateFrame → Effect → Frames → StateEffect → Type 0
@@ -125,15 +129,12 @@ same_state o x y s s' h k = cc
 abbrev pub Follows : Content → State → ℕ → Content × Report → Type 0
 Follows c s t after = AreFitting after.0.posts after.0.threads → (s' : State) × (step c.tree c.limits s t (is_refusal after.1) ≡ Answers after.1 s') × Represents after.0 s'
 
--- the heap of a content is sound, between cycles
-abbrev pub HasIdleHeap : Content → Objects → Type 0
-HasIdleHeap c o = IsSoundHeap c.tree Idle false c.limits.words no_progress o.spaces
-
 -- a content that stands for the state after a step
 pub followed : (c : Content) (s : State) → Represents c s → (t : ℕ) (threads : List Thread) (h : Handshakes) (o : Objects) (statics : List Value) (printed : List ℕ) (report : Report) (s' : State) →
-    step c.tree c.limits s t (is_refusal report) ≡ Answers report s' → StandsFor (record c { threads = threads; objects = o; statics = statics; printed = printed }) s' → HasIdleHeap c o →
+    step c.tree c.limits s t (is_refusal report) ≡ Answers report s' → StandsFor (record c { threads = threads; objects = o; statics = statics; printed = printed }) s' →
+    (AreFitting h threads → IsSound (record c { threads = threads; posts = h; objects = o; statics = statics; printed = printed })) → IsFull c.tree o s'.objects →
     Follows c s t (record c { threads = threads; posts = h; objects = o; statics = statics; printed = printed }, report)
-followed c s r t threads h o statics printed report s' is stands heap =
+followed c s r t threads h o statics printed report s' is stands sound full =
     λ fit. let typed = step_typed instruction_typed c.tree c.limits r.accepted t (is_refusal report) s r.typed in (
       s',
       is,
@@ -142,10 +143,22 @@ followed c s r t threads h o statics printed report s' is stands heap =
         limits = r.limits;
         typed = subst (IsTyped c.tree) (same_state (step c.tree c.limits s t (is_refusal report)) typed.0 report typed.1 s' typed.2 is) typed.3;
         counted = step_counted c.tree c.limits (budget_is_some c.limits r.limits) t (is_refusal report) s r.counted report s' is;
-        sound = idle_is_sound (record c { threads = threads; posts = h; objects = o; statics = statics; printed = printed }) s' stands.name (record { memory = stands.by.memory; threads = stands.by.threads }) fit heap;
+        sound = sound fit;
         stands = record { name = stands.name; by = record { memory = stands.by.memory; threads = stands.by.threads } };
+        full = full;
       },
     )
+
+-- ---- frames of a thread that is live after its step
+
+-- they are those that its instruction left,
+still_live : (o : Option End) (m fs : Frames) (n : ℕ) (effect : Effect) → (standing_after o m n effect).0.standing ≡ Live fs → m ≡ fs
+still_live None m fs n effect e = cc
+still_live (Some x) m fs n effect e = absurd cc
+
+-- and one that has ended has none
+ended_none : {A : Type 0} (e : End) (fs : Frames) → Ended e ≡ Live fs → A
+ended_none e fs h = absurd cc
 
 module _ (c : Content) (s : State) (r : Represents c s) (t left : ℕ) (m : Frames) (there : slice_get c.threads t ≡ Some (record { standing = Live m; steps_left = left })) where
   -- what the instruction of the thread does on the reference machine
@@ -165,45 +178,90 @@ module _ (c : Content) (s : State) (r : Represents c s) (t left : ℕ) (m : Fram
       ap (λ e. state_settled s t (u.steps_left - 1) u.frames e) does ∙
       ap (λ n. state_settled s t (n - 1) u.frames (done refused)) (sym (is_alive c s r t left m there).steps)
 
+  -- ---- what an instruction left
+
+  -- what fits stands for the state, beside the threads that were there
+  pub by_fits : (names : Names) (o : Objects) (statics : List Value) (printed : List ℕ) (s' : State) (fits : FitsOwn c s r t left m there names o statics s') → printed ≡ s'.printed → s'.threads ≡ s.threads →
+      StandsBy fits.whole (record c { objects = o; statics = statics; printed = printed }) s'
+  by_fits names o statics printed s' fits same others = record {
+    memory = record { heap = fits.heap; static_values = fits.stands; printed_is = same };
+    threads = subst (Agree (IsThread c.tree c.limits fits.whole) c.threads) (sym others)
+        (agree_weaken (IsThread c.tree c.limits (normally c s r).name) (IsThread c.tree c.limits fits.whole) (thread_extends (normally c s r).name fits.whole fits.extends c.tree c.limits) c.threads s.threads (normally c s r).by.threads);
+  }
+
+  module _ (names : Names) (o : Objects) (statics : List Value) (s' : State) (fits : FitsOwn c s r t left m there names o statics s') (m' : Frames) (gs : List StateFrame) (h : AreFrames c.tree c.limits names m' gs) where
+    -- frames of the thread stand beside the others,
+    pub frames_whole : AreFrames c.tree c.limits fits.whole m' gs
+    frames_whole = frames_extend names fits.whole (own_extends c.tree c.limits.words c.posts c.progress (seat c s r t left m there) c.objects (normally c s r).name names o statics s' fits) c.tree c.limits m' gs h
+
+    -- and hold what it may
+    pub frames_pass : (a : Addr) → IsListed (roots m') a → own_passes c s r t left m there o a
+    frames_pass = frames_are_held c.tree c.limits.words c.posts c.progress (seat c s r t left m there) c.objects (normally c s r).name names o statics s' fits c.limits m' gs h
+
+    pub going_pass : FramesPass (own_passes c s r t left m there o) (settled GoesOn (live_thread left m')).0.standing
+    going_pass fs e a listed = frames_pass a (subst (λ x. IsListed (roots x) a) (sym (still_live (end_after GoesOn (left - 1)) m' fs (left - 1) GoesOn e)) listed)
+
+    pub blocked_pass : FramesPass (own_passes c s r t left m there o) (settled Blocks (live_thread left m')).0.standing
+    blocked_pass fs e a listed = frames_pass a (subst (λ x. IsListed (roots x) a) (sym (still_live (end_after Blocks (left - 1)) m' fs (left - 1) Blocks e)) listed)
+
   -- a thread that is settled as its instruction's effect says
   pub finish : (names : Names) (threads base : List Thread) (h : Handshakes) (o : Objects) (statics : List Value) (printed : List ℕ) (s' : State) → ((x : Thread) → slice_set threads t x ≡ slice_set base t x) →
-      (by : StandsBy names (record c { threads = base; objects = o; statics = statics; printed = printed }) s') → HasIdleHeap c o →
-      (refused : Bool) (effect : Effect) → refused ≡ is_refused_effect effect → (m' : Frames) →
-      IsEffect names (record c { threads = base; objects = o; statics = statics; printed = printed }) s' by t s (is_alive c s r t left m there).thread.frames effect m' (done refused) →
+      (fits : FitsOwn c s r t left m there names o statics s') → IsFull c.tree o s'.objects → (by : StandsBy fits.whole (record c { threads = base; objects = o; statics = statics; printed = printed }) s') →
+      AreBeside c s r t left m there base h o → (refused : Bool) (effect : Effect) → refused ≡ is_refused_effect effect → (m' : Frames) →
+      IsEffect fits.whole (record c { threads = base; objects = o; statics = statics; printed = printed }) s' by t s (is_alive c s r t left m there).thread.frames effect m' (done refused) →
+      FramesPass (own_passes c s r t left m there o) (settled effect (live_thread left m')).0.standing →
       Follows c s t (counted (record c { threads = threads; posts = h; objects = o; statics = statics; printed = printed }) t left effect m')
-  finish names threads base h o statics printed s' same by heap refused effect refuses m' is =
-      let settled = settles names (record c { threads = base; objects = o; statics = statics; printed = printed }) s' by t s (is_alive c s r t left m there).thread.frames effect m' (done refused) is (left - 1) in
+  finish names threads base h o statics printed s' same fits full by beside refused effect refuses m' is pass =
+      let settled = settles fits.whole (record c { threads = base; objects = o; statics = statics; printed = printed }) s' by t s (is_alive c s r t left m there).thread.frames effect m' (done refused) is (left - 1) in
       let x : Thread × Report = standing_after (end_after effect (left - 1)) m' (left - 1) effect in
       followed c s r t (slice_set threads t x.0) (seats_after h t x.1) o statics printed x.1 settled.0
       (ap (step c.tree c.limits s t) (refusal_of effect m' (left - 1) ∙ sym refuses) ∙ step_is refused ∙ settled.1)
       (subst (λ ts. StandsFor (record c { threads = ts; objects = o; statics = statics; printed = printed }) settled.0) (sym (same x.0)) settled.2)
-      heap
+      (λ fit. subst (λ ts. IsSound (record c { threads = ts; posts = seats_after h t x.1; objects = o; statics = statics; printed = printed })) (sym (same x.0))
+      (after_sound c s r t left m there names o statics s' fits printed base h beside effect m' pass (subst (AreFitting (seats_after h t x.1)) (same x.0) fit)))
+      (subst (IsFull c.tree o) (sym settled.3) full)
 
-  -- memory that an instruction leaves as it was
-  memory_left : (a : Answer) → LeavesMemory (setting_of c t false) (one_block c.tree c.limits.words) r.stands.name m c.objects c.statics c.printed s (is_alive c s r t left m there).running (is_alive c s r t left m there).below a →
-      StandsBy r.stands.name (record c { threads = c.threads; objects = a.objects; statics = a.statics; printed = a.printed }) s
-  memory_left a (one, two, three) = record {
-    memory = subst (λ o. IsMemory c.tree r.stands.name o a.statics a.printed s) (sym one) (subst (λ v. IsMemory c.tree r.stands.name c.objects v a.printed s) (sym two) (subst (λ p. IsMemory c.tree r.stands.name c.objects c.statics p s) (sym three) r.stands.by.memory));
-    threads = r.stands.by.threads;
-  }
+  module _ (a : Answer) (as_it_was : LeavesMemory (setting_of c t false) (own_model c s r t left m there) (own_names c s r t left m there) m c.objects c.statics c.printed s (is_alive c s r t left m there).running (is_alive c s r t left m there).below a) where
+    -- memory that an instruction leaves as it was
+    memory_left : IsModelled c.tree (own_model c s r t left m there) (own_names c s r t left m there) a.objects a.statics a.printed s
+    memory_left =
+        subst (λ o. IsModelled c.tree (own_model c s r t left m there) (own_names c s r t left m there) o a.statics a.printed s) (sym as_it_was.0)
+        (subst (λ v. IsModelled c.tree (own_model c s r t left m there) (own_names c s r t left m there) c.objects v a.printed s) (sym as_it_was.1)
+        (subst (λ p. IsModelled c.tree (own_model c s r t left m there) (own_names c s r t left m there) c.objects c.statics p s) (sym as_it_was.2) (own_memory c s r t left m there)))
 
-  heap_left : (a : Answer) → LeavesMemory (setting_of c t false) (one_block c.tree c.limits.words) r.stands.name m c.objects c.statics c.printed s (is_alive c s r t left m there).running (is_alive c s r t left m there).below a → HasIdleHeap c a.objects
-  heap_left a (one, two, three) = subst (HasIdleHeap c) (sym one) (idle_heap c r.sound)
+    fits_left : FitsOwn c s r t left m there (own_names c s r t left m there) a.objects a.statics s
+    fits_left = fits_of c s r t left m there (own_names c s r t left m there) a.objects a.statics a.printed s memory_left
+
+    -- and a step after that
+    left_follows : (threads : List Thread) → ((x : Thread) → slice_set threads t x ≡ slice_set c.threads t x) → (refused : Bool) (effect : Effect) → refused ≡ is_refused_effect effect →
+        IsEffect fits_left.whole (record c { objects = a.objects; statics = a.statics; printed = a.printed }) s (by_fits (own_names c s r t left m there) a.objects a.statics a.printed s fits_left memory_left.printed_is refl) t s
+        (is_alive c s r t left m there).thread.frames effect a.frames (done refused) →
+        FramesPass (own_passes c s r t left m there a.objects) (settled effect (live_thread left a.frames)).0.standing → Follows c s t (counted (record c { threads = threads; objects = a.objects; statics = a.statics; printed = a.printed }) t left effect a.frames)
+    left_follows threads same refused effect refuses is pass =
+        finish (own_names c s r t left m there) threads c.threads c.posts a.objects a.statics a.printed s same fits_left
+        (full_of c s r t left m there (own_names c s r t left m there) a.objects a.statics a.printed s memory_left)
+        (by_fits (own_names c s r t left m there) a.objects a.statics a.printed s fits_left memory_left.printed_is refl)
+        (beside_same c s r t left m there (own_names c s r t left m there) a.objects a.statics s fits_left) refused effect refuses a.frames is pass
 
   -- an instruction that asks nothing of other threads
   pub comes : (threads : List Thread) → ((x : Thread) → slice_set threads t x ≡ slice_set c.threads t x) → (refused : Bool) (effect : Effect) → refused ≡ is_refused_effect effect → (a : Answer) →
-      ComesAlike (setting_of c t refused) (one_block c.tree c.limits.words) r.stands.name m c.objects c.statics c.printed s (is_alive c s r t left m there).running (is_alive c s r t left m there).below (Comes effect) a (done refused) →
+      ComesAlike (setting_of c t refused) (own_model c s r t left m there) (own_names c s r t left m there) m c.objects c.statics c.printed s (is_alive c s r t left m there).running (is_alive c s r t left m there).below (Comes effect) a (done refused) →
       Follows c s t (counted (record c { threads = threads; objects = a.objects; statics = a.statics; printed = a.printed }) t left effect a.frames)
   comes threads same refused GoesOn refuses a h =
-      finish h.names threads c.threads c.posts a.objects a.statics a.printed h.state same
-      (record {
-        memory = memory_of c.tree c.limits.words h.names a.objects a.statics a.printed h.state h.memory;
-        threads = subst (Agree (IsThread c.tree c.limits h.names) c.threads) (sym h.others)
-            (agree_weaken (IsThread c.tree c.limits r.stands.name) (IsThread c.tree c.limits h.names) (thread_extends r.stands.name h.names h.extends c.tree c.limits) c.threads s.threads r.stands.by.threads);
-      })
-      (sound_of c.tree c.limits.words h.names a.objects a.statics a.printed h.state h.memory) refused GoesOn refuses a.frames (h.running, h.waiting, h.is, h.frames)
-  comes threads same refused Returns refuses a (is, left_memory) = finish r.stands.name threads c.threads c.posts a.objects a.statics a.printed s same (memory_left a left_memory) (heap_left a left_memory) refused Returns refuses a.frames is
-  comes threads same refused Blocks refuses a (is, frames, left_memory) =
-      finish r.stands.name threads c.threads c.posts a.objects a.statics a.printed s same (memory_left a left_memory) (heap_left a left_memory) refused Blocks refuses a.frames
-      (is, refl, subst (λ x. AreFrames c.tree c.limits r.stands.name x (is_alive c s r t left m there).thread.frames) (sym frames) (subst (AreFrames c.tree c.limits r.stands.name m) (sym (is_alive c s r t left m there).frames_are) (is_alive c s r t left m there).frames))
-  comes threads same refused (Raises x) refuses a (is, left_memory) = finish r.stands.name threads c.threads c.posts a.objects a.statics a.printed s same (memory_left a left_memory) (heap_left a left_memory) refused (Raises x) refuses a.frames (is, refl)
+      let fits = fits_of c s r t left m there h.names a.objects a.statics a.printed h.state h.memory in
+      finish h.names threads c.threads c.posts a.objects a.statics a.printed h.state same fits
+      (full_of c s r t left m there h.names a.objects a.statics a.printed h.state h.memory)
+      (by_fits h.names a.objects a.statics a.printed h.state fits h.memory.printed_is h.others)
+      (beside_same c s r t left m there h.names a.objects a.statics h.state fits) refused GoesOn refuses a.frames
+      (h.running, h.waiting, h.is, frames_whole h.names a.objects a.statics h.state fits a.frames (h.running ∷ h.waiting) h.frames)
+      (going_pass h.names a.objects a.statics h.state fits a.frames (h.running ∷ h.waiting) h.frames)
+  comes threads same refused Returns refuses a (is, as_it_was) = left_follows a as_it_was threads same refused Returns refuses is (λ fs e. ended_none Done fs e)
+  comes threads same refused Blocks refuses a (is, frames, as_it_was) =
+      let fits = fits_left a as_it_was in
+      let stand : AreFrames c.tree c.limits (own_names c s r t left m there) a.frames (is_alive c s r t left m there).thread.frames =
+      subst (λ x. AreFrames c.tree c.limits (own_names c s r t left m there) x (is_alive c s r t left m there).thread.frames) (sym frames)
+      (subst (AreFrames c.tree c.limits (own_names c s r t left m there) m) (sym (is_alive c s r t left m there).frames_are) (is_alive c s r t left m there).frames) in
+      left_follows a as_it_was threads same refused Blocks refuses
+      (is, refl, frames_whole (own_names c s r t left m there) a.objects a.statics s fits a.frames (is_alive c s r t left m there).thread.frames stand)
+      (blocked_pass (own_names c s r t left m there) a.objects a.statics s fits a.frames (is_alive c s r t left m there).thread.frames stand)
+  comes threads same refused (Raises x) refuses a (is, as_it_was) = left_follows a as_it_was threads same refused (Raises x) refuses (is, refl) (λ fs e. ended_none (ByFault x) fs e)

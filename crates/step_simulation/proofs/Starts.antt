@@ -34,11 +34,12 @@ use Rattle.simulation.proofs.AgreeLaws.{agree_length}
 use Rattle.simulation.proofs.Instructions.{is_refused_fault}
 use Rattle.step_simulation.proofs.Settling.{done}
 use Rattle.step_simulation.proofs.ThreadObjects.{IsThreadObject, thread_on_is, class_at_is, own_class_is}
+use Rattle.step_simulation.proofs.Mutators.{own_names}
 use Rattle.step_simulation.proofs.Requests.{here, running, below, done_typed}
 use Rattle.simulation.proofs.cil_model.Lists.{last_is_there}
 
 module _ (c : Content) (s : State) (r : Represents c s) (t left : ℕ) (m : Frames) (there : slice_get c.threads t ≡ Some (record { standing = Live m; steps_left = left })) where
-  module _ (rest : List StateValue) (object : Addr) (number : ℕ) (x : IsThreadObject c.tree r.stands.name c.objects s object number) where
+  module _ (rest : List StateValue) (object : Addr) (number : ℕ) (x : IsThreadObject c.tree (own_names c s r t left m there) c.objects s object number) where
     -- the state once a thread was started at the beginning of a method
     abbrev pub state_with : ClassName × Method → Code → State
     state_with found code = with_thread (here c s r t left m there) s (running c s r t left m there) (below c s r t left m there) (Born number) x.object (new_frame found.0 found.1 code (Reference (Born number) ∷ []) None)
@@ -64,7 +65,7 @@ module _ (c : Content) (s : State) (r : Represents c s) (t left : ℕ) (m : Fram
     chosen_is found runs =
         let first : method_at c.tree (4, 1) ≡ Some (thread_name, run_method) = refl in
         ap (option_and_then (chosen c.tree c.objects object)) first ∙
-        ap (option_and_then (chosen_by c.tree (thread_name, run_method))) (class_at_is c.tree r.stands.name c.objects s object number x) ∙
+        ap (option_and_then (chosen_by c.tree (thread_name, run_method))) (class_at_is c.tree (own_names c s r t left m there) c.objects s object number x) ∙
         ap (option_and_then (λ d. target c.tree d thread_name run_method)) x.class_is ∙ runs
 
     is_begun : done c s r t left m there false ≡ begins (target c.tree x.own thread_name run_method) → IsBegun
@@ -100,7 +101,7 @@ module _ (c : Content) (s : State) (r : Represents c s) (t left : ℕ) (m : Fram
         start_fault c.threads c.objects object ≡ (if is_some x.object.thread then Some ThreadState else if nat_le MOST_THREADS (length s.threads) then Some TooManyThreads else None)
     fault_is apart =
         ap (λ b. if b then Some NullReference else if is_some (thread_on c.objects object) then Some ThreadState else if nat_le MOST_THREADS (length c.threads) then Some TooManyThreads else None) apart ∙
-        ap (λ k. if is_some k then Some ThreadState else if nat_le MOST_THREADS (length c.threads) then Some TooManyThreads else None) (thread_on_is c.tree r.stands.name c.objects s object number x) ∙
+        ap (λ k. if is_some k then Some ThreadState else if nat_le MOST_THREADS (length c.threads) then Some TooManyThreads else None) (thread_on_is c.tree (own_names c s r t left m there) c.objects s object number x) ∙
         ap (λ n. if is_some x.object.thread then Some ThreadState else if nat_le MOST_THREADS n then Some TooManyThreads else None) (agree_length (IsThread c.tree c.limits r.stands.name) c.threads s.threads r.stands.by.threads)
 
     -- the same on both: a fault, or what begins
@@ -115,4 +116,4 @@ module _ (c : Content) (s : State) (r : Represents c s) (t left : ℕ) (m : Fram
             done c s r t left m there false ≡ (if b then StateRaises ThreadState else if d then StateRaises TooManyThreads else given (class_of s (Born number)) (λ k. begins (target c.tree k thread_name run_method))) → IsStarted
         by_tests true d is e' = faulted ThreadState refl is e'
         by_tests false true is e' = faulted TooManyThreads refl is e'
-        by_tests false false is e' = begun is (is_begun (e' ∙ ap (λ k. given k (λ y. begins (target c.tree y thread_name run_method))) (own_class_is c.tree r.stands.name c.objects s object number x)))
+        by_tests false false is e' = begun is (is_begun (e' ∙ ap (λ k. given k (λ y. begins (target c.tree y thread_name run_method))) (own_class_is c.tree (own_names c s r t left m there) c.objects s object number x)))

@@ -29,13 +29,11 @@ use Rattle.step_simulation.proofs.Settings.{setting_of, is_alive, does_alike, li
 use Rattle.step_simulation.proofs.Settling.{Follows, done, comes}
 use Rattle.step_simulation.proofs.Requests.{here, running, below, Asks, asked_of, has_operand, place_below}
 use Rattle.step_simulation.proofs.Joins.{joins}
-use Rattle.step_simulation.proofs.StartSteps.{start_asked, starts, start_has_thread}
-use Rattle.simulation.specs.instructions.barriers.Barriers.{is_word_storable}
-use Rattle.step_simulation.proofs.Seats.{in_first_phase}
-use Rattle.step_simulation.proofs.Finished.{turn_keeps_fitting}
-use Rattle.step_simulation.proofs.SoundContents.{are_fitting}
+use Rattle.step_simulation.proofs.StartSteps.{start_asked, starts, start_has_thread, start_storable}
+use Rattle.step_simulation.proofs.Finished.{step_keeps_fitting}
 use Rattle.simulation.proofs.cil_model.Lists.{none_is_some, set_itself}
-use Rattle.step_simulation.proofs.OneBlock.{one_block}
+use Rattle.step_simulation.proofs.Seats.{are_fitting}
+use Rattle.step_simulation.proofs.Mutators.{own_model, own_names}
 
 -- ---- an instruction that asks something of other threads
 
@@ -87,14 +85,14 @@ ended_absent c s r t left e there =
 module _ (each : InstructionsAreAlike) (c : Content) (s : State) (r : Represents c s) (t left : ℕ) (m : Frames) (there : slice_get c.threads t ≡ Some (record { standing = Live m; steps_left = left })) where
   -- the same on the reference machine, where memory is refused to both
   comes_alike : (a : Answer) → IsDone c.tree (mutator_of c t) m c.objects c.statics c.printed a →
-      ComesAlike (setting_of c t (is_refused_outcome a.outcome)) (one_block c.tree c.limits.words) r.stands.name m c.objects c.statics c.printed s (is_alive c s r t left m there).running (is_alive c s r t left m there).below a.outcome a
+      ComesAlike (setting_of c t (is_refused_outcome a.outcome)) (own_model c s r t left m there) (own_names c s r t left m there) m c.objects c.statics c.printed s (is_alive c s r t left m there).running (is_alive c s r t left m there).below a.outcome a
       (done c s r t left m there (is_refused_outcome a.outcome))
   comes_alike a d =
       let refused : Bool = is_refused_outcome a.outcome in
       let x = does_alike each c s r t left m there refused d.operation d.at d.constant in
       let same : x.answer ≡ a = same_Some x.answer a (sym x.is ∙ sym d.is) in
       subst (λ (y : Answer). refused ≡ is_refused_outcome y.outcome →
-      ComesAlike (setting_of c t refused) (one_block c.tree c.limits.words) r.stands.name m c.objects c.statics c.printed s (is_alive c s r t left m there).running (is_alive c s r t left m there).below y.outcome y (done c s r t left m there refused))
+      ComesAlike (setting_of c t refused) (own_model c s r t left m there) (own_names c s r t left m there) m c.objects c.statics c.printed s (is_alive c s r t left m there).running (is_alive c s r t left m there).below y.outcome y (done c s r t left m there refused))
       same x.alike refl
 
   module _ (after : Content × Report) where
@@ -103,7 +101,7 @@ module _ (each : InstructionsAreAlike) (c : Content) (s : State) (r : Represents
     live_follows a d is = by_outcome a.outcome (comes_alike a d) is
       where
         by_outcome : (out : Outcome) →
-            ComesAlike (setting_of c t (is_refused_outcome out)) (one_block c.tree c.limits.words) r.stands.name m c.objects c.statics c.printed s (is_alive c s r t left m there).running (is_alive c s r t left m there).below out a
+            ComesAlike (setting_of c t (is_refused_outcome out)) (own_model c s r t left m there) (own_names c s r t left m there) m c.objects c.statics c.printed s (is_alive c s r t left m there).running (is_alive c s r t left m there).below out a
             (done c s r t left m there (is_refused_outcome out)) →
             finished c t left a out ≡ Some after → Follows c s t after
         by_outcome (Comes e) h is' =
@@ -130,7 +128,7 @@ module _ (each : InstructionsAreAlike) where
   -- a step comes to the same on both
   pub step_follows : (c : Content) (s : State) → Represents c s → (t : ℕ) (after : Content × Report) → IsTurn c (Step t) after →
       (s' : State) × (step c.tree c.limits s t (is_refusal after.1) ≡ Answers after.1 s') × Represents after.0 s'
-  step_follows c s r t after turn = by_thread (slice_get c.threads t) refl turn (turn_keeps_fitting c after (Step t) turn (are_fitting c r.sound))
+  step_follows c s r t after turn = by_thread (slice_get c.threads t) refl turn (step_keeps_fitting c after t turn (are_fitting c r.sound))
     where
       by_standing : (left : ℕ) (standing : Standing) → slice_get c.threads t ≡ Some (record { standing = standing; steps_left = left }) → IsStandingTurn c t left standing after → Follows c s t after
       by_standing left (Live m) there (a, d, is) = live_follows each c s r t left m there after a d is
@@ -146,7 +144,7 @@ module _ (each : InstructionsAreAlike) where
   answerable c s r t left m there a d = by_outcome a.outcome (comes_alike each c s r t left m there a d)
     where
       by_outcome : (out : Outcome) →
-          ComesAlike (setting_of c t (is_refused_outcome out)) (one_block c.tree c.limits.words) r.stands.name m c.objects c.statics c.printed s (is_alive c s r t left m there).running (is_alive c s r t left m there).below out a
+          ComesAlike (setting_of c t (is_refused_outcome out)) (own_model c s r t left m there) (own_names c s r t left m there) m c.objects c.statics c.printed s (is_alive c s r t left m there).running (is_alive c s r t left m there).below out a
           (done c s r t left m there (is_refused_outcome out)) →
           IsAnswerable c t left a out
       by_outcome (Comes e) h = tt
@@ -154,7 +152,7 @@ module _ (each : InstructionsAreAlike) where
           subst (λ y. IsAnswerable c t left y (Starts object)) (sym (asking_is c s r t left m there Start object a h)) (
             has_operand c s r t left m there Start (λ n. start (here c s r t left m there) s (running c s r t left m there) (below c s r t left m there) n own.rest) object (asking c s r t left m there (Starts object)) own (start_asked c s r t left m there object (asking c s r t left m there (Starts object)) own)
                 (place_below c s r t left m there d.operation d.at d.constant),
-            (λ apart. ap (λ p. is_word_storable p c.objects object 0) (in_first_phase c.posts r.sound.up_to t)),
+            start_storable c s r t left m there object own,
             start_has_thread c s r t left m there (slice_set c.threads t (record { standing = Live m; steps_left = left })) (threads_stay c s r t left m there) object own,
           )
         where

@@ -43,10 +43,11 @@ use Rattle.simulation.proofs.Memories.{named_is_not_null}
 use Rattle.simulation.proofs.cil_model.SameLaws.{never}
 use Rattle.simulation.proofs.cil_model.Lists.{none_is_some}
 use Rattle.simulation.proofs.MemoryModels.{MemoryModel, IsModelled, mutator_in}
+use Rattle.simulation.specs.type_soundness.TypedStates.{IsTypedContents}
 use Rattle.simulation.proofs.type_soundness.StateChanges.{element_typed, array_typed}
 use Rattle.simulation.specs.collector.References.{holds_reference, is_reference_value}
-use Rattle.step_simulation.proofs.ReferenceSlots.{element_says, is_reference_kind, same_kinds, value_says}
-use Rattle.step_simulation.proofs.Words.{kind_fits}
+use Rattle.simulation.proofs.ReferenceSlots.{IsLinked, element_linked, element_says, is_reference_kind, same_kinds, typed_is_linked, value_says}
+use Rattle.simulation.proofs.Words.{kind_fits}
 
 -- an index is one on both
 index_is : (name : Names) (v : Value) (u : StateValue) → IsValue name v u → index_in v ≡ as_index u
@@ -131,11 +132,18 @@ module _ (here : Setting) (model : MemoryModel here.tree) (name : Names) (m : Fr
           value_says name v u stands ∙ sym (same_kinds old u kinds) ∙ ap is_reference_kind (sym (kind_fits here.tree at.running.accepted.legal s old t typed_old)) ∙ sym (element_says here.tree there.holds t there.held place) ∙
           ap (λ k. holds_reference here.tree k place) (sym there.kind)
 
+      -- and so are all
+      linked : same_kind old u ≡ true → IsLinked here.tree there.cell.kind (IsArray t (slice_set elements place u))
+      linked kinds =
+          let typed : IsTypedContents here.tree s (IsArray t elements) = subst (IsTypedContents here.tree s) there.contents (at.running.typed.objects n there.object there.is) in
+          element_linked here.tree there.cell.kind t elements place old u old_is (same_kinds old u kinds)
+          (typed_is_linked here.tree at.running.accepted.legal s name there.cell.kind there.cell.slots (IsArray t elements) there.object.thread typed there.of_contents)
+
       changed_memory : same_kind old u ≡ true → IsModelled here.tree model name (stored_value model.phase o a place v) statics printed (with_object s (Born n) changed)
       changed_memory kinds = record {
         fits =
             (let slot = agree_get (IsWord name) there.cell.slots elements there.words place old old_is in
-            model.slots name o statics s at.memory.fits a n named there.cell there.lies place v u (slice_get_within there.cell.slots place slot.0 slot.1) (sort kinds) stands changed changed_stands);
+            model.slots name o statics s at.memory.fits at.running.typed a n named there.cell there.lies place v u (slice_get_within there.cell.slots place slot.0 slot.1) (sort kinds) stands changed (linked kinds) changed_stands);
         printed_is = at.memory.printed_is;
       }
 
@@ -168,7 +176,7 @@ module _ (here : Setting) (model : MemoryModel here.tree) (name : Names) (m : Fr
       turn_is =
           ap (λ x. given (option_and_then (λ (c : Cell). element_in c.kind) x) (λ e. turn_by (may_stand_as here.tree o v (held_type e)))) there.lies ∙
           ap (λ k. given (element_in k) (λ e. turn_by (may_stand_as here.tree o v (held_type e)))) there.kind ∙
-          ap turn_by (may_stand_as_is here name o s f below (model.reads name o statics s at.memory.fits) v u t (held_type there.holds) there.held stands)
+          ap turn_by (may_stand_as_is here name o s f below (model.reads name o statics s at.memory.fits at.running.typed) v u t (held_type there.holds) there.held stands)
 
       admitted_alike : Typed (tested u rest' (Born n) t place) → Alike (store_admitted model.phase here.tree v place a (with_stack m rest) o) (tested u rest' (Born n) t place)
       admitted_alike typed = subst (λ turn. Alike turn (tested u rest' (Born n) t place)) (sym turn_is) (by_class (may_hold here s f below t u) typed)
@@ -215,7 +223,7 @@ module _ (here : Setting) (model : MemoryModel here.tree) (name : Names) (m : Fr
     held_alike a (Born n) named z (Some (t, elements)) e typed = by_test (is_reference t) typed
       where
         there : IsArrayAt here.tree name o s a n t elements
-        there = array_there here.tree name o s (model.reads name o statics s at.memory.fits) a n t elements named e
+        there = array_there here.tree name o s (model.reads name o statics s at.memory.fits at.running.typed) a n t elements named e
 
         by_test : (b : Bool) → Typed (if b then in_range_state here s f below (slice_get elements) (λ k old. tested u rest' (Born n) t k) z else Sticks) →
             Alike (index_turn a z) (if b then in_range_state here s f below (slice_get elements) (λ k old. tested u rest' (Born n) t k) z else Sticks)
@@ -232,7 +240,7 @@ module _ (here : Setting) (model : MemoryModel here.tree) (name : Names) (m : Fr
     element_alike array index array' index' (native z fits) h typed = elim typed [ ]
     element_alike array index array' index' null_reference h typed = raised_alike (with_stack m rest) NullReference _ (StateRaises NullReference) refl refl
     element_alike array index array' index' (reference a n named) h typed =
-        subst (λ b. Alike (if b then Some (with_stack m rest, o, Raises NullReference) else index_of index (index_turn a)) (given_state (as_index index') (index_effect n))) (sym (named_is_not_null here.tree name o s (model.reads name o statics s at.memory.fits) a.number n named))
+        subst (λ b. Alike (if b then Some (with_stack m rest, o, Raises NullReference) else index_of index (index_turn a)) (given_state (as_index index') (index_effect n))) (sym (named_is_not_null here.tree name o s (model.reads name o statics s at.memory.fits at.running.typed) a.number n named))
         (subst (λ x. Alike (given x (index_turn a)) (given_state (as_index index') (index_effect n))) (sym (index_is name index index' h)) (by_index (as_index index') typed))
       where
         by_index : (x : Option ℤ) → Typed (given_state x (index_effect n)) → Alike (given x (index_turn a)) (given_state x (index_effect n))

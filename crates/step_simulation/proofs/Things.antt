@@ -19,6 +19,9 @@ use Rattle.simulation.specs.Agreement.{Agree}
 use Rattle.simulation.specs.StandsFor.{Names, IsWord, IsInstanceCell, IsOfContents, IsCell, IsBornAt}
 use Rattle.simulation.proofs.cil_model.Lists.{none_is_some}
 use Rattle.simulation.proofs.MemoryModels.{IsReadable}
+use Rattle.simulation.proofs.ReferenceSlots.{IsLinked, typed_is_linked}
+use Rattle.simulation.specs.cil_model.Legality.{IsLegal}
+use Rattle.simulation.specs.type_soundness.TypedStates.{IsTyped}
 
 module _ (tree : Tree) (name : Names) (o : Objects) (s : State) (h : IsReadable tree name o s) where
   -- ---- the object of a name
@@ -45,6 +48,11 @@ module _ (tree : Tree) (name : Names) (o : Objects) (s : State) (h : IsReadable 
         lies = born.lies;
         stands = subst (λ x. IsCell tree name born.cell x) (same_Some born.object object (sym born.is ∙ there)) born.stands;
       }
+
+  -- its slots hold references where its values are
+  pub there_is_linked : IsLegal tree → IsTyped tree s → (a : Addr) (n : ObjectName) (object : HeapObject) → (thing : IsThere a n object) → IsLinked tree thing.cell.kind object.contents
+  there_is_linked legal typed a n object thing =
+      typed_is_linked tree legal s name thing.cell.kind thing.cell.slots object.contents object.thread (typed.objects thing.number object thing.there) thing.stands.contents
 
   -- ---- arrays
 

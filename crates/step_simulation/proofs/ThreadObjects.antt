@@ -23,7 +23,8 @@ use Rattle.simulation.specs.object_memory.Objects.{Objects, object_cell}
 use Rattle.simulation.specs.threads_monitors.Threads.{thread_told, thread_on}
 use Rattle.simulation.specs.interpreter.Calls.{class_at, class_of_kind}
 use Rattle.simulation.specs.Agreement.{Agree}
-use Rattle.simulation.specs.StandsFor.{Names, IsValue, int32, int64, native, null_reference, reference, IsWord, IsMonitor, thread_word, IsOfContents, IsBornAt, IsHeap}
+use Rattle.simulation.specs.StandsFor.{Names, IsValue, int32, int64, native, null_reference, reference, IsWord, IsMonitor, thread_word, IsOfContents, IsBornAt}
+use Rattle.simulation.proofs.MemoryModels.{IsReadable}
 
 -- an address stands for null, or for the object that it names
 pub reference_is : (name : Names) (v : Value) (u : StateValue) → IsValue name v u → (a : Addr) → v ≡ Ref a → ((a ≡ null) × (u ≡ Null)) ⊎ ((n : ObjectName) × (u ≡ Reference n) × (name a.number ≡ Some n))
@@ -71,7 +72,7 @@ module _ (tree : Tree) (name : Names) (o : Objects) (s : State) (a : Addr) (numb
   own_class_is = ap (option_and_then (λ (y : HeapObject). class_of_contents y.contents)) x.is ∙ ap class_of_contents x.contents
 
 -- what is asked of a thread's object, where it isn't stuck, is asked of an object of a class of threads
-module _ (here : Setting) (s : State) (f : StateFrame) (below : List StateFrame) (name : Names) (o : Objects) (heap : IsHeap here.tree name o s) (a : Addr) (go : HeapObject → StateEffect) where
+module _ (here : Setting) (s : State) (f : StateFrame) (below : List StateFrame) (name : Names) (o : Objects) (heap : IsReadable here.tree name o s) (a : Addr) (go : HeapObject → StateEffect) where
   abbrev pub IsAsked : ObjectName → Type 0
   IsAsked n = (number : ℕ) × (n ≡ Born number) × (x : IsThreadObject here.tree name o s a number) × (thread_object here s f below n go ≡ go x.object)
 

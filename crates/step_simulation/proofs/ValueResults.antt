@@ -25,6 +25,7 @@ use Rattle.step_simulation.proofs.Fitting.{FitsResult, binary_fits, unary_fits, 
 use Rattle.step_simulation.proofs.Meeting.{Meets, IsResult, Same, meets_itself}
 use Rattle.simulation.proofs.Memories.{named_is_not_null}
 use Rattle.simulation.proofs.MemoryModels.{MemoryModel, IsReference}
+use Rattle.simulation.specs.type_soundness.TypedStates.{IsTyped}
 
 module _ (tree : Tree) (model : MemoryModel tree) (name : Names) (o : Objects) (statics : List Value) (s : State) (fits : model.Fits name o statics s) where
   -- ---- tests
@@ -58,12 +59,12 @@ module _ (tree : Tree) (model : MemoryModel tree) (name : Names) (o : Objects) (
   branch_test_meets NotEqual v w u x (reference a m is) (reference b n is') = compared a b (inr (ap is_some is)) (inr (ap is_some is')) _ _ (ap not (model.same name o statics s fits a b m n is is'))
   branch_test_meets op v w u x h k = tt
 
-  pub is_set_meets : (v : Value) (u : StateValue) → IsValue name v u → Meets Same (is_set v) (is_set_value u)
-  is_set_meets v u (int32 z fits) = refl
-  is_set_meets v u (int64 z fits) = refl
-  is_set_meets v u (native z fits) = tt
-  is_set_meets v u null_reference = refl
-  is_set_meets v u (reference a n is) = ap not (named_is_not_null tree name o s (model.reads name o statics s fits) a.number n is)
+  pub is_set_meets : IsTyped tree s → (v : Value) (u : StateValue) → IsValue name v u → Meets Same (is_set v) (is_set_value u)
+  is_set_meets typed v u (int32 z fits) = refl
+  is_set_meets typed v u (int64 z fits) = refl
+  is_set_meets typed v u (native z fits) = tt
+  is_set_meets typed v u null_reference = refl
+  is_set_meets typed v u (reference a n is) = ap not (named_is_not_null tree name o s (model.reads name o statics s fits typed) a.number n is)
 
 module _ (name : Names) where
   -- ---- integers

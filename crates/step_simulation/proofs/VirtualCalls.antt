@@ -89,9 +89,9 @@ module _ (methods_run_alike : MethodsRunAlike) where
 
       turn_on_is : (a : Addr) (n : ObjectName) → name a.number ≡ Some n → turn_on a ≡ given (method_by here.tree own (class_of s n)) (λ x. run_turn here.tree (mutator_in here model) x m o printed)
       turn_on_is a n named =
-          ap (λ b. if b then Some (call_answer m o printed (Comes (Raises NullReference))) else run_chosen here.tree (mutator_in here model) a method m o printed) (named_is_not_null here.tree name o s (model.reads name o statics s at.memory.fits) a.number n named) ∙
+          ap (λ b. if b then Some (call_answer m o printed (Comes (Raises NullReference))) else run_chosen here.tree (mutator_in here model) a method m o printed) (named_is_not_null here.tree name o s (model.reads name o statics s at.memory.fits at.running.typed) a.number n named) ∙
           ap (λ x. given (option_and_then (chosen here.tree o a) x) (λ y. run_turn here.tree (mutator_in here model) y m o printed)) finds.numbered ∙
-          ap (λ x. given x (λ y. run_turn here.tree (mutator_in here model) y m o printed)) (chosen_is here.tree name o s (model.reads name o statics s at.memory.fits) own a n named)
+          ap (λ x. given x (λ y. run_turn here.tree (mutator_in here model) y m o printed)) (chosen_is here.tree name o s (model.reads name o statics s at.memory.fits at.running.typed) own a n named)
 
       module _ (few : nat_le count (length f.stack) ≡ true) (this : StateValue) (arguments : List StateValue) (taken : reverse (take count f.stack) ≡ this ∷ arguments) where
         -- the method that an object chooses runs alike

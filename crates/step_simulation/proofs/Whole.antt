@@ -24,9 +24,9 @@ use Rattle.simulation.specs.StandsFor.{Names, Represents}
 use Rattle.simulation.specs.Turns.{IsTurn, opening_content}
 use Rattle.simulation.proofs.MemoryModels.{MemoryModel, mutator_in}
 use Rattle.simulation.proofs.Instructions.{IsSetting, DoesAlike, InstructionsAreAlike}
-use Rattle.simulation.specs.phase_handshake.Handshakes.{acknowledged}
-use Rattle.step_simulation.proofs.Seats.{acknowledged_fits}
-use Rattle.step_simulation.proofs.SoundContents.{are_fitting, idle_heap, idle_is_sound}
+use Rattle.simulation.proofs.AcknowledgedNames.{acknowledgement_represents}
+use Rattle.simulation.proofs.CollectedRests.{collected_represents}
+use Rattle.step_simulation.proofs.Mutators.{normally}
 use Rattle.step_simulation.proofs.FrameInstructions.{no_operation_alike, load_int32_alike, load_int64_alike, load_null_alike, load_string_alike, load_argument_alike, store_argument_alike, load_local_alike, store_local_alike, duplicate_alike, pop_alike, binary_alike, unary_alike, shift_alike, compare_alike, convert_int32_alike, convert_int64_alike, branch_alike, branch_true_alike, branch_false_alike, branch_compare_alike, switch_alike}
 use Rattle.step_simulation.proofs.Fields.{load_field_alike, store_field_alike}
 use Rattle.step_simulation.proofs.Statics.{load_static_field_alike, store_static_field_alike}
@@ -115,18 +115,11 @@ step_is_refused c s r t after turn = refused_beyond_room each_alike c s r t afte
 -- what is no step keeps the state
 pub acknowledgement_keeps : (c : Content) (s : State) → Represents c s → (t : ℕ) (after : Content × Report) → IsTurn c (Ack t) after → Represents after.0 s
 acknowledgement_keeps c s r t after turn =
-    subst (λ (x : Content × Report). Represents x.0 s) (sym turn)
-    (record {
-      accepted = r.accepted;
-      limits = r.limits;
-      typed = r.typed;
-      counted = r.counted;
-      sound = idle_is_sound (record c { posts = acknowledged c.posts t }) s r.stands.name (record { memory = r.stands.by.memory; threads = r.stands.by.threads }) (acknowledged_fits c.posts c.threads (are_fitting c r.sound) t) (idle_heap c r.sound);
-      stands = record { name = r.stands.name; by = record { memory = r.stands.by.memory; threads = r.stands.by.threads } };
-    })
+    subst (λ (x : Content × Report). Represents x.0 s) (sym turn) (acknowledgement_represents c t s r)
 
 pub collection_keeps : (c : Content) (s : State) → Represents c s → (after : Content × Report) → IsTurn c Gc after → Represents after.0 s
-collection_keeps c s r after turn = subst (λ (x : Content × Report). Represents x.0 s) (sym turn) r
+collection_keeps c s r after turn =
+    let normal = normally c s r in subst (λ (x : Content × Report). Represents x.0 s) (sym turn) (collected_represents c s r normal.name normal.normal normal.by)
 
 -- a live thread's instruction has an answer
 pub thread_is_ready : (c : Content) (s : State) → Represents c s → (t left : ℕ) (m : Frames) → slice_get c.threads t ≡ Some (record { standing = Live m; steps_left = left }) → IsReady c t m

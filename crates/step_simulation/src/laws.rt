@@ -1,9 +1,10 @@
 // Laws of machines. Each function has an empty body, and its contract is the law.
 
-ghost use Rattle.std.specs.Prelude.{◌≡◌, ◌↔◌, ℕ, IsTrue, Some, slice_get};
+ghost use Rattle.std.specs.Prelude.{◌≡◌, ◌↔◌, ℕ, true, IsTrue, Some, slice_get};
 ghost use Rattle.simulation.specs.cil_model.declared.trees.Tree.{Tree};
 ghost use Rattle.simulation.specs.cil_model.declared.limits.Limits.{Limits};
 ghost use Rattle.simulation.specs.cil_model.declared.events.Event.TheVariants.{Step, Ack, Gc};
+ghost use Rattle.simulation.specs.cil_model.declared.phases.Phase.TheVariants.{Mark};
 ghost use Rattle.simulation.specs.cil_model.declared.reports.Report.{Report};
 ghost use Rattle.simulation.specs.cil_model.Ranges.{are_in_range};
 ghost use Rattle.simulation.specs.cil_model.Typings.{IsAccepted};
@@ -11,10 +12,15 @@ ghost use Rattle.simulation.specs.reference_machine.Rooms.{ExceedsRoom};
 ghost use Rattle.simulation.specs.reference_machine.States.{State};
 ghost use Rattle.simulation.specs.reference_machine.Steps.{step, Answers};
 ghost use Rattle.simulation.specs.reference_machine.Runs.{is_refusal, opening};
+ghost use Rattle.simulation.specs.object_memory.declared.addresses.Addr.{Addr as AnyAddr};
+ghost use Rattle.simulation.specs.collector.Marking.{is_closed};
+ghost use Rattle.simulation.specs.collector.Phases.{is_marked_address};
 ghost use Rattle.simulation.specs.threads_monitors.Frames.{Frames};
 ghost use Rattle.simulation.specs.threads_monitors.declared.threads.Standing.TheVariants.{Live};
 ghost use Rattle.simulation.specs.interpreter.Instructions.{IsDone, Answer};
 ghost use Rattle.simulation.specs.MachineContents.{Content, mutator_of};
+ghost use Rattle.simulation.specs.Reached.{IsReached};
+ghost use Rattle.simulation.specs.Sound.{IsSound};
 ghost use Rattle.simulation.specs.StandsFor.{Represents};
 ghost use Rattle.simulation.specs.Turns.{IsTurn, opening_content};
 ghost use Rattle.simulation.specs.Ready.{IsReady, IsAnswerable};
@@ -48,6 +54,12 @@ pub fn steps_follow_the_reference_machine()
 pub fn collector_events_keep_the_state()
     ensures acknowledgements { (c : Content) (s : State) → Represents c s → (t : ℕ) (after : Content × Report) → IsTurn c (Ack t) after → Represents after.0 s }
     ensures collections { (c : Content) (s : State) → Represents c s → (after : Content × Report) → IsTurn c Gc after → Represents after.0 s }
+{}
+
+/// Where marking is closed, all is marked that the frames of live threads and the static fields reach, through whatever objects: what is
+/// left unmarked can be left behind (`is_closed` of `collector` is this test).
+pub fn closed_marking_has_reached_all()
+    ensures { (c : Content) → IsSound c → c.posts.posted ≡ Mark → is_closed c.progress c.objects c.posts ≡ true → (a : AnyAddr) → IsReached c a → is_marked_address c.objects.spaces a ≡ true }
 {}
 
 /// A step is refused memory exactly where the object that it would make has more words than the space has left, when the words of all

@@ -1,43 +1,45 @@
 -- A slot holds references exactly where the values that are stored there are references.
-use Rattle.std.proofs.Common.{◌≡◌, ℕ, zero, suc, ◌+◌, Bool, true, false, if◌then◌else◌, List, [], ◌∷◌, ◌++◌, map, length, Option, Some, None, option_map, slice_get, refl, ap, ◌∙◌, subst, arith}
+use Rattle.std.proofs.Common.{◌≡◌, inl, inr, ℕ, zero, suc, ◌+◌, Bool, true, false, if◌then◌else◌, List, [], ◌∷◌, ◌++◌, map, length, Option, Some, None, option_map, slice_get, slice_set, refl, sym, ap, ◌∙◌, subst, arith}
 use Rattle.std.specs.Option.{option_map_or}
 use Rattle.std.proofs.lemmas.Option.{same_Some}
-use Rattle.simulation.specs.cil_model.declared.types.ClassName.{ClassName}
-use Rattle.simulation.specs.cil_model.declared.types.DeclaredType.{DeclaredType}
-use Rattle.simulation.specs.cil_model.declared.types.Element.{Element}
-use Rattle.simulation.specs.cil_model.declared.types.Element.TheVariants.{Int32 as Int32Element, Int64 as Int64Element, Object, String, Class}
-use Rattle.simulation.specs.cil_model.declared.trees.Tree.{Tree}
-use Rattle.simulation.specs.cil_model.Assignable.{is_reference, is_reference_element}
-use Rattle.simulation.specs.cil_model.Chains.{is_thread_class}
-use Rattle.simulation.specs.cil_model.Legality.{IsLegal}
-use Rattle.simulation.specs.cil_model.Fields.{FieldKey, hidden_slots, slot_types, instance_fields, is_reference_slot}
-use Rattle.simulation.proofs.cil_model.Lists.{none_is_some}
-use Rattle.simulation.proofs.cil_model.SameLaws.{never}
-use Rattle.simulation.specs.reference_machine.Values.{Value as StateValue, Int32 as Int32Value, Int64 as Int64Value, Native as NativeValue, Null, Reference, same_kind}
-use Rattle.simulation.specs.reference_machine.States.{State}
-use Rattle.simulation.specs.type_soundness.TypedStates.{HasType, HaveFieldTypes}
-use Rattle.simulation.specs.resolved_code.Numbered.{class_name, element_at, type_at}
-use Rattle.simulation.specs.object_memory.declared.kinds.ArrayElement.{ArrayElement}
-use Rattle.simulation.specs.object_memory.declared.kinds.ElementType.{ElementType}
-use Rattle.simulation.specs.object_memory.declared.kinds.ElementType.TheVariants.{Int32 as Int32Type, Int64 as Int64Type, Object as ObjectType, String as StringType, Class as ClassType}
-use Rattle.simulation.specs.object_memory.declared.kinds.Kind.TheVariants.{Array, Instance}
-use Rattle.simulation.specs.object_memory.declared.values.Value.{Value}
-use Rattle.simulation.specs.object_memory.declared.values.ValueKind.{ValueKind}
-use Rattle.simulation.specs.object_memory.declared.values.ValueKind.TheVariants as Kind
-use Rattle.simulation.specs.collector.References.{holds_reference, is_reference_value, is_reference_element as is_reference_type}
-use Rattle.simulation.specs.instructions.TypeTurns.{held_type, numbered}
-use Rattle.simulation.specs.loaded_program.Prepared.{kind_at, kind_of_type}
-use Rattle.simulation.specs.StandsFor.{Names, IsValue, int32, int64, native, null_reference, reference}
-use Rattle.step_simulation.proofs.Words.{kind_of_state, kind_fits}
+use Rattle.interpreter.specs.cil_model.declared.types.ClassName.{ClassName}
+use Rattle.interpreter.specs.cil_model.declared.types.DeclaredType.{DeclaredType}
+use Rattle.interpreter.specs.cil_model.declared.types.Element.{Element}
+use Rattle.interpreter.specs.cil_model.declared.types.Element.TheVariants.{Int32 as Int32Element, Int64 as Int64Element, Object, String, Class}
+use Rattle.interpreter.specs.cil_model.declared.trees.Tree.{Tree}
+use Rattle.interpreter.specs.cil_model.Assignable.{is_reference, is_reference_element}
+use Rattle.interpreter.specs.cil_model.Chains.{is_thread_class}
+use Rattle.interpreter.specs.cil_model.Legality.{IsLegal}
+use Rattle.interpreter.specs.cil_model.Fields.{FieldKey, hidden_slots, slot_types, instance_fields, is_reference_slot}
+use Rattle.interpreter.proofs.cil_model.Lists.{none_is_some}
+use Rattle.interpreter.proofs.cil_model.SameLaws.{never}
+use Rattle.interpreter.specs.reference_machine.Values.{Value as StateValue, Int32 as Int32Value, Int64 as Int64Value, Native as NativeValue, Null, Reference, same_kind}
+use Rattle.interpreter.specs.reference_machine.States.{Contents, Instance as IsInstance, Array as IsArray, State}
+use Rattle.type_soundness.specs.TypedStates.{AllHaveType, HasType, HaveFieldTypes, IsTypedContents}
+use Rattle.interpreter.specs.resolved_code.Numbered.{class_name, element_at, type_at}
+use Rattle.interpreter.specs.object_memory.declared.kinds.ArrayElement.{ArrayElement}
+use Rattle.interpreter.specs.object_memory.declared.kinds.ElementType.{ElementType}
+use Rattle.interpreter.specs.object_memory.declared.kinds.ElementType.TheVariants.{Int32 as Int32Type, Int64 as Int64Type, Object as ObjectType, String as StringType, Class as ClassType}
+use Rattle.interpreter.specs.object_memory.declared.kinds.Kind.{Kind}
+use Rattle.interpreter.specs.object_memory.declared.kinds.Kind.TheVariants.{Array, Instance}
+use Rattle.interpreter.specs.object_memory.declared.values.Value.{Value}
+use Rattle.interpreter.specs.object_memory.declared.values.ValueKind.{ValueKind}
+use Rattle.interpreter.specs.object_memory.declared.values.ValueKind.TheVariants as Kinds
+use Rattle.collector.specs.References.{holds_reference, is_reference_value, is_reference_element as is_reference_type}
+use Rattle.interpreter.specs.instructions.TypeTurns.{held_type, numbered}
+use Rattle.interpreter.specs.loaded_program.Prepared.{kind_at, kind_of_type}
+use Rattle.simulation.specs.StandsFor.{IsOfContents, Names, IsValue, int32, int64, native, null_reference, reference}
+use Rattle.collector.proofs.StaticFlips.{set_here_or_there}
+use Rattle.simulation.proofs.Words.{kind_of_state, kind_fits}
 
 -- ---- kinds
 
 -- whether a kind is that of references
 abbrev pub is_reference_kind : ValueKind → Bool
-is_reference_kind Kind.Ref = true
-is_reference_kind Kind.Int32 = false
-is_reference_kind Kind.Int64 = false
-is_reference_kind Kind.Native = false
+is_reference_kind Kinds.Ref = true
+is_reference_kind Kinds.Int32 = false
+is_reference_kind Kinds.Int64 = false
+is_reference_kind Kinds.Native = false
 
 kind_says : (e : Element) (n : ℕ) → is_reference_element e n ≡ is_reference_kind (kind_at e n)
 kind_says e (suc n) = refl
@@ -149,3 +151,62 @@ element_says tree e t is slot = by_type (element_at tree (numbered e.element)) r
     by_type : (o : Option Element) → element_at tree (numbered e.element) ≡ o → option_map (λ d. record { element = d; brackets = e.brackets }) o ≡ Some t → holds_reference tree (Array e) slot ≡ is_reference_kind (kind_of_type t)
     by_type None h k = none_is_some t k
     by_type (Some d) h k = by_kind e.element e.brackets d h ∙ ap (λ (y : DeclaredType). is_reference_kind (kind_of_type y)) (same_Some (record { element = d; brackets = e.brackets }) t k)
+
+-- ---- objects
+
+-- a value of the reference machine is a reference
+abbrev pub is_reference_state : StateValue → Bool
+is_reference_state u = is_reference_kind (kind_of_state u)
+
+-- the slot of a field, behind the hidden one of a class of threads
+abbrev pub slot_behind : Bool → ℕ → ℕ
+slot_behind true place = suc place
+slot_behind false place = place
+
+-- each slot holds a reference exactly where the object's value is one
+abbrev pub IsLinked : Tree → Kind → Contents → Type 0
+IsLinked tree (Instance class) (IsInstance c fields) =
+    (place : ℕ) (e : FieldKey × StateValue) → slice_get fields place ≡ Some e → holds_reference tree (Instance class) (slot_behind (is_thread_class tree c) place) ≡ is_reference_state e.1
+IsLinked tree (Array a) (IsArray t elements) = (place : ℕ) (u : StateValue) → slice_get elements place ≡ Some u → holds_reference tree (Array a) place ≡ is_reference_state u
+IsLinked tree (Instance class) (IsArray t elements) = ⊥
+IsLinked tree (Array a) (IsInstance c fields) = ⊥
+
+-- the type of an element
+type_of_element : (tree : Tree) (s : State) (t : DeclaredType) (elements : List StateValue) → AllHaveType tree s t elements → (place : ℕ) (u : StateValue) → slice_get elements place ≡ Some u → HasType tree s u t
+type_of_element tree s t [] h place u is = none_is_some u is
+type_of_element tree s t (x ∷ xs) h zero u is = subst (λ y. HasType tree s y t) (same_Some x u is) h.0
+type_of_element tree s t (x ∷ xs) h (suc place) u is = type_of_element tree s t xs h.1 place u is
+
+behind_hidden : (tree : Tree) (c : ClassName) (place : ℕ) → length (hidden_slots tree c) + place ≡ slot_behind (is_thread_class tree c) place
+behind_hidden tree c place = by_class (is_thread_class tree c)
+  where
+    by_class : (b : Bool) → length {A = Option DeclaredType} (if b then None ∷ [] else []) + place ≡ slot_behind b place
+    by_class true = omega arith
+    by_class false = omega arith
+
+-- so it is of a typed object
+pub typed_is_linked : (tree : Tree) → IsLegal tree → (s : State) (name : Names) (k : Kind) (slots : List ℕ) (contents : Contents) (thread : Option ℕ) → IsTypedContents tree s contents → IsOfContents tree name k slots contents thread → IsLinked tree k contents
+typed_is_linked tree legal s name (Instance class) slots (IsInstance c fields) thread typed h =
+    λ place e is. ap (holds_reference tree (Instance class)) (sym (behind_hidden tree c place)) ∙ slot_says tree legal s c class h.class_is fields typed.2 place e is
+typed_is_linked tree legal s name (Array a) slots (IsArray t elements) thread typed h =
+    λ place u is. element_says tree a t h.0 place ∙ ap is_reference_kind (kind_fits tree legal s u t (type_of_element tree s t elements typed place u is))
+typed_is_linked tree legal s name (Instance class) slots (IsArray t elements) thread typed h = elim h [ ]
+typed_is_linked tree legal s name (Array a) slots (IsInstance c fields) thread typed h = elim h [ ]
+
+-- so it is where a value of the same sort comes in the place of an element,
+pub element_linked : (tree : Tree) (k : Kind) (t : DeclaredType) (elements : List StateValue) (place : ℕ) (old u : StateValue) → slice_get elements place ≡ Some old → is_reference_state old ≡ is_reference_state u → IsLinked tree k (IsArray t elements) →
+    IsLinked tree k (IsArray t (slice_set elements place u))
+element_linked tree (Array a) t elements place old u is same linked = λ i x there. elim (set_here_or_there elements place i u x there) [
+  | inl here ↦ linked i old (subst (λ j. slice_get elements j ≡ Some old) (sym here.0) is) ∙ same ∙ ap is_reference_state (sym here.1)
+  | inr still ↦ linked i x still.1
+]
+element_linked tree (Instance class) t elements place old u is same linked = elim linked [ ]
+
+-- and in that of a field
+pub field_linked : (tree : Tree) (k : Kind) (c : ClassName) (fields : List (FieldKey × StateValue)) (place : ℕ) (old new : FieldKey × StateValue) → slice_get fields place ≡ Some old → is_reference_state old.1 ≡ is_reference_state new.1 → IsLinked tree k (IsInstance c fields) →
+    IsLinked tree k (IsInstance c (slice_set fields place new))
+field_linked tree (Instance class) c fields place old new is same linked = λ i x there. elim (set_here_or_there fields place i new x there) [
+  | inl here ↦ linked i old (subst (λ j. slice_get fields j ≡ Some old) (sym here.0) is) ∙ same ∙ ap (λ (e : FieldKey × StateValue). is_reference_state e.1) (sym here.1)
+  | inr still ↦ linked i x still.1
+]
+field_linked tree (Array a) c fields place old new is same linked = elim linked [ ]

@@ -3,26 +3,26 @@ use Rattle.std.proofs.Common.{◌≡◌, ◌<◌, ◌%◌, ℕ, zero, suc, ℤ, 
 use Rattle.std.specs.Prelude.{FitsSigned}
 use Rattle.std.specs.Int.{w32, w64, cast_unsigned, cast_signed}
 use Rattle.std.proofs.lemmas.Int.{to_z-of_z}
-use Rattle.simulation.specs.cil_model.declared.types.Element.{Element}
-use Rattle.simulation.specs.cil_model.declared.types.Element.TheVariants.{Int32 as Int32Element, Int64 as Int64Element, Object, String, Class}
-use Rattle.simulation.specs.cil_model.declared.types.DeclaredType.{DeclaredType}
-use Rattle.simulation.specs.cil_model.declared.trees.Tree.{Tree}
-use Rattle.simulation.specs.cil_model.Assignable.{is_reference_element}
-use Rattle.simulation.specs.cil_model.Legality.{IsLegal}
-use Rattle.simulation.specs.reference_machine.Values.{Value as StateValue, Int32 as Int32Value, Int64 as Int64Value, Native as NativeValue, Null, Reference, ObjectName, integer_zero, zero_of, same_kind}
-use Rattle.simulation.specs.reference_machine.States.{State}
-use Rattle.simulation.specs.type_soundness.TypedStates.{HasType}
-use Rattle.simulation.proofs.type_soundness.Operands.{kinds_agree}
-use Rattle.simulation.proofs.type_soundness.Openings.{zero_typed}
-use Rattle.simulation.specs.object_memory.declared.addresses.TheConstants.{ADDRESSES}
-use Rattle.simulation.specs.object_memory.declared.values.Value.{Value}
-use Rattle.simulation.specs.object_memory.declared.values.Value.TheVariants.{Int32, Int64, Native, Ref}
-use Rattle.simulation.specs.object_memory.declared.values.ValueKind.{ValueKind}
-use Rattle.simulation.specs.object_memory.declared.values.ValueKind.TheVariants as Kind
-use Rattle.simulation.specs.object_memory.Values.{value_word, value_in}
-use Rattle.simulation.specs.loaded_program.Prepared.{kind_at, kind_of_type}
+use Rattle.interpreter.specs.cil_model.declared.types.Element.{Element}
+use Rattle.interpreter.specs.cil_model.declared.types.Element.TheVariants.{Int32 as Int32Element, Int64 as Int64Element, Object, String, Class}
+use Rattle.interpreter.specs.cil_model.declared.types.DeclaredType.{DeclaredType}
+use Rattle.interpreter.specs.cil_model.declared.trees.Tree.{Tree}
+use Rattle.interpreter.specs.cil_model.Assignable.{is_reference_element}
+use Rattle.interpreter.specs.cil_model.Legality.{IsLegal}
+use Rattle.interpreter.specs.reference_machine.Values.{Value as StateValue, Int32 as Int32Value, Int64 as Int64Value, Native as NativeValue, Null, Reference, ObjectName, integer_zero, zero_of, same_kind}
+use Rattle.interpreter.specs.reference_machine.States.{State}
+use Rattle.type_soundness.specs.TypedStates.{HasType}
+use Rattle.type_soundness.proofs.Operands.{kinds_agree}
+use Rattle.type_soundness.proofs.Openings.{zero_typed}
+use Rattle.interpreter.specs.object_memory.declared.addresses.TheConstants.{ADDRESSES}
+use Rattle.interpreter.specs.object_memory.declared.values.Value.{Value}
+use Rattle.interpreter.specs.object_memory.declared.values.Value.TheVariants.{Int32, Int64, Native, Ref}
+use Rattle.interpreter.specs.object_memory.declared.values.ValueKind.{ValueKind}
+use Rattle.interpreter.specs.object_memory.declared.values.ValueKind.TheVariants as Kind
+use Rattle.interpreter.specs.object_memory.Values.{value_word, value_in}
+use Rattle.interpreter.specs.loaded_program.Prepared.{kind_at, kind_of_type}
 use Rattle.simulation.specs.StandsFor.{Names, IsValue, int32, int64, native, null_reference, reference, IsWord}
-use Rattle.simulation.proofs.cil_model.SameLaws.{never}
+use Rattle.interpreter.proofs.cil_model.SameLaws.{never}
 
 -- the kind of a value of the reference machine
 abbrev pub kind_of_state : StateValue → ValueKind

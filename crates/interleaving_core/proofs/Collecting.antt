@@ -1,0 +1,50 @@
+-- Steps of Mark: what the static fields hold is there to be marked, and a step that finds nothing grey changes nothing, so a round comes next.
+use Rattle.std.proofs.Common.{◌≡◌, if◌then◌else◌, Bool, true, false, List, [], ◌∷◌, get_or, Option, Some, None, pos, refl, sym, ap, ◌∙◌}
+use Rattle.std.proofs.lemmas.List.Elements.{All-from_get_or}
+use Rattle.std.proofs.lemmas.Option.{slice_get-get_or}
+use Rattle.cil_model.specs.declared.reports.Report.TheVariants.{Worked}
+use Rattle.object_memory.specs.declared.addresses.Addr.{Addr}
+use Rattle.object_memory.specs.declared.values.Value.{Value}
+use Rattle.object_memory.specs.declared.values.Value.TheVariants.{Int32}
+use Rattle.object_memory.specs.Cells.{Cell}
+use Rattle.object_memory.specs.Objects.{Objects}
+use Rattle.step_simulation.specs.simulation.instructions.barriers.Barriers.{is_value_there}
+use Rattle.step_simulation.specs.simulation.collector.Conditions.{AreThere}
+use Rattle.step_simulation.specs.simulation.collector.Marking.{mark_step, marked_on, oldest_cell, statics_scanned}
+use Rattle.step_simulation.specs.simulation.collector.declared.progress.Progress.{Progress}
+use Rattle.step_simulation.specs.simulation.Collecting.{marked, mark_work, rounds}
+use Rattle.step_simulation.specs.simulation.MachineContents.{Content}
+use Rattle.step_simulation.specs.simulation.Sound.{IsSound}
+use Rattle.step_simulation.proofs.simulation.NormalContents.{sound_is_held, static_is_live}
+use Rattle.step_simulation.proofs.simulation.collector.HeldValues.{live_value_is_there}
+use Rattle.step_simulation.proofs.simulation.collector.Views.{never}
+
+-- what the static fields of a sound machine hold is there
+pub statics_there : (c : Content) → IsSound c → AreThere c.objects c.statics
+statics_there c sound =
+    All-from_get_or (λ v. is_value_there c.objects v ≡ true) c.statics nothing
+    (λ number inside.
+    let v = get_or c.statics number nothing in
+    live_value_is_there c.posts.posted c.objects v (static_is_live c (sound_is_held c sound) number v (slice_get-get_or c.statics number nothing inside)))
+  where
+    nothing : Value
+    nothing = Int32 (pos 0)
+
+-- what a step leaves, and whether there was one to do
+abbrev Outcome : Type 0
+Outcome = Progress × Objects × Bool
+
+none_scanned : (p : Progress) (o : Objects) (c : Content) (grey : List Addr) (oldest : Option Cell) → (mark_step c.tree p o grey oldest).2 ≡ false → ◌≡◌ {A = Outcome} (mark_step c.tree p o grey oldest) (p, o, false)
+none_scanned p o c [] oldest e = refl
+none_scanned p o c (g ∷ rest) None e = refl
+none_scanned p o c (g ∷ rest) (Some cell) e = never (sym e)
+
+-- where none was to do, what comes next comes of the content as it was
+pub none_marked : (c : Content) (p : Progress) (o : Objects) → c.progress.scanned_statics ≡ true → ◌≡◌ {A = Outcome} (p, o, false) (marked_on c.tree c.progress c.objects) →
+    rounds (record c { progress = p; objects = o }) ≡ mark_work c
+none_marked c p o scanned h =
+    let nothing = none_scanned c.progress c.objects c c.objects.spaces.grey (oldest_cell c.objects c.objects.spaces.grey) (sym (ap (λ (y : Outcome). y.2) h)) in
+    let same = ap (λ (y : Outcome). record c { progress = y.0; objects = y.1 }) (h ∙ nothing) in
+    ap rounds same
+    ∙ (ap (marked c) (sym nothing)
+    ∙ sym (ap (λ b. if b then marked c (marked_on c.tree c.progress c.objects) else (record c { progress = (statics_scanned c.progress c.objects c.statics).0; objects = (statics_scanned c.progress c.objects c.statics).1 }, Worked)) scanned))

@@ -1,0 +1,92 @@
+//! What an acknowledgement of a thread does to the objects that its frames hold.
+
+ghost use Rattle.std.specs.Prelude.{◌≡◌, ◌≤◌, true, length, Some, slice_get};
+ghost use Rattle.threads_monitors.specs.Frames.{Frame};
+ghost use Rattle.threads_monitors.specs.Roots.{frame_roots, frames_upward, roots};
+ghost use Rattle.step_simulation.specs.simulation.Collecting.{answers_round, with_roots_marked, with_thread_marked};
+ghost use Rattle.step_simulation.specs.simulation.Sound.{IsSound as IsSoundContent};
+ghost use Rattle.step_simulation.specs.simulation.Turns.{IsTurn};
+ghost use Rattle.cil_model.specs.declared.events.Event.TheVariants.{Ack as AckOf};
+ghost use Rattle.interleaving_core.specs.Acknowledging.{AreAllThere};
+ghost use Rattle.interleaving_core.specs.Views.{content_of};
+
+use crate::engine::Engine;
+use cil_model::phases::Phase;
+use cil_model::reports::Report;
+use object_memory::{Heap, Value};
+use step_simulation::collector_code::mark_values;
+use threads_monitors::{FrameMemory, Standing};
+
+impl Engine {
+    /// An acknowledgement of a thread: of the posted phase, or else of the posted round, for which all is marked that its frames hold.
+    /// Where neither is open to it, nothing changes.
+    pub(crate) fn acknowledge(&mut self, thread: u8) -> Report
+        requires sound { IsSoundContent (content_of self.old) }
+        ensures { IsTurn (content_of self.old) (AckOf thread) (content_of self.new, result) }
+    {
+        if self.answers_round(thread) {
+            self.mark_held(thread);
+        }
+        if self.posts.acknowledge(thread) {
+            Report::Acked
+        } else if self.is_live(thread) {
+            Report::NothingPosted
+        } else {
+            Report::Absent
+        }
+    }
+
+    /// Whether an acknowledgement of the thread answers a round of marking.
+    fn answers_round(&self, thread: u8) -> bool
+        ensures { result ≡ answers_round (content_of self.now) thread }
+    {
+        match self.posts.seat(thread) {
+            Some(seat) => {
+                self.posts.posted() == Phase::Mark
+                    && seat.phase == Phase::Mark
+                    && self.posts.has_round()
+                    && !seat.answered
+            }
+            None => false,
+        }
+    }
+
+    /// Marks what the frames of a thread that answers a round hold. Nothing else changes.
+    fn mark_held(&mut self, thread: u8)
+        requires sound { IsSoundContent (content_of self.old) }
+        requires answers { answers_round (content_of self.old) thread ≡ true }
+        ensures { content_of self.new ≡ record (content_of self.old) { objects = with_thread_marked self.old.store.heap (slice_get self.old.threads.items thread) } }
+    {
+        let Some(thread) = self.threads.get(usize::from(thread)) else {
+            return;
+        };
+        if let Standing::Live(frames) = &thread.standing {
+            mark_frames(&mut self.store.heap, frames);
+        }
+    }
+}
+
+/// Marks what frames refer to, from the first one of their thread on. Nothing else changes.
+fn mark_frames(heap: &mut Heap, frames: &FrameMemory)
+    requires open { heap.old.spaces.is_open ≡ true }
+    requires there { AreAllThere heap.old (roots frames.now) }
+    ensures { heap.new ≡ with_roots_marked heap.old (roots frames.now) }
+{
+    for frame in 0..frames.frame_count() {
+        mark_frame(heap, frames, frame);
+    }
+}
+
+/// Marks what a frame refers to: its values, and then the object that it makes. Frames count from the first one of their thread. Nothing
+/// else changes.
+fn mark_frame(heap: &mut Heap, frames: &FrameMemory, frame: usize)
+    requires inside { frame ≤ length frames.now.below }
+    requires open { heap.old.spaces.is_open ≡ true }
+    requires there { (f : Frame) → slice_get (frames_upward frames.now) frame ≡ Some f → AreAllThere heap.old (frame_roots f) }
+    ensures { (f : Frame) → slice_get (frames_upward frames.now) frame ≡ Some f → heap.new ≡ with_roots_marked heap.old (frame_roots f) }
+{
+    mark_values(heap, frames.values_of(frame));
+    if let Some(object) = frames.constructed_of(frame) {
+        mark_values(heap, &[Value::Ref(object)]);
+    }
+}

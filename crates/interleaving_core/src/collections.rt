@@ -1,0 +1,149 @@
+//! What an event of the collector does: one step of the work of the phase that is posted, or the next post.
+
+ghost use Rattle.std.specs.Prelude.{◌≡◌, IfOk, OnErr, IsTrue, true};
+ghost use Rattle.cil_model.specs.Ranges.{are_in_range};
+ghost use Rattle.cil_model.specs.declared.events.Event.TheVariants.{Gc as GcOf};
+ghost use Rattle.cil_model.specs.declared.phases.Phase.TheVariants.{Idle as IdleOf, Mark as MarkOf, Allocate as AllocateOf, Copy as CopyOf};
+ghost use Rattle.cil_model.specs.declared.reports.Report.TheVariants.{Worked as WorkedOf};
+ghost use Rattle.reference_machine.specs.Cycles.{phase_after};
+ghost use Rattle.phase_handshake.specs.Handshakes.{all_seen};
+ghost use Rattle.step_simulation.specs.simulation.Collecting.{cycle_opened, mark_work, rounds, with_next_phase, work};
+ghost use Rattle.step_simulation.specs.simulation.Sound.{IsSound as IsSoundContent};
+ghost use Rattle.step_simulation.specs.simulation.Turns.{IsTurn, TakesMemory};
+ghost use Rattle.interleaving_core.specs.Views.{content_of};
+
+use crate::engine::Engine;
+use cil_model::limits::MOST_WORDS;
+use cil_model::memory::NoMemory;
+use cil_model::phases::Phase;
+use cil_model::reports::Report;
+use space_block::Block;
+use std::alloc::Global;
+use step_simulation::collector_code::{
+    Progress, copy_step, is_closed, mark_step, scan_statics, shell_step,
+};
+
+impl Engine {
+    /// An event of the collector. It waits where a live thread has not acknowledged the posted phase. Want of memory, which the event
+    /// that opens a cycle alone can meet, changes nothing.
+    pub(crate) fn collect(&mut self, alloc: Global) -> Result<Report, NoMemory>
+        requires limits { are_in_range self.old.limits ≡ true }
+        requires sound { IsSoundContent (content_of self.old) }
+        ensures turns { IfOk result (λ report. IsTurn (content_of self.old) GcOf (content_of self.new, report)) }
+        ensures memory { OnErr result (TakesMemory (content_of self.old) GcOf) }
+        ensures refused { OnErr result (content_of self.new ≡ content_of self.old) }
+    {
+        if !self.posts.all_seen() {
+            return Ok(Report::Waiting);
+        }
+        match self.posts.posted() {
+            Phase::Idle => self.open_cycle(alloc),
+            Phase::Mark => Ok(self.mark_on()),
+            Phase::Allocate => Ok(self.look_on()),
+            Phase::Copy => Ok(self.copy_on()),
+            // none of these is posted
+            Phase::PreFlip | Phase::HeapFlip | Phase::ThreadFlip | Phase::Reclaim => unreachable!(),
+        }
+    }
+
+    /// Opens a cycle, with a second block as large as the first and a grey list with room for every object: both are taken here, and no
+    /// later event of the cycle takes memory.
+    fn open_cycle(&mut self, alloc: Global) -> Result<Report, NoMemory>
+        requires limits { are_in_range self.old.limits ≡ true }
+        requires sound { IsSoundContent (content_of self.old) }
+        requires posted { self.old.posts.posted ≡ IdleOf }
+        requires seen { all_seen self.old.posts ≡ true }
+        ensures opened { IfOk result (λ report. (content_of self.new ≡ cycle_opened (content_of self.old)) × (report ≡ WorkedOf)) }
+        ensures refused { OnErr result (content_of self.new ≡ content_of self.old) }
+    {
+        let words = self.limits.words as usize;
+        let block = Block::new(alloc, words)?;
+        let grey = Vec::with_capacity(alloc, words / 3)?;
+        self.store.heap.open(block, grey);
+        Ok(self.post(Phase::Mark))
+    }
+
+    /// Posts the next phase, of which nothing is done yet.
+    fn post(&mut self, phase: Phase) -> Report
+        requires next { phase ≡ phase_after self.old.posts.posted }
+        requires seen { IsTrue (all_seen self.old.posts) }
+        ensures after { content_of self.new ≡ with_next_phase (content_of self.old) }
+        ensures report { result ≡ WorkedOf }
+    {
+        self.posts.post(phase);
+        self.progress = Progress::none();
+        Report::Worked
+    }
+
+    /// A step of Mark: the static fields are scanned, then the grey objects word by word, and then come rounds.
+    fn mark_on(&mut self) -> Report
+        requires sound { IsSoundContent (content_of self.old) }
+        requires posted { self.old.posts.posted ≡ MarkOf }
+        requires seen { all_seen self.old.posts ≡ true }
+        ensures { (content_of self.new, result) ≡ mark_work (content_of self.old) }
+    {
+        if !self.progress.scanned_statics {
+            scan_statics(
+                &mut self.progress,
+                &mut self.store.heap,
+                self.store.statics.as_slice(),
+            );
+            return Report::Worked;
+        }
+        if mark_step(
+            &mut self.progress,
+            &mut self.store.heap,
+            self.program.layout(),
+        ) {
+            return Report::Worked;
+        }
+        self.end_round()
+    }
+
+    /// Nothing is grey: marking is closed, a round waits for its answers, or the next one is posted.
+    fn end_round(&mut self) -> Report
+        requires posted { self.old.posts.posted ≡ MarkOf }
+        requires seen { all_seen self.old.posts ≡ true }
+        ensures { (content_of self.new, result) ≡ rounds (content_of self.old) }
+    {
+        if is_closed(&self.progress, &self.store.heap, &self.posts) {
+            return self.post(Phase::Allocate);
+        }
+        if self.posts.has_round() && !self.posts.all_answered() {
+            return Report::Waiting;
+        }
+        self.posts.post_round();
+        self.store.heap.begin_round();
+        Report::Worked
+    }
+
+    /// A step of Allocate: the next old object is looked at, and gets its other copy if it is marked.
+    fn look_on(&mut self) -> Report
+        requires sound { IsSoundContent (content_of self.old) }
+        requires posted { self.old.posts.posted ≡ AllocateOf }
+        requires seen { all_seen self.old.posts ≡ true }
+        ensures { (content_of self.new, result) ≡ work AllocateOf (content_of self.old) }
+    {
+        if shell_step(&mut self.progress, &mut self.store.heap) {
+            return Report::Worked;
+        }
+        self.post(Phase::Copy)
+    }
+
+    /// A step of Copy: the next word of an object with two copies is copied. Where all are, it waits: no later phase is posted.
+    fn copy_on(&mut self) -> Report
+        requires sound { IsSoundContent (content_of self.old) }
+        requires posted { self.old.posts.posted ≡ CopyOf }
+        ensures { (content_of self.new, result) ≡ work CopyOf (content_of self.old) }
+    {
+        if copy_step(
+            &mut self.progress,
+            &mut self.store.heap,
+            self.program.layout(),
+        ) {
+            Report::Worked
+        } else {
+            Report::Waiting
+        }
+    }
+}

@@ -1,0 +1,61 @@
+-- The marks of a thread that answers a round are those of a list of references, and leave the monitors of literals.
+use Rattle.std.proofs.Common.{◌≡◌, true, List, [], ◌∷◌, map, Option, Some, None, refl, inl, inr, ◌∙◌, subst}
+use Rattle.std.specs.Prelude.{All}
+use Rattle.std.proofs.lemmas.List.Elements.{All-cons, All-head, All-nil, All-tail}
+use Rattle.interpreter.specs.object_memory.declared.addresses.Addr.{Addr}
+use Rattle.interpreter.specs.object_memory.declared.values.Value.{Value}
+use Rattle.interpreter.specs.object_memory.declared.values.Value.TheVariants.{Int32, Int64, Native, Ref}
+use Rattle.interpreter.specs.object_memory.Objects.{Objects}
+use Rattle.interpreter.specs.instructions.barriers.Barriers.{with_marked}
+use Rattle.interpreter.specs.threads_monitors.Roots.{roots}
+use Rattle.interpreter.specs.threads_monitors.declared.threads.Standing.{Standing}
+use Rattle.interpreter.specs.threads_monitors.declared.threads.Standing.TheVariants.{Live, Ended}
+use Rattle.interpreter.specs.threads_monitors.declared.threads.Thread.{Thread}
+use Rattle.collector.specs.Marking.{with_all_marked}
+use Rattle.collector.specs.References.{Test, ValuePasses}
+use Rattle.collector.specs.Soundness.{IsListed}
+use Rattle.simulation.specs.Collecting.{with_roots_marked, with_standing_marked, with_thread_marked}
+
+-- what the frames of a thread refer to, as values
+abbrev pub standing_values : Standing → List Value
+standing_values (Live m) = map Ref (roots m)
+standing_values (Ended e) = []
+
+abbrev pub thread_values : Option Thread → List Value
+thread_values None = []
+thread_values (Some x) = standing_values x.standing
+
+-- one by one, and of a thread as it stands
+roots_marked : (list : List Addr) (o : Objects) → with_roots_marked o list ≡ with_all_marked o (map Ref list)
+roots_marked [] o = refl
+roots_marked (a ∷ list) o = roots_marked list (with_marked o (Ref a))
+
+standing_marked : (o : Objects) (x : Standing) → with_standing_marked o x ≡ with_all_marked o (standing_values x)
+standing_marked o (Live m) = roots_marked (roots m) o
+standing_marked o (Ended e) = refl
+
+-- a thread that answers marks these
+pub thread_marked : (o : Objects) (x : Option Thread) → with_thread_marked o x ≡ with_all_marked o (thread_values x)
+thread_marked o None = refl
+thread_marked o (Some x) = standing_marked o x.standing
+
+-- the monitors of literals stay
+one_keeps : (o : Objects) (v : Value) → (with_marked o v).literals ≡ o.literals
+one_keeps o (Ref a) = refl
+one_keeps o (Int32 n) = refl
+one_keeps o (Int64 n) = refl
+one_keeps o (Native n) = refl
+
+pub marks_keep_literals : (vs : List Value) (o : Objects) → (with_all_marked o vs).literals ≡ o.literals
+marks_keep_literals [] o = refl
+marks_keep_literals (v ∷ vs) o = marks_keep_literals vs (with_marked o v) ∙ one_keeps o v
+
+-- what is so of all that is listed is so of all these, and the other way
+pub all_of_listed : (test : Test) (list : List Addr) → ((a : Addr) → IsListed list a → test a ≡ true) → All (ValuePasses test) (map Ref list)
+all_of_listed test [] h = All-nil (ValuePasses test)
+all_of_listed test (a ∷ list) h = All-cons (ValuePasses test) (Ref a) (map Ref list) (h a (inl refl)) (all_of_listed test list (λ b listed. h b (inr listed)))
+
+pub listed_of_all : (test : Test) (list : List Addr) → All (ValuePasses test) (map Ref list) → (a : Addr) → IsListed list a → test a ≡ true
+listed_of_all test [] h a listed = elim listed [ ]
+listed_of_all test (b ∷ list) h a (inl same) = subst (λ x. test x ≡ true) same (All-head (ValuePasses test) (Ref b) (map Ref list) h)
+listed_of_all test (b ∷ list) h a (inr listed) = listed_of_all test list (All-tail (ValuePasses test) (Ref b) (map Ref list) h) a listed

@@ -1,0 +1,150 @@
+-- What an event of the collector does, by the phase that is posted, and what an acknowledgement does (Hudson and Moss, "Sapphire"; the rounds and the
+-- finest steps are this profile's).
+use Rattle.std.specs.Prelude.{ℕ, nat_lt, not, ◌&&◌, if◌then◌else◌, Bool, true, false, List, [], ◌∷◌, Option, slice_get, slice_set}
+use Rattle.std.specs.Option.{option_map_or}
+use Rattle.interpreter.specs.cil_model.declared.phases.Phase.{Phase}
+use Rattle.interpreter.specs.cil_model.declared.phases.Phase.TheVariants.{Idle, Mark, Allocate, Copy, PreFlip, HeapFlip, ThreadFlip, Reclaim}
+use Rattle.interpreter.specs.cil_model.declared.reports.Report.{Report}
+use Rattle.interpreter.specs.cil_model.declared.reports.Report.TheVariants.{Absent, Acked, CycleDone, NothingPosted, Waiting, Worked}
+use Rattle.interpreter.specs.object_memory.declared.addresses.Addr.{Addr}
+use Rattle.interpreter.specs.object_memory.declared.values.Value.{Value}
+use Rattle.interpreter.specs.object_memory.declared.values.Value.TheVariants.{Ref}
+use Rattle.interpreter.specs.object_memory.Objects.{Objects}
+use Rattle.interpreter.specs.object_memory.Spaces.{forward, opened}
+use Rattle.interpreter.specs.instructions.barriers.Barriers.{with_marked}
+use Rattle.collector.specs.Phases.{no_progress}
+use Rattle.collector.specs.Marking.{is_closed, marked_on, statics_scanned}
+use Rattle.collector.specs.Copying.{copied_on, looked_on}
+use Rattle.collector.specs.Flips.{cleared_on, flipped_on, retired}
+use Rattle.collector.specs.Holding.{is_marking}
+use Rattle.collector.specs.declared.progress.Progress.{Progress}
+use Rattle.collector.specs.phase_handshake.Handshakes.{acknowledged, all_answered, all_seen, is_open, is_phase, phase_number, posted_next, posted_round, seat_of}
+use Rattle.collector.specs.phase_handshake.declared.posts.Seat.{Seat}
+use Rattle.interpreter.specs.threads_monitors.Roots.{roots, with_references}
+use Rattle.interpreter.specs.threads_monitors.Threads.{is_live_at}
+use Rattle.interpreter.specs.threads_monitors.declared.threads.Standing.{Standing}
+use Rattle.interpreter.specs.threads_monitors.declared.threads.Standing.TheVariants.{Live, Ended}
+use Rattle.interpreter.specs.threads_monitors.declared.threads.Thread.{Thread}
+use Rattle.simulation.specs.MachineContents.{Content}
+use Rattle.simulation.specs.Sound.{last_phase}
+
+-- ---- posts
+
+-- the next phase, of which the collector has done nothing
+abbrev pub with_next_phase : Content → Content
+with_next_phase c = record c { posts = posted_next c.posts; progress = no_progress }
+
+-- it is posted, unless it is beyond the last one
+abbrev pub next_posted : Content → Content × Report
+next_posted c = if nat_lt (phase_number c.posts.posted) (phase_number last_phase) then (with_next_phase c, Worked) else (c, Waiting)
+
+-- a cycle opens, with a second block as large as the first
+abbrev pub cycle_opened : Content → Content
+cycle_opened c = record (with_next_phase c) { objects = record c.objects { spaces = opened c.objects.spaces c.limits.words } }
+
+-- whether there are phases beyond the first
+abbrev pub opens_cycles : Bool
+opens_cycles = nat_lt (phase_number Idle) (phase_number last_phase)
+
+-- ---- work
+
+-- a step of the work of a phase, or the next phase where none is left
+abbrev pub worked : Content → Progress × Objects × Bool → Content × Report
+worked c (p, o, true) = (record c { progress = p; objects = o }, Worked)
+worked c (p, o, false) = next_posted c
+
+-- a static field is flipped, or the next phase is posted where none is left
+abbrev pub flipped : Content → Progress × List Value × Bool → Content × Report
+flipped c (p, statics, true) = (record c { progress = p; statics = statics }, Worked)
+flipped c (p, statics, false) = next_posted c
+
+-- a cycle ends with the new block alone
+abbrev pub cycle_ended : Content → Content
+cycle_ended c = record (with_next_phase c) { objects = retired c.objects }
+
+-- a new object is cleared, or the cycle ends where none is left
+abbrev pub cleared : Content → Progress × Objects × Bool → Content × Report
+cleared c (p, o, true) = (record c { progress = p; objects = o }, Worked)
+cleared c (p, o, false) = (cycle_ended c, CycleDone)
+
+-- a round begins: nobody has answered it, and nothing was marked since
+abbrev pub round_posted : Content → Content
+round_posted c = record c { posts = posted_round c.posts; objects = record c.objects { spaces = record c.objects.spaces { has_marked = false } } }
+
+-- Nothing is grey: marking is closed, a round waits for its answers, or the next one is posted.
+abbrev pub rounds : Content → Content × Report
+rounds c =
+    if is_closed c.progress c.objects c.posts then next_posted c
+    else if c.posts.has_round && not (all_answered c.posts) then (c, Waiting)
+    else (round_posted c, Worked)
+
+abbrev pub marked : Content → Progress × Objects × Bool → Content × Report
+marked c (p, o, true) = (record c { progress = p; objects = o }, Worked)
+marked c (p, o, false) = rounds c
+
+-- the static fields are scanned first
+abbrev pub mark_work : Content → Content × Report
+mark_work c =
+    if c.progress.scanned_statics then marked c (marked_on c.tree c.progress c.objects)
+    else (record c { progress = (statics_scanned c.progress c.objects c.statics).0; objects = (statics_scanned c.progress c.objects c.statics).1 }, Worked)
+
+abbrev pub work : Phase → Content → Content × Report
+work Idle c = if opens_cycles then (cycle_opened c, Worked) else (c, Waiting)
+work Mark c = mark_work c
+work Allocate c = worked c (looked_on c.progress c.objects)
+work Copy c = worked c (copied_on c.tree c.progress c.objects)
+work PreFlip c = next_posted c
+work HeapFlip c = flipped c (flipped_on c.progress c.objects c.statics)
+work ThreadFlip c = next_posted c
+work Reclaim c = cleared c (cleared_on c.progress c.objects)
+
+-- a phase's work begins once all live threads have acknowledged it
+abbrev pub collected : Content → Content × Report
+collected c = if all_seen c.posts then work c.posts.posted c else (c, Waiting)
+
+-- ---- acknowledgements
+
+-- the objects once all that some references refer to is marked
+abbrev pub with_roots_marked : Objects → List Addr → Objects
+with_roots_marked o [] = o
+with_roots_marked o (a ∷ rest) = with_roots_marked (with_marked o (Ref a)) rest
+
+-- those of a live thread
+abbrev pub with_standing_marked : Objects → Standing → Objects
+with_standing_marked o (Live m) = with_roots_marked o (roots m)
+with_standing_marked o (Ended e) = o
+
+abbrev pub with_thread_marked : Objects → Option Thread → Objects
+with_thread_marked o thread = option_map_or (λ (x : Thread). with_standing_marked o x.standing) thread o
+
+-- a thread that answers a round of Mark has all marked that its frames hold
+abbrev pub answers_round : Content → ℕ → Bool
+answers_round c t = is_open c.posts t && (is_marking c.posts.posted && option_map_or (λ (s : Seat). is_phase s.phase c.posts.posted) (seat_of c.posts t) false)
+
+abbrev pub objects_after : Content → ℕ → Objects
+objects_after c t = if answers_round c t then with_thread_marked c.objects (slice_get c.threads t) else c.objects
+
+-- a thread that acknowledges ThreadFlip has the forward of each reference in its frames
+abbrev pub standing_flipped : Objects → Standing → Standing
+standing_flipped o (Live m) = Live (with_references (forward o.spaces) m)
+standing_flipped o (Ended e) = Ended e
+
+abbrev pub thread_flipped : Objects → Thread → Thread
+thread_flipped o x = record x { standing = standing_flipped o x.standing }
+
+abbrev pub with_flipped : Objects → List Thread → ℕ → Option Thread → List Thread
+with_flipped o threads t thread = option_map_or (λ (x : Thread). slice_set threads t (thread_flipped o x)) thread threads
+
+abbrev pub flips_frames : Content → ℕ → Bool
+flips_frames c t = is_phase c.posts.posted ThreadFlip && option_map_or (λ (s : Seat). not (is_phase s.phase c.posts.posted)) (seat_of c.posts t) false
+
+abbrev pub threads_after : Content → ℕ → List Thread
+threads_after c t = if flips_frames c t then with_flipped c.objects c.threads t (slice_get c.threads t) else c.threads
+
+-- what it is answered
+abbrev pub acknowledgement : Content → ℕ → Report
+acknowledgement c t = if is_open c.posts t then Acked else if is_live_at c.threads t then NothingPosted else Absent
+
+-- the phase is acknowledged, or else the round answered
+abbrev pub with_acknowledgement : Content → ℕ → Content × Report
+with_acknowledgement c t = (record c { threads = threads_after c t; posts = acknowledged c.posts t; objects = objects_after c t }, acknowledgement c t)
