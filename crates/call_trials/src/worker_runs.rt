@@ -57,18 +57,16 @@ const HELD_PASS: u32 = 20;
 /// How many passes the other worker has to begin meanwhile.
 const PASSES_MEANWHILE: u64 = 50;
 
-/// Whether one worker leaves the record that its rule gives by hand: after each event of the collector the next number is posted, so each
-/// pass but the first begins with an acknowledgement, and the last one, which finds no live thread, has an event of the collector alone.
+/// Whether one worker leaves the record that its rule gives by hand: the first event of the collector opens a cycle, and the second waits,
+/// so the next number is posted, and the pass behind it begins with an acknowledgement; from then on the collector marks. The last pass,
+/// which finds no live thread, has an event of the collector alone.
 pub(crate) fn records_one_worker(
     threads: &(impl Threads + Wait + Sync),
     alloc: Global,
 ) -> Result<bool, Failure> {
     let outcome = run_threads(threads, alloc, SUM.as_bytes(), LIMITS, 1, &OpenGate)?;
     let record = write_record(alloc, &outcome.history)?;
-    Ok(
-        record.as_str() == "s0 g a0 s0 g a0 s0 g a0 s0 g a0 s0 g*2"
-            && outcome.console() == b"5\n".as_slice(),
-    )
+    Ok(record.as_str() == "s0 g s0 g a0 s0 g s0 g s0 g*2" && outcome.console() == b"5\n".as_slice())
 }
 
 /// Whether so many workers run three threads to their ends, and whoever replays their record gets the same bytes, the same ends and the

@@ -30,7 +30,12 @@ pub fn difference(
     limits: Limits,
     text: &[u8],
 ) -> Result<Option<String>, Failure> {
-    match compare_by(alloc, source, limits, text) {
+    difference_in(compare_by(alloc, source, limits, text))
+}
+
+/// The difference that a comparison found. Where the source, the limits or the schedule are refused there was none to find.
+pub(crate) fn difference_in(trial: Result<Trial, Failure>) -> Result<Option<String>, Failure> {
+    match trial {
         Ok(trial) => Ok(trial.difference),
         Err(Failure::Refused(_)) | Err(Failure::OutOfRange(_)) => Ok(None),
         Err(failure) => Err(failure),
@@ -135,7 +140,8 @@ fn told(
 /// The report of a step in which a birth is refused.
 const REFUSED_BIRTH: Report = Report::Ended(End::Fault(Fault::OutOfMemory));
 
-/// What the plain machine has for an event: a step's report, and without a collector nothing to acknowledge or to do.
+/// What the plain machine has for an event: a step's report. It has no collector, so what came of any other event stands, if it is of
+/// the kind that the event is answered by.
 fn expected(
     plain: &mut PlainMachine,
     event: Event,
@@ -143,10 +149,17 @@ fn expected(
 ) -> Result<Option<Report>, NoMemory> {
     match event {
         Event::Step(thread) => plain.step(thread, came == REFUSED_BIRTH),
-        Event::Ack(thread) if plain.is_live(thread) => Ok(Some(Report::NothingPosted)),
+        Event::Ack(thread) if plain.is_live(thread) => {
+            Ok(Some(one_of(came, Report::Acked, Report::NothingPosted)))
+        }
         Event::Ack(_) => Ok(Some(Report::Absent)),
-        Event::Gc => Ok(Some(Report::Waiting)),
+        Event::Gc => Ok(Some(one_of(came, Report::Worked, Report::Waiting))),
     }
+}
+
+/// The report that came, where it is one of these two; else the first of them.
+fn one_of(came: Report, first: Report, second: Report) -> Report {
+    if came == second { came } else { first }
 }
 
 /// Whether both tell the same of what was printed and of the threads.

@@ -1,10 +1,11 @@
 //! Programs that are made up, each run by a schedule that is made up too.
 
-use crate::machines::{Trial, compare};
+use crate::machines::{Trial, compare, difference_in};
+use crate::made_up_sources::{Grammar, source_of};
+use crate::random::Random;
 use cil_model::events::Event;
 use cil_model::limits::Limits;
 use cil_model::reports::{End, Fault, Report};
-use made_up_programs::{Grammar, Random, source_of};
 use source_runs::Failure;
 use std::alloc::{AllocError, Global};
 use std::{fs, io};
@@ -77,6 +78,16 @@ pub fn try_programs(rt: &HostRuntime) -> Result<usize, Failure> {
     Ok(tally.differing)
 }
 
+/// The same as `difference` by a schedule that is made up, of events of all kinds: the same one for each source.
+pub fn difference_by_chance(
+    alloc: Global,
+    source: &[u8],
+    limits: Limits,
+) -> Result<Option<String>, Failure> {
+    let events = events_among(alloc, &mut Random::new(PROGRAMS))?;
+    difference_in(compare(alloc, source, limits, events.as_slice()))
+}
+
 /// Does the program of a number. One that is refused counts as one that differs.
 fn try_program(
     rt: &HostRuntime,
@@ -122,13 +133,13 @@ fn events_among(alloc: Global, random: &mut Random) -> Result<Vec<Event>, AllocE
     Ok(events)
 }
 
-/// Mostly a step of the first thread.
+/// Mostly a step of the first thread; and so many acknowledgements and events of the collector that it marks and copies meanwhile.
 fn event_among(random: &mut Random) -> Event {
     match random.below(100) {
-        0..=61 => Event::Step(0),
-        62..=85 => Event::Step(1),
-        86..=92 => Event::Step(2),
-        93..=95 => Event::Ack(u8::try_from(random.below(3)).unwrap_or(0)),
+        0..=51 => Event::Step(0),
+        52..=71 => Event::Step(1),
+        72..=77 => Event::Step(2),
+        78..=85 => Event::Ack(u8::try_from(random.below(3)).unwrap_or(0)),
         _ => Event::Gc,
     }
 }

@@ -21,13 +21,14 @@ use std::sync::Wait;
 use std::thread::Threads;
 
 /// The groups of cases. Those of `NAME` stand in the file `NAME.txt`.
-const GROUPS: [&str; 10] = [
+const GROUPS: [&str; 11] = [
     "command_line",
     "commands",
     "schedules",
     "sources",
     "refusals",
     "machine",
+    "collections",
     "traces",
     "deadlocks",
     "examples",

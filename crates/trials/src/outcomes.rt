@@ -3,7 +3,7 @@
 use crate::answers::answer;
 use crate::cases::Case;
 use crate::records::add_record;
-use crate::reports::{add_difference, add_run};
+use crate::reports::{add_differences, add_run};
 use crate::texts::{expanded, limits_of, words_of};
 use command_line::{LineFault, Unread, order};
 use driver::{Device, drive};
@@ -125,7 +125,7 @@ fn carry_out(
     if case.wanted.contains("\n--- reports") {
         add_run(threads, rt.alloc(), order, &files, out)?;
     }
-    add_difference(rt.alloc(), order, &files, out)
+    add_differences(rt.alloc(), order, &files, out)
 }
 
 /// The files of an order: the texts of the case, and else the files that the order names.

@@ -4,7 +4,7 @@ use crate::outcomes::Files;
 use cil_model::limits::Limits;
 use cil_model::reports::{End, Report};
 use driver::Device;
-use machine_comparison::difference;
+use machine_comparison::{difference, difference_by_chance};
 use orders::Order;
 use schedule_text::read_schedule;
 use shared_machine::Run;
@@ -43,8 +43,9 @@ fn run_of<'a>(order: &Order<'a>, files: &'a Files) -> Option<(Limits, &'a [u8])>
     }
 }
 
-/// Adds what the plain machine tells else of the events of an order; nothing where both machines agree, or nothing runs.
-pub fn add_difference(
+/// Adds what the plain machine tells else of the events of an order, and of those of a schedule that is made up; nothing where both
+/// machines agree, or nothing runs.
+pub fn add_differences(
     alloc: Global,
     order: &Order<'_>,
     files: &Files,
@@ -53,9 +54,26 @@ pub fn add_difference(
     let Some((limits, text)) = run_of(order, files) else {
         return Ok(());
     };
-    match difference(alloc, files.source.as_slice(), limits, text) {
+    let source = files.source.as_slice();
+    add_difference(difference(alloc, source, limits, text), "its", out)?;
+    let by_chance = difference_by_chance(alloc, source, limits);
+    add_difference(by_chance, "a made-up", out)
+}
+
+/// Adds a difference that was found by a schedule.
+fn add_difference(
+    found: Result<Option<String>, Failure>,
+    schedule: &str,
+    out: &mut Vec<u8>,
+) -> io::Result<()> {
+    match found {
         Ok(None) => Ok(()),
-        Ok(Some(told)) => writeln!(out, "--- the plain machine differs at {told}"),
+        Ok(Some(told)) => {
+            writeln!(
+                out,
+                "--- by {schedule} schedule the plain machine differs at {told}"
+            )
+        }
         Err(failure) => {
             report(failure, &mut Device::new(&mut *out));
             Ok(())
@@ -82,7 +100,7 @@ fn add_events(
         events.as_slice(),
     )?;
     add_reports(outcome.history.runs(), out)?;
-    writeln!(out, "--- used {}", outcome.machine.used().0)?;
+    add_used(outcome.machine.used(), out)?;
     Ok(())
 }
 
@@ -111,13 +129,24 @@ fn add_equal(runs: &[Run], out: &mut Vec<u8>) -> io::Result<()> {
     Ok(())
 }
 
-/// Adds `r` for ran, `b` blocked, `a` absent, `n` nothing posted, `w` waiting, and the end of a thread in brackets.
+/// Adds the words in use: of the old space, or the only one, and of the new one where it has any.
+fn add_used((old, new): (u32, u32), out: &mut Vec<u8>) -> io::Result<()> {
+    match new {
+        0 => writeln!(out, "--- used {old}"),
+        _ => writeln!(out, "--- used {old} {new}"),
+    }
+}
+
+/// Adds `r` for ran, `b` blocked, `a` absent, `k` acknowledged, `n` nothing posted, `o` worked, `w` waiting, and the end of a thread in
+/// brackets.
 fn add_report(report: Report, out: &mut Vec<u8>) -> io::Result<()> {
     match report {
         Report::Ran => write!(out, " r"),
         Report::Blocked => write!(out, " b"),
         Report::Absent => write!(out, " a"),
+        Report::Acked => write!(out, " k"),
         Report::NothingPosted => write!(out, " n"),
+        Report::Worked => write!(out, " o"),
         Report::Waiting => write!(out, " w"),
         Report::Ended(End::Fault(fault)) => write!(out, " [{fault:?}]"),
         Report::Ended(end) => write!(out, " [{end:?}]"),
