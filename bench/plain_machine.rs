@@ -3,11 +3,13 @@
 //
 // It has resolved instructions, values of four kinds, all frames of a thread in one row of values with a record for each, objects of
 // three header words and their slots in one row of words, and a budget that is counted at each step; `Machine::step` does one event
-// and reports it.
+// and reports it. Instructions reach objects by `Objects` alone: `plain_collector.rs` has a machine whose heap is collected.
 
 use std::io::Write;
 
 use Operation::*;
+
+include!("plain_instructions.rs");
 
 // ---- values and objects
 
@@ -83,24 +85,76 @@ impl Value {
     }
 }
 
-#[derive(Clone, Copy, Debug)]
+/// What the elements of an array are. A class has its number.
+#[derive(Clone, Copy, Debug, PartialEq, Eq)]
+enum Element {
+    Int32,
+    Int64,
+    Class(u16),
+}
+
+impl Element {
+    fn number(self) -> u64 {
+        match self {
+            Element::Int32 => 0,
+            Element::Int64 => 1,
+            Element::Class(class) => 4 + u64::from(class),
+        }
+    }
+
+    fn numbered(number: u64) -> Element {
+        match number {
+            0 => Element::Int32,
+            1 => Element::Int64,
+            _ => Element::Class((number - 4) as u16),
+        }
+    }
+}
+
+#[derive(Clone, Copy, Debug, PartialEq, Eq)]
 enum Kind {
     Instance(u16),
-    Array(ValueKind),
+    Array(Element),
 }
 
 impl Kind {
     fn header(self, slots: u32) -> u64 {
         let number = match self {
             Kind::Instance(class) => u64::from(class),
-            Kind::Array(element) => 65_536 + 256 * element as u64,
+            Kind::Array(element) => 65_536 + 256 * element.number(),
         };
         u64::from(slots) + (number << 32)
+    }
+
+    fn told(header: u64) -> Kind {
+        let number = header >> 32;
+        if number < 65_536 {
+            Kind::Instance(number as u16)
+        } else {
+            Kind::Array(Element::numbered((number - 65_536) / 256))
+        }
     }
 }
 
 /// The words before an object's slots: what it is, what a collector notes at it, and its monitor.
 const HEADER_WORDS: usize = 3;
+
+/// What instructions ask of the objects.
+trait Objects {
+    fn birth(&mut self, kind: Kind, slots: u32) -> Option<Address>;
+
+    fn kind(&self, object: Address) -> Kind;
+
+    fn slots(&self, object: Address) -> u32;
+
+    fn slot(&self, object: Address, index: u32) -> u64;
+
+    fn store(&mut self, object: Address, index: u32, value: Value);
+
+    fn store_static(&mut self, statics: &mut [Value], number: u32, value: Value);
+
+    fn are_same(&self, first: Address, second: Address) -> bool;
+}
 
 struct Heap {
     words: Vec<u64>,
@@ -114,7 +168,9 @@ impl Heap {
         words.fill(0);
         Heap { words, used: 0 }
     }
+}
 
+impl Objects for Heap {
     fn birth(&mut self, kind: Kind, slots: u32) -> Option<Address> {
         let size = HEADER_WORDS + slots as usize;
         if self.words.len() - self.used < size {
@@ -126,6 +182,10 @@ impl Heap {
         Some(Address(place as u32 + 1))
     }
 
+    fn kind(&self, object: Address) -> Kind {
+        Kind::told(self.words[object.place()])
+    }
+
     fn slots(&self, object: Address) -> u32 {
         self.words[object.place()] as u32
     }
@@ -134,8 +194,16 @@ impl Heap {
         self.words[object.place() + HEADER_WORDS + index as usize]
     }
 
-    fn set_slot(&mut self, object: Address, index: u32, word: u64) {
-        self.words[object.place() + HEADER_WORDS + index as usize] = word;
+    fn store(&mut self, object: Address, index: u32, value: Value) {
+        self.words[object.place() + HEADER_WORDS + index as usize] = value.word();
+    }
+
+    fn store_static(&mut self, statics: &mut [Value], number: u32, value: Value) {
+        statics[number as usize] = value;
+    }
+
+    fn are_same(&self, first: Address, second: Address) -> bool {
+        first == second
     }
 }
 
@@ -186,7 +254,7 @@ enum BranchComparison {
     Less,
 }
 
-/// Instructions, with slots and numbers of methods in place of names. Left out are those with types, virtual calls and strings.
+/// Instructions, with slots and numbers of methods in place of names. Left out are casts, virtual calls and strings.
 #[derive(Debug)]
 enum Operation {
     NoOperation,
@@ -214,10 +282,11 @@ enum Operation {
     StoreField { slot: u32 },
     LoadStaticField(u32),
     StoreStaticField(u32),
-    NewArray(ValueKind),
+    NewArray(Element),
     LoadLength,
     LoadElement(ValueKind),
     StoreElement,
+    StoreElementReference,
     Call(u32),
     NewObject { class: u16, slots: u32, method: u32 },
     Return,
@@ -237,12 +306,24 @@ struct Method {
     operations: Vec<Operation>,
 }
 
+/// A class: for each class whether it may stand for that, and for each slot of its objects whether it holds a reference.
+struct Class {
+    stands_for: Vec<bool>,
+    references: Vec<bool>,
+}
+
+struct Program {
+    methods: Vec<Method>,
+    classes: Vec<Class>,
+}
+
 // ---- frames and threads
 
 #[derive(Clone, Copy, Debug, PartialEq, Eq)]
 enum Fault {
     NullReference,
     IndexOutOfRange,
+    ArrayTypeMismatch,
     DivideByZero,
     Arithmetic,
     Overflow,
@@ -277,8 +358,11 @@ enum Report {
     Ran,
     Ended(End),
     Absent,
+    Acked,
     NothingPosted,
+    Worked,
     Waiting,
+    CycleDone,
 }
 
 /// Where the values of a frame begin. Beside them what it runs, and the object to push at the end of a constructor.
@@ -420,330 +504,6 @@ impl Thread {
     }
 }
 
-// ---- instructions
-
-macro_rules! divided {
-    ($x:expr, $y:expr, $least:expr, $result:expr) => {
-        if $y == 0 {
-            Err(Fault::DivideByZero)
-        } else if $x == $least && $y == -1 {
-            Err(Fault::Arithmetic)
-        } else {
-            Ok($result)
-        }
-    };
-}
-
-macro_rules! binary_result {
-    ($operation:expr, $x:expr, $y:expr, $least:expr) => {
-        match $operation {
-            BinaryOperation::Add => Ok($x.wrapping_add($y)),
-            BinaryOperation::Subtract => Ok($x.wrapping_sub($y)),
-            BinaryOperation::Multiply => Ok($x.wrapping_mul($y)),
-            BinaryOperation::AddOverflow => $x.checked_add($y).ok_or(Fault::Overflow),
-            BinaryOperation::SubtractOverflow => $x.checked_sub($y).ok_or(Fault::Overflow),
-            BinaryOperation::MultiplyOverflow => $x.checked_mul($y).ok_or(Fault::Overflow),
-            BinaryOperation::Divide => divided!($x, $y, $least, $x / $y),
-            BinaryOperation::Remainder => divided!($x, $y, $least, $x % $y),
-            BinaryOperation::And => Ok($x & $y),
-            BinaryOperation::Or => Ok($x | $y),
-            BinaryOperation::ExclusiveOr => Ok($x ^ $y),
-        }
-    };
-}
-
-fn binary(frames: &mut Frames, operation: BinaryOperation) -> Effect {
-    let second = frames.pop();
-    let first = frames.pop();
-    let result = match (first, second) {
-        (Value::Int32(x), Value::Int32(y)) => {
-            binary_result!(operation, x, y, i32::MIN).map(Value::Int32)
-        }
-        (Value::Int64(x), Value::Int64(y)) => {
-            binary_result!(operation, x, y, i64::MIN).map(Value::Int64)
-        }
-        _ => unreachable!(),
-    };
-    frames.leave_result(result)
-}
-
-fn unary(frames: &mut Frames, operation: UnaryOperation) -> Effect {
-    let result = match (operation, frames.pop()) {
-        (UnaryOperation::Negate, Value::Int32(x)) => Value::Int32(x.wrapping_neg()),
-        (UnaryOperation::Negate, Value::Int64(x)) => Value::Int64(x.wrapping_neg()),
-        (UnaryOperation::Complement, Value::Int32(x)) => Value::Int32(!x),
-        (UnaryOperation::Complement, Value::Int64(x)) => Value::Int64(!x),
-        _ => unreachable!(),
-    };
-    frames.leave(result)
-}
-
-macro_rules! shifted {
-    ($operation:expr, $x:expr, $amount:expr, $unsigned:ty) => {
-        match $operation {
-            ShiftOperation::Left => $x.wrapping_shl($amount as u32),
-            ShiftOperation::Right => $x.wrapping_shr($amount as u32),
-            ShiftOperation::RightUnsigned => ($x as $unsigned).wrapping_shr($amount as u32) as _,
-        }
-    };
-}
-
-fn shift(frames: &mut Frames, operation: ShiftOperation) -> Effect {
-    let amount = frames.pop();
-    let result = match (frames.pop(), amount) {
-        (Value::Int32(x), Value::Int32(y)) => Value::Int32(shifted!(operation, x, y, u32)),
-        (Value::Int64(x), Value::Int32(y)) => Value::Int64(shifted!(operation, x, y, u64)),
-        _ => unreachable!(),
-    };
-    frames.leave(result)
-}
-
-fn compared<T: Ord>(operation: Comparison, x: T, y: T) -> bool {
-    match operation {
-        Comparison::Equal => x == y,
-        Comparison::Greater => x > y,
-        Comparison::Less => x < y,
-    }
-}
-
-fn compare(frames: &mut Frames, operation: Comparison) -> Effect {
-    let second = frames.pop();
-    let first = frames.pop();
-    let holds = match (first, second) {
-        (Value::Int32(x), Value::Int32(y)) => compared(operation, x, y),
-        (Value::Int64(x), Value::Int64(y)) => compared(operation, x, y),
-        (Value::Ref(x), Value::Ref(y)) => x == y,
-        _ => unreachable!(),
-    };
-    frames.leave(Value::Int32(i32::from(holds)))
-}
-
-fn is_taken<T: Ord>(operation: BranchComparison, x: T, y: T) -> bool {
-    match operation {
-        BranchComparison::Equal => x == y,
-        BranchComparison::NotEqual => x != y,
-        BranchComparison::GreaterOrEqual => x >= y,
-        BranchComparison::Greater => x > y,
-        BranchComparison::LessOrEqual => x <= y,
-        BranchComparison::Less => x < y,
-    }
-}
-
-fn branch_compare(frames: &mut Frames, operation: BranchComparison, place: u32) -> Effect {
-    let second = frames.pop();
-    let first = frames.pop();
-    let holds = match (first, second) {
-        (Value::Int32(x), Value::Int32(y)) => is_taken(operation, x, y),
-        (Value::Int64(x), Value::Int64(y)) => is_taken(operation, x, y),
-        (Value::Ref(x), Value::Ref(y)) => is_taken(operation, x.0, y.0),
-        _ => unreachable!(),
-    };
-    frames.branch_if(holds, place)
-}
-
-fn switch(frames: &mut Frames, places: &[u32]) -> Effect {
-    match frames.pop() {
-        Value::Int32(number) => match places.get(number as u32 as usize) {
-            Some(place) => frames.jump(*place),
-            None => frames.go_on(),
-        },
-        _ => unreachable!(),
-    }
-}
-
-fn convert_32(value: Value) -> Value {
-    match value {
-        Value::Int32(x) => Value::Int32(x),
-        Value::Int64(x) | Value::Native(x) => Value::Int32(x as i32),
-        Value::Ref(_) => unreachable!(),
-    }
-}
-
-fn convert_64(value: Value) -> Value {
-    match value {
-        Value::Int32(x) => Value::Int64(i64::from(x)),
-        Value::Int64(x) | Value::Native(x) => Value::Int64(x),
-        Value::Ref(_) => unreachable!(),
-    }
-}
-
-fn load_field(frames: &mut Frames, heap: &Heap, slot: u32, held: ValueKind) -> Effect {
-    let object = frames.pop().reference();
-    if object == NULL {
-        return Effect::Raises(Fault::NullReference);
-    }
-    frames.leave(Value::held(held, heap.slot(object, slot)))
-}
-
-fn store_field(frames: &mut Frames, heap: &mut Heap, slot: u32) -> Effect {
-    let value = frames.pop();
-    let object = frames.pop().reference();
-    if object == NULL {
-        return Effect::Raises(Fault::NullReference);
-    }
-    heap.set_slot(object, slot, value.word());
-    frames.go_on()
-}
-
-fn load_length(frames: &mut Frames, heap: &Heap) -> Effect {
-    let array = frames.pop().reference();
-    if array == NULL {
-        return Effect::Raises(Fault::NullReference);
-    }
-    frames.leave(Value::Native(i64::from(heap.slots(array))))
-}
-
-/// The place of an element, or why there is none.
-fn element(heap: &Heap, array: Address, index: Value) -> Result<u32, Fault> {
-    if array == NULL {
-        return Err(Fault::NullReference);
-    }
-    let index = index.index();
-    if 0 <= index && index < i64::from(heap.slots(array)) {
-        Ok(index as u32)
-    } else {
-        Err(Fault::IndexOutOfRange)
-    }
-}
-
-fn load_element(frames: &mut Frames, heap: &Heap, held: ValueKind) -> Effect {
-    let index = frames.pop();
-    let array = frames.pop().reference();
-    match element(heap, array, index) {
-        Ok(place) => frames.leave(Value::held(held, heap.slot(array, place))),
-        Err(fault) => Effect::Raises(fault),
-    }
-}
-
-fn store_element(frames: &mut Frames, heap: &mut Heap) -> Effect {
-    let value = frames.pop();
-    let index = frames.pop();
-    let array = frames.pop().reference();
-    match element(heap, array, index) {
-        Ok(place) => {
-            heap.set_slot(array, place, value.word());
-            frames.go_on()
-        }
-        Err(fault) => Effect::Raises(fault),
-    }
-}
-
-fn new_array(frames: &mut Frames, heap: &mut Heap, element: ValueKind) -> Effect {
-    let length = frames.pop().index();
-    if length < 0 {
-        return Effect::Raises(Fault::Overflow);
-    }
-    let born = match u32::try_from(length) {
-        Ok(length) => heap.birth(Kind::Array(element), length),
-        Err(_) => None,
-    };
-    match born {
-        Some(array) => frames.leave(Value::Ref(array)),
-        None => Effect::Raises(Fault::OutOfMemory),
-    }
-}
-
-fn write(frames: &mut Frames, console: &mut Vec<u8>) -> Effect {
-    match frames.pop() {
-        Value::Int32(number) => writeln!(console, "{number}").unwrap(),
-        Value::Int64(number) => writeln!(console, "{number}").unwrap(),
-        _ => unreachable!(),
-    }
-    frames.go_on()
-}
-
-fn call(methods: &[Method], number: u32, frames: &mut Frames, console: &mut Vec<u8>) -> Effect {
-    let method = &methods[number as usize];
-    match method.action {
-        Some(Action::Construct) => {
-            frames.pop();
-            frames.go_on()
-        }
-        Some(Action::Write) => write(frames, console),
-        None => {
-            if frames.is_full() {
-                return Effect::Raises(Fault::StackOverflow);
-            }
-            frames.running.place += 1;
-            frames.push_frame(number, method, None);
-            Effect::GoesOn
-        }
-    }
-}
-
-fn new_object(
-    methods: &[Method],
-    (class, slots, number): (u16, u32, u32),
-    frames: &mut Frames,
-    heap: &mut Heap,
-) -> Effect {
-    let method = &methods[number as usize];
-    let is_built_in = method.action.is_some();
-    if !is_built_in && frames.is_full() {
-        return Effect::Raises(Fault::StackOverflow);
-    }
-    let Some(object) = heap.birth(Kind::Instance(class), slots) else {
-        return Effect::Raises(Fault::OutOfMemory);
-    };
-    if is_built_in {
-        return frames.leave(Value::Ref(object));
-    }
-    let first = frames.values.len() + 1 - method.arguments;
-    frames.values.insert(first, Value::Ref(object));
-    frames.running.place += 1;
-    frames.push_frame(number, method, Some(object));
-    Effect::GoesOn
-}
-
-fn return_from(methods: &[Method], frames: &mut Frames) -> Effect {
-    let value = match frames.running.constructed {
-        Some(object) => Some(Value::Ref(object)),
-        None if methods[frames.running.method as usize].has_value => Some(frames.pop()),
-        None => None,
-    };
-    if frames.below.is_empty() {
-        return Effect::Returns;
-    }
-    frames.pop_frame();
-    if let Some(value) = value {
-        frames.push(value);
-    }
-    Effect::GoesOn
-}
-
-fn load_local(frames: &mut Frames, index: u16) -> Effect {
-    let value = *frames.local(index);
-    frames.leave(value)
-}
-
-fn store_local(frames: &mut Frames, index: u16) -> Effect {
-    let value = frames.pop();
-    *frames.local(index) = value;
-    frames.go_on()
-}
-
-fn load_argument(frames: &mut Frames, index: u16) -> Effect {
-    let value = *frames.argument(index);
-    frames.leave(value)
-}
-
-fn store_argument(frames: &mut Frames, index: u16) -> Effect {
-    let value = frames.pop();
-    *frames.argument(index) = value;
-    frames.go_on()
-}
-
-fn duplicate(frames: &mut Frames) -> Effect {
-    let value = frames.pop();
-    frames.push(value);
-    frames.leave(value)
-}
-
-fn store_static(frames: &mut Frames, statics: &mut [Value], number: u32) -> Effect {
-    statics[number as usize] = frames.pop();
-    frames.go_on()
-}
-
 // ---- machines
 
 /// The limits of a run: the words of the heap, the steps that a thread may make, and its frames.
@@ -755,7 +515,7 @@ struct Limits {
 }
 
 struct Machine {
-    methods: Vec<Method>,
+    program: Program,
     threads: Vec<Thread>,
     heap: Heap,
     statics: Vec<Value>,
@@ -766,7 +526,10 @@ impl Machine {
     fn new(methods: Vec<Method>, limits: Limits) -> Machine {
         let frames = Frames::new(limits.depth, MAIN, &methods[MAIN as usize].locals);
         Machine {
-            methods,
+            program: Program {
+                methods,
+                classes: Vec::new(),
+            },
             threads: vec![Thread {
                 standing: Standing::Live(frames),
                 steps_left: limits.budget,
@@ -799,7 +562,7 @@ impl Machine {
             return Report::Absent;
         };
         let effect = instruct(
-            &self.methods,
+            &self.program,
             frames,
             &mut self.heap,
             &mut self.statics,
@@ -815,70 +578,6 @@ impl Machine {
             Standing::Ended(End::Budget) => "budget",
             Standing::Ended(End::Fault(_)) => "fault",
         }
-    }
-}
-
-/// Does the instruction at the running frame's place.
-fn instruct(
-    methods: &[Method],
-    frames: &mut Frames,
-    heap: &mut Heap,
-    statics: &mut [Value],
-    console: &mut Vec<u8>,
-) -> Effect {
-    let running = &frames.running;
-    match &methods[running.method as usize].operations[running.place as usize] {
-        NoOperation => frames.go_on(),
-        LoadInt32(number) => frames.leave(Value::Int32(*number)),
-        LoadInt64(number) => frames.leave(Value::Int64(*number)),
-        LoadNull => frames.leave(Value::Ref(NULL)),
-        LoadArgument(index) => load_argument(frames, *index),
-        StoreArgument(index) => store_argument(frames, *index),
-        LoadLocal(index) => load_local(frames, *index),
-        StoreLocal(index) => store_local(frames, *index),
-        Duplicate => duplicate(frames),
-        Pop => {
-            frames.pop();
-            frames.go_on()
-        }
-        Binary(operation) => binary(frames, *operation),
-        Unary(operation) => unary(frames, *operation),
-        Shift(operation) => shift(frames, *operation),
-        Compare(operation) => compare(frames, *operation),
-        ConvertInt32 => {
-            let value = frames.pop();
-            frames.leave(convert_32(value))
-        }
-        ConvertInt64 => {
-            let value = frames.pop();
-            frames.leave(convert_64(value))
-        }
-        Branch(place) => frames.jump(*place),
-        BranchTrue(place) => {
-            let holds = frames.pop().is_set();
-            frames.branch_if(holds, *place)
-        }
-        BranchFalse(place) => {
-            let holds = !frames.pop().is_set();
-            frames.branch_if(holds, *place)
-        }
-        BranchCompare(operation, place) => branch_compare(frames, *operation, *place),
-        Switch(places) => switch(frames, places),
-        LoadField { slot, held } => load_field(frames, heap, *slot, *held),
-        StoreField { slot } => store_field(frames, heap, *slot),
-        LoadStaticField(number) => frames.leave(statics[*number as usize]),
-        StoreStaticField(number) => store_static(frames, statics, *number),
-        NewArray(element) => new_array(frames, heap, *element),
-        LoadLength => load_length(frames, heap),
-        LoadElement(held) => load_element(frames, heap, *held),
-        StoreElement => store_element(frames, heap),
-        Call(number) => call(methods, *number, frames, console),
-        NewObject {
-            class,
-            slots,
-            method,
-        } => new_object(methods, (*class, *slots, *method), frames, heap),
-        Return => return_from(methods, frames),
     }
 }
 

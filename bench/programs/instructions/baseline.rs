@@ -87,7 +87,7 @@ fn fields() -> Vec<Method> {
 #[rustfmt::skip]
 fn elements() -> Vec<Method> {
     let main = vec![
-        LoadInt32(1000), NewArray(ValueKind::Int32), StoreLocal(0),
+        LoadInt32(1000), NewArray(Element::Int32), StoreLocal(0),
         LoadInt32(0), StoreLocal(1),
         LoadLocal(0), LoadLocal(1), LoadLocal(0), LoadLocal(1), LoadElement(ValueKind::Int32),
         LoadLocal(1), Binary(BinaryOperation::Add), StoreElement,
@@ -105,7 +105,7 @@ fn elements() -> Vec<Method> {
 fn births() -> Vec<Method> {
     let main = vec![
         new_pair(), StoreLocal(0),
-        LoadInt32(4), NewArray(ValueKind::Int32), StoreLocal(1),
+        LoadInt32(4), NewArray(Element::Int32), StoreLocal(1),
         Branch(0),
     ];
     methods(vec![ValueKind::Ref; 2], main, vec![constructor()])

@@ -1,9 +1,9 @@
 -- Lemmas on options and lists that std does not have.
 use Rattle.std.proofs.Common.{◌≡◌, ◌≤◌, ◌⊎◌, ℕ, zero, suc, Bool, true, false, ◌&&◌, ◌||◌, cond, IsTrue, List, [], ◌∷◌, ◌++◌, length, map, find, Option, Some, None, slice_get, slice_set, refl, inl, inr, sym, ap, ◌∙◌, subst, arith}
-use Rattle.std.specs.Prelude.{flat_map, filter_map}
+use Rattle.std.specs.Prelude.{filter, flat_map, filter_map}
 use Rattle.std.specs.List.{list_any, list_all, cons_option}
 use Rattle.std.specs.Option.{option_map_or}
-use Rattle.std.proofs.lemmas.Bool.{or_parts}
+use Rattle.std.proofs.lemmas.Bool.{or_from, or_parts}
 use Rattle.std.proofs.lemmas.List.Folds.{list_all-append}
 use Rattle.std.proofs.lemmas.Option.{none-some, same_Some}
 use Rattle.cil_model.specs.Legality.{has_repeat}
@@ -109,3 +109,21 @@ list_all-filter_map {X} {Y} p f (x ∷ xs) = by_found (f x) (list_all-filter_map
 pub has_repeat-map : {X Y : Type 0} (f : X → Y) (same : Y → Y → Bool) (xs : List X) → has_repeat same (map f xs) ≡ has_repeat (λ a b. same (f a) (f b)) xs
 has_repeat-map f same [] = refl
 has_repeat-map f same (x ∷ xs) = ap (λ b. b || has_repeat same (map f xs)) (list_any-map f (same (f x)) xs) ∙ ap (λ b. list_any (λ y. same (f x) (f y)) xs || b) (has_repeat-map f same xs)
+
+-- what no item passes, no item that is kept passes
+pub none_kept : {X : Type 0} (test kept : X → Bool) (xs : List X) → list_any test xs ≡ false → list_any test (filter kept xs) ≡ false
+none_kept test kept [] h = refl
+none_kept test kept (x ∷ xs) h = by_test (kept x) (none_kept test kept xs (or_parts _ _ h).1)
+  where
+    by_test : (b : Bool) → list_any test (filter kept xs) ≡ false → list_any test (cond b (x ∷ filter kept xs) (filter kept xs)) ≡ false
+    by_test true rest = or_from _ _ (or_parts _ _ h).0 rest
+    by_test false rest = rest
+
+-- where no item stands twice, none that is kept does
+pub once_kept : {X : Type 0} (same : X → X → Bool) (kept : X → Bool) (xs : List X) → has_repeat same xs ≡ false → has_repeat same (filter kept xs) ≡ false
+once_kept same kept [] h = refl
+once_kept same kept (x ∷ xs) h = by_test (kept x) (once_kept same kept xs (or_parts _ _ h).1)
+  where
+    by_test : (b : Bool) → has_repeat same (filter kept xs) ≡ false → has_repeat same (cond b (x ∷ filter kept xs) (filter kept xs)) ≡ false
+    by_test true rest = or_from _ _ (none_kept (same x) kept xs (or_parts _ _ h).0) rest
+    by_test false rest = rest

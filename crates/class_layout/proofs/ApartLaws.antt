@@ -20,28 +20,10 @@ use Rattle.cil_model.proofs.SameLaws.{same_text_itself, same_class_equal}
 use Rattle.cil_model.proofs.Legal.{no_cycle}
 use Rattle.cil_model.proofs.ChainLaws.{chain_ends}
 use Rattle.name_tables.proofs.NumberLaws.{none_is_some}
-use Rattle.cil_model.proofs.Lists.{passes_not}
+use Rattle.cil_model.proofs.Lists.{once_kept, passes_not}
 use Rattle.class_layout.proofs.SlotLaws.{position_past, same_name, of_flag, key_in, keyed, own_alike, none_along, above, inherited, own_last, once_declared, none_above}
 
 -- ---- lists
-
--- what no item passes, no item that is kept passes
-none_kept : {X : Type 0} (test kept : X → Bool) (xs : List X) → list_any test xs ≡ false → list_any test (filter kept xs) ≡ false
-none_kept test kept [] h = refl
-none_kept test kept (x ∷ xs) h = by_test (kept x) (none_kept test kept xs (or_parts _ _ h).1)
-  where
-    by_test : (b : Bool) → list_any test (filter kept xs) ≡ false → list_any test (cond b (x ∷ filter kept xs) (filter kept xs)) ≡ false
-    by_test true rest = or_from _ _ (or_parts _ _ h).0 rest
-    by_test false rest = rest
-
--- where no item stands twice, none that is kept does
-once_kept : {X : Type 0} (same : X → X → Bool) (kept : X → Bool) (xs : List X) → has_repeat same xs ≡ false → has_repeat same (filter kept xs) ≡ false
-once_kept same kept [] h = refl
-once_kept same kept (x ∷ xs) h = by_test (kept x) (once_kept same kept xs (or_parts _ _ h).1)
-  where
-    by_test : (b : Bool) → has_repeat same (filter kept xs) ≡ false → has_repeat same (cond b (x ∷ filter kept xs) (filter kept xs)) ≡ false
-    by_test true rest = or_from _ _ (none_kept (same x) kept xs (or_parts _ _ h).0) rest
-    by_test false rest = rest
 
 -- what is kept was there
 kept_from : {X : Type 0} (kept : X → Bool) (xs : List X) (p : ℕ) (x : X) → slice_get (filter kept xs) p ≡ Some x → (q : ℕ) × (slice_get xs q ≡ Some x)

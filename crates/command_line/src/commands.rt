@@ -210,7 +210,7 @@ fn trace_command<'a>(alloc: Global) -> Result<Command<'a>, AllocError>
     let command = with_files(alloc, "trace")?
         .about("Replays a schedule, and prints a line of each event")
         .after_help(
-            "A line has these columns, with tabs between them: the event's number, the event, what was reported of it, the instruction that the thread was at, the thread's frames and the height of its stack after the event, and the words in use after it. An empty line ends the trace. What the program prints and how its threads stand follow as 'cilvm replay' prints them.\n\nExample:\n  cilvm trace examples/add.il examples/add.schedule",
+            "A line has these columns, with tabs between them: the event's number, the event, what was reported of it, the instruction that the thread was at, and then, after the event, the thread's frames, the height of its stack, the words in use in the old space, or the only one, and in the new one, the phase that the collector has posted and the one that the thread has acknowledged. An empty line ends the trace. What the program prints and how its threads stand follow as 'cilvm replay' prints them.\n\nExample:\n  cilvm trace examples/add.il examples/add.schedule",
         );
     let command = with_explain(alloc, command, EXPLAIN_RUN)?;
     with_limits(alloc, command)

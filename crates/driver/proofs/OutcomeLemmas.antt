@@ -92,7 +92,7 @@ pub traced_in_part : (source : List ℕ) (limits : Limits) (text : List ℕ) (ex
 traced_in_part source limits text explain events begins after reports out between out' err err' ready traced kept left =
     let first = ready.opened.represents in
     let stands : StandsAfter ready.tree limits events reports after =
-    stands_after ready.tree limits begins after events reports first.0 first.1 first.2 ready.opened.same_program ready.opened.same_limits kept (some_budget limits ready.in_range) traced.each traced.follows in
+    stands_after ready.tree limits begins after events reports first.0 first.1 ready.opened.begins first.2 ready.opened.same_program ready.opened.same_limits kept (some_budget limits ready.in_range) traced.each traced.follows in
     record {
       events = events;
       begins = begins;
@@ -111,7 +111,7 @@ pub has_traced : (source : List ℕ) (limits : Limits) (text : List ℕ) (explai
 has_traced source limits text explain events begins after reports out between out' err err' status ready traced kept left =
     let first = ready.opened.represents in
     let stands : StandsAfter ready.tree limits events reports after =
-    stands_after ready.tree limits begins after events reports first.0 first.1 first.2 ready.opened.same_program ready.opened.same_limits kept (some_budget limits ready.in_range) traced.each traced.follows in
+    stands_after ready.tree limits begins after events reports first.0 first.1 ready.opened.begins first.2 ready.opened.same_program ready.opened.same_limits kept (some_budget limits ready.in_range) traced.each traced.follows in
     record {
       events = events;
       reports = reports;

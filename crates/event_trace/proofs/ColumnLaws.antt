@@ -13,12 +13,13 @@ use Rattle.cil_model.specs.declared.reports.Fault.TheVariants as fault
 use Rattle.cil_model.specs.declared.reports.Report.{Report}
 use Rattle.cil_model.specs.declared.reports.Report.TheVariants.{Ran, Blocked, Ended, Absent, Acked, NothingPosted, Worked, Waiting, CycleDone}
 use Rattle.cil_model.specs.ExceptionNames.{name_of as fault_text}
-use Rattle.object_memory.specs.Objects.{used_space}
+use Rattle.cil_model.specs.declared.phases.Phase.{Phase}
+use Rattle.cil_model.specs.declared.phases.Phase.TheVariants.{Idle, Mark, Allocate, Copy, PreFlip, HeapFlip, ThreadFlip, Reclaim}
 use Rattle.interleaving_core.specs.declared.positions.Position.{Position}
 use Rattle.schedule_text.specs.Items.{name_of as event_text}
 use Rattle.instruction_text.specs.Characters.{IsPrintable}
 use Rattle.instruction_text.proofs.Printable.{Printable, both, printable_class, printable_decimal, printable_instruction, printable_method_name, word}
-use Rattle.event_trace.specs.Columns.{found_at, instruction_column, line_text, position_for, report_text, size_columns}
+use Rattle.event_trace.specs.Columns.{found_at, heap_columns, heap_for, instruction_column, line_text, own_column, phase_text, position_for, report_text, size_columns}
 use Rattle.event_trace.specs.Laws.{LinesHaveColumns}
 
 printable_event : (e : Event) → Printable (event_text e)
@@ -53,6 +54,20 @@ printable_report NothingPosted = word (report_text NothingPosted) refl
 printable_report Worked = word (report_text Worked) refl
 printable_report Waiting = word (report_text Waiting) refl
 printable_report CycleDone = word (report_text CycleDone) refl
+
+printable_phase : (p : Phase) → Printable (phase_text p)
+printable_phase Idle = word (phase_text Idle) refl
+printable_phase Mark = word (phase_text Mark) refl
+printable_phase Allocate = word (phase_text Allocate) refl
+printable_phase Copy = word (phase_text Copy) refl
+printable_phase PreFlip = word (phase_text PreFlip) refl
+printable_phase HeapFlip = word (phase_text HeapFlip) refl
+printable_phase ThreadFlip = word (phase_text ThreadFlip) refl
+printable_phase Reclaim = word (phase_text Reclaim) refl
+
+printable_own : (p : Option Phase) → Printable (own_column p)
+printable_own None = word (codes "-") refl
+printable_own (Some p) = printable_phase p
 
 printable_line : (o : Option Line) → Printable (line_text o)
 printable_line None = word [] refl
@@ -95,19 +110,29 @@ joined a b c d f h w =
     ap (λ l. l ++ 10 ∷ [])
     (grouped a (9 ∷ b) (9 ∷ c) (9 ∷ d) (9 ∷ (f ++ 9 ∷ h)) (9 ∷ w) ∙ ap (λ l. a ++ 9 ∷ (b ++ 9 ∷ (c ++ 9 ∷ (d ++ 9 ∷ l)))) (append_assoc f (9 ∷ h) (9 ∷ w)))
 
+-- the columns of the heap and the phases, one behind another
+heap_joined : (o n p q : List ℕ) → o ++ 9 ∷ n ++ 9 ∷ p ++ 9 ∷ q ≡ o ++ 9 ∷ (n ++ 9 ∷ (p ++ 9 ∷ q))
+heap_joined o n p q = append_assoc (o ++ 9 ∷ n) (9 ∷ p) (9 ∷ q) ∙ append_assoc o (9 ∷ n) (9 ∷ p ++ 9 ∷ q)
+
 pub line_columns : LinesHaveColumns
 line_columns n e r before after =
     let at = option_and_then (found_at before.tree) (position_for before e) in
     let sizes = sizes_of (position_for after e) in
-    let words = used_space after.objects in
+    let heap = heap_for after e in
+    let old = decimal heap.old_words in
+    let new = decimal heap.new_words in
+    let posted = phase_text heap.posted in
+    let own = own_column heap.own in
+    let last = at_front (printable_decimal heap.old_words) (at_front (printable_decimal heap.new_words) (at_front (printable_phase heap.posted) (at_front (printable_own heap.own) no_columns))) in
     let columns =
     at_front (printable_decimal n) (at_front (printable_event e) (at_front (printable_report r) (at_front (printable_instruction_column at)
-    (at_front sizes.frames_printable (at_front sizes.height_printable (at_front (printable_decimal words) no_columns)))))) in (
-      decimal n ∷ event_text e ∷ report_text r ∷ instruction_column at ∷ sizes.frames ∷ sizes.height ∷ decimal words ∷ [],
+    (at_front sizes.frames_printable (at_front sizes.height_printable last))))) in (
+      decimal n ∷ event_text e ∷ report_text r ∷ instruction_column at ∷ sizes.frames ∷ sizes.height ∷ old ∷ new ∷ posted ∷ own ∷ [],
       refl,
       record {
         printable = columns.printable;
-        is = ap (λ (cs : List ℕ). decimal n ++ 9 ∷ event_text e ++ 9 ∷ report_text r ++ 9 ∷ instruction_column at ++ 9 ∷ cs ++ 9 ∷ decimal words ++ 10 ∷ []) sizes.are
-            ∙ joined (decimal n) (event_text e) (report_text r) (instruction_column at) sizes.frames sizes.height (decimal words);
+        is = ap (λ (cs : List ℕ). decimal n ++ 9 ∷ event_text e ++ 9 ∷ report_text r ++ 9 ∷ instruction_column at ++ 9 ∷ cs ++ 9 ∷ heap_columns heap ++ 10 ∷ []) sizes.are
+            ∙ joined (decimal n) (event_text e) (report_text r) (instruction_column at) sizes.frames sizes.height (heap_columns heap)
+            ∙ ap (λ (cs : List ℕ). decimal n ++ 9 ∷ (event_text e ++ 9 ∷ (report_text r ++ 9 ∷ (instruction_column at ++ 9 ∷ (sizes.frames ++ 9 ∷ (sizes.height ++ 9 ∷ cs))))) ++ 10 ∷ []) (heap_joined old new posted own);
       },
     )

@@ -30,16 +30,16 @@ joined_columns [] h = tt
 joined_columns (c ∷ []) h = printable_bytes c h.0
 joined_columns (c ∷ d ∷ cs) h = both_parts c (9 ∷ join_with_byte 9 (d ∷ cs)) (printable_bytes c h.0) (refl, joined_columns (d ∷ cs) h.1)
 
--- ---- seven columns are not nothing
+-- ---- ten columns are not nothing
 
 some_byte : (front more : List ℕ) → front ++ 9 ∷ more ≡ [] → ⊥
 some_byte [] more h = absurd (cc h)
 some_byte (x ∷ xs) more h = absurd (cc h)
 
-some_column : (columns : List (List ℕ)) → length columns ≡ 7 → join_with_byte 9 columns ≡ [] → ⊥
-some_column [] seven h = absurd (cc seven)
-some_column (c ∷ []) seven h = absurd (cc seven)
-some_column (c ∷ d ∷ cs) seven h = some_byte c (join_with_byte 9 (d ∷ cs)) h
+some_column : (columns : List (List ℕ)) → length columns ≡ 10 → join_with_byte 9 columns ≡ [] → ⊥
+some_column [] ten h = absurd (cc ten)
+some_column (c ∷ []) ten h = absurd (cc ten)
+some_column (c ∷ d ∷ cs) ten h = some_byte c (join_with_byte 9 (d ∷ cs)) h
 
 -- ---- one line after another
 
@@ -52,11 +52,11 @@ whole_line : (bytes more : List ℕ) → HasNoFeed bytes → (bytes ≡ [] → �
 whole_line [] more h some = absurd (some refl)
 whole_line (x ∷ xs) more h some = rw h.0 (ap (λ l. x ∷ l) (rest_of_line xs more h.1))
 
-line_then : (columns : List (List ℕ)) (line more : List ℕ) → length columns ≡ 7 → IsLineOf columns line → before_empty_line true (line ++ more) ≡ line ++ before_empty_line true more
-line_then columns line more seven h =
+line_then : (columns : List (List ℕ)) (line more : List ℕ) → length columns ≡ 10 → IsLineOf columns line → before_empty_line true (line ++ more) ≡ line ++ before_empty_line true more
+line_then columns line more ten h =
     let bytes = join_with_byte 9 columns in
     ap (λ l. before_empty_line true (l ++ more)) h.is ∙ ap (before_empty_line true) (append_assoc bytes (10 ∷ []) more)
-    ∙ whole_line bytes more (joined_columns columns (recursion_from_All IsPrintable columns h.printable)) (some_column columns seven)
+    ∙ whole_line bytes more (joined_columns columns (recursion_from_All IsPrintable columns h.printable)) (some_column columns ten)
     ∙ sym (append_assoc bytes (10 ∷ []) (before_empty_line true more)) ∙ ap (λ l. l ++ before_empty_line true more) (sym h.is)
 
 pub lines_before : LinesStandBefore
@@ -64,6 +64,6 @@ lines_before n c d [] rs text printed h = ap (λ t. before_empty_line true (t ++
 lines_before n c d (e ∷ es) [] text printed h = absurd h
 lines_before n c d (e ∷ es) (r ∷ rs) text printed h =
     let line = line_of n e r c h.0 in
-    let (columns, seven, is) = line_columns n e r c h.0 in
+    let (columns, ten, is) = line_columns n e r c h.0 in
     ap (λ t. before_empty_line true (t ++ 10 ∷ printed)) h.3 ∙ ap (before_empty_line true) (append_assoc line h.1 (10 ∷ printed))
-    ∙ line_then columns line (h.1 ++ 10 ∷ printed) seven is ∙ ap (λ l. line ++ l) (lines_before (n + 1) h.0 d es rs h.1 printed h.4) ∙ sym h.3
+    ∙ line_then columns line (h.1 ++ 10 ∷ printed) ten is ∙ ap (λ l. line ++ l) (lines_before (n + 1) h.0 d es rs h.1 printed h.4) ∙ sym h.3

@@ -13,9 +13,9 @@ pub record IsLineOf (columns : List (List ℕ)) (line : List ℕ) : Type 0 where
   pub printable : All IsPrintable columns
   pub is : line ≡ join_with_byte 9 columns ++ 10 ∷ []
 
--- each line has seven columns of printable ASCII
+-- each line has ten columns of printable ASCII
 abbrev pub LinesHaveColumns : Type 0
-LinesHaveColumns = (n : ℕ) (e : Event) (r : Report) (before after : Content) → (columns : List (List ℕ)) × (length columns ≡ 7) × IsLineOf columns (line_of n e r before after)
+LinesHaveColumns = (n : ℕ) (e : Event) (r : Report) (before after : Content) → (columns : List (List ℕ)) × (length columns ≡ 10) × IsLineOf columns (line_of n e r before after)
 
 -- what stands before the first empty line, of bytes that begin a line or go on with one
 abbrev pub before_empty_line : Bool → List ℕ → List ℕ

@@ -12,4 +12,4 @@ abbrev pub seen : InstructionPlace → (ClassName × Method) × ℕ
 seen at = (owned at.found, at.place)
 
 abbrev pub text_of : TraceLine → List ℕ
-text_of line = columns_text line.number line.event line.report (option_map seen line.before) line.after line.words
+text_of line = columns_text line.event (option_map seen line.before) line.after line.heap

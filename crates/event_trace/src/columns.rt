@@ -1,6 +1,7 @@
 //! The columns of a line.
 
 use cil_model::events::Event;
+use cil_model::phases::Phase;
 use cil_model::reports::{End, Report};
 use interleaving_core::Position;
 use std::fmt;
@@ -51,6 +52,29 @@ impl fmt::Display for ReportText {
     }
 }
 
+/// The number of an event, the event and its report: three columns.
+#[derive(Clone, Copy)]
+pub(crate) struct EventColumns {
+    /// The number of the event, from 1.
+    pub(crate) number: usize,
+    pub(crate) event: Event,
+    pub(crate) report: Report,
+}
+
+impl fmt::Display for EventColumns {
+    ghost use Rattle.std.specs.Prelude.{Some};
+    ghost use Rattle.event_trace.specs.Columns.{event_columns};
+
+    ghost output = { λ columns. Some (event_columns columns) };
+
+    fn fmt<W: fmt::Write>(&self, f: &mut fmt::Formatter<W>) -> fmt::Result {
+        let EventColumns { number, .. } = self;
+        let event = EventText(self.event);
+        let report = ReportText(self.report);
+        write!(f, "{number}\t{event}\t{report}")
+    }
+}
+
 /// How many frames a thread has, and how many values are on the stack of the one that runs: two columns. Hyphens where there is none.
 #[derive(Clone, Copy)]
 pub(crate) struct SizeColumns(pub(crate) Option<Position>);
@@ -66,5 +90,81 @@ impl fmt::Display for SizeColumns {
             None => write!(f, "-\t-"),
             Some(position) => write!(f, "{}\t{}", position.frames, position.height),
         }
+    }
+}
+
+/// A phase of the collector, as words of small letters and a hyphen.
+#[derive(Clone, Copy)]
+pub(crate) struct PhaseText(pub(crate) Phase);
+
+impl fmt::Display for PhaseText {
+    ghost use Rattle.std.specs.Prelude.{Some};
+    ghost use Rattle.event_trace.specs.Columns.{phase_text};
+
+    ghost output = { λ phase. Some (phase_text phase.0) };
+
+    fn fmt<W: fmt::Write>(&self, f: &mut fmt::Formatter<W>) -> fmt::Result {
+        match self.0 {
+            Phase::Idle => write!(f, "idle"),
+            Phase::Mark => write!(f, "mark"),
+            Phase::Allocate => write!(f, "allocate"),
+            Phase::Copy => write!(f, "copy"),
+            Phase::PreFlip => write!(f, "pre-flip"),
+            Phase::HeapFlip => write!(f, "heap-flip"),
+            Phase::ThreadFlip => write!(f, "thread-flip"),
+            Phase::Reclaim => write!(f, "reclaim"),
+        }
+    }
+}
+
+/// The phase that a thread has acknowledged. A hyphen where there is no such thread.
+#[derive(Clone, Copy)]
+pub(crate) struct OwnColumn(pub(crate) Option<Phase>);
+
+impl fmt::Display for OwnColumn {
+    ghost use Rattle.std.specs.Prelude.{Some};
+    ghost use Rattle.event_trace.specs.Columns.{own_column};
+
+    ghost output = { λ column. Some (own_column column.0) };
+
+    fn fmt<W: fmt::Write>(&self, f: &mut fmt::Formatter<W>) -> fmt::Result {
+        match self.0 {
+            None => write!(f, "-"),
+            Some(phase) => {
+                let phase = PhaseText(phase);
+                write!(f, "{phase}")
+            }
+        }
+    }
+}
+
+/// How much of the heap is in use, and how far the collector is: four columns.
+#[derive(Clone, Copy)]
+pub(crate) struct HeapColumns {
+    /// The words that objects take in the old space, or the only one.
+    pub(crate) old_words: u32,
+    /// Those in the new space, 0 where there is none.
+    pub(crate) new_words: u32,
+    /// The phase that is posted.
+    pub(crate) posted: Phase,
+    /// The phase that a thread has acknowledged.
+    pub(crate) own: Option<Phase>,
+}
+
+impl fmt::Display for HeapColumns {
+    ghost use Rattle.std.specs.Prelude.{Some};
+    ghost use Rattle.event_trace.specs.Columns.{heap_columns};
+
+    ghost output = { λ columns. Some (heap_columns columns) };
+
+    fn fmt<W: fmt::Write>(&self, f: &mut fmt::Formatter<W>) -> fmt::Result {
+        let HeapColumns {
+            old_words,
+            new_words,
+            ..
+        } = self;
+        let posted = PhaseText(self.posted);
+        let own = OwnColumn(self.own);
+        write!(f, "{old_words}\t{new_words}\t{posted}\t{own}")
     }
 }

@@ -2,7 +2,7 @@
 
 ghost use Rattle.event_trace.specs.Laws.{LinesHaveColumns, LinesStandBefore};
 
-/// The line of an event is seven columns of printable ASCII, with a tab between two and a line feed behind them, whatever the event, the
+/// The line of an event is ten columns of printable ASCII, with a tab between two and a line feed behind them, whatever the event, the
 /// report and the contents of the machine.
 pub fn lines_have_columns()
     ensures { LinesHaveColumns }

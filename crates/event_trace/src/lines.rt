@@ -1,25 +1,20 @@
 //! The line of an event.
 
-use crate::columns::{EventText, ReportText, SizeColumns};
+use crate::columns::{EventColumns, HeapColumns, SizeColumns};
 use crate::owned_methods::InstructionPlace;
-use cil_model::events::Event;
-use cil_model::reports::Report;
 use interleaving_core::Position;
 use std::fmt;
 
 /// What is written of an event.
 #[derive(Clone, Copy)]
 pub(crate) struct TraceLine<'a> {
-    /// The number of the event, from 1.
-    pub(crate) number: usize,
-    pub(crate) event: Event,
-    pub(crate) report: Report,
+    pub(crate) event: EventColumns,
     /// Where the event's thread was before it.
     pub(crate) before: Option<InstructionPlace<'a>>,
     /// Where it is after it.
     pub(crate) after: Option<Position>,
-    /// The words that objects take after it.
-    pub(crate) words: u32,
+    /// The heap and the phases after it.
+    pub(crate) heap: HeapColumns,
 }
 
 /// The columns with a tab between two, and a line feed behind them.
@@ -30,15 +25,11 @@ impl<'a> fmt::Display for TraceLine<'a> {
     ghost output = { λ line. Some (text_of line) };
 
     fn fmt<W: fmt::Write>(&self, f: &mut fmt::Formatter<W>) -> fmt::Result {
-        let event = EventText(self.event);
-        let report = ReportText(self.report);
+        let event = self.event;
         let instruction = InstructionColumn(self.before);
         let sizes = SizeColumns(self.after);
-        let TraceLine { number, words, .. } = self;
-        writeln!(
-            f,
-            "{number}\t{event}\t{report}\t{instruction}\t{sizes}\t{words}"
-        )
+        let heap = self.heap;
+        writeln!(f, "{event}\t{instruction}\t{sizes}\t{heap}")
     }
 }
 

@@ -2,13 +2,15 @@
 
 ghost use Rattle.std.specs.Prelude.{◌≡◌, ◌⊎◌, ◌++◌, OnErr, OnOk, List, option_and_then, option_map};
 ghost use Rattle.cil_model.specs.declared.reports.Report.{Report as AnyReport};
+ghost use Rattle.interleaving_core.specs.Views.{phase_at};
 ghost use Rattle.interleaving_core.specs.simulation.Turns.{IsTurn};
-ghost use Rattle.event_trace.specs.Columns.{found_at, line_of, position_for};
+ghost use Rattle.event_trace.specs.Columns.{found_at, heap_for, line_of, position_for, thread_of};
 ghost use Rattle.event_trace.specs.Lines.{seen};
 ghost use Rattle.event_trace.specs.Pieces.{TakesAllBut};
 ghost use Rattle.event_trace.specs.Places.{ArePlacesOf};
 ghost use Rattle.event_trace.specs.Traces.{IsEventCut, IsTraced, IsTracedInPart};
 
+use crate::columns::{EventColumns, HeapColumns};
 use crate::errors::TraceError;
 use crate::lines::TraceLine;
 use crate::method_places::MethodPlaces;
@@ -16,16 +18,18 @@ use crate::owned_methods::InstructionPlace;
 use crate::pieces::{write_end, write_piece};
 use cil_model::events::Event;
 use cil_model::memory::NoMemory;
+use cil_model::phases::Phase;
 use interleaving_core::{Machine, Position};
 use outputs::Output;
 use std::alloc::Global;
 
 /// Does the events in order, as `Machine::run` does, and writes a line of each, and an empty line behind the last.
 ///
-/// A line has seven columns, with a tab between two: the number of the event, from 1; the event as a schedule writes it; its report; the
+/// A line has ten columns, with a tab between two: the number of the event, from 1; the event as a schedule writes it; its report; the
 /// instruction that its thread was at before it; how many frames the thread has after it; how many values are on the stack of the one
-/// that runs then; and the words that objects take then. Where there is no such thread, a column is a hyphen. Each byte of a column is
-/// printable ASCII.
+/// that runs then; the words that objects take then in the old space, or the only one, and in the new one; the phase that the collector
+/// has posted; and the one that the thread has acknowledged. Where there is no such thread, a column is a hyphen. Each byte of a column
+/// is printable ASCII.
 ///
 /// Lines are put together and written in pieces of 32 KiB or more, what is left of them at the end. It takes memory for a list of where
 /// each method is declared, for a piece and one line, and no more than the machine itself for events. It stops at the first want of memory,
@@ -106,12 +110,14 @@ fn add_event(
     let before = position_for(machine, event);
     let report = machine.step(alloc, event)?;
     let line = TraceLine {
-        number,
-        event,
-        report,
+        event: EventColumns {
+            number,
+            event,
+            report,
+        },
         before: instruction_at(machine, methods, before),
         after: position_for(machine, event),
-        words: machine.used().0,
+        heap: heap_for(machine, event),
     };
     let text = format!(in alloc; "{line}")?;
     pending.extend_from_slice(text.as_bytes())?;
@@ -141,6 +147,29 @@ fn position_for(machine: &Machine, event: Event) -> Option<Position>
 {
     match event {
         Event::Step(thread) | Event::Ack(thread) => machine.position_of(thread),
+        Event::Gc => None,
+    }
+}
+
+/// The heap and the phases, for the thread of an event.
+fn heap_for(machine: &Machine, event: Event) -> HeapColumns
+    ensures { result ≡ heap_for machine.now event }
+{
+    let (old_words, new_words) = machine.used();
+    HeapColumns {
+        old_words,
+        new_words,
+        posted: machine.posted(),
+        own: own_phase(machine, event),
+    }
+}
+
+/// The phase that the thread of an event has acknowledged. None where it isn't live, and of an event of the collector.
+fn own_phase(machine: &Machine, event: Event) -> Option<Phase>
+    ensures { result ≡ option_and_then (phase_at machine.now.posts) (thread_of event) }
+{
+    match event {
+        Event::Step(thread) | Event::Ack(thread) => machine.phase_of(thread),
         Event::Gc => None,
     }
 }

@@ -7,19 +7,19 @@ use Rattle.std.specs.List.{zip}
 use Rattle.cil_model.specs.declared.events.Event.{Event}
 use Rattle.cil_model.specs.declared.events.Event.TheVariants.{Step, Ack, Gc}
 use Rattle.cil_model.specs.declared.reports.Report.{Report}
-use Rattle.reference_machine.specs.Runs.{RunsTo, run, request_of, report_of_step, followed_by, thread_part, step_reports}
-use Rattle.reference_machine.proofs.RunLaws.{runs_on}
+use Rattle.reference_machine.specs.Runs.{RunsTo, is_refusal, run, request_of, report_of_step, followed_by, thread_part, step_reports}
+use Rattle.reference_machine.specs.States.{State}
+use Rattle.reference_machine.specs.Steps.{Answers, step}
+use Rattle.reference_machine.proofs.RunLaws.{behind_run, runs_on, same_state}
 use Rattle.step_simulation.specs.simulation.MachineContents.{Content}
 use Rattle.step_simulation.specs.simulation.Budgets.{KeepsBudgets, steps_left_of}
 use Rattle.step_simulation.specs.simulation.StandsFor.{Represents}
 use Rattle.step_simulation.specs.simulation.Turns.{IsTurn}
 use Rattle.step_simulation.proofs.Whole.{acknowledgement_keeps, collection_keeps, step_is_followed, step_is_refused}
-use Rattle.step_simulation.specs.simulation.Runs.{AreTurns, RunsAlike, FollowsReference}
+use Rattle.step_simulation.specs.simulation.Runs.{AreTurns, FollowsReference, RefusesBeyondRoom, RunsAlike}
 use Rattle.step_simulation.proofs.Finished.{same_program}
 use Rattle.interleaving_core.proofs.Budgets.{keeps_behind, turn_keeps}
 use Rattle.interleaving_core.proofs.LiveThreads.{some_budget, live_have_steps}
-use Rattle.reference_machine.specs.Rooms.{RefusesBeyondRoom}
-use Rattle.reference_machine.proofs.RoomLaws.{refuses_behind}
 
 -- ---- one event
 
@@ -35,15 +35,39 @@ module _ (c : Content) (after : Content × Report) where
       kept = λ e h. turn_keeps c (live_have_steps c s r) (some_budget c s r) e after h
 
       itself : (e : Event) (h : IsTurn c e after) → run c.tree c.limits s (thread_part ((e, after.1) ∷ [])) ≡ RunsTo (step_reports ((e, after.1) ∷ [])) s →
-          RefusesBeyondRoom c.tree c.limits s (thread_part ((e, after.1) ∷ [])) → Represents after.0 s → RunsAlike c after.0 ((e, after.1) ∷ []) s
+          RefusesBeyondRoom c s ((e, after.1) ∷ []) after.0 → Represents after.0 s → RunsAlike c after.0 ((e, after.1) ∷ []) s
       itself e h comes refuses represents = record { state = s; comes = comes; refuses = refuses; represents = represents; budgets = kept e h }
 
       by_event : (e : Event) → IsTurn c e after → RunsAlike c after.0 ((e, after.1) ∷ []) s
-      by_event (Ack t) h = itself (Ack t) h refl tt (acknowledgement_keeps c s r t after h)
-      by_event Gc h = itself Gc h refl tt (collection_keeps c s r after h)
+      by_event (Ack t) h = itself (Ack t) h refl (after.0, h, tt, λ next is. refl) (acknowledgement_keeps c s r t after h)
+      by_event Gc h = itself Gc h refl (after.0, h, tt, λ next is. refl) (collection_keeps c s r after h)
       by_event (Step t) h =
           let one = step_is_followed c s r t after h in
-          record { state = one.0; comes = ap (λ o. followed_by o (λ u. run c.tree c.limits u [])) one.1; refuses = (step_is_refused c s r t after h, λ report next is. tt); represents = one.2; budgets = kept (Step t) h }
+          record { state = one.0; comes = ap (λ o. followed_by o (λ u. run c.tree c.limits u [])) one.1; refuses = (after.0, h, step_is_refused c s r t after h, λ next is. refl); represents = one.2; budgets = kept (Step t) h }
+
+-- ---- births beyond the room, of one list and then of another
+
+module _ (d n : Content) (t : State) (fs : List (Event × Report)) (more : RefusesBeyondRoom d t fs n) where
+  -- behind an event that keeps the state
+  stays_behind : (c next : Content) (es : List (Event × Report)) (s after : State) (reports : List Report) → SameProgram c next → after ≡ s → run c.tree c.limits s (thread_part es) ≡ RunsTo reports t →
+      (run next.tree next.limits after (thread_part es) ≡ RunsTo reports t → RefusesBeyondRoom next after (es ++ fs) n) → RefusesBeyondRoom next after (es ++ fs) n
+  stays_behind c next es s after reports same is e later =
+      later (ap (λ x. run x next.limits after (thread_part es)) same.0 ∙ (ap (λ x. run c.tree x after (thread_part es)) same.1 ∙ (ap (λ x. run c.tree c.limits x (thread_part es)) is ∙ e)))
+
+  -- and behind a step
+  steps_behind : (c next : Content) (es : List (Event × Report)) (s after : State) (m : ℕ) (r : Report) (reports : List Report) → SameProgram c next → step c.tree c.limits s m (is_refusal r) ≡ Answers r after →
+      run c.tree c.limits s (thread_part ((Step m, r) ∷ es)) ≡ RunsTo reports t →
+      ((rs : List Report) → run next.tree next.limits after (thread_part es) ≡ RunsTo rs t → RefusesBeyondRoom next after (es ++ fs) n) → RefusesBeyondRoom next after (es ++ fs) n
+  steps_behind c next es s after m r reports same is e later =
+      behind_run r reports t (run c.tree c.limits after (thread_part es)) (subst (λ o. followed_by o (λ x. run c.tree c.limits x (thread_part es)) ≡ RunsTo reports t) is e)
+      (λ rs e' are. later rs (ap (λ x. run x next.limits after (thread_part es)) same.0 ∙ (ap (λ x. run c.tree x after (thread_part es)) same.1 ∙ e')))
+
+  pub refuses_behind : (es : List (Event × Report)) (c : Content) (s : State) (reports : List Report) → run c.tree c.limits s (thread_part es) ≡ RunsTo reports t → RefusesBeyondRoom c s es d → RefusesBeyondRoom c s (es ++ fs) n
+  refuses_behind [] c s reports e h =
+      subst (λ x. RefusesBeyondRoom x s fs n) h (subst (λ x. RefusesBeyondRoom d x fs n) (sym (same_state [] reports s t e)) more)
+  refuses_behind ((Ack m, r) ∷ es) c s reports e h = (h.0, h.1, h.2, λ after is. stays_behind c h.0 es s after reports (same_program c (h.0, r) (Ack m) h.1) is e (λ k. refuses_behind es h.0 after reports k (h.3 after is)))
+  refuses_behind ((Gc, r) ∷ es) c s reports e h = (h.0, h.1, h.2, λ after is. stays_behind c h.0 es s after reports (same_program c (h.0, r) Gc h.1) is e (λ k. refuses_behind es h.0 after reports k (h.3 after is)))
+  refuses_behind ((Step m, r) ∷ es) c s reports e h = (h.0, h.1, h.2, λ after is. steps_behind c h.0 es s after m r reports (same_program c (h.0, r) (Step m) h.1) is e (λ rs k. refuses_behind es h.0 after rs k (h.3 after is)))
 
 -- ---- one list behind another
 
@@ -53,12 +77,9 @@ joined c d n es fs same first more s r =
     let two = more one.state one.represents in
     let later : run c.tree c.limits one.state (thread_part fs) ≡ RunsTo (step_reports fs) two.state =
     ap (λ x. run x c.limits one.state (thread_part fs)) (sym same.0) ∙ (ap (λ x. run d.tree x one.state (thread_part fs)) (sym same.1) ∙ two.comes) in
-    let refuses : RefusesBeyondRoom c.tree c.limits one.state (thread_part fs) =
-    subst (λ x. RefusesBeyondRoom x c.limits one.state (thread_part fs)) same.0 (subst (λ x. RefusesBeyondRoom d.tree x one.state (thread_part fs)) same.1 two.refuses) in
     record {
       state = two.state;
-      refuses = subst (RefusesBeyondRoom c.tree c.limits s) (sym (filter_map-append (λ (e : Event × Report). request_of e.0 e.1) es fs))
-          (refuses_behind c.tree c.limits (thread_part es) (thread_part fs) s one.state (step_reports es) one.comes one.refuses refuses);
+      refuses = refuses_behind d n one.state fs two.refuses es c s (step_reports es) one.comes one.refuses;
       comes = ap (run c.tree c.limits s) (filter_map-append (λ (e : Event × Report). request_of e.0 e.1) es fs)
           ∙ (runs_on c.tree c.limits (thread_part es) (thread_part fs) s one.state two.state (step_reports es) (step_reports fs) one.comes later
           ∙ ap (λ rs. RunsTo rs two.state) (sym (filter_map-append (λ (e : Event × Report). report_of_step e.0 e.1) es fs)));
@@ -94,7 +115,7 @@ turns_program c d (e ∷ es) [] h = elim h [ ]
 
 -- each list of events is followed
 pub turns_follow : (c d : Content) (es : List Event) (rs : List Report) → AreTurns c es d rs → FollowsReference c d (zip es rs)
-turns_follow c d [] rs h = λ s r. subst (λ x. RunsAlike c x [] s) (sym h.0) (record { state = s; comes = refl; refuses = tt; represents = r; budgets = record { counted = λ t. none_made (steps_left_of c t); live = live_have_steps c s r } })
+turns_follow c d [] rs h = λ s r. subst (λ x. RunsAlike c x [] s) (sym h.0) (record { state = s; comes = refl; refuses = refl; represents = r; budgets = record { counted = λ t. none_made (steps_left_of c t); live = live_have_steps c s r } })
 turns_follow c d (e ∷ es) (r ∷ rs) h =
     joined c h.0 d ((e, r) ∷ []) (zip es rs) (same_program c (h.0, r) e h.1) (turn_follows c (h.0, r) e h.1) (turns_follow h.0 d es rs h.2)
 turns_follow c d (e ∷ es) [] h = elim h [ ]

@@ -1,6 +1,6 @@
 -- Marking what the frames of a thread hold, frame by frame, is marking all their references in their order.
 use Rattle.std.proofs.Common.{◌≡◌, ◌+◌, ℕ, zero, suc, true, List, [], ◌∷◌, ◌++◌, drop, Option, Some, None, slice_get, refl, inl, inr, sym, ap, ◌∙◌, subst, arith}
-use Rattle.std.specs.Prelude.{filter_map, flat_map, option_map, option_to_list}
+use Rattle.std.specs.Prelude.{All, filter_map, flat_map, option_map, option_to_list}
 use Rattle.std.proofs.lemmas.List.Elements.{All-cons, All-head, All-nil}
 use Rattle.std.proofs.lemmas.Option.{same_Some}
 use Rattle.cil_model.proofs.Lists.{none_is_some}
@@ -40,6 +40,11 @@ listed_in_frame (g ∷ fs) zero f is a h =
     subst_roots : g ≡ f → IsListed (frame_roots g) a
     subst_roots e = rw e h
 listed_in_frame (g ∷ fs) (suc n) f is a h = listed_second (frame_roots g) (flat_map frame_roots fs) a (listed_in_frame fs n f is a h)
+
+-- what is read at a place of a list is on it
+pub listed_at : (xs : List Addr) → All (IsListed xs) xs
+listed_at [] = All-nil (IsListed [])
+listed_at (x ∷ xs) = All-cons (IsListed (x ∷ xs)) x xs (inl refl) (λ k d inside. inr (listed_at xs k d inside))
 
 -- ---- what is there
 

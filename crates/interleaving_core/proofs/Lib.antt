@@ -11,6 +11,7 @@ pub mod Asking
 pub mod Stepping
 pub mod Indexed
 pub mod HeldMarks
+pub mod FewStatics
 pub mod Acknowledged
 pub mod Collecting
 pub mod Requests

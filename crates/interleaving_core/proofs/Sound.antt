@@ -19,6 +19,7 @@ use Rattle.step_simulation.proofs.Whole.{asked_is_answerable, opening_is_represe
 use Rattle.interleaving_core.specs.Views.{CanGoOn, IsSound, content_of}
 use Rattle.interleaving_core.specs.declared.engine.Engine.{Engine}
 use Rattle.step_simulation.proofs.Finished.{same_program, turn_few}
+use Rattle.interleaving_core.proofs.FewStatics.{statics_few}
 use Rattle.interleaving_core.proofs.Following.{SameProgram, turn_follows}
 
 -- what it does next has an answer
@@ -26,6 +27,7 @@ pub can_go_on : (e : Engine) → IsSound e → CanGoOn e
 can_go_on e sound = record {
   limits = sound.represents.limits;
   content = sound.represents.sound;
+  statics = statics_few (content_of e) sound.state sound.represents;
   ready = λ t left m there. thread_is_ready (content_of e) sound.state sound.represents t left m there;
   answerable = λ t left m there a done. asked_is_answerable (content_of e) sound.state sound.represents t left m there a done;
 }

@@ -1,9 +1,12 @@
 -- What callers see of a machine, and what it keeps true.
-use Rattle.std.specs.Prelude.{◌≡◌, ◌≤◌, ℕ, IsTrue, List, length, Option, Some, option_and_then, slice_get}
+use Rattle.std.specs.Prelude.{◌≡◌, ◌<◌, ◌≤◌, ◌^◌, ℕ, IsTrue, List, length, Option, Some, option_and_then, option_map, slice_get}
 use Rattle.cil_model.specs.declared.limits.TheConstants.{MOST_THREADS}
+use Rattle.cil_model.specs.declared.phases.Phase.{Phase}
 use Rattle.cil_model.specs.declared.reports.End.{End}
 use Rattle.cil_model.specs.Ranges.{are_in_range}
 use Rattle.reference_machine.specs.States.{State}
+use Rattle.phase_handshake.specs.Handshakes.{Handshakes, seat_of}
+use Rattle.phase_handshake.specs.declared.posts.Seat.{Seat}
 use Rattle.threads_monitors.specs.Frames.{Frames}
 use Rattle.threads_monitors.specs.Threads.{end_of}
 use Rattle.threads_monitors.specs.declared.threads.Standing.TheVariants.{Live}
@@ -23,6 +26,7 @@ content_of e = record { tree = e.program; limits = e.limits; threads = e.threads
 pub record CanGoOn (e : Engine) : Type 0 where
   pub limits : IsTrue (are_in_range e.limits)
   pub content : IsSoundContent (content_of e)
+  pub statics : length e.store.statics.items < 2 ^ 32
   pub ready : (t left : ℕ) (m : Frames) → slice_get e.threads.items t ≡ Some (record { standing = Live m; steps_left = left }) → IsReady (content_of e) t m
   pub answerable : (t left : ℕ) (m : Frames) → slice_get e.threads.items t ≡ Some (record { standing = Live m; steps_left = left }) → (a : Answer) →
       IsDone e.program (mutator_of (content_of e) t) m e.store.heap e.store.statics.items e.store.console.items a → IsAnswerable (content_of e) t left a a.outcome
@@ -36,3 +40,7 @@ pub record IsSound (e : Engine) : Type 0 where
   pub state : State
   pub represents : Represents (content_of e) state
   pub few : length e.threads.items ≤ MOST_THREADS
+
+-- the phase that a live thread has acknowledged; none where it has ended or was never started
+abbrev pub phase_at : Handshakes → ℕ → Option Phase
+phase_at h n = option_map (λ (s : Seat). s.phase) (seat_of h n)

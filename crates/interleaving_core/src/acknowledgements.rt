@@ -2,8 +2,9 @@
 
 ghost use Rattle.std.specs.Prelude.{◌≡◌, ◌≤◌, true, length, Some, slice_get};
 ghost use Rattle.threads_monitors.specs.Frames.{Frame};
-ghost use Rattle.threads_monitors.specs.Roots.{frame_roots, frames_upward, roots};
-ghost use Rattle.step_simulation.specs.simulation.Collecting.{answers_round, with_roots_marked, with_thread_marked};
+ghost use Rattle.object_memory.specs.Spaces.{IsThere, forward};
+ghost use Rattle.threads_monitors.specs.Roots.{frame_roots, frames_upward, roots, with_references};
+ghost use Rattle.step_simulation.specs.simulation.Collecting.{answers_round, flips_frames, with_flipped, with_roots_marked, with_thread_marked};
 ghost use Rattle.step_simulation.specs.simulation.Sound.{IsSound as IsSoundContent};
 ghost use Rattle.step_simulation.specs.simulation.Turns.{IsTurn};
 ghost use Rattle.cil_model.specs.declared.events.Event.TheVariants.{Ack as AckOf};
@@ -13,19 +14,22 @@ ghost use Rattle.interleaving_core.specs.Views.{content_of};
 use crate::engine::Engine;
 use cil_model::phases::Phase;
 use cil_model::reports::Report;
-use object_memory::{Heap, Value};
+use object_memory::{Addr, Heap, Value};
 use step_simulation::collector_code::mark_values;
 use threads_monitors::{FrameMemory, Standing};
 
 impl Engine {
     /// An acknowledgement of a thread: of the posted phase, or else of the posted round, for which all is marked that its frames hold.
-    /// Where neither is open to it, nothing changes.
+    /// With that of ThreadFlip its frames are flipped. Where neither is open to it, nothing changes.
     pub(crate) fn acknowledge(&mut self, thread: u8) -> Report
         requires sound { IsSoundContent (content_of self.old) }
         ensures { IsTurn (content_of self.old) (AckOf thread) (content_of self.new, result) }
     {
         if self.answers_round(thread) {
             self.mark_held(thread);
+        }
+        if self.flips_frames(thread) {
+            self.flip_held(thread);
         }
         if self.posts.acknowledge(thread) {
             Report::Acked
@@ -51,6 +55,33 @@ impl Engine {
         }
     }
 
+    /// Whether an acknowledgement of the thread is its flip.
+    fn flips_frames(&self, thread: u8) -> bool
+        ensures { result ≡ flips_frames (content_of self.now) thread }
+    {
+        match self.posts.seat(thread) {
+            Some(seat) => {
+                self.posts.posted() == Phase::ThreadFlip && seat.phase != Phase::ThreadFlip
+            }
+            None => false,
+        }
+    }
+
+    /// Puts the forward of each reference that the frames of a thread hold in its place. Nothing else changes.
+    fn flip_held(&mut self, thread: u8)
+        requires sound { IsSoundContent (content_of self.old) }
+        requires flips { flips_frames (content_of self.old) thread ≡ true }
+        ensures { content_of self.new ≡ record (content_of self.old) { threads = with_flipped self.old.store.heap self.old.threads.items thread (slice_get self.old.threads.items thread) } }
+    {
+        let heap = &self.store.heap;
+        let Some(thread) = self.threads.get_mut(usize::from(thread)) else {
+            return;
+        };
+        if let Standing::Live(frames) = &mut thread.standing {
+            flip_frames(heap, frames);
+        }
+    }
+
     /// Marks what the frames of a thread that answers a round hold. Nothing else changes.
     fn mark_held(&mut self, thread: u8)
         requires sound { IsSoundContent (content_of self.old) }
@@ -64,6 +95,19 @@ impl Engine {
             mark_frames(&mut self.store.heap, frames);
         }
     }
+}
+
+/// Puts the forward of each reference that frames hold in its place. Nothing else changes.
+fn flip_frames(heap: &Heap, frames: &mut FrameMemory)
+    requires there { AreAllThere heap.now (roots frames.old) }
+    ensures { frames.new ≡ with_references (forward heap.now.spaces) frames.old }
+{
+    frames.replace_references(
+        |reference: Addr| -> Addr
+            requires { IsThere heap.now.spaces reference }
+            ensures { result ≡ forward heap.entry.now.spaces reference }
+        { heap.forward(reference) },
+    );
 }
 
 /// Marks what frames refer to, from the first one of their thread on. Nothing else changes.

@@ -1,9 +1,9 @@
 //! What an event of the collector does: one step of the work of the phase that is posted, or the next post.
 
-ghost use Rattle.std.specs.Prelude.{◌≡◌, IfOk, OnErr, IsTrue, true};
+ghost use Rattle.std.specs.Prelude.{◌≡◌, ◌<◌, ◌^◌, IfOk, OnErr, IsTrue, true, length};
 ghost use Rattle.cil_model.specs.Ranges.{are_in_range};
 ghost use Rattle.cil_model.specs.declared.events.Event.TheVariants.{Gc as GcOf};
-ghost use Rattle.cil_model.specs.declared.phases.Phase.TheVariants.{Idle as IdleOf, Mark as MarkOf, Allocate as AllocateOf, Copy as CopyOf};
+ghost use Rattle.cil_model.specs.declared.phases.Phase.TheVariants.{Idle as IdleOf, Mark as MarkOf, Allocate as AllocateOf, Copy as CopyOf, HeapFlip as HeapFlipOf, Reclaim as ReclaimOf};
 ghost use Rattle.cil_model.specs.declared.reports.Report.TheVariants.{Worked as WorkedOf};
 ghost use Rattle.reference_machine.specs.Cycles.{phase_after};
 ghost use Rattle.phase_handshake.specs.Handshakes.{all_seen};
@@ -20,7 +20,8 @@ use cil_model::reports::Report;
 use space_block::Block;
 use std::alloc::Global;
 use step_simulation::collector_code::{
-    Progress, copy_step, is_closed, mark_step, scan_statics, shell_step,
+    Progress, clear_step, copy_step, flip_static_step, is_closed, mark_step, retire, scan_statics,
+    shell_step,
 };
 
 impl Engine {
@@ -29,6 +30,7 @@ impl Engine {
     pub(crate) fn collect(&mut self, alloc: Global) -> Result<Report, NoMemory>
         requires limits { are_in_range self.old.limits ≡ true }
         requires sound { IsSoundContent (content_of self.old) }
+        requires few { length self.old.store.statics.items < 2 ^ 32 }
         ensures turns { IfOk result (λ report. IsTurn (content_of self.old) GcOf (content_of self.new, report)) }
         ensures memory { OnErr result (TakesMemory (content_of self.old) GcOf) }
         ensures refused { OnErr result (content_of self.new ≡ content_of self.old) }
@@ -41,8 +43,10 @@ impl Engine {
             Phase::Mark => Ok(self.mark_on()),
             Phase::Allocate => Ok(self.look_on()),
             Phase::Copy => Ok(self.copy_on()),
-            // none of these is posted
-            Phase::PreFlip | Phase::HeapFlip | Phase::ThreadFlip | Phase::Reclaim => unreachable!(),
+            Phase::PreFlip => Ok(self.post(Phase::HeapFlip)),
+            Phase::HeapFlip => Ok(self.flip_on()),
+            Phase::ThreadFlip => Ok(self.post(Phase::Reclaim)),
+            Phase::Reclaim => Ok(self.clear_on()),
         }
     }
 
@@ -130,10 +134,11 @@ impl Engine {
         self.post(Phase::Copy)
     }
 
-    /// A step of Copy: the next word of an object with two copies is copied. Where all are, it waits: no later phase is posted.
+    /// A step of Copy: the next word of an object with two copies is copied.
     fn copy_on(&mut self) -> Report
         requires sound { IsSoundContent (content_of self.old) }
         requires posted { self.old.posts.posted ≡ CopyOf }
+        requires seen { all_seen self.old.posts ≡ true }
         ensures { (content_of self.new, result) ≡ work CopyOf (content_of self.old) }
     {
         if copy_step(
@@ -141,9 +146,42 @@ impl Engine {
             &mut self.store.heap,
             self.program.layout(),
         ) {
-            Report::Worked
-        } else {
-            Report::Waiting
+            return Report::Worked;
         }
+        self.post(Phase::PreFlip)
+    }
+
+    /// A step of HeapFlip: the next static field gets the forward of what it holds.
+    fn flip_on(&mut self) -> Report
+        requires sound { IsSoundContent (content_of self.old) }
+        requires few { length self.old.store.statics.items < 2 ^ 32 }
+        requires posted { self.old.posts.posted ≡ HeapFlipOf }
+        requires seen { all_seen self.old.posts ≡ true }
+        ensures { (content_of self.new, result) ≡ work HeapFlipOf (content_of self.old) }
+    {
+        if flip_static_step(
+            &mut self.progress,
+            &self.store.heap,
+            self.store.statics.as_mut_slice(),
+        ) {
+            return Report::Worked;
+        }
+        self.post(Phase::ThreadFlip)
+    }
+
+    /// A step of Reclaim: the next object of the new space loses its mark and its other copy. Where none has any, the old space is given
+    /// back, and the cycle is over.
+    fn clear_on(&mut self) -> Report
+        requires sound { IsSoundContent (content_of self.old) }
+        requires posted { self.old.posts.posted ≡ ReclaimOf }
+        requires seen { all_seen self.old.posts ≡ true }
+        ensures { (content_of self.new, result) ≡ work ReclaimOf (content_of self.old) }
+    {
+        if clear_step(&mut self.progress, &mut self.store.heap) {
+            return Report::Worked;
+        }
+        retire(&mut self.store.heap);
+        self.post(Phase::Idle);
+        Report::CycleDone
     }
 }

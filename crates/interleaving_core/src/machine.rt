@@ -9,7 +9,7 @@ ghost use Rattle.reference_machine.specs.States.{State};
 ghost use Rattle.object_memory.specs.Cells.{used_words};
 ghost use Rattle.object_memory.specs.Objects.{used_space, whole_space};
 ghost use Rattle.threads_monitors.specs.Threads.{end_of, is_live, is_live_at};
-ghost use Rattle.interleaving_core.specs.Views.{end_at};
+ghost use Rattle.interleaving_core.specs.Views.{end_at, phase_at};
 ghost use Rattle.interleaving_core.specs.Positions.{position_at};
 ghost use Rattle.interleaving_core.specs.Waits.{wait_at};
 ghost use Rattle.step_simulation.specs.simulation.StandsFor.{Represents};
@@ -25,6 +25,7 @@ use crate::waits::Wait;
 use cil_model::events::Event;
 use cil_model::limits::{LEAST_WORDS, Limits, MOST_BUDGET, MOST_DEPTH, MOST_WORDS};
 use cil_model::memory::NoMemory;
+use cil_model::phases::Phase;
 use cil_model::reports::{End, Report};
 use cil_model::trees::Tree;
 use std::alloc::{AllocError, Global};
@@ -209,10 +210,28 @@ impl Machine {
         self.engine.threads.len()
     }
 
-    /// The words that objects take in the old space, or the only one, and in the new one, which there is while a cycle is open.
+    /// The phase that the collector has posted: `Idle` between cycles.
+    pub fn posted(&self) -> Phase
+        ensures { result ≡ self.now.posts.posted }
+    {
+        self.engine.posts.posted()
+    }
+
+    /// The phase that a thread has acknowledged, which is the posted one or the one before it. None where it has ended or was never started.
+    pub fn phase_of(&self, thread: u8) -> Option<Phase>
+        ensures { result ≡ phase_at self.now.posts thread }
+    {
+        match self.engine.posts.seat(thread) {
+            None => None,
+            Some(seat) => Some(seat.phase),
+        }
+    }
+
+    /// The words that objects take in the old space, or the only one, and in the new one, which there is while a cycle is open: 0 where
+    /// there is none.
     ///
-    /// The old space has the size of the limit of words: so, as no cycle ends yet, a birth is refused exactly where its cell has more
-    /// words than the limit less those of all births so far.
+    /// Each space has the size of the limit of words. A birth is refused exactly where its cell has more words than are left of them in the
+    /// space in which it would be born, by the phase of its thread, or in one of both.
     pub fn used(&self) -> (u32, u32)
         ensures used { result ≡ (used_space self.now.objects, used_words self.now.objects.spaces.new.cells) }
         ensures space { whole_space self.now.objects ≡ self.now.limits.words }

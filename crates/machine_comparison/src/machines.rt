@@ -153,6 +153,7 @@ fn expected(
             Ok(Some(one_of(came, Report::Acked, Report::NothingPosted)))
         }
         Event::Ack(_) => Ok(Some(Report::Absent)),
+        Event::Gc if came == Report::CycleDone => Ok(Some(came)),
         Event::Gc => Ok(Some(one_of(came, Report::Worked, Report::Waiting))),
     }
 }

@@ -14,7 +14,7 @@ use std::{fs, io};
 const PROGRAMS: u64 = 200;
 
 /// Events of each schedule.
-const EVENTS: u32 = 400;
+const EVENTS: u32 = 800;
 
 /// The ends that a thread can have.
 const ENDS: [End; 15] = [
@@ -133,13 +133,13 @@ fn events_among(alloc: Global, random: &mut Random) -> Result<Vec<Event>, AllocE
     Ok(events)
 }
 
-/// Mostly a step of the first thread; and so many acknowledgements and events of the collector that it marks and copies meanwhile.
+/// Mostly a step of the first thread; and so many acknowledgements and events of the collector that it does whole cycles meanwhile.
 fn event_among(random: &mut Random) -> Event {
     match random.below(100) {
-        0..=51 => Event::Step(0),
-        52..=71 => Event::Step(1),
-        72..=77 => Event::Step(2),
-        78..=85 => Event::Ack(u8::try_from(random.below(3)).unwrap_or(0)),
+        0..=39 => Event::Step(0),
+        40..=51 => Event::Step(1),
+        52..=55 => Event::Step(2),
+        56..=71 => Event::Ack(u8::try_from(random.below(3)).unwrap_or(0)),
         _ => Event::Gc,
     }
 }
@@ -149,7 +149,10 @@ fn tell(rt: &HostRuntime, tally: &Tally) -> io::Result<()> {
     let events = tally.reports.len();
     let ran = tally.count(Report::Ran);
     let blocked = tally.count(Report::Blocked);
-    print!(rt; "{PROGRAMS} programs, {events} events: {ran} Ran, {blocked} Blocked")?;
+    let cycles = tally.count(Report::CycleDone);
+    print!(rt;
+        "{PROGRAMS} programs, {events} events, {cycles} cycles: {ran} Ran, {blocked} Blocked"
+    )?;
     for end in ENDS {
         let count = tally.count(Report::Ended(end));
         match end {

@@ -1,6 +1,7 @@
 // What a collector posts, and what the threads acknowledge.
 
 ghost use Rattle.std.specs.Prelude.{◌≡◌, map, IsTrue};
+ghost use Rattle.std.specs.List.{list_all};
 ghost use Rattle.reference_machine.specs.Cycles.{phase_after};
 ghost use Rattle.phase_handshake.specs.Handshakes.{AreClose, acknowledged, all_answered, all_seen, first_handshakes, has_answered, has_seen, is_open, joined, left, own_phase, posted_next, posted_round, seat_of, unanswered};
 
@@ -19,22 +20,26 @@ pub struct Seat {
 /// The phase that the collector has posted, whether it has posted a round of marking since the cycle opened, and the seat of
 /// each live thread, by the thread's number.
 ///
-/// Each live thread has acknowledged the posted phase or the one before it. No call takes memory.
+/// Each live thread has acknowledged the posted phase or the one before it. Whether all have acknowledged the posted one is kept, so that
+/// a step of the collector doesn't look at each seat. No call takes memory.
 #[derive(Debug, Drop)]
 pub struct Posts {
     posted: Phase,
     has_round: bool,
     seats: [Option<Seat>; MOST_THREADS],
+    is_seen: bool,
 }
 
 impl Model for Posts {
-    ghost use Rattle.phase_handshake.specs.Handshakes.{AreClose, Handshakes};
+    ghost use Rattle.std.specs.Prelude.{◌≡◌};
+    ghost use Rattle.phase_handshake.specs.Handshakes.{AreClose, Handshakes, all_seen};
 
     ghost Value = { Handshakes };
 
     ghost view = { λ p. record { posted = p.posted; has_round = p.has_round; seats = p.seats } };
 
-    ghost invariant = { λ p. AreClose (record { posted = p.posted; has_round = p.has_round; seats = p.seats }) };
+    ghost invariant = { λ p. AreClose (record { posted = p.posted; has_round = p.has_round; seats = p.seats })
+        × (p.is_seen ≡ all_seen (record { posted = p.posted; has_round = p.has_round; seats = p.seats })) };
 }
 
 impl Posts {
@@ -51,6 +56,7 @@ impl Posts {
             posted: Phase::Idle,
             has_round: false,
             seats,
+            is_seen: true,
         }
     }
 
@@ -91,8 +97,7 @@ impl Posts {
     pub fn all_seen(&self) -> bool
         ensures { result ≡ all_seen self.now }
     {
-        let posted = self.posted;
-        self.seats.iter().all(|seat| has_seen(posted, seat))
+        self.is_seen
     }
 
     /// Whether every live thread has answered the posted round. True where none is live, else false where no round is posted.
@@ -114,6 +119,7 @@ impl Posts {
             self.has_round = false;
             take_answers_back(&mut self.seats);
         }
+        self.is_seen = have_seen(phase, &self.seats);
     }
 
     /// Posts a round of marking, which no thread has answered. The posted phase and what was acknowledged of it stay.
@@ -122,6 +128,7 @@ impl Posts {
     {
         self.has_round = true;
         take_answers_back(&mut self.seats);
+        self.is_seen = have_seen(self.posted, &self.seats);
     }
 
     /// Acknowledges for a thread the posted phase, or else, where it has done so, answers the posted round. False where neither
@@ -137,6 +144,7 @@ impl Posts {
             return false;
         }
         self.seats[usize::from(thread)] = Some(seat.after(self.posted));
+        self.is_seen = have_seen(self.posted, &self.seats);
         true
     }
 
@@ -148,6 +156,7 @@ impl Posts {
         let seat = self.seat(starter);
         if thread < MOST_THREADS {
             self.seats[thread] = seat;
+            self.is_seen = have_seen(self.posted, &self.seats);
         }
     }
 
@@ -157,6 +166,7 @@ impl Posts {
     {
         if usize::from(thread) < MOST_THREADS {
             self.seats[usize::from(thread)] = None;
+            self.is_seen = have_seen(self.posted, &self.seats);
         }
     }
 }
@@ -187,6 +197,13 @@ impl Seat {
             }
         }
     }
+}
+
+/// Whether every live thread has acknowledged the posted phase.
+fn have_seen(posted: Phase, seats: &[Option<Seat>]) -> bool
+    ensures { result ≡ list_all (has_seen posted) seats.now }
+{
+    seats.iter().all(|seat| has_seen(posted, seat))
 }
 
 /// Whether a thread has acknowledged the posted phase, if it is live.

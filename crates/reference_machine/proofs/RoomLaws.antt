@@ -10,9 +10,9 @@ use Rattle.cil_model.specs.declared.trees.Tree.{Tree}
 use Rattle.reference_machine.specs.Rooms.{RefusesBeyondRoom}
 use Rattle.reference_machine.specs.Runs.{IsStateAfter, StepRequest, RunsTo, followed_by, is_refusal, run, step_reports, thread_part}
 use Rattle.reference_machine.specs.States.{State}
-use Rattle.reference_machine.specs.Steps.{Outcome, Answers, Stuck, step}
+use Rattle.reference_machine.specs.Steps.{Outcome, Answers, step}
 use Rattle.reference_machine.proofs.StepLaws.{same_after}
-use Rattle.reference_machine.proofs.RunLaws.{behind_run, clash, same_state}
+use Rattle.reference_machine.proofs.RunLaws.{behind_run, first_of, same_state}
 
 -- two tests of one thing are equal
 same_test : {P : Type 0} (b c : Bool) → IsTrue b ↔ P → IsTrue c ↔ P → b ≡ c
@@ -36,22 +36,6 @@ module _ (tree : Tree) (limits : Limits) where
           let P : Outcome → Type 0 = λ o. followed_by o (λ x. run tree limits x qs) ≡ RunsTo reports t in
           behind_run r reports t (run tree limits u qs) (subst P is e) (λ rs k' e'. later rs k')
 
-  -- the first step of a run, and the run from there
-  record IsFirst (s : State) (q : StepRequest) (qs : List StepRequest) (reports : List Report) (t : State) : Type 0 where
-    report : Report
-    after : State
-    later : List Report
-    answers : step tree limits s q.0 q.1 ≡ Answers report after
-    are : reports ≡ report ∷ later
-    runs : run tree limits after qs ≡ RunsTo later t
-
-  first_of : (s : State) (q : StepRequest) (qs : List StepRequest) (reports : List Report) (t : State) → run tree limits s (q ∷ qs) ≡ RunsTo reports t → IsFirst s q qs reports t
-  first_of s q qs reports t e = by_outcome (step tree limits s q.0 q.1) refl e
-    where
-      by_outcome : (o : Outcome) → step tree limits s q.0 q.1 ≡ o → followed_by o (λ x. run tree limits x qs) ≡ RunsTo reports t → IsFirst s q qs reports t
-      by_outcome Stuck is k = clash [] reports t k
-      by_outcome (Answers r u) is k = behind_run r reports t (run tree limits u qs) k (λ rs k' e'. record { report = r; after = u; later = rs; answers = is; are = e'; runs = k' })
-
   -- what a run from a state comes to
   abbrev ComesTo : State → List (Event × Report) → State → Type 0
   ComesTo s events t = (run tree limits s (thread_part events) ≡ RunsTo (step_reports events) t) × RefusesBeyondRoom tree limits s (thread_part events)
@@ -63,8 +47,8 @@ module _ (tree : Tree) (limits : Limits) where
       ((u : State) → ComesTo u es t → ComesTo u es' t' → IsSame es es' t t') → IsSame ((Step n, r) ∷ es) ((Step n, r') ∷ es') t t'
   one_step s n r r' es es' t t' h h' later =
       let refused : is_refusal r ≡ is_refusal r' = same_test (is_refusal r) (is_refusal r') h.1.0 h'.1.0 in
-      let x = first_of s (n, is_refusal r) (thread_part es) (r ∷ step_reports es) t h.0 in
-      let x' = first_of s (n, is_refusal r') (thread_part es') (r' ∷ step_reports es') t' h'.0 in
+      let x = first_of tree limits s (n, is_refusal r) (thread_part es) (r ∷ step_reports es) t h.0 in
+      let x' = first_of tree limits s (n, is_refusal r') (thread_part es') (r' ∷ step_reports es') t' h'.0 in
       let both : Answers x.report x.after ≡ Answers x'.report x'.after = sym x.answers ∙ ap (step tree limits s n) refused ∙ x'.answers in
       let same : x.after ≡ x'.after = same_after x.report x'.report x.after x'.after both in
       let reports : r ≡ r' = same_head r x.report (step_reports es) x.later x.are ∙ same_report x.report x'.report x.after x'.after both ∙ sym (same_head r' x'.report (step_reports es') x'.later x'.are) in

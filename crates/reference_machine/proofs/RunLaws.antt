@@ -83,6 +83,22 @@ module _ (tree : Tree) (limits : Limits) where
       by_outcome Stuck h k later = clash [] reports t k
       by_outcome (Answers r u) h k later = behind_run r reports t (run tree limits u qs) k (λ rs k' e'. follows_more s u t (step_follows tree limits s q.0 q.1 r u h) (later u rs k'))
 
+  -- the first step of a run, and the run from there
+  pub record IsFirst (s : State) (q : StepRequest) (qs : List StepRequest) (reports : List Report) (t : State) : Type 0 where
+    pub report : Report
+    pub after : State
+    pub later : List Report
+    pub answers : step tree limits s q.0 q.1 ≡ Answers report after
+    pub are : reports ≡ report ∷ later
+    pub runs : run tree limits after qs ≡ RunsTo later t
+
+  pub first_of : (s : State) (q : StepRequest) (qs : List StepRequest) (reports : List Report) (t : State) → run tree limits s (q ∷ qs) ≡ RunsTo reports t → IsFirst s q qs reports t
+  first_of s q qs reports t e = by_outcome (step tree limits s q.0 q.1) refl e
+    where
+      by_outcome : (o : Outcome) → step tree limits s q.0 q.1 ≡ o → followed_by o (λ x. run tree limits x qs) ≡ RunsTo reports t → IsFirst s q qs reports t
+      by_outcome Stuck is k = clash [] reports t k
+      by_outcome (Answers r u) is k = behind_run r reports t (run tree limits u qs) k (λ rs k' e'. record { report = r; after = u; later = rs; answers = is; are = e'; runs = k' })
+
 -- ---- types stay
 
 -- the type and the class of an object of a shape

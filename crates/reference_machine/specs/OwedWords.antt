@@ -2,15 +2,10 @@
 use Rattle.std.specs.Prelude.{◌≡◌, ◌↔◌, ◌≤◌, ◌⊎◌, ℕ, ◌+◌, List, length, sum_by, Option, Some, None, slice_get, Contains, nat_eq}
 use Rattle.std.specs.List.{IsDistinct}
 use Rattle.cil_model.specs.declared.trees.Tree.{Tree}
-use Rattle.cil_model.specs.declared.limits.Limits.{Limits}
-use Rattle.cil_model.specs.declared.events.Event.{Event}
-use Rattle.cil_model.specs.declared.reports.Report.{Report}
 use Rattle.reference_machine.specs.Values.{Born}
 use Rattle.reference_machine.specs.States.{HeapObject, State}
 use Rattle.reference_machine.specs.Rooms.{cell_words}
-use Rattle.reference_machine.specs.Runs.{IsStateAfter}
 use Rattle.reference_machine.specs.Reachable.{IsReachable}
-use Rattle.reference_machine.specs.Cycles.{IsNewestCycle}
 
 -- the words of an object that is there
 abbrev pub words_of_object : Tree → Option HeapObject → ℕ
@@ -27,14 +22,3 @@ pub record OwesWords (tree : Tree) (before now : State) (words : ℕ) : Type 0 w
   pub distinct : IsDistinct nat_eq names
   pub owed : (n : ℕ) → Contains names n ↔ IsOwed before now n
   pub total : sum_by (λ n. words_of_object tree (slice_get now.objects n)) names ≡ words
-
--- So many words are owed after these events: `before` is the state before their newest cycle, and `now` the one after all.
-pub record OwesAfter (tree : Tree) (limits : Limits) (events : List (Event × Report)) (words : ℕ) : Type 0 where
-  pub earlier : List (Event × Report)
-  pub cycle : List (Event × Report)
-  pub newest : IsNewestCycle events earlier cycle
-  pub before : State
-  pub now : State
-  pub is_before : IsStateAfter tree limits earlier before
-  pub is_now : IsStateAfter tree limits events now
-  pub owes : OwesWords tree before now words

@@ -83,7 +83,8 @@ thread_part events = filter_map (λ (e : Event × Report). request_of e.0 e.1) e
 abbrev pub step_reports : List (Event × Report) → List Report
 step_reports events = filter_map (λ (e : Event × Report). report_of_step e.0 e.1) events
 
--- the state of the reference machine after these events; none is stuck among their steps, the reports are theirs, and so are the births that are refused
+-- The state of the reference machine after these events, among which the collector has none: no step is stuck, the reports are those of the steps, and
+-- births are refused exactly beyond the room of one space.
 pub record IsStateAfter (tree : Tree) (limits : Limits) (events : List (Event × Report)) (s : State) : Type 0 where
   pub first : State
   pub begins : opening tree limits ≡ Some first

@@ -75,8 +75,8 @@ pub fn memory_is_wanting_only_where_a_birth_is_refused()
     ensures { (here : Setting) (s : State) (f : Frame) (below : List Frame) (i : Instruction) → execute here s f below i ≡ Raises OutOfMemory → here.is_refused ≡ true }
 {}
 
-/// A program has one run by the same events within the same limits: since each birth is refused exactly beyond the room, the reports of
-/// its steps and the state that it comes to are the same.
+/// A program has one run by the same steps within the same limits, where nothing is collected: since each birth is refused exactly beyond
+/// the room of one space, the reports of its steps and the state that it comes to are the same.
 pub fn the_run_is_one()
     ensures { (tree : Tree) (limits : Limits) (events : List Event) (reports reports' : List Report) → length reports ≡ length events → length reports' ≡ length events → (s s' : State) →
         IsStateAfter tree limits (zip events reports) s → IsStateAfter tree limits (zip events reports') s' → (step_reports (zip events reports) ≡ step_reports (zip events reports')) × (s ≡ s') }

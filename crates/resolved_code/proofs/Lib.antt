@@ -9,5 +9,6 @@ pub mod WholeLaws
 pub mod Made
 pub mod DeclaredNumbers
 pub mod ClassNumbers
+pub mod OneOperation
 pub mod BracketLaws
 pub mod TypeTestLaws

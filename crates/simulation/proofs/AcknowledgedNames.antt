@@ -31,14 +31,13 @@ use Rattle.simulation.specs.Agreement.{Agree}
 use Rattle.simulation.specs.Collecting.{standing_flipped, thread_flipped, with_acknowledgement, with_flipped, with_thread_marked}
 use Rattle.simulation.specs.MachineContents.{Content}
 use Rattle.simulation.specs.Sound.{IsSound}
-use Rattle.simulation.specs.StandsFor.{Names, AreTwins, IsValue, int32, int64, native, null_reference, reference, IsOfContents, IsMonitor, IsCell, IsBornAt, IsHeap, IsObject, IsFrame, AreFrames, StandsAlike, IsThread, IsFull, Represents, StandsBy}
+use Rattle.simulation.specs.StandsFor.{Names, AreTwins, IsValue, int32, int64, native, null_reference, reference, IsOfContents, IsMonitor, IsCell, IsBornAt, IsHeap, IsObject, IsFrame, AreFrames, StandsAlike, IsThread, Represents, StandsBy}
 use Rattle.simulation.proofs.AgreeLaws.{agree_changed}
 use Rattle.simulation.proofs.AcknowledgementCases.{after_acknowledgement, posts_after}
 use Rattle.simulation.proofs.Acknowledgements.{acknowledgement_sound}
 use Rattle.simulation.proofs.NormalContents.{normal_names, sound_is_held}
 use Rattle.simulation.proofs.NormalNames.{IsNormal, normal_forward}
 use Rattle.simulation.proofs.RootMarks.{marks_keep_literals, thread_marked, thread_values}
-use Rattle.simulation.proofs.UsedWords.{all_marked_use, full_stays}
 
 -- ---- marks
 
@@ -195,20 +194,6 @@ acknowledgement_stands c t s name normal stands sound =
       flips = λ seat here opened late flip. flips_stand c s name sound stands normal flip (posts_after c t seat) t (slice_get c.threads t) refl;
     })
 
--- the words of all births are there after it: marks keep sizes
-acknowledgement_full : (c : Content) (t : ℕ) (objects : List HeapObject) → IsFull c.tree c.objects objects → IsFull (with_acknowledgement c t).0.tree (with_acknowledgement c t).0.objects objects
-acknowledgement_full c t objects full =
-    after_acknowledgement c t (λ x. IsFull x.tree x.objects objects)
-    (record {
-      nothing = full;
-      marks = λ seat here opened seen marking.
-          subst (λ o. IsFull c.tree o objects) (sym (thread_marked c.objects (slice_get c.threads t)))
-          (full_stays c.tree c.objects (with_all_marked c.objects (thread_values (slice_get c.threads t))) objects objects (all_marked_use (thread_values (slice_get c.threads t)) c.objects) refl full);
-      answers = λ seat here opened seen other. full;
-      goes_on = λ seat here opened late later. full;
-      flips = λ seat here opened late flip. full;
-    })
-
 -- so a machine that represents a state represents it after an acknowledgement
 pub acknowledgement_represents : (c : Content) (t : ℕ) (s : State) → Represents c s → Represents (with_acknowledgement c t).0 s
 acknowledgement_represents c t s r =
@@ -220,5 +205,4 @@ acknowledgement_represents c t s r =
       counted = r.counted;
       sound = acknowledgement_sound c t r.sound;
       stands = record { name = normal.name; by = acknowledgement_stands c t s normal.name normal.normal normal.by r.sound };
-      full = acknowledgement_full c t s.objects r.full;
     }

@@ -1,5 +1,5 @@
 -- An acknowledgement keeps a machine sound, in each phase that is posted.
-use Rattle.std.proofs.Common.{◌≡◌, ◌⊎◌, ◌≤◌, ℕ, Bool, true, false, ◌&&◌, not, if◌then◌else◌, List, ◌∷◌, map, Option, Some, None, slice_get, refl, inl, inr, sym, ap, ◌∙◌, subst}
+use Rattle.std.proofs.Common.{◌≡◌, ◌⊎◌, ℕ, Bool, true, false, ◌&&◌, not, if◌then◌else◌, List, ◌∷◌, map, Option, Some, None, slice_get, refl, inl, inr, sym, ap, ◌∙◌, subst}
 use Rattle.std.specs.Prelude.{is_some, All}
 use Rattle.std.specs.Option.{option_map_or}
 use Rattle.std.proofs.lemmas.Bool.{eq-eqb}
@@ -35,7 +35,7 @@ use Rattle.collector.proofs.Marks.{AreDarker-with_all_marked, HasNotBegun-with_a
 use Rattle.collector.proofs.Views.{value_weakens}
 use Rattle.simulation.specs.Collecting.{standing_flipped, thread_flipped, with_acknowledgement, with_flipped, with_thread_marked}
 use Rattle.simulation.specs.MachineContents.{Content}
-use Rattle.simulation.specs.Sound.{AreSeated, AreUpTo, IsSound, last_phase}
+use Rattle.simulation.specs.Sound.{AreSeated, IsSound}
 use Rattle.simulation.proofs.AcknowledgementCases.{after_acknowledgement, posts_after}
 use Rattle.simulation.proofs.NormalContents.{sound_is_held, thread_is_live}
 use Rattle.simulation.proofs.Passing.{frames_replaced, roots_pass, roots_passed}
@@ -99,16 +99,6 @@ module _ (c : Content) (sound : IsSound c) (t : ℕ) (seat : Seat) (here : seat_
   cases_of : (n : ℕ) (x : Seat) → seat_of posts n ≡ Some x → ((n ≡ t) × (x ≡ next)) ⊎ ((n ≡ t → ⊥) × (seat_of c.posts n ≡ Some x))
   cases_of = seat_cases c.posts t next seat here
 
-  up_to_then : AreUpTo last_phase posts
-  up_to_then = record { posted = sound.up_to.posted; own = own }
-    where
-      own : (n : ℕ) (x : Seat) → seat_of posts n ≡ Some x → phase_number x.phase ≤ phase_number last_phase
-      own n x is = by_case (cases_of n x is)
-        where
-          by_case : ((n ≡ t) × (x ≡ next)) ⊎ ((n ≡ t → ⊥) × (seat_of c.posts n ≡ Some x)) → phase_number x.phase ≤ phase_number last_phase
-          by_case (inl (same, new)) = subst (λ q. phase_number q ≤ phase_number last_phase) (sym (ap (λ (y : Seat). y.phase) new ∙ posted_after c.posts.posted seat)) sound.up_to.posted
-          by_case (inr (other, was)) = sound.up_to.own n x was
-
   -- the same threads are live
   seated_then : (threads : List Thread) → ((n : ℕ) → is_live_at threads n ≡ is_live_at c.threads n) → AreSeated posts threads
   seated_then threads same = record { close = answered_close c.posts sound.seated.close t seat here opened; live = λ n. same n ∙ sound.seated.live n ∙ seats n (same_or_other n t) }
@@ -127,7 +117,6 @@ module _ (c : Content) (sound : IsSound c) (t : ℕ) (seat : Seat) (here : seat_
       ((number : ℕ) (v : Value) → slice_get c.statics number ≡ Some v → ValuePasses (static_may_hold c.posts.posted o.spaces c.progress number) v) →
       IsSound (record c { threads = threads; posts = posts; objects = o })
   sound_then threads o same heap on_time others own statics = record {
-    up_to = up_to_then;
     seated = seated_then threads same;
     heap = heap;
     rounds = sound.rounds;

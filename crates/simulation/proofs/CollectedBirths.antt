@@ -1,15 +1,13 @@
 -- An object is born in a heap with a collector: its address gets the next name, and so does that of its other copy where both are live.
 use Rattle.std.proofs.Common.{◌≡◌, ◌⊎◌, inl, inr, ℕ, zero, suc, ◌+◌, ◌<◌, ◌==◌, Bool, true, false, if◌then◌else◌, List, [], ◌∷◌, ◌++◌, length, replicate, Option, Some, None, slice_get, refl, sym, ap, subst, ◌∙◌, arith}
-use Rattle.std.specs.Prelude.{◌&&◌, ◌||◌, nat_le}
+use Rattle.std.specs.Prelude.{◌&&◌, nat_le, unwrap_or}
 use Rattle.std.proofs.lemmas.Bool.{and_parts, eq-eqb, eqb-true}
 use Rattle.std.proofs.lemmas.Bool.Decides.{nat_tests}
-use Rattle.std.proofs.lemmas.Option.{none-some, same_Some, slice_get_within}
+use Rattle.std.proofs.lemmas.Option.{same_Some, slice_get_within}
 use Rattle.interpreter.specs.cil_model.declared.phases.Phase.{Phase}
-use Rattle.interpreter.specs.cil_model.declared.phases.Phase.TheVariants.{Idle, Mark, Allocate, Copy, PreFlip, HeapFlip, ThreadFlip, Reclaim}
 use Rattle.interpreter.specs.cil_model.declared.trees.Tree.{Tree}
 use Rattle.interpreter.specs.cil_model.Fields.{FieldKey}
 use Rattle.interpreter.proofs.cil_model.Lists.{last_is_there, none_is_some}
-use Rattle.interpreter.proofs.cil_model.SameLaws.{never}
 use Rattle.interpreter.specs.reference_machine.Values.{Born, Literal, ObjectName, Value as StateValue}
 use Rattle.interpreter.specs.reference_machine.States.{Contents, Free as IsFree, HeapObject, State, next_name, with_birth as with_state_birth}
 use Rattle.interpreter.specs.object_memory.declared.addresses.Addr.{Addr}
@@ -25,52 +23,26 @@ use Rattle.interpreter.proofs.object_memory.TwoBlocks.{new_is_cell, no_literal, 
 use Rattle.collector.specs.phase_handshake.Handshakes.{Handshakes, IsClose}
 use Rattle.collector.specs.phase_handshake.declared.posts.Seat.{Seat}
 use Rattle.collector.specs.References.{is_permanent}
-use Rattle.collector.specs.Phases.{is_live, is_marked_cell, is_marked_old, is_new}
+use Rattle.collector.specs.Phases.{is_live, is_marked_old, is_new}
 use Rattle.collector.specs.Soundness.{IsSoundHeap}
-use Rattle.collector.specs.Holding.{Hold, IsOnTime, hold_of, passes, static_hold_of, static_may_hold}
+use Rattle.collector.specs.Holding.{AnyLive, Hold, IsOnTime, MarkedOnly, NewOnly, hold_of, passes, static_hold_of, static_may_hold}
 use Rattle.collector.specs.declared.progress.Progress.{Progress}
 use Rattle.collector.proofs.BornCells.{IsBirth as IsBornCell, IsEmpty, bears_two}
 use Rattle.collector.proofs.CopyViews.{has_words}
 use Rattle.collector.proofs.HeapBirths.{IsNear, birth_forwards, birth_held, birth_is, birth_marks_nothing, birth_may_be_held, birth_on_time, birth_sound, birth_tests, can_bear_near, near_of_close, refused}
 use Rattle.collector.proofs.HeldValues.{held_is_live}
 use Rattle.collector.proofs.StoreMarks.{Grows, grows_then, live_grows, passes_then, value_weakens}
-use Rattle.collector.proofs.Truths.{or_first, or_second}
-use Rattle.collector.proofs.Views.{new_is_live}
+use Rattle.collector.proofs.Truths.{either_true, or_first, or_second}
 use Rattle.simulation.specs.StandsFor.{AreTwins, HasOneName, IsBornAt, IsCell, IsHeap, IsLiteralAt, IsMonitor, IsOfContents, IsValue, Names}
 use Rattle.simulation.proofs.AgreeLaws.{agree_weaken}
 use Rattle.simulation.proofs.Extending.{cell_extends, value_extends}
+use Rattle.simulation.proofs.LiveTwins.{twin_live}
+use Rattle.simulation.proofs.KeptNames.{marked_before_birth, new_before_birth}
 use Rattle.simulation.proofs.MemoryModels.{IsBirth}
-use Rattle.simulation.proofs.CollectedTwins.{AreOldAndNew, copies_apart, copy_is_new, copy_stays, forward_either, new_forward_itself, noted, noted_twin, old_forward, same_forward, twins_either, twins_forward, twins_late, twins_stay, twins_turned, words_are_live, words_not_last}
+use Rattle.simulation.proofs.CollectedTwins.{AreOldAndNew, copies_apart, copy_stays, forward_either, new_forward_itself, noted, noted_twin, old_forward, same_forward, twins_either, twins_forward, twins_late, twins_stay, twins_turned, words_not_last}
 use Rattle.simulation.proofs.CollectedComparing.{address_is}
 use Rattle.simulation.proofs.CollectedObjects.{born_number}
 use Rattle.simulation.proofs.CollectedNames.{FitsCollected, cut_is, cut_names, first_hold, is_cut_name, named_passes, named_whole}
-
--- ---- twins
-
--- a marked old object is live while both copies have all words
-marked_is_live : (posted : Phase) (m : Spaces) (a : Addr) → has_words posted ≡ true → is_marked_old m a ≡ true → is_live posted m a ≡ true
-marked_is_live Idle m a late marked = never late
-marked_is_live Mark m a late marked = never late
-marked_is_live Allocate m a late marked = never late
-marked_is_live Copy m a late marked = never late
-marked_is_live PreFlip m a late marked = or_second (is_permanent a) (is_marked_old m a || is_new m a) (or_first (is_marked_old m a) (is_new m a) marked)
-marked_is_live HeapFlip m a late marked = or_second (is_permanent a) (is_marked_old m a || is_new m a) (or_first (is_marked_old m a) (is_new m a) marked)
-marked_is_live ThreadFlip m a late marked = or_second (is_permanent a) (is_marked_old m a || is_new m a) (or_first (is_marked_old m a) (is_new m a) marked)
-marked_is_live Reclaim m a late marked = never late
-
-module _ (tree : Tree) (posted : Phase) (has_round : Bool) (words : ℕ) (p : Progress) (m : Spaces) (sound : IsSoundHeap tree posted has_round words p m) (late : has_words posted ≡ true) where
-  -- and so is each of two copies
-  copy_live : (a b : Addr) → AreOldAndNew m a b → (is_live posted m a ≡ true) × (is_live posted m b ≡ true)
-  copy_live a b copies = (
-    marked_is_live posted m a late (ap is_marked_cell copies.old ∙ sound.copies.marked_only a copies.from copies.old (λ none. none-some b (sym none ∙ copies.out))),
-    new_is_live posted m b (words_are_live posted late) (copy_is_new tree posted has_round words p m sound a b copies),
-  )
-
-  twin_live : (a b : ℕ) → AreTwins m a b → is_live posted m (record { number = b }) ≡ true
-  twin_live a b twins = elim (twins_either tree posted has_round words p m sound a b twins) [
-    | inl copies ↦ (copy_live (record { number = a }) (record { number = b }) copies).1
-    | inr copies ↦ (copy_live (record { number = b }) (record { number = a }) copies).0
-  ]
 
 -- ---- lists
 
@@ -459,6 +431,44 @@ module _ (tree : Tree) (words : ℕ) (h : Handshakes) (p : Progress) (seat : Sea
       named = is_cut_name (first_hold h seat first) h.posted o'.spaces whole a.number (next_name s) (newly_named a.number (inl refl)) own_passes;
       fits = fits_then;
     }
+
+    -- what it may hold then and had a name it might hold before
+    held_before : (x : ℕ) (n : ObjectName) → fits.whole x ≡ Some n → (y : Hold) → passes y h.posted o'.spaces (record { number = x }) ≡ true → passes y h.posted o.spaces (record { number = x }) ≡ true
+    held_before x n is AnyLive pass = fits.live x n is
+    held_before x n is MarkedOnly pass = elim (either_true (is_permanent (record { number = x })) (is_marked_old o'.spaces (record { number = x })) pass) [
+      | inl permanent ↦ or_first (is_permanent (record { number = x })) (is_marked_old o.spaces (record { number = x })) permanent
+      | inr marked ↦ elim (marked_before_birth seat.phase h.posted near o fits.sound.blocks.spaces k count o' a e (record { number = x }) marked) [
+        | inl was ↦ or_second (is_permanent (record { number = x })) (is_marked_old o.spaces (record { number = x })) was
+        | inr here ↦ unnamed x n (inl (ap (λ (b : Addr). b.number) here)) is
+      ]
+    ]
+    held_before x n is NewOnly pass = elim (either_true (is_permanent (record { number = x })) (is_new o'.spaces (record { number = x })) pass) [
+      | inl permanent ↦ or_first (is_permanent (record { number = x })) (is_new o.spaces (record { number = x })) permanent
+      | inr new ↦ elim (new_before_birth seat.phase h.posted near o fits.sound.blocks.spaces k count o' a e (record { number = x }) new) [
+        | inl was ↦ or_second (is_permanent (record { number = x })) (is_new o.spaces (record { number = x })) was
+        | inr here ↦ elim here [
+          | inl own ↦ unnamed x n (inl (ap (λ (b : Addr). b.number) own)) is
+          | inr other ↦
+              unnamed x n (inr (ap (λ (y : Option Addr). (unwrap_or y a).number) (sym other), live_grows o.spaces o'.spaces grows h.posted (record { number = x }) (fits.live x n is))) is
+        ]
+      ]
+    ]
+
+    -- no other name comes
+    pub births_only : (x : ℕ) (n : ObjectName) → collected_births.names x ≡ Some n → (name x ≡ Some n) ⊎ (next_name s ≡ n)
+    unfolding collected_births
+    births_only x n is =
+        let both = cut_is (first_hold h seat first) h.posted o'.spaces whole x n is in
+        elim (who x n both.0) [
+          | inl new ↦ inr new.1
+          | inr was ↦ inl (fits.is_cut x n was (held_before x n was (first_hold h seat first) both.1))
+        ]
+
+    -- the other copy of what is born has its name, once it is live
+    pub births_copied : (x : Addr) → other_of (cell_in o'.spaces.old a) ≡ Some x → is_live h.posted o'.spaces x ≡ true → passes (first_hold h seat first) h.posted o'.spaces x ≡ true → collected_births.names x.number ≡ Some (next_name s)
+    unfolding collected_births
+    births_copied x other live pass =
+        is_cut_name (first_hold h seat first) h.posted o'.spaces whole x.number (next_name s) (filled_then a.number x.number (next_name s) (newly_named a.number (inl refl)) other live) pass
 
 -- ---- births that are refused
 

@@ -1,6 +1,6 @@
 -- What an event of the collector never changes, and that a machine represents the same state after it.
 use Rattle.std.proofs.Common.{◌≡◌, Bool, true, false, List, refl, sym, subst}
-use Rattle.std.specs.Prelude.{◌&&◌, not, if◌then◌else◌, nat_lt, IsTrue}
+use Rattle.std.specs.Prelude.{◌&&◌, not, if◌then◌else◌, IsTrue}
 use Rattle.interpreter.specs.cil_model.declared.limits.Limits.{Limits}
 use Rattle.interpreter.specs.cil_model.declared.phases.Phase.{Phase}
 use Rattle.interpreter.specs.cil_model.declared.phases.Phase.TheVariants.{Idle, Mark, Allocate, Copy, PreFlip, HeapFlip, ThreadFlip, Reclaim}
@@ -17,15 +17,13 @@ use Rattle.collector.specs.Marking.{is_closed, marked_on, statics_scanned}
 use Rattle.collector.specs.Copying.{copied_on, looked_on}
 use Rattle.collector.specs.Flips.{cleared_on, flipped_on}
 use Rattle.collector.specs.declared.progress.Progress.{Progress}
-use Rattle.collector.specs.phase_handshake.Handshakes.{all_answered, all_seen, phase_number}
+use Rattle.collector.specs.phase_handshake.Handshakes.{all_answered, all_seen}
 use Rattle.simulation.specs.Counts.{IsCounted}
 use Rattle.simulation.specs.MachineContents.{Content}
-use Rattle.simulation.specs.Sound.{last_phase}
-use Rattle.simulation.specs.Collecting.{cleared, collected, cycle_opened, flipped, marked, next_posted, opens_cycles, round_posted, rounds, with_next_phase, work, worked}
+use Rattle.simulation.specs.Collecting.{cleared, collected, flipped, marked, next_posted, round_posted, rounds, work, worked}
 use Rattle.simulation.specs.StandsFor.{Names, Represents, StandsBy}
 use Rattle.simulation.proofs.Collections.{collected_soundly}
 use Rattle.simulation.proofs.CollectedStates.{collected_stands}
-use Rattle.simulation.proofs.CollectedWords.{collected_full}
 use Rattle.simulation.proofs.NormalNames.{IsNormal}
 
 -- a machine goes on with the same program, limits and threads, and has printed the same
@@ -46,7 +44,7 @@ module _ (c : Content) where
 
   -- the next phase
   next_keeps : KeepsRest c (next_posted c).0
-  next_keeps = either_keeps (nat_lt (phase_number c.posts.posted) (phase_number last_phase)) (with_next_phase c, Worked) (c, Waiting) (record { tree = refl; limits = refl; threads = refl; printed = refl }) itself
+  next_keeps = record { tree = refl; limits = refl; threads = refl; printed = refl }
 
   -- a step of Allocate and Copy, of HeapFlip, and of Reclaim
   worked_keeps : (x : Progress × Objects × Bool) → KeepsRest c (worked c x).0
@@ -73,7 +71,7 @@ module _ (c : Content) where
 
   -- in each phase
   work_keeps : (x : Phase) → KeepsRest c (work x c).0
-  work_keeps Idle = either_keeps opens_cycles (cycle_opened c, Worked) (c, Waiting) (record { tree = refl; limits = refl; threads = refl; printed = refl }) itself
+  work_keeps Idle = record { tree = refl; limits = refl; threads = refl; printed = refl }
   work_keeps Mark = either_keeps c.progress.scanned_statics (marked c (marked_on c.tree c.progress c.objects))
       (record c { progress = (statics_scanned c.progress c.objects c.statics).0; objects = (statics_scanned c.progress c.objects c.statics).1 }, Worked)
       (marked_keeps (marked_on c.tree c.progress c.objects))
@@ -100,5 +98,4 @@ collected_represents c s r name normal stands =
       counted = subst (λ (l : Limits). IsCounted l s) (sym keeps.limits) r.counted;
       sound = collected_soundly c r.sound;
       stands = record { name = name; by = collected_stands name c s r.sound normal stands };
-      full = collected_full c s.objects r.full r.sound;
     }

@@ -1,6 +1,6 @@
 -- Events of the collector change nothing of what a machine stands for, where its names are those of what is live.
 use Rattle.std.proofs.Common.{◌≡◌, ◌⊎◌, inl, inr, ℕ, ◌+◌, ◌-◌, Bool, true, false, List, [], Option, Some, None, slice_get, refl, sym, ap, ◌∙◌, subst}
-use Rattle.std.specs.Prelude.{◌&&◌, not, if◌then◌else◌, nat_lt}
+use Rattle.std.specs.Prelude.{◌&&◌, not, if◌then◌else◌}
 use Rattle.std.specs.Option.{option_map_or}
 use Rattle.std.proofs.lemmas.Option.{none-some}
 use Rattle.interpreter.specs.cil_model.declared.phases.Phase.{Phase}
@@ -24,11 +24,11 @@ use Rattle.collector.specs.Copying.{copied_on, looked_on}
 use Rattle.collector.specs.Flips.{cleared_at, cleared_on, flip_step, flipped_on, retired}
 use Rattle.collector.specs.Holding.{AnyLive}
 use Rattle.collector.specs.declared.progress.Progress.{Progress}
-use Rattle.collector.specs.phase_handshake.Handshakes.{all_answered, all_seen, phase_number}
+use Rattle.collector.specs.phase_handshake.Handshakes.{all_answered, all_seen}
 use Rattle.simulation.specs.Agreement.{Agree}
 use Rattle.simulation.specs.MachineContents.{Content}
-use Rattle.simulation.specs.Sound.{IsSound, last_phase}
-use Rattle.simulation.specs.Collecting.{cleared, collected, cycle_opened, flipped, marked, next_posted, opens_cycles, round_posted, rounds, with_next_phase, work, worked}
+use Rattle.simulation.specs.Sound.{IsSound}
+use Rattle.simulation.specs.Collecting.{cleared, collected, flipped, marked, next_posted, round_posted, rounds, work, worked}
 use Rattle.simulation.specs.StandsFor.{AreTwins, IsCell, IsHeap, IsMonitor, IsOfContents, IsValue, Names, StandsBy}
 use Rattle.interpreter.proofs.object_memory.TwoBlocks.{either, new_is_cell, old_is_cell}
 use Rattle.collector.proofs.Views.{is_new_live, live_is_late, live_is_read, never, new_has_cell, none_is_new}
@@ -102,11 +102,7 @@ module _ (name : Names) (c : Content) (s : State) (stands : StandsBy name c s) w
 
   -- and so does one of a further phase
   pub stands_next : StandsBy name (next_posted c).0 s
-  stands_next = by_limit (nat_lt (phase_number c.posts.posted) (phase_number last_phase))
-    where
-      by_limit : (b : Bool) → StandsBy name (if◌then◌else◌ {A = Content × Report} b (with_next_phase c, Worked) (c, Waiting)).0 s
-      by_limit true = record { memory = stands.memory; threads = stands.threads }
-      by_limit false = stands
+  stands_next = record { memory = stands.memory; threads = stands.threads }
 
 -- after one of two turns, by a test
 either_stands : (name : Names) (s : State) (b : Bool) (x y : Content × Report) → (b ≡ true → StandsBy name x.0 s) → (b ≡ false → StandsBy name y.0 s) → StandsBy name (if◌then◌else◌ {A = Content × Report} b x y).0 s
@@ -278,9 +274,7 @@ worked_stands name s c (p, o, false) works posts = posts
 module _ (name : Names) (c : Content) (s : State) where
   -- a cycle opens
   opens_stand : IsSound (posting Idle c) → StandsBy name c s → StandsBy name (work Idle (posting Idle c)).0 s
-  opens_stand sound stands = either_stands name s opens_cycles (cycle_opened (posting Idle c), Worked) (posting Idle c, Waiting)
-      (λ e. (let opens = stands_shown name c s stands _ (opened_shows name c.objects c.limits.words (sound.heap.blocks.none_new refl)) in record { memory = opens.memory; threads = opens.threads }))
-      (λ e. record { memory = stands.memory; threads = stands.threads })
+  opens_stand sound stands = let opens = stands_shown name c s stands _ (opened_shows name c.objects c.limits.words (sound.heap.blocks.none_new refl)) in record { memory = opens.memory; threads = opens.threads }
 
   -- objects are marked
   dark_stands : IsSound (posting Mark c) → (o : Objects) → o.literals ≡ c.objects.literals → AreDarker c.objects.spaces o.spaces → StandsBy name c s → StandsBy name (record c { objects = o }) s

@@ -1,7 +1,6 @@
 -- Events of the collector keep all that is always true of a machine, whatever phase is posted.
-use Rattle.std.proofs.Common.{◌≡◌, ◌≢◌, ◌≤◌, ℕ, suc, Bool, true, false, List, [], ◌∷◌, map, Option, Some, None, is_some, option_map, slice_get, refl, sym, ap, ◌∙◌, subst, arith}
-use Rattle.std.specs.Prelude.{◌&&◌, not, if◌then◌else◌, nat_lt, option_and_then}
-use Rattle.std.proofs.lemmas.Bool.Decides.{nat_tests}
+use Rattle.std.proofs.Common.{◌≡◌, ◌≢◌, ℕ, Bool, true, false, List, [], ◌∷◌, map, Option, Some, None, is_some, option_map, slice_get, refl, sym, ap, ◌∙◌, subst}
+use Rattle.std.specs.Prelude.{◌&&◌, not, if◌then◌else◌, option_and_then}
 use Rattle.std.proofs.lemmas.Option.{same_Some, slice_get-map}
 use Rattle.interpreter.specs.cil_model.declared.trees.Tree.{Tree}
 use Rattle.interpreter.specs.cil_model.declared.phases.Phase.{Phase}
@@ -22,11 +21,11 @@ use Rattle.collector.specs.Copying.{copied_on, looked_on}
 use Rattle.collector.specs.Flips.{cleared_on, flipped_on, retired}
 use Rattle.collector.specs.Holding.{hold_of, is_flipping, is_marking, may_hold, static_may_hold}
 use Rattle.collector.specs.declared.progress.Progress.{Progress}
-use Rattle.collector.specs.phase_handshake.Handshakes.{Handshakes, all_answered, all_seen, has_seen, phase_number, posted_round, seat_of, unanswered}
+use Rattle.collector.specs.phase_handshake.Handshakes.{Handshakes, all_answered, all_seen, has_seen, posted_round, seat_of, unanswered}
 use Rattle.collector.specs.phase_handshake.declared.posts.Seat.{Seat}
 use Rattle.simulation.specs.MachineContents.{Content}
-use Rattle.simulation.specs.Sound.{IsSound, last_phase}
-use Rattle.simulation.specs.Collecting.{cleared, collected, cycle_ended, cycle_opened, flipped, marked, next_posted, opens_cycles, round_posted, rounds, with_next_phase, work, worked}
+use Rattle.simulation.specs.Sound.{IsSound}
+use Rattle.simulation.specs.Collecting.{cleared, collected, cycle_ended, cycle_opened, flipped, marked, next_posted, round_posted, rounds, work, worked}
 use Rattle.interpreter.proofs.cil_model.Lists.{none_is_some}
 use Rattle.collector.proofs.phase_handshake.Closeness.{cycle_close, passes_at, phase_close, round_close, same_phase, seat_here, seat_there}
 use Rattle.collector.proofs.Views.{marked_cell, may_hold_live, never, new_cell, old_cell, value_weakens}
@@ -78,23 +77,6 @@ module _ (h k : Handshakes) (asked : k.seats ≡ map unanswered h.seats) (t : �
       by_place (Some None) = refl
       by_place (Some (Some seat)) = refl
 
--- ---- numbers of phases
-
--- what is less is at most the number before
-below : (m n : ℕ) → nat_lt m n ≡ true → suc m ≤ n
-below m n e = grind (arith, nat_tests)
-
--- the next phase is the one of the next number, or the first
-next_number : (x : Phase) (n : ℕ) → suc (phase_number x) ≤ n → phase_number (phase_after x) ≤ n
-next_number Idle n h = h
-next_number Mark n h = h
-next_number Allocate n h = h
-next_number Copy n h = h
-next_number PreFlip n h = h
-next_number HeapFlip n h = h
-next_number ThreadFlip n h = h
-next_number Reclaim n h = omega arith
-
 -- ---- what a step owes
 
 -- one of two turns, by a test
@@ -115,7 +97,6 @@ module _ (c : Content) (sound : IsSound c) (seen : all_seen c.posts ≡ true) wh
       → StaticsPass c.posts.posted o.spaces p statics
       → IsSound (record c { progress = p; objects = o; statics = statics })
   works_soundly p o statics heap scanned held pass = record {
-    up_to = sound.up_to;
     seated = sound.seated;
     heap = heap;
     rounds = scanned;
@@ -125,14 +106,13 @@ module _ (c : Content) (sound : IsSound c) (seen : all_seen c.posts ≡ true) wh
   }
 
   -- a step posts the next phase, which isn't Mark
-  posts_soundly : (o : Objects) → phase_after c.posts.posted ≢ Mark → phase_number (phase_after c.posts.posted) ≤ phase_number last_phase
+  posts_soundly : (o : Objects) → phase_after c.posts.posted ≢ Mark
       → IsSoundHeap c.tree (phase_after c.posts.posted) c.posts.has_round c.limits.words no_progress o.spaces
       → ((t : ℕ) (seat : Seat) (a : Addr) → seat_of c.posts t ≡ Some seat → may_hold c.posts c.objects.spaces seat a ≡ true
       → may_hold (record c.posts { posted = phase_after c.posts.posted }) o.spaces seat a ≡ true)
       → StaticsPass (phase_after c.posts.posted) o.spaces no_progress c.statics
       → IsSound (after_post c o)
-  posts_soundly o other low heap held pass = record {
-    up_to = record { posted = low; own = sound.up_to.own };
+  posts_soundly o other heap held pass = record {
     seated = record { close = phase_close c.posts sound.seated.close seen; live = sound.seated.live };
     heap = heap;
     rounds = λ mark round. absurd (other mark);
@@ -140,12 +120,6 @@ module _ (c : Content) (sound : IsSound c) (seen : all_seen c.posts ≡ true) wh
     threads = λ t left fs seat at there a listed. held t seat a there (sound.threads t left fs seat at there a listed);
     statics = pass;
   }
-
-  -- it does so unless that is beyond the last one
-  next_soundly : (phase_number (phase_after c.posts.posted) ≤ phase_number last_phase → IsSound (with_next_phase c)) → IsSound (next_posted c).0
-  next_soundly posts = either_soundly (nat_lt (phase_number c.posts.posted) (phase_number last_phase)) (with_next_phase c, Worked) (c, Waiting)
-      (λ e. posts (next_number c.posts.posted (phase_number last_phase) (below (phase_number c.posts.posted) (phase_number last_phase) e)))
-      (λ e. sound)
 
 -- a step was done, or none was left
 worked_soundly : (c : Content) (x : Progress × Objects × Bool) → IsSound (record c { progress = x.0; objects = x.1 }) → (x.2 ≡ false → IsSound (next_posted c).0) → IsSound (worked c x).0
@@ -172,12 +146,8 @@ module _ (c : Content) (sound : IsSound (posting Idle c)) (seen : all_seen (post
   before_cycle t seat there = was_seat (posting Idle c).posts opened.posts refl t seat there
 
   -- a cycle opens
-  opened_soundly : 1 ≤ phase_number last_phase → IsSound opened
-  opened_soundly low = record {
-    up_to = record {
-      posted = low;
-      own = λ t seat there. let was = before_cycle t seat there in subst (λ (s : Seat). phase_number s.phase ≤ phase_number last_phase) (sym was.2) (sound.up_to.own t was.0 was.1);
-    };
+  pub opens_soundly : IsSound (work Idle (posting Idle c)).0
+  opens_soundly = record {
     seated = record {
       close = cycle_close (posting Idle c).posts sound.seated.close seen;
       live = λ t. sound.seated.live t ∙ same_seats (posting Idle c).posts opened.posts refl t;
@@ -190,10 +160,6 @@ module _ (c : Content) (sound : IsSound (posting Idle c)) (seen : all_seen (post
         opened_held (posting Idle c).posts opened.posts c.objects.spaces c.limits.words was.0 seat refl refl refl a (sound.threads t left fs was.0 at was.1 a listed));
     statics = sound.statics;
   }
-
-  -- it does so unless Mark is beyond the last phase
-  pub opens_soundly : IsSound (work Idle (posting Idle c)).0
-  opens_soundly = either_soundly opens_cycles (opened, Worked) (posting Idle c, Waiting) (λ e. opened_soundly (below 0 (phase_number last_phase) e)) (λ e. sound)
 
 -- ---- Mark
 
@@ -236,10 +202,6 @@ module _ (c : Content) (sound : IsSound (posting Mark c)) (seen : all_seen (post
   -- a round is posted
   pub round_soundly : c.objects.spaces.grey ≡ [] → c.progress.scanned_statics ≡ true → IsSound (round_posted marking)
   round_soundly none scanned = record {
-    up_to = record {
-      posted = sound.up_to.posted;
-      own = λ t seat there. let was = before_round t seat there in subst (λ (s : Seat). phase_number s.phase ≤ phase_number last_phase) (sym was.2) (sound.up_to.own t was.0 was.1);
-    };
     seated = record {
       close = round_close marking.posts sound.seated.close;
       live = λ t. sound.seated.live t ∙ same_seats marking.posts (round_posted marking).posts refl t;
@@ -261,12 +223,11 @@ module _ (c : Content) (sound : IsSound (posting Mark c)) (seen : all_seen (post
 
   -- marking is over
   pub closes_soundly : is_closed c.progress c.objects marking.posts ≡ true → IsSound (next_posted marking).0
-  closes_soundly closed = next_soundly marking sound seen (λ low.
-      posts_soundly marking sound seen c.objects (λ e. absurd cc) low
+  closes_soundly closed = posts_soundly marking sound seen c.objects (λ e. absurd cc)
       (IsSoundHeap-closed c.tree c.limits.words c.progress c.objects marking.posts sound.heap closed)
       (λ t seat a there held. allocate_held (record marking.posts { posted = Allocate }) c.objects.spaces seat refl a (closed_held c.progress c.objects marking.posts closed t seat there refl a held))
       (λ number v there. value_weakens (static_may_hold Mark c.objects.spaces c.progress number) (static_may_hold Allocate c.objects.spaces no_progress number)
-      (λ a held. allocate_held-static c.objects.spaces no_progress number a (closed_held-static c.progress c.objects marking.posts closed number a held)) v (sound.statics number v there)))
+      (λ a held. allocate_held-static c.objects.spaces no_progress number a (closed_held-static c.progress c.objects marking.posts closed number a held)) v (sound.statics number v there))
 
   -- where nothing is grey
   pub rounds_soundly : c.objects.spaces.grey ≡ [] → c.progress.scanned_statics ≡ true → IsSound (rounds marking).0
@@ -320,11 +281,10 @@ module _ (c : Content) (sound : IsSound (posting Allocate c)) (seen : all_seen (
 
   -- all copies are made
   pub copies_soundly : after_look.2 ≡ false → IsSound (next_posted (posting Allocate c)).0
-  copies_soundly over = next_soundly (posting Allocate c) sound seen (λ low.
-      posts_soundly (posting Allocate c) sound seen c.objects (λ e. absurd cc) low
+  copies_soundly over = posts_soundly (posting Allocate c) sound seen c.objects (λ e. absurd cc)
       (copy_posted c.tree c.posts.has_round c.limits.words c.progress c.objects sound.heap over)
       (λ t seat a there held. live_held (record c.posts { posted = Copy }) c.objects.spaces seat a refl refl (may_hold_live (posting Allocate c).posts c.objects.spaces seat a held))
-      sound.statics)
+      sound.statics
 
   -- one of both
   pub allocate_work_soundly : IsSound (work Allocate (posting Allocate c)).0
@@ -361,11 +321,10 @@ module _ (c : Content) (sound : IsSound (posting Copy c)) (seen : all_seen (post
   pub filled_soundly : after_copy.2 ≡ false → IsSound (next_posted (posting Copy c)).0
   filled_soundly over =
       let live = pre_flip_live c.tree c.posts.has_round c.limits.words c.progress c.objects sound.heap in
-      next_soundly (posting Copy c) sound seen (λ low.
-      posts_soundly (posting Copy c) sound seen c.objects (λ e. absurd cc) low
+      posts_soundly (posting Copy c) sound seen c.objects (λ e. absurd cc)
       (pre_flip_posted c.tree c.posts.has_round c.limits.words c.progress c.objects sound.heap over)
       (λ t seat a there held. live_held (record c.posts { posted = PreFlip }) c.objects.spaces seat a refl refl (live a (may_hold_live (posting Copy c).posts c.objects.spaces seat a held)))
-      (λ number v there. value_weakens (is_live Copy c.objects.spaces) (is_live PreFlip c.objects.spaces) live v (sound.statics number v there)))
+      (λ number v there. value_weakens (is_live Copy c.objects.spaces) (is_live PreFlip c.objects.spaces) live v (sound.statics number v there))
 
   -- one of both
   pub copy_work_soundly : IsSound (work Copy (posting Copy c)).0
@@ -376,19 +335,17 @@ module _ (c : Content) (sound : IsSound (posting Copy c)) (seen : all_seen (post
 module _ (c : Content) where
   -- HeapFlip is posted
   pub pre_flip_work_soundly : IsSound (posting PreFlip c) → all_seen (posting PreFlip c).posts ≡ true → IsSound (work PreFlip (posting PreFlip c)).0
-  pre_flip_work_soundly sound seen = next_soundly (posting PreFlip c) sound seen (λ low.
-      posts_soundly (posting PreFlip c) sound seen c.objects (λ e. absurd cc) low
+  pre_flip_work_soundly sound seen = posts_soundly (posting PreFlip c) sound seen c.objects (λ e. absurd cc)
       (flip_posted c.tree c.posts.has_round c.limits.words c.progress c.objects.spaces PreFlip refl sound.heap)
       (λ t seat a there held. flip_keeps_held (posting PreFlip c).posts seat (seen_phase (posting PreFlip c).posts seen t seat there) c.objects.spaces a refl held)
-      (statics_to_heap_flip c.objects.spaces c.progress c.statics sound.statics))
+      (statics_to_heap_flip c.objects.spaces c.progress c.statics sound.statics)
 
   -- Reclaim is posted
   pub thread_flip_work_soundly : IsSound (posting ThreadFlip c) → all_seen (posting ThreadFlip c).posts ≡ true → IsSound (work ThreadFlip (posting ThreadFlip c)).0
-  thread_flip_work_soundly sound seen = next_soundly (posting ThreadFlip c) sound seen (λ low.
-      posts_soundly (posting ThreadFlip c) sound seen c.objects (λ e. absurd cc) low
+  thread_flip_work_soundly sound seen = posts_soundly (posting ThreadFlip c) sound seen c.objects (λ e. absurd cc)
       (flip_posted c.tree c.posts.has_round c.limits.words c.progress c.objects.spaces ThreadFlip refl sound.heap)
       (λ t seat a there held. flip_keeps_held (posting ThreadFlip c).posts seat (seen_phase (posting ThreadFlip c).posts seen t seat there) c.objects.spaces a refl held)
-      (statics_to_reclaim c.objects.spaces c.progress no_progress c.statics sound.statics))
+      (statics_to_reclaim c.objects.spaces c.progress no_progress c.statics sound.statics)
 
 module _ (c : Content) (sound : IsSound (posting HeapFlip c)) (seen : all_seen (posting HeapFlip c).posts ≡ true) where
   -- after a step
@@ -405,11 +362,10 @@ module _ (c : Content) (sound : IsSound (posting HeapFlip c)) (seen : all_seen (
 
   -- all of them are
   pub flipped_soundly : after_flip.2 ≡ false → IsSound (next_posted (posting HeapFlip c)).0
-  flipped_soundly over = next_soundly (posting HeapFlip c) sound seen (λ low.
-      posts_soundly (posting HeapFlip c) sound seen c.objects (λ e. absurd cc) low
+  flipped_soundly over = posts_soundly (posting HeapFlip c) sound seen c.objects (λ e. absurd cc)
       (flip_posted c.tree c.posts.has_round c.limits.words c.progress c.objects.spaces HeapFlip refl sound.heap)
       (λ t seat a there held. flip_keeps_held (posting HeapFlip c).posts seat (seen_phase (posting HeapFlip c).posts seen t seat there) c.objects.spaces a refl held)
-      (all_flipped c.tree c.posts.has_round c.limits.words c.progress c.objects sound.heap c.statics sound.statics over no_progress))
+      (all_flipped c.tree c.posts.has_round c.limits.words c.progress c.objects sound.heap c.statics sound.statics over no_progress)
 
   -- one of both
   by_step : (x : Progress × List Value × Bool) → IsSound (record (posting HeapFlip c) { progress = x.0; statics = x.1 }) → (x.2 ≡ false → IsSound (next_posted (posting HeapFlip c)).0) → IsSound (flipped (posting HeapFlip c) x).0
@@ -438,7 +394,7 @@ module _ (c : Content) (sound : IsSound (posting Reclaim c)) (seen : all_seen (p
 
   -- all of them are, and the cycle ends
   pub ends_soundly : after_clear.2 ≡ false → IsSound (cycle_ended (posting Reclaim c))
-  ends_soundly over = posts_soundly (posting Reclaim c) sound seen (retired c.objects) (λ e. absurd cc) (omega arith)
+  ends_soundly over = posts_soundly (posting Reclaim c) sound seen (retired c.objects) (λ e. absurd cc)
       (retired_sound c.tree c.posts.has_round c.limits.words c.progress c.objects sound.heap over)
       (λ t seat a there held. end_keeps_held (posting Reclaim c).posts seat (seen_phase (posting Reclaim c).posts seen t seat there) c.objects.spaces a refl held)
       (statics_to_idle c.objects.spaces c.progress no_progress c.statics sound.statics)

@@ -68,6 +68,10 @@ module _ (tree : Tree) (legal : IsLegal tree) where
   instance_slot_small key n c named at =
       omega (arith, found_within (λ (f : FieldKey × DeclaredType). same_key f.0 key) (length (hidden_slots tree key.declared_in)) (instance_fields tree key.declared_in) n at, hidden_few key.declared_in, fields_few c key.declared_in named)
 
+  -- there are few static fields
+  pub static_fields_small : length (static_fields tree) < 2 ^ 32
+  static_fields_small = omega (arith, static_fields_few tree legal)
+
   -- a static field has a number of 32 bits
   pub static_slot_small : (key : FieldKey) (n : ℕ) → static_slot tree key ≡ Some n → n < 2 ^ 32
   static_slot_small key n at = omega (arith, found_within (λ (f : FieldKey × DeclaredType). same_key f.0 key) 0 (static_fields tree) n at, static_fields_few tree legal)

@@ -27,7 +27,7 @@ use Rattle.simulation.specs.MachineContents.{Content}
 use Rattle.simulation.specs.Sound.{AreSeated, IsSound}
 use Rattle.simulation.specs.StandsFor.{Names, IsThread, IsValue, StandsBy}
 use Rattle.simulation.proofs.NamedFrames.{agree_by_place, standing_kept, value_kept}
-use Rattle.simulation.proofs.NormalNames.{IsNormal, filled, filled_heap, filled_is_normal, is_filled}
+use Rattle.simulation.proofs.NormalNames.{IsNormal, filled, filled_from, filled_heap, filled_is_normal, is_filled}
 use Rattle.simulation.proofs.Passing.{Each, FramePasses, roots_passed}
 
 -- what is true of a sound machine whatever phase is the last one: of seats, of the heap, and of what threads and static fields hold
@@ -105,3 +105,13 @@ module _ (c : Content) (held : IsHeldSoundly c) where
         threads = agree_by_place (IsThread c.tree c.limits name) (IsThread c.tree c.limits names) c.threads s.threads thread_stands stands.threads;
       };
     }
+
+    -- each of them was there,
+    pub normal_from : (a : ℕ) (n : ObjectName) → normal_names.name a ≡ Some n → (b : ℕ) × (name b ≡ Some n)
+    unfolding normal_names
+    normal_from a n is = filled_from c.posts.posted c.objects.spaces name a n is
+
+    -- and what is live keeps its name
+    pub normal_keeps : (a : ℕ) (n : ObjectName) → is_live_address c.posts.posted c.objects.spaces (record { number = a }) ≡ true → name a ≡ Some n → normal_names.name a ≡ Some n
+    unfolding normal_names
+    normal_keeps a n live is = kept a n live is

@@ -90,6 +90,14 @@ module _ (posted : Phase) (m : Spaces) (name : Names) where
   pub is_filled : (a : ℕ) (n : ObjectName) → is_live posted m (record { number = a }) ≡ true → name a ≡ Some n → filled a ≡ Some n
   is_filled a n live is = ap (λ x. first_of x (if is_live posted m (record { number = a }) then cut_at (other_of (cell_in m.new (record { number = a }))) else None)) (is_cut a n live is)
 
+  -- and each of these names was there
+  pub filled_from : (a : ℕ) (n : ObjectName) → filled a ≡ Some n → (b : ℕ) × (name b ≡ Some n)
+  filled_from a n e = by_filled (filled_is a n e).1
+    where
+      by_filled : IsFilled a n → (b : ℕ) × (name b ≡ Some n)
+      by_filled (own is) = (a, is)
+      by_filled (copied b there live is) = (b.number, is)
+
 -- ---- both copies of an object
 
 -- the cell of an address that has another copy

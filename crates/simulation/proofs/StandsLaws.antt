@@ -13,7 +13,6 @@ use Rattle.interpreter.specs.cil_model.declared.reports.End.{End}
 use Rattle.interpreter.specs.cil_model.declared.reports.Report.{Report}
 use Rattle.interpreter.specs.cil_model.Bodies.{code_of, entry_points}
 use Rattle.interpreter.specs.reference_machine.States.{Frame as StateFrame, State, Thread as StateThread}
-use Rattle.interpreter.specs.reference_machine.Rooms.{RefusesBeyondRoom}
 use Rattle.interpreter.specs.reference_machine.Runs.{opening, opening_at, run, thread_part}
 use Rattle.interpreter.specs.threads_monitors.Threads.{end_in, end_of, is_live, is_live_at}
 use Rattle.interpreter.specs.threads_monitors.declared.threads.Standing.{Standing}
@@ -23,6 +22,7 @@ use Rattle.simulation.specs.Agreement.{Agree}
 use Rattle.simulation.specs.Budgets.{AreWithinBudget, HasEnded, KeepsBudgets, steps_left_of}
 use Rattle.simulation.specs.MachineContents.{Content}
 use Rattle.simulation.specs.Runs.{FollowsReference, RunsAlike, StandsAfter}
+use Rattle.simulation.specs.Turns.{opening_content}
 use Rattle.simulation.specs.StandsFor.{IsThread, Names, Represents, StandsAlike}
 use Rattle.simulation.proofs.AgreeLaws.{agree_at}
 use Rattle.interpreter.proofs.cil_model.Lists.{none_is_some}
@@ -98,21 +98,23 @@ module _ (limits : Limits) (c d : Content) (s : State) (events : List (Event × 
   within_budget = record { within = λ t. omega (arith, kept.counted t, whole t); ended = λ t all. spent t (omega (arith, kept.counted t, whole t, all)) }
 
 -- a machine that represented the opening state, after a run
-pub stands_after : (tree : Tree) (limits : Limits) (c d : Content) (events : List Event) (reports : List Report) (first : State) → opening tree limits ≡ Some first → Represents c first → c.tree ≡ tree → c.limits ≡ limits → d.limits ≡ c.limits → 0 < limits.budget
+pub stands_after : (tree : Tree) (limits : Limits) (c d : Content) (events : List Event) (reports : List Report) (first : State) → opening tree limits ≡ Some first → opening_content tree limits ≡ Some c → Represents c first → c.tree ≡ tree → c.limits ≡ limits → d.limits ≡ c.limits → 0 < limits.budget
     → length reports ≡ length events → FollowsReference c d (zip events reports) → StandsAfter tree limits events reports d
-stands_after tree limits c d events reports first opens r same_tree same_limits kept_limits some each follows =
+stands_after tree limits c d events reports first opens opened r same_tree same_limits kept_limits some each follows =
     let alike : RunsAlike c d (zip events reports) first = follows first r in
     record {
       state = alike.state;
       is_run = record {
         each = each;
-        is_after = record {
-          first = first;
-          begins = opens;
-          comes = ap (λ x. run x limits first (thread_part (zip events reports))) (sym same_tree) ∙ (ap (λ x. run c.tree x first (thread_part (zip events reports))) (sym same_limits) ∙ alike.comes);
-          refuses = subst (λ x. RefusesBeyondRoom x limits first (thread_part (zip events reports))) same_tree (subst (λ x. RefusesBeyondRoom c.tree x first (thread_part (zip events reports))) same_limits alike.refuses);
-        };
+        first = first;
+        begins = opens;
+        comes = ap (λ x. run x limits first (thread_part (zip events reports))) (sym same_tree) ∙ (ap (λ x. run c.tree x first (thread_part (zip events reports))) (sym same_limits) ∙ alike.comes);
+        machine = c;
+        opened = opened;
+        last = d;
+        refuses = alike.refuses;
       };
+      ends = refl;
       budgets = within_budget limits c d alike.state (zip events reports) alike.represents (kept_limits ∙ same_limits) some (whole_budget tree limits c first opens r same_limits) alike.budgets;
       represents = alike.represents;
     }

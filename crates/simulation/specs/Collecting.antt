@@ -1,6 +1,6 @@
 -- What an event of the collector does, by the phase that is posted, and what an acknowledgement does (Hudson and Moss, "Sapphire"; the rounds and the
 -- finest steps are this profile's).
-use Rattle.std.specs.Prelude.{ℕ, nat_lt, not, ◌&&◌, if◌then◌else◌, Bool, true, false, List, [], ◌∷◌, Option, slice_get, slice_set}
+use Rattle.std.specs.Prelude.{ℕ, not, ◌&&◌, if◌then◌else◌, Bool, true, false, List, [], ◌∷◌, Option, slice_get, slice_set}
 use Rattle.std.specs.Option.{option_map_or}
 use Rattle.interpreter.specs.cil_model.declared.phases.Phase.{Phase}
 use Rattle.interpreter.specs.cil_model.declared.phases.Phase.TheVariants.{Idle, Mark, Allocate, Copy, PreFlip, HeapFlip, ThreadFlip, Reclaim}
@@ -18,7 +18,7 @@ use Rattle.collector.specs.Copying.{copied_on, looked_on}
 use Rattle.collector.specs.Flips.{cleared_on, flipped_on, retired}
 use Rattle.collector.specs.Holding.{is_marking}
 use Rattle.collector.specs.declared.progress.Progress.{Progress}
-use Rattle.collector.specs.phase_handshake.Handshakes.{acknowledged, all_answered, all_seen, is_open, is_phase, phase_number, posted_next, posted_round, seat_of}
+use Rattle.collector.specs.phase_handshake.Handshakes.{acknowledged, all_answered, all_seen, is_open, is_phase, posted_next, posted_round, seat_of}
 use Rattle.collector.specs.phase_handshake.declared.posts.Seat.{Seat}
 use Rattle.interpreter.specs.threads_monitors.Roots.{roots, with_references}
 use Rattle.interpreter.specs.threads_monitors.Threads.{is_live_at}
@@ -26,7 +26,6 @@ use Rattle.interpreter.specs.threads_monitors.declared.threads.Standing.{Standin
 use Rattle.interpreter.specs.threads_monitors.declared.threads.Standing.TheVariants.{Live, Ended}
 use Rattle.interpreter.specs.threads_monitors.declared.threads.Thread.{Thread}
 use Rattle.simulation.specs.MachineContents.{Content}
-use Rattle.simulation.specs.Sound.{last_phase}
 
 -- ---- posts
 
@@ -34,17 +33,13 @@ use Rattle.simulation.specs.Sound.{last_phase}
 abbrev pub with_next_phase : Content → Content
 with_next_phase c = record c { posts = posted_next c.posts; progress = no_progress }
 
--- it is posted, unless it is beyond the last one
+-- it is posted
 abbrev pub next_posted : Content → Content × Report
-next_posted c = if nat_lt (phase_number c.posts.posted) (phase_number last_phase) then (with_next_phase c, Worked) else (c, Waiting)
+next_posted c = (with_next_phase c, Worked)
 
 -- a cycle opens, with a second block as large as the first
 abbrev pub cycle_opened : Content → Content
 cycle_opened c = record (with_next_phase c) { objects = record c.objects { spaces = opened c.objects.spaces c.limits.words } }
-
--- whether there are phases beyond the first
-abbrev pub opens_cycles : Bool
-opens_cycles = nat_lt (phase_number Idle) (phase_number last_phase)
 
 -- ---- work
 
@@ -89,7 +84,7 @@ mark_work c =
     else (record c { progress = (statics_scanned c.progress c.objects c.statics).0; objects = (statics_scanned c.progress c.objects c.statics).1 }, Worked)
 
 abbrev pub work : Phase → Content → Content × Report
-work Idle c = if opens_cycles then (cycle_opened c, Worked) else (c, Waiting)
+work Idle c = (cycle_opened c, Worked)
 work Mark c = mark_work c
 work Allocate c = worked c (looked_on c.progress c.objects)
 work Copy c = worked c (copied_on c.tree c.progress c.objects)

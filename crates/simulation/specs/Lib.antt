@@ -14,6 +14,7 @@ pub use Rattle.interpreter.specs as interpreter
 pub mod Agreement
 pub mod Counts
 pub mod MachineContents
+pub mod Rooms
 pub mod Sound
 pub mod Collecting
 pub mod Reached
@@ -22,3 +23,4 @@ pub mod Turns
 pub mod Ready
 pub mod Budgets
 pub mod Runs
+pub mod Owed

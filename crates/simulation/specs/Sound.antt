@@ -1,14 +1,13 @@
 -- What is always true of what a machine with a collector holds: of posts and seats, of the heap, and of what threads and static fields hold (Hudson and
 -- Moss, "Sapphire"; this profile). It speaks of no object of the reference machine.
-use Rattle.std.specs.Prelude.{◌≡◌, ◌≤◌, ℕ, true, List, Some, is_some, slice_get}
-use Rattle.interpreter.specs.cil_model.declared.phases.Phase.{Phase}
-use Rattle.interpreter.specs.cil_model.declared.phases.Phase.TheVariants.{Copy, Mark}
+use Rattle.std.specs.Prelude.{◌≡◌, ℕ, true, List, Some, is_some, slice_get}
+use Rattle.interpreter.specs.cil_model.declared.phases.Phase.TheVariants.{Mark}
 use Rattle.interpreter.specs.object_memory.declared.addresses.Addr.{Addr}
 use Rattle.interpreter.specs.object_memory.declared.values.Value.{Value}
 use Rattle.collector.specs.References.{ValuePasses}
 use Rattle.collector.specs.Soundness.{IsListed, IsSoundHeap}
 use Rattle.collector.specs.Holding.{IsOnTime, may_hold, static_may_hold}
-use Rattle.collector.specs.phase_handshake.Handshakes.{AreClose, Handshakes, phase_number, seat_of}
+use Rattle.collector.specs.phase_handshake.Handshakes.{AreClose, Handshakes, seat_of}
 use Rattle.collector.specs.phase_handshake.declared.posts.Seat.{Seat}
 use Rattle.interpreter.specs.threads_monitors.Frames.{Frames}
 use Rattle.interpreter.specs.threads_monitors.Roots.{roots}
@@ -18,15 +17,6 @@ use Rattle.interpreter.specs.threads_monitors.declared.threads.Thread.{Thread}
 use Rattle.simulation.specs.MachineContents.{Content}
 
 -- ---- posts and seats
-
--- the last phase that the collector of a machine posts: the flips are still to come
-abbrev pub last_phase : Phase
-last_phase = Copy
-
--- no later phase is posted or acknowledged
-pub record AreUpTo (last : Phase) (h : Handshakes) : Type 0 where
-  pub posted : phase_number h.posted ≤ phase_number last
-  pub own : (t : ℕ) (seat : Seat) → seat_of h t ≡ Some seat → phase_number seat.phase ≤ phase_number last
 
 -- the live threads have the seats, each close to what is posted
 pub record AreSeated (h : Handshakes) (threads : List Thread) : Type 0 where
@@ -38,7 +28,6 @@ pub record AreSeated (h : Handshakes) (threads : List Thread) : Type 0 where
 -- Posts and seats fit the threads; the heap is sound; rounds come after the static fields were scanned; the collector waits for each thread that is
 -- late; and threads and static fields hold what they may.
 pub record IsSound (c : Content) : Type 0 where
-  pub up_to : AreUpTo last_phase c.posts
   pub seated : AreSeated c.posts c.threads
   pub heap : IsSoundHeap c.tree c.posts.posted c.posts.has_round c.limits.words c.progress c.objects.spaces
   pub rounds : c.posts.posted ≡ Mark → c.posts.has_round ≡ true → c.progress.scanned_statics ≡ true

@@ -12,7 +12,6 @@ use Rattle.interpreter.specs.cil_model.Typings.{IsAccepted}
 use Rattle.interpreter.specs.cil_model.Fields.{FieldKey}
 use Rattle.interpreter.specs.cil_model.Mentions.{literals_of}
 use Rattle.interpreter.specs.reference_machine.Values.{ObjectName, Born, Literal, Value as StateValue, Int32 as Int32Value, Int64 as Int64Value, Native as NativeValue, Null, Reference}
-use Rattle.interpreter.specs.reference_machine.Rooms.{words_of_all}
 use Rattle.interpreter.specs.reference_machine.States.{Monitor as StateMonitor, Free as IsFree, Held as IsHeld, Contents, Instance as IsInstance, Array as IsArray, HeapObject, Frame as StateFrame, Thread as StateThread, State, entry_at}
 use Rattle.type_soundness.specs.TypedStates.{IsTyped}
 use Rattle.simulation.specs.Counts.{IsCounted}
@@ -25,8 +24,8 @@ use Rattle.interpreter.specs.object_memory.declared.monitors.Monitor.{Monitor}
 use Rattle.interpreter.specs.object_memory.declared.monitors.Monitor.TheVariants.{Free, Held}
 use Rattle.interpreter.specs.object_memory.declared.values.Value.{Value}
 use Rattle.interpreter.specs.object_memory.declared.values.Value.TheVariants.{Int32, Int64, Native, Ref}
-use Rattle.interpreter.specs.object_memory.Cells.{Cell, cell_in, literal, literal_number, null, used_words}
-use Rattle.interpreter.specs.object_memory.Objects.{Objects, object_cell, used_space}
+use Rattle.interpreter.specs.object_memory.Cells.{Cell, cell_in, literal, literal_number, null}
+use Rattle.interpreter.specs.object_memory.Objects.{Objects, object_cell}
 use Rattle.interpreter.specs.object_memory.Spaces.{Spaces, other_of}
 use Rattle.interpreter.specs.object_memory.Values.{value_word}
 use Rattle.interpreter.specs.loaded_program.AllMethods.{all_methods}
@@ -193,11 +192,6 @@ pub record StandsFor (c : Content) (s : State) : Type 0 where
   pub name : Names
   pub by : StandsBy name c s
 
--- As long as no phase beyond Copy is posted, so that no cycle ends, the old block has the words of all births, and the new one no more words than it.
-pub record IsFull (tree : Tree) (o : Objects) (objects : List HeapObject) : Type 0 where
-  pub old : used_space o ≡ words_of_all tree objects
-  pub new : used_words o.spaces.new.cells ≤ used_space o
-
 -- Within limits that a run may have, an accepted program's sound machine stands for a typed state, whose monitors are counted.
 pub record Represents (c : Content) (s : State) : Type 0 where
   pub accepted : IsAccepted c.tree
@@ -206,4 +200,3 @@ pub record Represents (c : Content) (s : State) : Type 0 where
   pub counted : IsCounted c.limits s
   pub sound : IsSound c
   pub stands : StandsFor c s
-  pub full : IsFull c.tree c.objects s.objects

@@ -7,6 +7,7 @@ use Rattle.workers.proofs.shared_machine.simulation.StandsLaws.{stands_after}
 use Rattle.cil_model.specs.Legality.{IsLegal}
 use Rattle.workers.specs.shared_machine.simulation.MachineContents.{Content}
 use Rattle.workers.specs.shared_machine.simulation.StandsFor.{Represents}
+use Rattle.workers.specs.shared_machine.simulation.Turns.{opening_content}
 use Rattle.workers.specs.shared_machine.Worlds.{HasRun as Ran}
 use Rattle.cil_model.specs.Ranges.{are_in_range}
 use Rattle.reference_machine.specs.Runs.{opening}
@@ -63,9 +64,9 @@ some_budget limits h =
 
 -- a machine that one worker ran from its beginning
 pub ran : (tree : Tree) (limits : Limits) (m d : Content) (events : List Event) (reports : List Report) → are_in_range limits ≡ true
-    → (s : State) × (opening tree limits ≡ Some s) × Represents m s → m.tree ≡ tree → m.limits ≡ limits → Ran m events reports d → IsRun tree limits events reports d
-ran tree limits m d events reports in_range first same_tree same_limits run =
-    (in_range, stands_after tree limits m d events reports first.0 first.1 first.2 same_tree same_limits run.limits (some_budget limits in_range) run.each run.follows)
+    → opening_content tree limits ≡ Some m → (s : State) × (opening tree limits ≡ Some s) × Represents m s → m.tree ≡ tree → m.limits ≡ limits → Ran m events reports d → IsRun tree limits events reports d
+ran tree limits m d events reports in_range opened first same_tree same_limits run =
+    (in_range, stands_after tree limits m d events reports first.0 first.1 opened first.2 same_tree same_limits run.limits (some_budget limits in_range) run.each run.follows)
 
 -- a program that was verified
 pub accepted_source : (source : List ℕ) (tree program verified : Tree) → IsAnswer source (HasTree tree) → program ≡ tree → IsVerdict program (Ok verified) → IsAcceptedSource source verified

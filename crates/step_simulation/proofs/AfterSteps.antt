@@ -21,7 +21,7 @@ use Rattle.simulation.specs.threads_monitors.declared.threads.Standing.{Standing
 use Rattle.simulation.specs.threads_monitors.declared.threads.Standing.TheVariants.{Live}
 use Rattle.simulation.specs.threads_monitors.declared.threads.Thread.{Thread}
 use Rattle.simulation.specs.MachineContents.{Content}
-use Rattle.simulation.specs.Sound.{IsSound}
+use Rattle.simulation.specs.Sound.{AreSeated, IsSound}
 use Rattle.simulation.specs.StandsFor.{Names, Represents}
 use Rattle.simulation.specs.Turns.{live_thread, seats_after}
 use Rattle.simulation.proofs.cil_model.Lists.{last_is_there}
@@ -30,7 +30,7 @@ use Rattle.simulation.proofs.collector.StaticFlips.{set_here_or_there}
 use Rattle.simulation.proofs.Collected.{others_may_hold, own_may_hold}
 use Rattle.simulation.proofs.SetSeats.{same_or_other}
 use Rattle.step_simulation.proofs.Mutators.{FitsOwn, normally, own_passes, seat, seat_there}
-use Rattle.step_simulation.proofs.Seats.{AreFitting, append_other, counted_posts, counted_seat, other_seat, set_seat}
+use Rattle.step_simulation.proofs.Seats.{append_other, counted_posts, counted_seat, other_seat, set_seat}
 
 -- nothing stands past the end of a list
 past_end : {X : Type 0} (xs : List X) → slice_get xs (length xs) ≡ None
@@ -99,10 +99,9 @@ module _ (c : Content) (s : State) (r : Represents c s) (t left : ℕ) (m : Fram
     module _ (printed : List ℕ) (base : List Thread) (h : Handshakes) (beside : AreBeside base h o) where
       module _ (threads : List Thread) (seats : List (Option Seat)) (were : (n : ℕ) (x : Seat) → seat_of (record c.posts { seats = seats }) n ≡ Some x → (k : ℕ) × (seat_of c.posts k ≡ Some x))
           (hold : (n left' : ℕ) (fs : Frames) (x : Seat) → slice_get threads n ≡ Some (record { standing = Live fs; steps_left = left' }) → seat_of (record c.posts { seats = seats }) n ≡ Some x → (a : Addr) → IsListed (roots fs) a → may_hold c.posts o.spaces x a ≡ true) where
-        sound_with : AreFitting (record c.posts { seats = seats }) threads → IsSound (record c { threads = threads; posts = record c.posts { seats = seats }; objects = o; statics = ss; printed = printed })
+        sound_with : AreSeated (record c.posts { seats = seats }) threads → IsSound (record c { threads = threads; posts = record c.posts { seats = seats }; objects = o; statics = ss; printed = printed })
         sound_with fit = record {
-          up_to = fit.up_to;
-          seated = fit.seated;
+          seated = fit;
           heap = fits.sound;
           rounds = r.sound.rounds;
           on_time = λ n x is. let was = were n x is in fits.on_time x.phase (r.sound.on_time was.0 x was.1);
@@ -121,11 +120,11 @@ module _ (c : Content) (s : State) (r : Represents c s) (t left : ℕ) (m : Fram
         after_is = counted_posts h t x.1 ∙ ap (λ (y : Handshakes). record y { seats = after.seats }) beside.posts
 
         -- the machine is sound once the step is counted
-        pub after_sound : AreFitting (seats_after h t (settled effect (live_thread left m')).1) (slice_set base t (settled effect (live_thread left m')).0) →
+        pub after_sound : AreSeated (seats_after h t (settled effect (live_thread left m')).1) (slice_set base t (settled effect (live_thread left m')).0) →
             IsSound (record c { threads = slice_set base t (settled effect (live_thread left m')).0; posts = seats_after h t (settled effect (live_thread left m')).1; objects = o; statics = ss; printed = printed })
         after_sound fit =
             subst (λ (y : Handshakes). IsSound (record c { threads = slice_set base t x.0; posts = y; objects = o; statics = ss; printed = printed })) (sym after_is)
-            (sound_with (slice_set base t x.0) after.seats (λ n y is. beside.were n y (counted_seat h t x.1 n y is)) hold (subst (λ (y : Handshakes). AreFitting y (slice_set base t x.0)) after_is fit))
+            (sound_with (slice_set base t x.0) after.seats (λ n y is. beside.were n y (counted_seat h t x.1 n y is)) hold (subst (λ (y : Handshakes). AreSeated y (slice_set base t x.0)) after_is fit))
           where
             hold : (n left' : ℕ) (fs : Frames) (y : Seat) → slice_get (slice_set base t x.0) n ≡ Some (record { standing = Live fs; steps_left = left' }) → seat_of after n ≡ Some y → (a : Addr) → IsListed (roots fs) a → may_hold c.posts o.spaces y a ≡ true
             hold n left' fs y at is a listed = elim (set_here_or_there base t n x.0 _ at) [

@@ -32,8 +32,9 @@ use Rattle.simulation.specs.interpreter.declared.outcomes.Outcome.TheVariants.{C
 use Rattle.simulation.specs.MachineContents.{Content, mutator_of}
 use Rattle.simulation.specs.Collecting.{flips_frames, thread_flipped, threads_after, with_flipped}
 use Rattle.simulation.proofs.CollectedRests.{collected_keeps}
+use Rattle.simulation.specs.Sound.{AreSeated}
 use Rattle.simulation.specs.Turns.{IsStandingTurn, IsThreadTurn, IsTurn, after_request, counted, finished, left_by, run_member, started, thread_at, thread_for, live_thread, seated}
-use Rattle.step_simulation.proofs.Seats.{AreFitting, begun_fits, counted_fits, live_fits, live_more, live_set}
+use Rattle.step_simulation.proofs.Seats.{begun_fits, counted_fits, live_fits, live_more, live_set}
 use Rattle.simulation.specs.reference_machine.Runs.{is_refusal}
 use Rattle.simulation.proofs.Instructions.{is_refused_effect, is_refused_fault, is_refused_outcome}
 use Rattle.step_simulation.proofs.Settling.{refusal_of}
@@ -190,23 +191,23 @@ module _ (c : Content) (t left : ℕ) (a : Answer) (after : Content × Report) w
             omega (arith, e, one, more.room)
 
     -- posts and seats fit the threads
-    pub finished_fitting : AreFitting c.posts c.threads → is_live_at c.threads t ≡ true → AreFitting after.0.posts after.0.threads
+    pub finished_fitting : AreSeated c.posts c.threads → is_live_at c.threads t ≡ true → AreSeated after.0.posts after.0.threads
     finished_fitting fit there =
-        subst (λ (x : Content × Report). AreFitting x.0.posts x.0.threads) way.is (counted_fits way.posts way.threads (begun way.are).0 t way.effect way.frames left (begun way.are).1)
+        subst (λ (x : Content × Report). AreSeated x.0.posts x.0.threads) way.is (counted_fits way.posts way.threads (begun way.are).0 t way.effect way.frames left (begun way.are).1)
       where
-        same : AreFitting c.posts threads
+        same : AreSeated c.posts threads
         same = live_fits c.posts c.threads fit t (live_thread left a.frames) refl there
 
         lives : is_live_at threads t ≡ true
         lives = live_set c.threads t t (live_thread left a.frames) refl there ∙ there
 
-        begun : ((way.threads ≡ threads) × (way.posts ≡ c.posts)) ⊎ (HasBegun c.limits.budget threads way.threads × (way.posts ≡ joined c.posts (length threads) t)) → AreFitting way.posts way.threads × (is_live_at way.threads t ≡ true)
+        begun : ((way.threads ≡ threads) × (way.posts ≡ c.posts)) ⊎ (HasBegun c.limits.budget threads way.threads × (way.posts ≡ joined c.posts (length threads) t)) → AreSeated way.posts way.threads × (is_live_at way.threads t ≡ true)
         begun (inl (is, seats)) = (
-          subst (λ h. AreFitting h way.threads) (sym seats) (subst (AreFitting c.posts) (sym is) same),
+          subst (λ h. AreSeated h way.threads) (sym seats) (subst (AreSeated c.posts) (sym is) same),
           ap (λ ts. is_live_at ts t) is ∙ lives,
         )
         begun (inr (more, seats)) = (
-          subst (λ h. AreFitting h way.threads) (sym seats) (subst (AreFitting (joined c.posts (length threads) t)) (sym more.are) (begun_fits c.posts threads same t more.new more.lives more.room lives)),
+          subst (λ h. AreSeated h way.threads) (sym seats) (subst (AreSeated (joined c.posts (length threads) t)) (sym more.are) (begun_fits c.posts threads same t more.new more.lives more.room lives)),
           ap (λ ts. is_live_at ts t) more.are ∙ live_more threads t more.new lives,
         )
 
@@ -225,7 +226,7 @@ module _ (c : Content) (after : Content × Report) where
   -- what holds where nothing changes, and after each step of a live thread
   module _ (P : Content × Report → Type 0) (unchanged : (r : Report) → P (c, r))
       (stepped : (t left : ℕ) (m : Frames) (a : Answer) → slice_get c.threads t ≡ Some (live_thread left m) → IsDone c.tree (mutator_of c t) m c.objects c.statics c.printed a → finished c t left a a.outcome ≡ Some after → P after) where
-    step_by : (t : ℕ) → IsTurn c (Step t) after → P after
+    pub step_by : (t : ℕ) → IsTurn c (Step t) after → P after
     step_by t h = by_thread (slice_get c.threads t) refl h
       where
         by_standing : (left : ℕ) (standing : Standing) → slice_get c.threads t ≡ Some (record { standing = standing; steps_left = left }) → IsStandingTurn c t left standing after → P after
@@ -248,6 +249,6 @@ module _ (c : Content) (after : Content × Report) where
   turn_few Gc h few = let keeps = collected_keeps c in subst (λ (x : Content × Report). length x.0.threads ≤ MOST_THREADS) (sym h) (subst (λ (ts : List Thread). length ts ≤ MOST_THREADS) (sym keeps.threads) few)
 
   -- posts and seats fit the threads after each step
-  pub step_keeps_fitting : (t : ℕ) → IsTurn c (Step t) after → AreFitting c.posts c.threads → AreFitting after.0.posts after.0.threads
+  pub step_keeps_fitting : (t : ℕ) → IsTurn c (Step t) after → AreSeated c.posts c.threads → AreSeated after.0.posts after.0.threads
   step_keeps_fitting t turn fit =
-      step_by (λ x. AreFitting x.0.posts x.0.threads) (λ r. fit) (λ t left m a there done is. finished_fitting c t left a after a.outcome is fit (ap (λ o. option_map_or is_live o false) there)) t turn
+      step_by (λ x. AreSeated x.0.posts x.0.threads) (λ r. fit) (λ t left m a there done is. finished_fitting c t left a after a.outcome is fit (ap (λ o. option_map_or is_live o false) there)) t turn

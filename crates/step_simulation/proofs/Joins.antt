@@ -85,11 +85,11 @@ module _ (c : Content) (s : State) (r : Represents c s) (t left : ℕ) (m : Fram
 
   -- a step that asks to join
   pub joins : (threads : List Thread) → threads ≡ c.threads → (object : Addr) → Asks c s r t left m there Join object (answer_of m c.objects c.statics c.printed (Joins object)) →
-      Follows c s t (counted (record c { threads = threads }) t left (join_effect threads c.objects object) (after_request (join_effect threads c.objects object) m))
+      Follows c s r t (counted (record c { threads = threads }) t left (join_effect threads c.objects object) (after_request (join_effect threads c.objects object) m))
   joins threads same object asks =
       let joined : IsJoined (join_effect c.threads c.objects object) =
       join_alike object asks.operand asks.rest asks.stack
       (asked_of c s r t left m there Join (λ rest n. join (here c s r t left m there) s (running c s r t left m there) (below c s r t left m there) rest) (λ v rest. refl) object (answer_of m c.objects c.statics c.printed (Joins object)) asks) in
-      subst (λ ts. Follows c s t (counted (record c { threads = ts }) t left (join_effect ts c.objects object) (after_request (join_effect ts c.objects object) m))) (sym same)
+      subst (λ ts. Follows c s r t (counted (record c { threads = ts }) t left (join_effect ts c.objects object) (after_request (join_effect ts c.objects object) m))) (sym same)
       (comes c s r t left m there c.threads (λ x. refl) false (join_effect c.threads c.objects object) joined.0
       (answer_of (after_request (join_effect c.threads c.objects object) m) c.objects c.statics c.printed (Comes (join_effect c.threads c.objects object))) joined.1)

@@ -52,3 +52,11 @@ pub mod LiteralNames
 pub mod OpeningContents
 pub mod Refusals
 pub mod Whole
+pub mod OneRun
+mod StepRuns
+mod CycleWork
+mod Walks
+mod OwedStates
+mod OpenCycles
+mod OwedRuns
+mod OwedCycles

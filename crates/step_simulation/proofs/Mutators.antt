@@ -1,34 +1,51 @@
 -- A live thread of a machine that represents a state: its seat, the names of what it may hold, and the memory that its instructions find.
-use Rattle.std.proofs.Common.{◌≡◌, ◌≤◌, ℕ, true, List, Some, slice_get, sym, ap}
+use Rattle.std.proofs.Common.{◌≡◌, ◌⊎◌, ℕ, true, List, length, Some, slice_get, inl, inr, sym, ap, subst, arith}
 use Rattle.std.specs.Option.{option_map_or}
 use Rattle.simulation.specs.cil_model.declared.phases.Phase.TheVariants.{Idle}
+use Rattle.simulation.specs.reference_machine.Values.{ObjectName}
 use Rattle.simulation.specs.reference_machine.States.{Frame as StateFrame, State}
 use Rattle.simulation.specs.object_memory.declared.addresses.Addr.{Addr}
 use Rattle.simulation.specs.object_memory.declared.values.Value.{Value}
-use Rattle.simulation.specs.object_memory.Objects.{Objects, free_space}
-use Rattle.simulation.specs.object_memory.Spaces.{room_for}
+use Rattle.simulation.specs.object_memory.Objects.{Objects}
 use Rattle.simulation.specs.phase_handshake.Handshakes.{IsClose, seat_of}
 use Rattle.simulation.specs.phase_handshake.declared.posts.Seat.{Seat}
 use Rattle.simulation.specs.collector.Holding.{IsOnTime, passes}
+use Rattle.simulation.specs.collector.Phases.{is_live}
 use Rattle.simulation.specs.collector.Soundness.{IsListed}
 use Rattle.simulation.specs.threads_monitors.Frames.{Frames}
 use Rattle.simulation.specs.threads_monitors.Roots.{roots}
 use Rattle.simulation.specs.threads_monitors.declared.threads.Standing.TheVariants.{Live}
 use Rattle.simulation.specs.MachineContents.{Content, mutator_of}
-use Rattle.simulation.specs.StandsFor.{AreFrames, IsFull, Names, Represents}
-use Rattle.simulation.proofs.Collected.{collected, frames_cut}
-use Rattle.simulation.proofs.CollectedNames.{FitsCollected, begins, cut_names, first_hold}
+use Rattle.simulation.specs.StandsFor.{AreFrames, Extends, Names, Represents}
+use Rattle.simulation.proofs.Collected.{frames_cut}
+use Rattle.simulation.proofs.CollectedNames.{FitsCollected, begins, cut_is, cut_names, first_hold}
 use Rattle.simulation.proofs.Extending.{frames_extend}
-use Rattle.simulation.proofs.EarlySeats.{seat_bears_old}
-use Rattle.simulation.proofs.FullMemories.{fully}
+use Rattle.simulation.proofs.KeptNames.{AreCopiesOfMarked, is_kept}
 use Rattle.simulation.proofs.MemoryModels.{IsModelled, IsReadable, MemoryModel}
-use Rattle.simulation.proofs.NormalContents.{StandsNormally, has_seat, normal_names, sound_is_held}
-use Rattle.simulation.proofs.UsedWords.{bears_old, old_room}
+use Rattle.simulation.proofs.NamedMemories.{IsKnown, named}
+use Rattle.simulation.proofs.NormalContents.{StandsNormally, has_seat, normal_from, normal_keeps, normal_names, sound_is_held}
+use Rattle.simulation.proofs.RoomMemories.{KeepsRoom, in_room, keeps_itself}
 
 module _ (c : Content) (s : State) (r : Represents c s) where
   -- the machine stands for the state under normal names
   pub normally : StandsNormally c s
   normally = normal_names c (sound_is_held c r.sound) r.accepted.legal s r.typed r.stands.name r.stands.by
+
+  -- each of these was there, and what is live keeps its name
+  pub normally_from : (a : ℕ) (n : ObjectName) → normally.name a ≡ Some n → (b : ℕ) × (r.stands.name b ≡ Some n)
+  unfolding normally
+  normally_from = normal_from c (sound_is_held c r.sound) r.accepted.legal s r.typed r.stands.name r.stands.by
+
+  pub normally_keeps : (a : ℕ) (n : ObjectName) → is_live c.posts.posted c.objects.spaces (record { number = a }) ≡ true → r.stands.name a ≡ Some n → normally.name a ≡ Some n
+  unfolding normally
+  normally_keeps = normal_keeps c (sound_is_held c r.sound) r.accepted.legal s r.typed r.stands.name r.stands.by
+
+  -- Names of objects that a step leaves: all that was named keeps its name, and what a cycle keeps then it kept before, or it has a name that was there or
+  -- that of an object born in the step.
+  pub record KeepsOwnNames (o : Objects) (name : Names) : Type 0 where
+    pub extends : Extends normally.name name
+    pub kept : (a : Addr) → is_kept c.posts.posted o.spaces a ≡ true → (is_kept c.posts.posted c.objects.spaces a ≡ true) ⊎ ((n : ObjectName) × (name a.number ≡ Some n) × IsKnown normally.name (length s.objects) n)
+    pub copies : AreCopiesOfMarked c.posts.posted c.objects.spaces → AreCopiesOfMarked c.posts.posted o.spaces
 
   module _ (t left : ℕ) (m : Frames) (there : slice_get c.threads t ≡ Some (record { standing = Live m; steps_left = left })) where
     -- ---- the seat
@@ -66,39 +83,48 @@ module _ (c : Content) (s : State) (r : Represents c s) where
 
     -- the memory of its instructions
     pub own_model : MemoryModel c.tree
-    unfolding collected
-    own_model = fully c.tree (collected c.tree r.accepted.legal c.limits.words c.posts c.progress seat close r.sound.rounds c.objects time normally.name) (seat_bears_old c.posts r.sound.up_to t seat seat_there.1)
+    own_model = in_room c.tree (named c.tree r.accepted.legal c.limits.words c.posts c.progress seat close r.sound.rounds c.objects time normally.name own_names (length s.objects)) c.objects s.objects
 
-    -- is in the thread's phase,
+    -- is in the thread's phase
     pub own_phase_is : own_model.phase ≡ (mutator_of c t).phase
-    unfolding own_model fully collected
+    unfolding own_model in_room named
     own_phase_is = sym (ap (λ o. option_map_or (λ (x : Seat). x.phase) o Idle) seat_there.1)
 
-    -- in which births are in the old block
-    own_bears_old : bears_old own_model.phase ≡ true
-    unfolding own_model fully collected
-    own_bears_old = seat_bears_old c.posts r.sound.up_to t seat seat_there.1
-
     pub own_memory : IsModelled c.tree own_model own_names c.objects c.statics c.printed s
-    unfolding own_model fully collected
-    own_memory = record { fits = record { fits = own_fits; full = r.full }; printed_is = normally.by.memory.printed_is }
+    unfolding own_model in_room named
+    own_memory = record { fits = record { fits = record { fits = own_fits; names = record { known = λ a n is. inl (a, is); kept = λ a kept. inl kept; copies = λ are. are }; more = omega arith }; room = keeps_itself c.tree seat.phase c.objects s.objects }; printed_is = normally.by.memory.printed_is }
 
     pub own_reads : IsReadable c.tree own_names c.objects s
     own_reads = own_model.reads own_names c.objects c.statics s own_memory.fits r.typed
 
-    -- a birth has all the room that is left of the old block
-    pub own_room : free_space c.objects ≤ room_for own_model.phase c.objects.spaces
-    own_room = old_room own_model.phase own_bears_old c.objects (own_model.bears own_names c.objects c.statics s own_memory.fits) c.posts.posted c.limits.words r.sound.heap.blocks r.full.new
-
     -- and what fits it fits
     module _ (names : Names) (o : Objects) (ss : List Value) (printed : List ℕ) (s' : State) (memory : IsModelled c.tree own_model names o ss printed s') where
       pub fits_of : FitsOwn names o ss s'
-      unfolding own_model fully collected
-      fits_of = memory.fits.fits
+      unfolding own_model in_room named
+      fits_of = memory.fits.fits.fits
 
-      pub full_of : IsFull c.tree o s'.objects
-      unfolding own_model fully collected
-      full_of = memory.fits.full
+      pub room_of : KeepsRoom c.tree (mutator_of c t).phase c.objects o s.objects s'.objects
+      unfolding own_model in_room named
+      room_of = subst (λ p. KeepsRoom c.tree p c.objects o s.objects s'.objects) own_phase_is memory.fits.room
+
+      -- and what is kept in it has one of its names
+      pub names_of : KeepsOwnNames o fits_of.whole
+      unfolding own_model own_names in_room named fits_of
+      names_of = record {
+        extends = memory.fits.fits.fits.extends;
+        kept = λ a kept. elim (memory.fits.fits.names.kept a kept) [
+          | inl was ↦ inl was
+          | inr is ↦ inr (
+            is.0,
+            (memory.fits.fits.fits.cut a.number is.0 is.1).0,
+            elim (memory.fits.fits.names.known a.number is.0 is.1) [
+              | inl own ↦ inl (own.0, (cut_is (first_hold c.posts seat c.objects) c.posts.posted c.objects.spaces normally.name own.0 is.0 own.1).0)
+              | inr new ↦ inr new
+            ],
+          )
+        ];
+        copies = memory.fits.fits.names.copies;
+      }
 
     -- ---- frames
 

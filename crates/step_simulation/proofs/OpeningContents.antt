@@ -34,7 +34,7 @@ use Rattle.simulation.specs.threads_monitors.Frames.{Frames}
 use Rattle.simulation.specs.threads_monitors.Roots.{roots}
 use Rattle.simulation.specs.threads_monitors.declared.threads.Standing.TheVariants.{Live}
 use Rattle.simulation.specs.MachineContents.{Content}
-use Rattle.simulation.specs.Sound.{IsSound}
+use Rattle.simulation.specs.Sound.{AreSeated, IsSound}
 use Rattle.simulation.specs.StandsFor.{IsHeap, IsThread, StandsAlike, StandsBy, Represents}
 use Rattle.simulation.specs.Turns.{content_at, opening_content, thread_at}
 use Rattle.simulation.proofs.LimitRanges.{budget_is_some, depth_is_some, words_are_few}
@@ -43,7 +43,7 @@ use Rattle.simulation.proofs.AgreeLaws.{agree_at}
 use Rattle.simulation.proofs.CollectedNames.{permanent_passes}
 use Rattle.simulation.proofs.RootLaws.{roots_pass, statics_pass}
 use Rattle.simulation.proofs.collector.Truths.{or_second}
-use Rattle.step_simulation.proofs.Seats.{AreFitting, first_alone, first_fits}
+use Rattle.step_simulation.proofs.Seats.{first_alone, first_fits}
 use Rattle.simulation.specs.cil_model.declared.phases.Phase.TheVariants.{Idle}
 use Rattle.simulation.specs.collector.Phases.{no_progress}
 use Rattle.simulation.specs.collector.Holding.{Hold, hold_of, may_hold, passes, static_hold_of, static_may_hold}
@@ -110,8 +110,7 @@ module _ (tree : Tree) (limits : Limits) (accepted : IsAccepted tree) (in_range 
   -- the first machine is sound
   opening_sound : (entry : ClassName × Method) (code : Code) (n : ℕ) → StandsBy (literal_names tree) (content_at tree limits entry n) (opening_at tree limits entry code) → IsSound (content_at tree limits entry n)
   opening_sound entry code n by = record {
-    up_to = fit.up_to;
-    seated = fit.seated;
+    seated = fit;
     heap = first_sound;
     rounds = λ e. absurd cc;
     on_time = λ t seat is late. absurd (late (ap (λ (x : Seat). x.phase) (first_alone t seat is)));
@@ -123,7 +122,7 @@ module _ (tree : Tree) (limits : Limits) (accepted : IsAccepted tree) (in_range 
         (content_at tree limits entry n).statics (opening_at tree limits entry code).statics by.memory.static_values number v is;
   }
     where
-      fit : AreFitting first_handshakes (thread_at limits entry [] n ∷ [])
+      fit : AreSeated first_handshakes (thread_at limits entry [] n ∷ [])
       fit = first_fits (thread_at limits entry [] n) refl
 
       m : Spaces
@@ -163,7 +162,6 @@ module _ (tree : Tree) (limits : Limits) (accepted : IsAccepted tree) (in_range 
             counted = opening_counted tree limits (budget_is_some limits in_range) (opening_at tree limits entry code) opened;
             sound = opening_sound entry code numbered.0 (first_stands entry code is numbered.0 numbered.2);
             stands = record { name = literal_names tree; by = first_stands entry code is numbered.0 numbered.2 };
-            full = record { old = refl; new = omega arith };
           },
         )
 

@@ -1,5 +1,5 @@
 -- A step is refused memory exactly where the object that it would make exceeds the room.
-use Rattle.std.proofs.Common.{◌≡◌, ◌↔◌, ◌⊎◌, ◌≤◌, ◌<◌, ◌+◌, ◌-◌, if◌then◌else◌, ℕ, zero, suc, Bool, true, false, IsTrue, List, [], ◌∷◌, ◌++◌, Option, Some, None, slice_get, refl, inl, inr, sym, ap, ◌∙◌, arith}
+use Rattle.std.proofs.Common.{◌≡◌, ◌↔◌, ◌⊎◌, ◌<◌, ◌+◌, ◌-◌, if◌then◌else◌, ℕ, zero, suc, Bool, true, false, IsTrue, List, [], ◌∷◌, ◌++◌, Option, Some, None, slice_get, refl, inl, inr, sym, ap, ◌∙◌, subst, arith}
 use Rattle.std.specs.Prelude.{nat_le}
 use Rattle.std.proofs.lemmas.Bool.Decides.{nat_tests}
 use Rattle.std.proofs.lemmas.List.Sums.{sum_by_push}
@@ -9,30 +9,33 @@ use Rattle.simulation.specs.cil_model.declared.reports.Report.{Report}
 use Rattle.simulation.specs.cil_model.declared.reports.Report.TheVariants.{Ran, Absent}
 use Rattle.simulation.specs.cil_model.declared.reports.Fault.TheVariants.{OutOfMemory}
 use Rattle.simulation.specs.cil_model.declared.trees.Tree.{Tree}
-use Rattle.simulation.specs.cil_model.declared.limits.Limits.{Limits}
 use Rattle.simulation.specs.reference_machine.Effects.{Effect as StateEffect, Raises as StateRaises}
-use Rattle.simulation.specs.reference_machine.Rooms.{ExceedsRoom, cell_words, words_of_all}
+use Rattle.simulation.specs.reference_machine.Cycles.{room}
+use Rattle.simulation.specs.reference_machine.Rooms.{cell_words, words_of_all}
 use Rattle.simulation.specs.reference_machine.Runs.{is_refusal}
 use Rattle.simulation.specs.reference_machine.States.{Contents, Frame as StateFrame, HeapObject, State, Free, with_birth}
 use Rattle.simulation.specs.reference_machine.Steps.{Outcome, Answers, goes_on, settled, step}
 use Rattle.simulation.proofs.reference_machine.StepLaws.{same_after}
 use Rattle.simulation.proofs.reference_machine.UnrefusedLaws.{memory_is_refused}
-use Rattle.simulation.specs.object_memory.Objects.{free_space}
+use Rattle.simulation.specs.object_memory.Spaces.{room_for}
+use Rattle.simulation.specs.phase_handshake.Handshakes.{own_phase}
 use Rattle.simulation.specs.threads_monitors.Frames.{Frames}
 use Rattle.simulation.specs.threads_monitors.declared.threads.Standing.{Standing}
 use Rattle.simulation.specs.threads_monitors.declared.threads.Standing.TheVariants.{Live, Ended}
 use Rattle.simulation.specs.threads_monitors.declared.threads.Thread.{Thread}
 use Rattle.simulation.specs.interpreter.Instructions.{IsDone, Answer}
 use Rattle.simulation.specs.MachineContents.{Content, mutator_of}
+use Rattle.simulation.specs.Rooms.{ExceedsRoom, spaces_of}
 use Rattle.simulation.specs.StandsFor.{Represents}
 use Rattle.simulation.specs.Turns.{IsStandingTurn, IsThreadTurn, IsTurn}
-use Rattle.simulation.proofs.Instructions.{ExceedsRoom as ExceedsFree, InstructionsAreAlike, is_refused_outcome}
-use Rattle.step_simulation.proofs.Finished.{finished_refusal, same_program}
+use Rattle.simulation.proofs.Instructions.{ExceedsRoom as ExceedsOwn, InstructionsAreAlike, is_refused_outcome}
+use Rattle.simulation.proofs.SeenRooms.{room_seen}
+use Rattle.step_simulation.proofs.Finished.{finished_refusal}
 use Rattle.step_simulation.proofs.Settings.{setting_of, is_alive, is_running, does_alike}
-use Rattle.step_simulation.proofs.Settling.{done, step_is}
+use Rattle.step_simulation.proofs.Settling.{KeepsOwnRoom, done, step_is}
 use Rattle.step_simulation.proofs.Steps.{step_follows}
 use Rattle.simulation.proofs.cil_model.SameLaws.{never}
-use Rattle.step_simulation.proofs.Mutators.{own_model, own_names, own_room}
+use Rattle.step_simulation.proofs.Mutators.{own_model, own_names, own_phase_is}
 
 -- ---- a test of room
 
@@ -61,9 +64,9 @@ born_by s contents t (suc left) frames = record { report = _; after = _; is = re
 
 module _ (each : InstructionsAreAlike) (c : Content) (s : State) (r : Represents c s) (t left : ℕ) (m : Frames) (there : slice_get c.threads t ≡ Some (record { standing = Live m; steps_left = left })) where
   abbrev Exceeds : StateEffect → Type 0
-  Exceeds e = ExceedsFree (setting_of c t false) (own_model c s r t left m there) (own_names c s r t left m there) m c.objects c.statics c.printed s (is_alive c s r t left m there).running (is_alive c s r t left m there).below e
+  Exceeds e = ExceedsOwn (setting_of c t false) (own_model c s r t left m there) (own_names c s r t left m there) m c.objects c.statics c.printed s (is_alive c s r t left m there).running (is_alive c s r t left m there).below e
 
-  -- the instruction's object exceeds what is free
+  -- the instruction's object exceeds the room for births of its thread
   instruction_exceeds : (a : Answer) → IsDone c.tree (mutator_of c t) m c.objects c.statics c.printed a → is_refused_outcome a.outcome ≡ true → Exceeds (done c s r t left m there false)
   instruction_exceeds a d refused =
       let x = does_alike each c s r t left m there false d.operation d.at d.constant in
@@ -74,8 +77,12 @@ module _ (each : InstructionsAreAlike) (c : Content) (s : State) (r : Represents
       by_effect (inl e) = e
       by_effect (inr e) = never (memory_is_refused (setting_of c t false) s (is_alive c s r t left m there).running (is_alive c s r t left m there).below (is_running c s r t left m there false).0 e)
 
+  -- which a user sees
+  room_is : room (spaces_of c.objects) (own_phase c.posts t) ≡ room_for (own_model c s r t left m there).phase c.objects.spaces
+  room_is = room_seen c r.sound t ∙ ap (λ p. room_for p c.objects.spaces) (sym (own_phase_is c s r t left m there))
+
   -- so its step leaves the object, were it not refused
-  step_exceeds : Exceeds (done c s r t left m there false) → ExceedsRoom c.tree c.limits s t
+  step_exceeds : Exceeds (done c s r t left m there false) → ExceedsRoom c s t
   step_exceeds e =
       let frames = (is_alive c s r t left m there).thread.frames in
       let born : IsBorn s e.contents (goes_on Ran (with_birth s e.contents) t (left - 1) (e.running ∷ e.waiting)) = born_by s e.contents t (left - 1) (e.running ∷ e.waiting) in
@@ -85,13 +92,7 @@ module _ (each : InstructionsAreAlike) (c : Content) (s : State) (r : Represents
         object = record { contents = e.contents; monitor = Free; thread = None };
         unrefused = step_is c s r t left m there false ∙ ap (settled s t (left - 1) frames) e.is ∙ born.is;
         is_born = born.objects;
-        exceeds =
-            (let full = r.full.old in
-            let space = r.sound.heap.blocks.old_words in
-            let room = own_room c s r t left m there in
-            let beyond_room = e.exceeds in
-            let more : free_space c.objects < cell_words c.tree e.contents = omega (arith, room, beyond_room) in
-            beyond (cell_words c.tree e.contents) (c.limits.words - words_of_all c.tree s.objects) (omega (arith, full, space, more)));
+        exceeds = beyond (cell_words c.tree e.contents) (room (spaces_of c.objects) (own_phase c.posts t)) (subst (λ n. n < cell_words c.tree e.contents) (sym room_is) e.exceeds);
       }
 
 -- ---- where the object exceeds the room, the step is refused
@@ -100,41 +101,38 @@ module _ (each : InstructionsAreAlike) (c : Content) (s : State) (r : Represents
 one_more : (tree : Tree) (objects : List HeapObject) (object : HeapObject) → words_of_all tree (objects ++ object ∷ []) ≡ words_of_all tree objects + cell_words tree object.contents
 one_more tree objects object = sum_by_push (λ (x : HeapObject). cell_words tree x.contents) objects object
 
-module _ (each : InstructionsAreAlike) (c : Content) (s : State) (r : Represents c s) (t : ℕ) (after : Content × Report) (turn : IsTurn c (Step t) after) where
-  -- a state that the machine represents has no more words than the space
-  within : (s' : State) → Represents after.0 s' → words_of_all c.tree s'.objects ≤ c.limits.words
-  within s' h =
-      let same = same_program c after (Step t) turn in
-      let full : words_of_all c.tree s'.objects ≡ words_of_all after.0.tree s'.objects = ap (λ x. words_of_all x s'.objects) (sym same.0) in
-      let limit : after.0.limits.words ≡ c.limits.words = ap (λ (l : Limits). l.words) same.1 in
-      omega (arith, full, limit, h.full.old, h.sound.heap.blocks.spaces.old.fits, h.sound.heap.blocks.old_words)
+-- what was taken of the room was there
+was_there : (left_then left all_then all cell : ℕ) → left_then + all_then ≡ left + all → all_then ≡ all + cell → left < cell → ⊥
+was_there left_then left all_then all cell together more beyond_left = absurd (omega arith)
 
-  exceeding_is_refused : ExceedsRoom c.tree c.limits s t → IsTrue (is_refusal after.1)
+module _ (each : InstructionsAreAlike) (c : Content) (s : State) (r : Represents c s) (t : ℕ) (after : Content × Report) (turn : IsTurn c (Step t) after) where
+  exceeding_is_refused : ExceedsRoom c s t → IsTrue (is_refusal after.1)
   exceeding_is_refused x = by_report (is_refusal after.1) refl (step_follows each c s r t after turn)
     where
-      by_report : (b : Bool) → is_refusal after.1 ≡ b → (s' : State) × (step c.tree c.limits s t (is_refusal after.1) ≡ Answers after.1 s') × Represents after.0 s' → IsTrue b
+      by_report : (b : Bool) → is_refusal after.1 ≡ b → (s' : State) × (step c.tree c.limits s t (is_refusal after.1) ≡ Answers after.1 s') × Represents after.0 s' × KeepsOwnRoom c s t after.0.objects s' → IsTrue b
       by_report true is follows = refl
       by_report false is follows =
           let one : x.after ≡ follows.0 = same_after x.report after.1 x.after follows.0 (sym x.unrefused ∙ ap (step c.tree c.limits s t) (sym is) ∙ follows.1) in
           let words : words_of_all c.tree follows.0.objects ≡ words_of_all c.tree s.objects + cell_words c.tree x.object.contents =
           ap (λ (y : State). words_of_all c.tree y.objects) (sym one) ∙ ap (words_of_all c.tree) x.is_born ∙ one_more c.tree s.objects x.object in
-          let more : c.limits.words - words_of_all c.tree s.objects < cell_words c.tree x.object.contents = is_beyond (cell_words c.tree x.object.contents) (c.limits.words - words_of_all c.tree s.objects) x.exceeds in
-          absurd (omega (arith, words, within follows.0 follows.2, more))
+          let more : room (spaces_of c.objects) (own_phase c.posts t) < cell_words c.tree x.object.contents = is_beyond (cell_words c.tree x.object.contents) (room (spaces_of c.objects) (own_phase c.posts t)) x.exceeds in
+          absurd (was_there (room_for (own_phase c.posts t) after.0.objects.spaces) (room_for (own_phase c.posts t) c.objects.spaces) (words_of_all c.tree follows.0.objects) (words_of_all c.tree s.objects) (cell_words c.tree x.object.contents)
+          follows.3.together words (subst (λ n. n < cell_words c.tree x.object.contents) (room_seen c r.sound t) more))
 
-  refused_exceeds : IsTrue (is_refusal after.1) → ExceedsRoom c.tree c.limits s t
+  refused_exceeds : IsTrue (is_refusal after.1) → ExceedsRoom c s t
   refused_exceeds refused = by_thread (slice_get c.threads t) refl turn
     where
-      absent : after ≡ (c, Absent) → ExceedsRoom c.tree c.limits s t
+      absent : after ≡ (c, Absent) → ExceedsRoom c s t
       absent e = never (sym (ap (λ (x : Content × Report). is_refusal x.1) e) ∙ refused)
 
-      by_standing : (left : ℕ) (standing : Standing) → slice_get c.threads t ≡ Some (record { standing = standing; steps_left = left }) → IsStandingTurn c t left standing after → ExceedsRoom c.tree c.limits s t
+      by_standing : (left : ℕ) (standing : Standing) → slice_get c.threads t ≡ Some (record { standing = standing; steps_left = left }) → IsStandingTurn c t left standing after → ExceedsRoom c s t
       by_standing left (Live m) there (a, d, is) =
           step_exceeds each c s r t left m there (instruction_exceeds each c s r t left m there a d (sym (finished_refusal c t left a after a.outcome is) ∙ refused))
       by_standing left (Ended e) there is = absent is
 
-      by_thread : (x : Option Thread) → slice_get c.threads t ≡ x → IsThreadTurn c t x after → ExceedsRoom c.tree c.limits s t
+      by_thread : (x : Option Thread) → slice_get c.threads t ≡ x → IsThreadTurn c t x after → ExceedsRoom c s t
       by_thread None is h = absent h
       by_thread (Some x) is h = by_standing x.steps_left x.standing is h
 
-  pub refused_beyond_room : IsTrue (is_refusal after.1) ↔ ExceedsRoom c.tree c.limits s t
+  pub refused_beyond_room : IsTrue (is_refusal after.1) ↔ ExceedsRoom c s t
   refused_beyond_room = (refused_exceeds, exceeding_is_refused)

@@ -1,5 +1,5 @@
 -- Posts and seats: what the end of a thread, the start of another and an acknowledgement leave of them.
-use Rattle.std.proofs.Common.{◌≡◌, ◌⊎◌, ◌≤◌, ◌<◌, ◌-◌, ◌∙◌, ℕ, zero, suc, true, false, List, [], ◌∷◌, ◌++◌, length, replicate, get_or, Option, Some, None, option_and_then, slice_get, slice_set, refl, inl, inr, sym, ap, arith}
+use Rattle.std.proofs.Common.{◌≡◌, ◌⊎◌, ◌<◌, ◌-◌, ◌∙◌, ℕ, zero, suc, true, false, List, [], ◌∷◌, ◌++◌, length, replicate, get_or, Option, Some, None, option_and_then, slice_get, slice_set, refl, inl, inr, sym, ap, arith}
 use Rattle.std.specs.Prelude.{is_some}
 use Rattle.std.specs.Option.{option_map_or}
 use Rattle.std.proofs.lemmas.List.{length-replicate}
@@ -7,7 +7,7 @@ use Rattle.std.proofs.lemmas.Option.{same_Some, slice_get-get_or}
 use Rattle.simulation.specs.cil_model.declared.limits.TheConstants.{MOST_THREADS}
 use Rattle.simulation.proofs.cil_model.Lists.{last_is_there, none_is_some, set_is_there, set_or_was}
 use Rattle.simulation.proofs.cil_model.SameLaws.{never}
-use Rattle.simulation.specs.phase_handshake.Handshakes.{Handshakes, first_handshakes, first_seat, joined, left as without_seat, phase_number, seat_of}
+use Rattle.simulation.specs.phase_handshake.Handshakes.{Handshakes, first_handshakes, first_seat, joined, left as without_seat, seat_of}
 use Rattle.simulation.proofs.collector.phase_handshake.Closeness.{joined_close, left_close, seat_there}
 use Rattle.simulation.specs.phase_handshake.declared.posts.Seat.{Seat}
 use Rattle.simulation.specs.cil_model.declared.reports.End.{End}
@@ -19,8 +19,7 @@ use Rattle.simulation.specs.threads_monitors.declared.threads.Standing.TheVarian
 use Rattle.simulation.specs.threads_monitors.declared.threads.Thread.{Thread}
 use Rattle.simulation.specs.cil_model.declared.reports.Report.{Report}
 use Rattle.simulation.specs.cil_model.declared.reports.Report.TheVariants.{Ended as HasEnded}
-use Rattle.simulation.specs.MachineContents.{Content}
-use Rattle.simulation.specs.Sound.{AreSeated, AreUpTo, IsSound, last_phase}
+use Rattle.simulation.specs.Sound.{AreSeated}
 use Rattle.simulation.proofs.SetSeats.{same_or_other, set_other}
 use Rattle.simulation.specs.Turns.{live_thread, seats_after}
 
@@ -66,17 +65,6 @@ empty_places zero n = refl
 empty_places (suc m) zero = refl
 empty_places (suc m) (suc n) = empty_places m n
 
--- ---- seats and threads
-
--- posts and seats fit the threads, and no phase beyond the last one that is posted was
-pub record AreFitting (h : Handshakes) (threads : List Thread) : Type 0 where
-  pub seated : AreSeated h threads
-  pub up_to : AreUpTo last_phase h
-
--- so it is of a sound machine
-pub are_fitting : (c : Content) → IsSound c → AreFitting c.posts c.threads
-are_fitting c sound = record { seated = sound.seated; up_to = sound.up_to }
-
 -- ---- another seat
 
 -- a place without a seat
@@ -84,17 +72,6 @@ emptied : (seats : List (Option Seat)) (t : ℕ) → option_and_then (λ (x : Op
 emptied [] t = refl
 emptied (x ∷ xs) zero = refl
 emptied (x ∷ xs) (suc t) = emptied xs t
-
--- a seat is of no phase beyond where the one that is set is not
-set_up_to : (h : Handshakes) → AreUpTo last_phase h → (t : ℕ) (o : Option Seat) → ((s : Seat) → o ≡ Some s → phase_number s.phase ≤ phase_number last_phase) → AreUpTo last_phase (record h { seats = slice_set h.seats t o })
-set_up_to h up_to t o fits = record { posted = up_to.posted; own = own }
-  where
-    own : (n : ℕ) (s : Seat) → seat_of (record h { seats = slice_set h.seats t o }) n ≡ Some s → phase_number s.phase ≤ phase_number last_phase
-    own n s is = by_place (set_or_was h.seats t n o (Some s) (seat_there (record h { seats = slice_set h.seats t o }) n s is))
-      where
-        by_place : (Some s ≡ o) ⊎ (slice_get h.seats n ≡ Some (Some s)) → phase_number s.phase ≤ phase_number last_phase
-        by_place (inl new) = fits s (sym new)
-        by_place (inr was) = up_to.own n s (ap (option_and_then (λ (x : Option Seat). x)) was)
 
 -- another place is as it was
 pub other_seat : (h : Handshakes) (t n : ℕ) (o : Option Seat) → (n ≡ t → ⊥) → seat_of (record h { seats = slice_set h.seats t o }) n ≡ seat_of h n
@@ -114,60 +91,54 @@ pub counted_posts : (h : Handshakes) (t : ℕ) (report : Report) → seats_after
 counted_posts h t (HasEnded e) = refl
 counted_posts h t report = refl
 
-module _ (h : Handshakes) (threads : List Thread) (fit : AreFitting h threads) where
+module _ (h : Handshakes) (threads : List Thread) (fit : AreSeated h threads) where
   -- ---- a thread that goes on, and one that ends
 
   -- a live thread in the place of another
-  pub live_fits : (t : ℕ) (x : Thread) → is_live x ≡ true → is_live_at threads t ≡ true → AreFitting h (slice_set threads t x)
-  live_fits t x lives there = record { seated = record { close = fit.seated.close; live = λ n. live_set threads t n x lives there ∙ fit.seated.live n }; up_to = fit.up_to }
+  pub live_fits : (t : ℕ) (x : Thread) → is_live x ≡ true → is_live_at threads t ≡ true → AreSeated h (slice_set threads t x)
+  live_fits t x lives there = record { close = fit.close; live = λ n. live_set threads t n x lives there ∙ fit.live n }
 
   -- one that has ended, without a seat
-  pub ended_fits : (t : ℕ) (x : Thread) → is_live x ≡ false → AreFitting (without_seat h t) (slice_set threads t x)
-  ended_fits t x ended = record {
-    seated = record { close = left_close h fit.seated.close t; live = λ n. lives n (same_or_other n t) };
-    up_to = set_up_to h fit.up_to t None (λ s is. none_is_some s is);
-  }
+  pub ended_fits : (t : ℕ) (x : Thread) → is_live x ≡ false → AreSeated (without_seat h t) (slice_set threads t x)
+  ended_fits t x ended = record { close = left_close h fit.close t; live = λ n. lives n (same_or_other n t) }
     where
       lives : (n : ℕ) → (n ≡ t) ⊎ (n ≡ t → ⊥) → is_live_at (slice_set threads t x) n ≡ is_some (seat_of (without_seat h t) n)
       lives n (inl same) =
           ap (is_live_at (slice_set threads t x)) same ∙ dead_set threads t x ended ∙ ap is_some (sym (emptied h.seats t)) ∙ ap (λ k. is_some (seat_of (without_seat h t) k)) (sym same)
-      lives n (inr other) = live_get (slice_set threads t x) threads n (set_other threads t n x other) ∙ fit.seated.live n ∙ ap is_some (sym (other_seat h t n None other))
+      lives n (inr other) = live_get (slice_set threads t x) threads n (set_other threads t n x other) ∙ fit.live n ∙ ap is_some (sym (other_seat h t n None other))
 
   -- once the step of a live thread is counted
   pub counted_fits : (t : ℕ) (effect : Effect) (m : Frames) (left : ℕ) → is_live_at threads t ≡ true →
-      AreFitting (seats_after h t (settled effect (live_thread left m)).1) (slice_set threads t (settled effect (live_thread left m)).0)
+      AreSeated (seats_after h t (settled effect (live_thread left m)).1) (slice_set threads t (settled effect (live_thread left m)).0)
   counted_fits t effect m left there = by_end (end_after effect (left - 1))
     where
-      by_effect : (e : Effect) (x : Thread) → is_live x ≡ true → AreFitting (seats_after h t (report_of e)) (slice_set threads t x)
+      by_effect : (e : Effect) (x : Thread) → is_live x ≡ true → AreSeated (seats_after h t (report_of e)) (slice_set threads t x)
       by_effect GoesOn x lives = live_fits t x lives there
       by_effect Returns x lives = live_fits t x lives there
       by_effect Blocks x lives = live_fits t x lives there
       by_effect (Raises f) x lives = live_fits t x lives there
 
-      by_end : (o : Option End) → AreFitting (seats_after h t (standing_after o m (left - 1) effect).1) (slice_set threads t (standing_after o m (left - 1) effect).0)
+      by_end : (o : Option End) → AreSeated (seats_after h t (standing_after o m (left - 1) effect).1) (slice_set threads t (standing_after o m (left - 1) effect).0)
       by_end None = by_effect effect (record { standing = Live m; steps_left = left - 1 }) refl
       by_end (Some e) = ended_fits t (record { standing = Ended e; steps_left = left - 1 }) refl
 
   -- ---- a thread that begins
 
   -- it has its starter's seat
-  pub begun_fits : (t : ℕ) (new : Thread) → is_live new ≡ true → length threads < MOST_THREADS → is_live_at threads t ≡ true → AreFitting (joined h (length threads) t) (threads ++ new ∷ [])
-  begun_fits t new lives room there = record {
-    seated = record { close = joined_close h fit.seated.close (length threads) t; live = λ n. live n (same_or_other n (length threads)) };
-    up_to = set_up_to h fit.up_to (length threads) (seat_of h t) (fit.up_to.own t);
-  }
+  pub begun_fits : (t : ℕ) (new : Thread) → is_live new ≡ true → length threads < MOST_THREADS → is_live_at threads t ≡ true → AreSeated (joined h (length threads) t) (threads ++ new ∷ [])
+  begun_fits t new lives room there = record { close = joined_close h fit.close (length threads) t; live = λ n. live n (same_or_other n (length threads)) }
     where
       inside : length threads < length h.seats
-      inside = let places = fit.seated.close.places in omega (arith, room, places)
+      inside = let places = fit.close.places in omega (arith, room, places)
 
       here : slice_get (slice_set h.seats (length threads) (seat_of h t)) (length threads) ≡ Some (seat_of h t)
       here = set_is_there h.seats (length threads) (seat_of h t) (get_or h.seats (length threads) None) (slice_get-get_or h.seats (length threads) None inside)
 
       live : (n : ℕ) → (n ≡ length threads) ⊎ (n ≡ length threads → ⊥) → is_live_at (threads ++ new ∷ []) n ≡ is_some (seat_of (joined h (length threads) t) n)
       live n (inl same) =
-          ap (is_live_at (threads ++ new ∷ [])) same ∙ ap (λ o. option_map_or is_live o false) (last_is_there threads new) ∙ lives ∙ sym there ∙ fit.seated.live t ∙
+          ap (is_live_at (threads ++ new ∷ [])) same ∙ ap (λ o. option_map_or is_live o false) (last_is_there threads new) ∙ lives ∙ sym there ∙ fit.live t ∙
           ap (λ o. is_some (option_and_then (λ (x : Option Seat). x) o)) (sym here) ∙ ap (λ k. is_some (seat_of (joined h (length threads) t) k)) (sym same)
-      live n (inr other) = live_get (threads ++ new ∷ []) threads n (append_other threads n new other) ∙ fit.seated.live n ∙ ap is_some (sym (other_seat h (length threads) n (seat_of h t) other))
+      live n (inr other) = live_get (threads ++ new ∷ []) threads n (append_other threads n new other) ∙ fit.live n ∙ ap is_some (sym (other_seat h (length threads) n (seat_of h t) other))
 
 -- ---- the beginning
 
@@ -176,17 +147,14 @@ pub first_alone : (n : ℕ) (s : Seat) → seat_of first_handshakes n ≡ Some s
 first_alone zero s is = sym (same_Some first_seat s is)
 first_alone (suc n) s is = none_is_some s (sym (empty_places (MOST_THREADS - 1) n) ∙ is)
 
-pub first_fits : (first : Thread) → is_live first ≡ true → AreFitting first_handshakes (first ∷ [])
+pub first_fits : (first : Thread) → is_live first ≡ true → AreSeated first_handshakes (first ∷ [])
 first_fits first lives = record {
-  seated = record {
-    close = record {
-      places = ap suc (length-replicate {A = Option Seat} (MOST_THREADS - 1) None) ∙ refl;
-      phases = λ t s is. inl (ap (λ (x : Seat). x.phase) (first_alone t s is));
-      answers = λ t s is answered. never (sym (ap (λ (x : Seat). x.answered) (first_alone t s is)) ∙ answered);
-    };
-    live = live;
+  close = record {
+    places = ap suc (length-replicate {A = Option Seat} (MOST_THREADS - 1) None) ∙ refl;
+    phases = λ t s is. inl (ap (λ (x : Seat). x.phase) (first_alone t s is));
+    answers = λ t s is answered. never (sym (ap (λ (x : Seat). x.answered) (first_alone t s is)) ∙ answered);
   };
-  up_to = record { posted = omega arith; own = λ t s is. let same = ap (λ (x : Seat). phase_number x.phase) (first_alone t s is) in omega (arith, same) };
+  live = live;
 }
   where
     live : (n : ℕ) → is_live_at (first ∷ []) n ≡ is_some (seat_of first_handshakes n)

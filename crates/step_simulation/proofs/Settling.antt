@@ -25,8 +25,8 @@ use Rattle.simulation.specs.threads_monitors.declared.effects.Effect.TheVariants
 use Rattle.simulation.specs.threads_monitors.declared.threads.Standing.TheVariants.{Live, Ended}
 use Rattle.simulation.specs.threads_monitors.declared.threads.Thread.{Thread}
 use Rattle.simulation.specs.Agreement.{Agree}
-use Rattle.simulation.specs.MachineContents.{Content}
-use Rattle.simulation.specs.StandsFor.{Names, AreFrames, IsThread, StandsBy, StandsFor, IsFull, Represents}
+use Rattle.simulation.specs.MachineContents.{Content, mutator_of}
+use Rattle.simulation.specs.StandsFor.{Names, AreFrames, IsThread, StandsBy, Represents}
 use Rattle.simulation.specs.phase_handshake.Handshakes.{Handshakes}
 use Rattle.simulation.specs.Turns.{counted, live_thread, seats_after}
 use Rattle.simulation.proofs.AgreeLaws.{agree_set, agree_weaken}
@@ -36,16 +36,16 @@ use Rattle.simulation.specs.interpreter.declared.outcomes.Outcome.TheVariants.{C
 use Rattle.simulation.proofs.Instructions.{LeavesMemory, ComesAlike, is_refused_fault, is_refused_effect}
 use Rattle.simulation.proofs.LimitRanges.{budget_is_some}
 use Rattle.step_simulation.proofs.Settings.{setting_of, is_alive, is_running}
-use Rattle.step_simulation.proofs.Mutators.{FitsOwn, fits_of, full_of, normally, own_memory, own_model, own_names, own_passes, seat}
+use Rattle.step_simulation.proofs.Mutators.{FitsOwn, KeepsOwnNames, fits_of, names_of, normally, own_memory, own_model, own_names, own_passes, room_of, seat}
 use Rattle.step_simulation.proofs.AfterSteps.{AreBeside, FramesPass, after_sound, beside_same}
 use Rattle.simulation.proofs.Collected.{frames_are_held}
 use Rattle.simulation.proofs.CollectedNames.{own_extends}
 use Rattle.simulation.proofs.MemoryModels.{IsModelled}
-use Rattle.simulation.specs.Sound.{IsSound}
+use Rattle.simulation.proofs.RoomMemories.{KeepsRoom}
+use Rattle.simulation.specs.Sound.{AreSeated, IsSound}
 use Rattle.simulation.specs.object_memory.declared.addresses.Addr.{Addr}
 use Rattle.simulation.specs.collector.Soundness.{IsListed}
 use Rattle.simulation.specs.threads_monitors.Roots.{roots}
-use Rattle.step_simulation.proofs.Seats.{AreFitting}
 use Rattle.simulation.specs.interpreter.Instructions.{Answer}
 
 -- a thread with a step left isn't spent
@@ -56,18 +56,15 @@ some_left n = grind (arith, nat_tests)
 
 module _ (names : Names) (c : Content) (s : State) (by : StandsBy names c s) (t : ℕ) where
   -- a thread in the place of another
-  thread_stands : (x : Thread) (u : StateThread) → IsThread c.tree c.limits names x u → StandsFor (record c { threads = slice_set c.threads t x }) (with_thread_at s t u)
+  thread_stands : (x : Thread) (u : StateThread) → IsThread c.tree c.limits names x u → StandsBy names (record c { threads = slice_set c.threads t x }) (with_thread_at s t u)
   thread_stands x u h = record {
-    name = names;
-    by = record {
-      memory = memory_beside c.tree names c.objects s (with_thread_at s t u) refl refl refl refl c.statics c.printed by.memory;
-      threads = agree_set (IsThread c.tree c.limits names) c.threads s.threads by.threads t x u h;
-    };
+    memory = memory_beside c.tree names c.objects s (with_thread_at s t u) refl refl refl refl c.statics c.printed by.memory;
+    threads = agree_set (IsThread c.tree c.limits names) c.threads s.threads by.threads t x u h;
   }
 
   -- both answer the same report, and what is held then stands for the state, of the same objects
   abbrev Settles : Outcome → Thread × Report → Type 0
-  Settles outcome x = (s' : State) × (outcome ≡ Answers x.1 s') × StandsFor (record c { threads = slice_set c.threads t x.0 }) s' × (s'.objects ≡ s.objects)
+  Settles outcome x = (s' : State) × (outcome ≡ Answers x.1 s') × StandsBy names (record c { threads = slice_set c.threads t x.0 }) s' × (s'.objects ≡ s.objects)
 
   ends : (left : ℕ) (e : End) → Settles (ended_as s t left e) (record { standing = Ended e; steps_left = left }, HasEnded e)
   ends left e = (_, refl, thread_stands (record { standing = Ended e; steps_left = left }) (record { frames = []; steps_left = left; ended = Some e }) (record { standing = refl; steps_left = refl }), refl)
@@ -125,16 +122,21 @@ refusal_of (Raises x) m left = refusal_of_fault x
 same_state : (o : Outcome) (x y : Report) (s s' : State) → o ≡ Answers x s → o ≡ Answers y s' → s ≡ s'
 same_state o x y s s' h k = cc
 
+-- the room for births of a thread and the words of all objects are together as many as before its step
+abbrev pub KeepsOwnRoom : Content → State → ℕ → Objects → State → Type 0
+KeepsOwnRoom c s t o s' = KeepsRoom c.tree (mutator_of c t).phase c.objects o s.objects s'.objects
+
 -- what the step of a thread comes to on both machines, where posts and seats fit the threads after it
-abbrev pub Follows : Content → State → ℕ → Content × Report → Type 0
-Follows c s t after = AreFitting after.0.posts after.0.threads → (s' : State) × (step c.tree c.limits s t (is_refusal after.1) ≡ Answers after.1 s') × Represents after.0 s'
+abbrev pub Follows : (c : Content) (s : State) → Represents c s → ℕ → Content × Report → Type 0
+Follows c s r t after = AreSeated after.0.posts after.0.threads →
+    (s' : State) × (step c.tree c.limits s t (is_refusal after.1) ≡ Answers after.1 s') × (r' : Represents after.0 s') × KeepsOwnRoom c s t after.0.objects s' × KeepsOwnNames c s r after.0.objects r'.stands.name
 
 -- a content that stands for the state after a step
-pub followed : (c : Content) (s : State) → Represents c s → (t : ℕ) (threads : List Thread) (h : Handshakes) (o : Objects) (statics : List Value) (printed : List ℕ) (report : Report) (s' : State) →
-    step c.tree c.limits s t (is_refusal report) ≡ Answers report s' → StandsFor (record c { threads = threads; objects = o; statics = statics; printed = printed }) s' →
-    (AreFitting h threads → IsSound (record c { threads = threads; posts = h; objects = o; statics = statics; printed = printed })) → IsFull c.tree o s'.objects →
-    Follows c s t (record c { threads = threads; posts = h; objects = o; statics = statics; printed = printed }, report)
-followed c s r t threads h o statics printed report s' is stands sound full =
+pub followed : (c : Content) (s : State) (r : Represents c s) (t : ℕ) (threads : List Thread) (h : Handshakes) (o : Objects) (statics : List Value) (printed : List ℕ) (report : Report) (s' : State) →
+    step c.tree c.limits s t (is_refusal report) ≡ Answers report s' → (name : Names) → StandsBy name (record c { threads = threads; objects = o; statics = statics; printed = printed }) s' →
+    (AreSeated h threads → IsSound (record c { threads = threads; posts = h; objects = o; statics = statics; printed = printed })) → KeepsOwnRoom c s t o s' → KeepsOwnNames c s r o name →
+    Follows c s r t (record c { threads = threads; posts = h; objects = o; statics = statics; printed = printed }, report)
+followed c s r t threads h o statics printed report s' is name stands sound room names =
     λ fit. let typed = step_typed instruction_typed c.tree c.limits r.accepted t (is_refusal report) s r.typed in (
       s',
       is,
@@ -144,9 +146,10 @@ followed c s r t threads h o statics printed report s' is stands sound full =
         typed = subst (IsTyped c.tree) (same_state (step c.tree c.limits s t (is_refusal report)) typed.0 report typed.1 s' typed.2 is) typed.3;
         counted = step_counted c.tree c.limits (budget_is_some c.limits r.limits) t (is_refusal report) s r.counted report s' is;
         sound = sound fit;
-        stands = record { name = stands.name; by = record { memory = stands.by.memory; threads = stands.by.threads } };
-        full = full;
+        stands = record { name = name; by = record { memory = stands.memory; threads = stands.threads } };
       },
+      room,
+      names,
     )
 
 -- ---- frames of a thread that is live after its step
@@ -206,20 +209,22 @@ module _ (c : Content) (s : State) (r : Represents c s) (t left : ℕ) (m : Fram
 
   -- a thread that is settled as its instruction's effect says
   pub finish : (names : Names) (threads base : List Thread) (h : Handshakes) (o : Objects) (statics : List Value) (printed : List ℕ) (s' : State) → ((x : Thread) → slice_set threads t x ≡ slice_set base t x) →
-      (fits : FitsOwn c s r t left m there names o statics s') → IsFull c.tree o s'.objects → (by : StandsBy fits.whole (record c { threads = base; objects = o; statics = statics; printed = printed }) s') →
+      (fits : FitsOwn c s r t left m there names o statics s') → KeepsOwnRoom c s t o s' → KeepsOwnNames c s r o fits.whole → (by : StandsBy fits.whole (record c { threads = base; objects = o; statics = statics; printed = printed }) s') →
       AreBeside c s r t left m there base h o → (refused : Bool) (effect : Effect) → refused ≡ is_refused_effect effect → (m' : Frames) →
       IsEffect fits.whole (record c { threads = base; objects = o; statics = statics; printed = printed }) s' by t s (is_alive c s r t left m there).thread.frames effect m' (done refused) →
       FramesPass (own_passes c s r t left m there o) (settled effect (live_thread left m')).0.standing →
-      Follows c s t (counted (record c { threads = threads; posts = h; objects = o; statics = statics; printed = printed }) t left effect m')
-  finish names threads base h o statics printed s' same fits full by beside refused effect refuses m' is pass =
+      Follows c s r t (counted (record c { threads = threads; posts = h; objects = o; statics = statics; printed = printed }) t left effect m')
+  finish names threads base h o statics printed s' same fits room kept by beside refused effect refuses m' is pass =
       let settled = settles fits.whole (record c { threads = base; objects = o; statics = statics; printed = printed }) s' by t s (is_alive c s r t left m there).thread.frames effect m' (done refused) is (left - 1) in
       let x : Thread × Report = standing_after (end_after effect (left - 1)) m' (left - 1) effect in
       followed c s r t (slice_set threads t x.0) (seats_after h t x.1) o statics printed x.1 settled.0
       (ap (step c.tree c.limits s t) (refusal_of effect m' (left - 1) ∙ sym refuses) ∙ step_is refused ∙ settled.1)
-      (subst (λ ts. StandsFor (record c { threads = ts; objects = o; statics = statics; printed = printed }) settled.0) (sym (same x.0)) settled.2)
+      fits.whole
+      (subst (λ ts. StandsBy fits.whole (record c { threads = ts; objects = o; statics = statics; printed = printed }) settled.0) (sym (same x.0)) settled.2)
       (λ fit. subst (λ ts. IsSound (record c { threads = ts; posts = seats_after h t x.1; objects = o; statics = statics; printed = printed })) (sym (same x.0))
-      (after_sound c s r t left m there names o statics s' fits printed base h beside effect m' pass (subst (AreFitting (seats_after h t x.1)) (same x.0) fit)))
-      (subst (IsFull c.tree o) (sym settled.3) full)
+      (after_sound c s r t left m there names o statics s' fits printed base h beside effect m' pass (subst (AreSeated (seats_after h t x.1)) (same x.0) fit)))
+      (subst (KeepsRoom c.tree (mutator_of c t).phase c.objects o s.objects) (sym settled.3) room)
+      kept
 
   module _ (a : Answer) (as_it_was : LeavesMemory (setting_of c t false) (own_model c s r t left m there) (own_names c s r t left m there) m c.objects c.statics c.printed s (is_alive c s r t left m there).running (is_alive c s r t left m there).below a) where
     -- memory that an instruction leaves as it was
@@ -232,25 +237,31 @@ module _ (c : Content) (s : State) (r : Represents c s) (t left : ℕ) (m : Fram
     fits_left : FitsOwn c s r t left m there (own_names c s r t left m there) a.objects a.statics s
     fits_left = fits_of c s r t left m there (own_names c s r t left m there) a.objects a.statics a.printed s memory_left
 
+    names_left : KeepsOwnNames c s r a.objects fits_left.whole
+    unfolding fits_left
+    names_left = names_of c s r t left m there (own_names c s r t left m there) a.objects a.statics a.printed s memory_left
+
     -- and a step after that
     left_follows : (threads : List Thread) → ((x : Thread) → slice_set threads t x ≡ slice_set c.threads t x) → (refused : Bool) (effect : Effect) → refused ≡ is_refused_effect effect →
         IsEffect fits_left.whole (record c { objects = a.objects; statics = a.statics; printed = a.printed }) s (by_fits (own_names c s r t left m there) a.objects a.statics a.printed s fits_left memory_left.printed_is refl) t s
         (is_alive c s r t left m there).thread.frames effect a.frames (done refused) →
-        FramesPass (own_passes c s r t left m there a.objects) (settled effect (live_thread left a.frames)).0.standing → Follows c s t (counted (record c { threads = threads; objects = a.objects; statics = a.statics; printed = a.printed }) t left effect a.frames)
+        FramesPass (own_passes c s r t left m there a.objects) (settled effect (live_thread left a.frames)).0.standing → Follows c s r t (counted (record c { threads = threads; objects = a.objects; statics = a.statics; printed = a.printed }) t left effect a.frames)
     left_follows threads same refused effect refuses is pass =
         finish (own_names c s r t left m there) threads c.threads c.posts a.objects a.statics a.printed s same fits_left
-        (full_of c s r t left m there (own_names c s r t left m there) a.objects a.statics a.printed s memory_left)
+        (room_of c s r t left m there (own_names c s r t left m there) a.objects a.statics a.printed s memory_left)
+        names_left
         (by_fits (own_names c s r t left m there) a.objects a.statics a.printed s fits_left memory_left.printed_is refl)
         (beside_same c s r t left m there (own_names c s r t left m there) a.objects a.statics s fits_left) refused effect refuses a.frames is pass
 
   -- an instruction that asks nothing of other threads
   pub comes : (threads : List Thread) → ((x : Thread) → slice_set threads t x ≡ slice_set c.threads t x) → (refused : Bool) (effect : Effect) → refused ≡ is_refused_effect effect → (a : Answer) →
       ComesAlike (setting_of c t refused) (own_model c s r t left m there) (own_names c s r t left m there) m c.objects c.statics c.printed s (is_alive c s r t left m there).running (is_alive c s r t left m there).below (Comes effect) a (done refused) →
-      Follows c s t (counted (record c { threads = threads; objects = a.objects; statics = a.statics; printed = a.printed }) t left effect a.frames)
+      Follows c s r t (counted (record c { threads = threads; objects = a.objects; statics = a.statics; printed = a.printed }) t left effect a.frames)
   comes threads same refused GoesOn refuses a h =
       let fits = fits_of c s r t left m there h.names a.objects a.statics a.printed h.state h.memory in
       finish h.names threads c.threads c.posts a.objects a.statics a.printed h.state same fits
-      (full_of c s r t left m there h.names a.objects a.statics a.printed h.state h.memory)
+      (room_of c s r t left m there h.names a.objects a.statics a.printed h.state h.memory)
+      (names_of c s r t left m there h.names a.objects a.statics a.printed h.state h.memory)
       (by_fits h.names a.objects a.statics a.printed h.state fits h.memory.printed_is h.others)
       (beside_same c s r t left m there h.names a.objects a.statics h.state fits) refused GoesOn refuses a.frames
       (h.running, h.waiting, h.is, frames_whole h.names a.objects a.statics h.state fits a.frames (h.running ∷ h.waiting) h.frames)

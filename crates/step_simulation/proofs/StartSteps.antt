@@ -41,7 +41,7 @@ use Rattle.simulation.proofs.cil_model.Lists.{none_is_some}
 use Rattle.simulation.specs.collector.References.{holds_reference}
 use Rattle.simulation.proofs.MemoryModels.{IsModelled}
 use Rattle.simulation.proofs.ReferenceSlots.{IsLinked, hidden_says, typed_is_linked}
-use Rattle.step_simulation.proofs.Mutators.{FitsOwn, fits_of, full_of, normally, own_memory, own_model, own_names, own_passes, own_phase_is, seat}
+use Rattle.step_simulation.proofs.Mutators.{FitsOwn, KeepsOwnNames, fits_of, names_of, normally, own_memory, own_model, own_names, own_passes, own_phase_is, room_of, seat}
 use Rattle.step_simulation.proofs.AfterSteps.{FramesPass, beside_more}
 use Rattle.simulation.proofs.CollectedNames.{own_extends}
 use Rattle.simulation.proofs.Extending.{thread_extends}
@@ -60,7 +60,7 @@ module _ (c : Content) (s : State) (r : Represents c s) (t left : ℕ) (m : Fram
   counted_with threads y = counted (record c { threads = y.0; posts = seated y.2 c.posts (length threads) t; objects = y.1 }) t left y.2 (after_request y.2 m)
 
   -- a step that ends by a fault
-  fault_follows : (fault : Fault) → false ≡ is_refused_fault fault → done c s r t left m there false ≡ StateRaises fault → Follows c s t (counted_with c.threads (c.threads, c.objects, Raises fault))
+  fault_follows : (fault : Fault) → false ≡ is_refused_fault fault → done c s r t left m there false ≡ StateRaises fault → Follows c s r t (counted_with c.threads (c.threads, c.objects, Raises fault))
   fault_follows fault refuses e = comes c s r t left m there c.threads (λ x. refl) false (Raises fault) refuses (answer_of m c.objects c.statics c.printed (Comes (Raises fault))) (e, (refl, refl, refl))
 
   module _ (rest : List StateValue) (object : Addr) (number : ℕ) (x : IsThreadObject c.tree (own_names c s r t left m there) c.objects s object number) (named : (own_names c s r t left m there) object.number ≡ Some (Born number)) where
@@ -135,6 +135,10 @@ module _ (c : Content) (s : State) (r : Represents c s) (t left : ℕ) (m : Fram
       begun_fits : FitsOwn c s r t left m there (own_names c s r t left m there) told c.statics begun_state
       begun_fits = fits_of c s r t left m there (own_names c s r t left m there) told c.statics c.printed begun_state begun_memory
 
+      begun_names : KeepsOwnNames c s r told begun_fits.whole
+      unfolding begun_fits
+      begun_names = names_of c s r t left m there (own_names c s r t left m there) told c.statics c.printed begun_state begun_memory
+
       -- it stands under all names that have the object's
       starting : (names : Names) → names object.number ≡ Some (Born number) → IsThread c.tree c.limits names beginning state_beginning
       starting names is = beginning_stands names c.tree c.limits (depth_is_some c.limits r.limits) b.found b.code b.has_code b.first b.stands (Ref object ∷ []) (Reference (Born number) ∷ []) (reference object (Born number) is, tt)
@@ -156,11 +160,11 @@ module _ (c : Content) (s : State) (r : Represents c s) (t left : ℕ) (m : Fram
             (starting begun_fits.whole (own_extends c.tree c.limits.words c.posts c.progress (seat c s r t left m there) c.objects (normally c s r).name (own_names c s r t left m there) told c.statics begun_state begun_fits object.number (Born number) named), tt);
       }
 
-      begun_follows : (operation : Operation) → IsAt c.tree m operation → HasSmallConstant operation → (operand : StateValue) → (running c s r t left m there).stack ≡ operand ∷ rest → Follows c s t (counted_with c.threads (c.threads ++ beginning ∷ [], told, GoesOn))
+      begun_follows : (operation : Operation) → IsAt c.tree m operation → HasSmallConstant operation → (operand : StateValue) → (running c s r t left m there).stack ≡ operand ∷ rest → Follows c s r t (counted_with c.threads (c.threads ++ beginning ∷ [], told, GoesOn))
       begun_follows operation at constant operand stack =
           let popped = popped_frames c s r t left m there operation at constant operand rest stack in
           finish c s r t left m there (own_names c s r t left m there) (c.threads ++ beginning ∷ []) (c.threads ++ beginning ∷ []) (joined c.posts (length c.threads) t) told c.statics c.printed begun_state (λ y. refl) begun_fits
-          (full_of c s r t left m there (own_names c s r t left m there) told c.statics c.printed begun_state begun_memory) begun_stands
+          (room_of c s r t left m there (own_names c s r t left m there) told c.statics c.printed begun_state begun_memory) begun_names begun_stands
           (beside_more c s r t left m there (own_names c s r t left m there) told c.statics begun_state begun_fits beginning beginning_passes) false GoesOn refl (after_request GoesOn m) (
             after (running c s r t left m there) rest,
             below c s r t left m there,
@@ -173,11 +177,11 @@ module _ (c : Content) (s : State) (r : Represents c s) (t left : ℕ) (m : Fram
 
   module _ (operation : Operation) (at : IsAt c.tree m operation) (constant : HasSmallConstant operation) where
     start_follows : (object : Addr) → (asks : Asks c s r t left m there Start object (answer_of m c.objects c.statics c.printed (Starts object))) → (after' : Content × Report) →
-        option_map (counted_with c.threads) (started (mutator_of c t).phase c.tree c.limits c.threads c.objects object) ≡ Some after' → Follows c s t after'
+        option_map (counted_with c.threads) (started (mutator_of c t).phase c.tree c.limits c.threads c.objects object) ≡ Some after' → Follows c s r t after'
     start_follows object asks after' h = by_object (start_asked object (answer_of m c.objects c.statics c.printed (Starts object)) asks)
       where
-        leads : (y : List Thread × Objects × Effect) → started (mutator_of c t).phase c.tree c.limits c.threads c.objects object ≡ Some y → Follows c s t (counted_with c.threads y) → Follows c s t after'
-        leads y is f = subst (Follows c s t) (same_Some (counted_with c.threads y) after' (sym (ap (option_map (counted_with c.threads)) is) ∙ h)) f
+        leads : (y : List Thread × Objects × Effect) → started (mutator_of c t).phase c.tree c.limits c.threads c.objects object ≡ Some y → Follows c s r t (counted_with c.threads y) → Follows c s r t after'
+        leads y is f = subst (Follows c s r t) (same_Some (counted_with c.threads y) after' (sym (ap (option_map (counted_with c.threads)) is) ∙ h)) f
 
         fault_starts : (fault : Fault) → start_fault c.threads c.objects object ≡ Some fault → started (mutator_of c t).phase c.tree c.limits c.threads c.objects object ≡ Some (c.threads, c.objects, Raises fault)
         fault_starts fault is = ap (λ o. option_map_or (λ y. Some (c.threads, c.objects, Raises y)) o (option_map (with_start (mutator_of c t).phase c.threads c.objects object) (thread_for c.tree c.limits c.objects object))) is
@@ -189,11 +193,11 @@ module _ (c : Content) (s : State) (r : Represents c s) (t left : ℕ) (m : Fram
             ap (option_map (with_start (mutator_of c t).phase c.threads c.objects object)) found ∙
             ap (λ o. Some (option_map_or (λ f. (c.threads, c.objects, Raises f)) o (c.threads ++ thread ∷ [], stored_int (mutator_of c t).phase c.objects object 0 (length c.threads + 1), GoesOn))) is
 
-        by_object : IsAskedOf c s r t left m there (done c s r t left m there false) (λ n. start (here c s r t left m there) s (running c s r t left m there) (below c s r t left m there) n asks.rest) object → Follows c s t after'
+        by_object : IsAskedOf c s r t left m there (done c s r t left m there false) (λ n. start (here c s r t left m there) s (running c s r t left m there) (below c s r t left m there) n asks.rest) object → Follows c s r t after'
         by_object (inl (is, e)) = leads (c.threads, c.objects, Raises NullReference) (fault_starts NullReference (ap (start_fault c.threads c.objects) is)) (fault_follows NullReference refl e)
         by_object (inr (number, x, e, apart, named)) = by_start (is_started c s r t left m there asks.rest object number x apart e)
           where
-            by_start : IsStarted c s r t left m there asks.rest object number x → Follows c s t after'
+            by_start : IsStarted c s r t left m there asks.rest object number x → Follows c s r t after'
             by_start (faulted fault refuses is e') = leads (c.threads, c.objects, Raises fault) (fault_starts fault is) (fault_follows fault refuses e')
             by_start (begun is b) =
                 leads (c.threads ++ thread_at c.limits b.found (Ref object ∷ []) b.first ∷ [], stored_int (mutator_of c t).phase c.objects object 0 (length c.threads + 1), GoesOn)
@@ -202,7 +206,7 @@ module _ (c : Content) (s : State) (r : Represents c s) (t left : ℕ) (m : Fram
 
     -- a step that asks for a start
     pub starts : (threads : List Thread) → threads ≡ c.threads → (object : Addr) → Asks c s r t left m there Start object (answer_of m c.objects c.statics c.printed (Starts object)) → (after' : Content × Report) →
-        option_map (counted_with threads) (started (mutator_of c t).phase c.tree c.limits threads c.objects object) ≡ Some after' → Follows c s t after'
+        option_map (counted_with threads) (started (mutator_of c t).phase c.tree c.limits threads c.objects object) ≡ Some after' → Follows c s r t after'
     starts threads same object asks after' h = start_follows object asks after' (subst (λ ts. option_map (counted_with ts) (started (mutator_of c t).phase c.tree c.limits ts c.objects object) ≡ Some after') same h)
 
   -- ---- that it can be answered

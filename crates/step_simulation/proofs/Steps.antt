@@ -1,5 +1,5 @@
 -- Each step of a thread comes to the same on both machines.
-use Rattle.std.proofs.Common.{◌≡◌, ◌-◌, if◌then◌else◌, is_none, ℕ, Bool, false, List, Option, Some, None, slice_get, slice_set, refl, sym, ap, ◌∙◌, subst}
+use Rattle.std.proofs.Common.{◌≡◌, ◌-◌, if◌then◌else◌, is_none, ℕ, Bool, false, List, Option, Some, None, slice_get, slice_set, refl, inl, sym, ap, ◌∙◌, subst}
 use Rattle.std.specs.Option.{option_map_or}
 use Rattle.std.proofs.lemmas.Option.{same_Some}
 use Rattle.std.proofs.lemmas.List.{set-set}
@@ -26,14 +26,14 @@ use Rattle.simulation.proofs.AgreeLaws.{agree_at, agree_get}
 use Rattle.simulation.proofs.Instructions.{InstructionsAreAlike, ComesAlike, is_refused_effect, is_refused_outcome}
 use Rattle.simulation.specs.Ready.{IsReady, IsAnswerable}
 use Rattle.step_simulation.proofs.Settings.{setting_of, is_alive, does_alike, live_is_ready}
-use Rattle.step_simulation.proofs.Settling.{Follows, done, comes}
+use Rattle.step_simulation.proofs.Settling.{Follows, KeepsOwnRoom, done, comes}
 use Rattle.step_simulation.proofs.Requests.{here, running, below, Asks, asked_of, has_operand, place_below}
 use Rattle.step_simulation.proofs.Joins.{joins}
 use Rattle.step_simulation.proofs.StartSteps.{start_asked, starts, start_has_thread, start_storable}
 use Rattle.step_simulation.proofs.Finished.{step_keeps_fitting}
 use Rattle.simulation.proofs.cil_model.Lists.{none_is_some, set_itself}
-use Rattle.step_simulation.proofs.Seats.{are_fitting}
-use Rattle.step_simulation.proofs.Mutators.{own_model, own_names}
+use Rattle.step_simulation.proofs.Mutators.{KeepsOwnNames, normally, own_model, own_names}
+use Rattle.simulation.proofs.RoomMemories.{keeps_itself}
 
 -- ---- an instruction that asks something of other threads
 
@@ -55,25 +55,31 @@ module _ (c : Content) (s : State) (r : Represents c s) (t left : ℕ) (m : Fram
 
 -- ---- threads that don't live
 
-absent : (c : Content) (s : State) (r : Represents c s) (t : ℕ) → step c.tree c.limits s t false ≡ Answers Absent s → Follows c s t (c, Absent)
-absent c s r t is = λ fit. (s, is, r)
+absent : (c : Content) (s : State) (r : Represents c s) (t : ℕ) → step c.tree c.limits s t false ≡ Answers Absent s → Follows c s r t (c, Absent)
+absent c s r t is = λ fit. (
+  s,
+  is,
+  record r { stands = record { name = (normally c s r).name; by = (normally c s r).by } },
+  keeps_itself c.tree (mutator_of c t).phase c.objects s.objects,
+  record { extends = λ a n named. named; kept = λ a kept. inl kept; copies = λ are. are },
+)
 
-none_absent : (c : Content) (s : State) (r : Represents c s) (t : ℕ) → slice_get c.threads t ≡ None → Follows c s t (c, Absent)
+none_absent : (c : Content) (s : State) (r : Represents c s) (t : ℕ) → slice_get c.threads t ≡ None → Follows c s r t (c, Absent)
 none_absent c s r t none = by_thread (slice_get s.threads t) refl
   where
-    by_thread : (u : Option StateThread) → slice_get s.threads t ≡ u → Follows c s t (c, Absent)
+    by_thread : (u : Option StateThread) → slice_get s.threads t ≡ u → Follows c s r t (c, Absent)
     by_thread None is = absent c s r t (ap (λ x. option_map_or (step_of (setting_of c t false) s) x (Answers Absent s)) is)
     by_thread (Some u) is =
         let found : (x : Thread) × (slice_get c.threads t ≡ Some x) × IsThread c.tree c.limits r.stands.name x u = agree_get (IsThread c.tree c.limits r.stands.name) c.threads s.threads r.stands.by.threads t u is in
         none_is_some found.0 (sym none ∙ found.1)
 
-ended_absent : (c : Content) (s : State) (r : Represents c s) (t left : ℕ) (e : End) → slice_get c.threads t ≡ Some (record { standing = Ended e; steps_left = left }) → Follows c s t (c, Absent)
+ended_absent : (c : Content) (s : State) (r : Represents c s) (t left : ℕ) (e : End) → slice_get c.threads t ≡ Some (record { standing = Ended e; steps_left = left }) → Follows c s r t (c, Absent)
 ended_absent c s r t left e there =
     let found : (u : StateThread) × (slice_get s.threads t ≡ Some u) × IsThread c.tree c.limits r.stands.name (record { standing = Ended e; steps_left = left }) u =
     agree_at (IsThread c.tree c.limits r.stands.name) c.threads s.threads r.stands.by.threads t (record { standing = Ended e; steps_left = left }) there in
     by_end found.0 found.1 found.0.frames found.0.ended refl found.2.standing
   where
-    by_end : (u : StateThread) → slice_get s.threads t ≡ Some u → (fs : List StateFrame) (e' : Option End) → u.ended ≡ e' → StandsAlike c.tree c.limits r.stands.name (Ended e) fs e' → Follows c s t (c, Absent)
+    by_end : (u : StateThread) → slice_get s.threads t ≡ Some u → (fs : List StateFrame) (e' : Option End) → u.ended ≡ e' → StandsAlike c.tree c.limits r.stands.name (Ended e) fs e' → Follows c s r t (c, Absent)
     by_end u at fs None ended h = elim h [ ]
     by_end u at fs (Some e') ended h =
         absent c s r t (
@@ -97,15 +103,15 @@ module _ (each : InstructionsAreAlike) (c : Content) (s : State) (r : Represents
 
   module _ (after : Content × Report) where
     -- a live thread's step
-    live_follows : (a : Answer) → IsDone c.tree (mutator_of c t) m c.objects c.statics c.printed a → finished c t left a a.outcome ≡ Some after → Follows c s t after
+    live_follows : (a : Answer) → IsDone c.tree (mutator_of c t) m c.objects c.statics c.printed a → finished c t left a a.outcome ≡ Some after → Follows c s r t after
     live_follows a d is = by_outcome a.outcome (comes_alike a d) is
       where
         by_outcome : (out : Outcome) →
             ComesAlike (setting_of c t (is_refused_outcome out)) (own_model c s r t left m there) (own_names c s r t left m there) m c.objects c.statics c.printed s (is_alive c s r t left m there).running (is_alive c s r t left m there).below out a
             (done c s r t left m there (is_refused_outcome out)) →
-            finished c t left a out ≡ Some after → Follows c s t after
+            finished c t left a out ≡ Some after → Follows c s r t after
         by_outcome (Comes e) h is' =
-            subst (Follows c s t) (same_Some _ after is')
+            subst (Follows c s r t) (same_Some _ after is')
             (comes c s r t left m there (slice_set c.threads t (record { standing = Live a.frames; steps_left = left })) (λ x. set-set c.threads t (record { standing = Live a.frames; steps_left = left }) x)
             (is_refused_effect e) e refl a h)
         by_outcome (Starts object) h is' =
@@ -113,7 +119,7 @@ module _ (each : InstructionsAreAlike) (c : Content) (s : State) (r : Represents
             (asks_itself c s r t left m there Start object a (Starts object) h) after
             (subst (λ y. finished c t left y (Starts object) ≡ Some after) (asking_is c s r t left m there Start object a h) is')
         by_outcome (Joins object) h is' =
-            subst (Follows c s t)
+            subst (Follows c s r t)
             (same_Some _ after (subst (λ y. finished c t left y (Joins object) ≡ Some after) (asking_is c s r t left m there Join object a h) is'))
             (joins c s r t left m there d.operation d.at d.constant (slice_set c.threads t (record { standing = Live m; steps_left = left })) (threads_stay c s r t left m there) object
             (asks_itself c s r t left m there Join object a (Joins object) h))
@@ -125,18 +131,22 @@ module _ (each : InstructionsAreAlike) where
   pub thread_ready : (c : Content) (s : State) → Represents c s → (t left : ℕ) (m : Frames) → slice_get c.threads t ≡ Some (record { standing = Live m; steps_left = left }) → IsReady c t m
   thread_ready c s r t left m there = live_is_ready each c s r t left m there
 
-  -- a step comes to the same on both
-  pub step_follows : (c : Content) (s : State) → Represents c s → (t : ℕ) (after : Content × Report) → IsTurn c (Step t) after →
-      (s' : State) × (step c.tree c.limits s t (is_refusal after.1) ≡ Answers after.1 s') × Represents after.0 s'
-  step_follows c s r t after turn = by_thread (slice_get c.threads t) refl turn (step_keeps_fitting c after t turn (are_fitting c r.sound))
+  -- a step comes to the same on both, and keeps the room and the words of all objects together, and names
+  pub step_names : (c : Content) (s : State) (r : Represents c s) (t : ℕ) (after : Content × Report) → IsTurn c (Step t) after →
+      (s' : State) × (step c.tree c.limits s t (is_refusal after.1) ≡ Answers after.1 s') × (r' : Represents after.0 s') × KeepsOwnRoom c s t after.0.objects s' × KeepsOwnNames c s r after.0.objects r'.stands.name
+  step_names c s r t after turn = by_thread (slice_get c.threads t) refl turn (step_keeps_fitting c after t turn r.sound.seated)
     where
-      by_standing : (left : ℕ) (standing : Standing) → slice_get c.threads t ≡ Some (record { standing = standing; steps_left = left }) → IsStandingTurn c t left standing after → Follows c s t after
+      by_standing : (left : ℕ) (standing : Standing) → slice_get c.threads t ≡ Some (record { standing = standing; steps_left = left }) → IsStandingTurn c t left standing after → Follows c s r t after
       by_standing left (Live m) there (a, d, is) = live_follows each c s r t left m there after a d is
-      by_standing left (Ended e) there is = subst (Follows c s t) (sym is) (ended_absent c s r t left e there)
+      by_standing left (Ended e) there is = subst (Follows c s r t) (sym is) (ended_absent c s r t left e there)
 
-      by_thread : (x : Option Thread) → slice_get c.threads t ≡ x → IsThreadTurn c t x after → Follows c s t after
-      by_thread None is h = subst (Follows c s t) (sym h) (none_absent c s r t is)
+      by_thread : (x : Option Thread) → slice_get c.threads t ≡ x → IsThreadTurn c t x after → Follows c s r t after
+      by_thread None is h = subst (Follows c s r t) (sym h) (none_absent c s r t is)
       by_thread (Some x) is h = by_standing x.steps_left x.standing is h
+
+  pub step_follows : (c : Content) (s : State) → Represents c s → (t : ℕ) (after : Content × Report) → IsTurn c (Step t) after →
+      (s' : State) × (step c.tree c.limits s t (is_refusal after.1) ≡ Answers after.1 s') × Represents after.0 s' × KeepsOwnRoom c s t after.0.objects s'
+  step_follows c s r t after turn = let f = step_names c s r t after turn in (f.0, f.1, f.2, f.3)
 
   -- what an instruction asks of other threads can be answered
   pub answerable : (c : Content) (s : State) → Represents c s → (t left : ℕ) (m : Frames) → slice_get c.threads t ≡ Some (record { standing = Live m; steps_left = left }) →

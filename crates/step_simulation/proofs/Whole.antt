@@ -42,7 +42,7 @@ use Rattle.step_simulation.proofs.NewObjects.{new_object_alike}
 use Rattle.simulation.specs.Ready.{IsReady, IsAnswerable}
 use Rattle.step_simulation.proofs.OpeningContents.{opening_represents}
 use Rattle.step_simulation.proofs.Steps.{thread_ready, answerable, step_follows}
-use Rattle.simulation.specs.reference_machine.Rooms.{ExceedsRoom}
+use Rattle.simulation.specs.Rooms.{ExceedsRoom}
 use Rattle.step_simulation.proofs.Refusals.{refused_beyond_room}
 
 module _ (here : Setting) (model : MemoryModel here.tree) (name : Names) (m : Frames) (o : Objects) (statics : List Value) (printed : List ℕ) (s : State) (f : StateFrame) (below : List StateFrame) where
@@ -106,10 +106,10 @@ opening_is_represented = opening_represents
 -- what a machine does on a step, the reference machine does
 pub step_is_followed : (c : Content) (s : State) → Represents c s → (t : ℕ) (after : Content × Report) → IsTurn c (Step t) after →
     (s' : State) × (step c.tree c.limits s t (is_refusal after.1) ≡ Answers after.1 s') × Represents after.0 s'
-step_is_followed c s r t after turn = step_follows each_alike c s r t after turn
+step_is_followed c s r t after turn = let follows = step_follows each_alike c s r t after turn in (follows.0, follows.1, follows.2)
 
--- it is refused memory exactly where its object exceeds the room
-pub step_is_refused : (c : Content) (s : State) → Represents c s → (t : ℕ) (after : Content × Report) → IsTurn c (Step t) after → IsTrue (is_refusal after.1) ↔ ExceedsRoom c.tree c.limits s t
+-- it is refused memory exactly where its object exceeds the room for births of its thread
+pub step_is_refused : (c : Content) (s : State) → Represents c s → (t : ℕ) (after : Content × Report) → IsTurn c (Step t) after → IsTrue (is_refusal after.1) ↔ ExceedsRoom c s t
 step_is_refused c s r t after turn = refused_beyond_room each_alike c s r t after turn
 
 -- what is no step keeps the state

@@ -1,26 +1,38 @@
 // Laws of machines. Each function has an empty body, and its contract is the law.
 
-ghost use Rattle.std.specs.Prelude.{◌≡◌, ◌↔◌, ℕ, true, IsTrue, Some, slice_get};
+ghost use Rattle.std.specs.Prelude.{◌≡◌, ◌≢◌, ◌↔◌, ◌≤◌, ◌++◌, ℕ, true, false, IsTrue, List, [], ◌∷◌, Some, length, slice_get};
+ghost use Rattle.std.specs.List.{zip};
 ghost use Rattle.simulation.specs.cil_model.declared.trees.Tree.{Tree};
 ghost use Rattle.simulation.specs.cil_model.declared.limits.Limits.{Limits};
+ghost use Rattle.simulation.specs.cil_model.declared.events.Event.{Event};
 ghost use Rattle.simulation.specs.cil_model.declared.events.Event.TheVariants.{Step, Ack, Gc};
-ghost use Rattle.simulation.specs.cil_model.declared.phases.Phase.TheVariants.{Mark};
+ghost use Rattle.simulation.specs.cil_model.declared.phases.Phase.TheVariants.{Idle, Mark};
 ghost use Rattle.simulation.specs.cil_model.declared.reports.Report.{Report};
+ghost use Rattle.simulation.specs.cil_model.declared.reports.Report.TheVariants.{Acked, CycleDone, Waiting, Worked};
+ghost use Rattle.simulation.specs.cil_model.Fields.{static_fields};
+ghost use Rattle.simulation.specs.cil_model.Legality.{IsLegal};
 ghost use Rattle.simulation.specs.cil_model.Ranges.{are_in_range};
 ghost use Rattle.simulation.specs.cil_model.Typings.{IsAccepted};
-ghost use Rattle.simulation.specs.reference_machine.Rooms.{ExceedsRoom};
+ghost use Rattle.simulation.specs.reference_machine.Cycles.{most_working, working_in_cycle};
 ghost use Rattle.simulation.specs.reference_machine.States.{State};
 ghost use Rattle.simulation.specs.reference_machine.Steps.{step, Answers};
-ghost use Rattle.simulation.specs.reference_machine.Runs.{is_refusal, opening};
+ghost use Rattle.simulation.specs.reference_machine.Runs.{IsStateAfter, is_refusal, opening};
 ghost use Rattle.simulation.specs.object_memory.declared.addresses.Addr.{Addr as AnyAddr};
+ghost use Rattle.simulation.specs.object_memory.Cells.{used_words};
+ghost use Rattle.simulation.specs.object_memory.Objects.{used_space};
 ghost use Rattle.simulation.specs.collector.Marking.{is_closed};
 ghost use Rattle.simulation.specs.collector.Phases.{is_marked_address};
+ghost use Rattle.simulation.specs.phase_handshake.Handshakes.{IsWaiting, all_seen, is_open, own_phase};
 ghost use Rattle.simulation.specs.threads_monitors.Frames.{Frames};
+ghost use Rattle.simulation.specs.threads_monitors.Threads.{is_live_at};
 ghost use Rattle.simulation.specs.threads_monitors.declared.threads.Standing.TheVariants.{Live};
 ghost use Rattle.simulation.specs.interpreter.Instructions.{IsDone, Answer};
 ghost use Rattle.simulation.specs.MachineContents.{Content, mutator_of};
+ghost use Rattle.simulation.specs.Owed.{BeginsNewestCycle, OwesAfter};
 ghost use Rattle.simulation.specs.Reached.{IsReached};
-ghost use Rattle.simulation.specs.Sound.{IsSound};
+ghost use Rattle.simulation.specs.Rooms.{ExceedsRoom};
+ghost use Rattle.simulation.specs.Runs.{AreSteps, IsRunOf, StandsAfter};
+ghost use Rattle.simulation.specs.Sound.{AreSeated, IsSound};
 ghost use Rattle.simulation.specs.StandsFor.{Represents};
 ghost use Rattle.simulation.specs.Turns.{IsTurn, opening_content};
 ghost use Rattle.simulation.specs.Ready.{IsReady, IsAnswerable};
@@ -62,8 +74,69 @@ pub fn closed_marking_has_reached_all()
     ensures { (c : Content) → IsSound c → c.posts.posted ≡ Mark → is_closed c.progress c.objects c.posts ≡ true → (a : AnyAddr) → IsReached c a → is_marked_address c.objects.spaces a ≡ true }
 {}
 
-/// A step is refused memory exactly where the object that it would make has more words than the space has left, when the words of all
-/// births so far are taken from it.
+/// A cycle of the collector takes a bounded number of working events, whatever the threads do meanwhile: in each run the newest one has no more of them
+/// than 16 for each word of a space, one for each static field, and 64.
+pub fn cycles_are_bounded()
+    ensures { (tree : Tree) → IsAccepted tree → (limits : Limits) → IsTrue (are_in_range limits) → (events : List Event) (reports : List Report) (s : State) →
+        IsRunOf tree limits events reports s → working_in_cycle (zip events reports) ≤ most_working limits.words (length (static_fields tree)) }
+{}
+
+/// The collector waits only for threads: its event is answered Waiting only where not all live threads have acknowledged the posted phase, or not all have
+/// answered a posted round. Then nothing changes.
+pub fn the_collector_waits_only_for_threads()
+    ensures { (c after : Content) → IsTurn c Gc (after, Waiting) → IsWaiting c.posts × (after ≡ c) }
+{}
+
+/// Between cycles the collector opens the next one, once all live threads have acknowledged that the last one is over.
+pub fn the_next_cycle_opens()
+    ensures { (c : Content) → c.posts.posted ≡ Idle → all_seen c.posts ≡ true → (after : Content) (r : Report) → IsTurn c Gc (after, r) → (r ≡ Worked) × (after.posts.posted ≡ Mark) }
+{}
+
+/// An acknowledgement counts exactly where a post is open to its thread. It acknowledges the posted phase, where the thread had not done so; else it answers
+/// the round, and nothing is open to the thread afterwards.
+pub fn an_acknowledgement_is_answered_once()
+    ensures counts { (c : Content) (t : ℕ) (after : Content) (r : Report) → IsTurn c (Ack t) (after, r) → (r ≡ Acked) ↔ (is_open c.posts t ≡ true) }
+    ensures phase { (c : Content) → AreSeated c.posts c.threads → (t : ℕ) → is_live_at c.threads t ≡ true → (after : Content) (r : Report) → IsTurn c (Ack t) (after, r) →
+        own_phase c.posts t ≢ c.posts.posted → own_phase after.posts t ≡ after.posts.posted }
+    ensures round { (c : Content) → AreSeated c.posts c.threads → (t : ℕ) → is_live_at c.threads t ≡ true → (after : Content) (r : Report) → IsTurn c (Ack t) (after, r) →
+        own_phase c.posts t ≡ c.posts.posted → is_open after.posts t ≡ false }
+{}
+
+/// A step is refused memory exactly where the object that it would make has more words than the machine's spaces have left for it, where
+/// the phase of the thread has it born.
 pub fn births_are_refused_beyond_the_room()
-    ensures { (c : Content) (s : State) → Represents c s → (t : ℕ) (after : Content × Report) → IsTurn c (Step t) after → IsTrue (is_refusal after.1) ↔ ExceedsRoom c.tree c.limits s t }
+    ensures { (c : Content) (s : State) → Represents c s → (t : ℕ) (after : Content × Report) → IsTurn c (Step t) after → IsTrue (is_refusal after.1) ↔ ExceedsRoom c s t }
+{}
+
+/// In a run of steps alone, without a collector, a birth is refused exactly where its cell has more words than the limit less those of all
+/// births so far: what the machine does then is what a machine with one space does that collects nothing.
+pub fn steps_alone_refuse_beyond_all_births()
+    ensures { (tree : Tree) → IsAccepted tree → (limits : Limits) → IsTrue (are_in_range limits) → (events : List Event) (reports : List Report) (s : State) →
+        AreSteps events → IsRunOf tree limits events reports s → IsStateAfter tree limits (zip events reports) s }
+{}
+
+/// A legal program has one run by the same events within the same limits: each event has one turn of its machine, so all reports are the
+/// same, and so is the state that the reference machine comes to.
+pub fn the_run_is_one()
+    ensures { (tree : Tree) → IsLegal tree → (limits : Limits) (events : List Event) (reports reports' : List Report) (s s' : State) →
+        IsRunOf tree limits events reports s → IsRunOf tree limits events reports' s' → (reports ≡ reports') × (s ≡ s') }
+{}
+
+/// At the end of a cycle no more words are in use than are owed: those of the objects that were reachable in the state of the reference machine when the
+/// cycle began, or were born since. They are all in one space.
+pub fn a_cycle_leaves_what_is_owed()
+    ensures { (tree : Tree) → IsAccepted tree → (limits : Limits) → IsTrue (are_in_range limits) → (events : List Event) (reports : List Report) (c : Content) → StandsAfter tree limits events reports c →
+        (most : List (Event × Report)) → zip events reports ≡ most ++ (Gc, CycleDone) ∷ [] → (words : ℕ) → OwesAfter tree limits events reports words →
+        (used_space c.objects ≤ words) × (used_words c.objects.spaces.new.cells ≡ 0) }
+{}
+
+/// There are words that are owed from the beginning of a run's newest cycle on, whatever comes later; where a run ends a cycle, it has a newest one; and no
+/// other number of words is owed.
+pub fn cycles_have_what_they_owe()
+    ensures begun { (tree : Tree) → IsAccepted tree → (limits : Limits) → IsTrue (are_in_range limits) → (events : List Event) (reports : List Report) (s : State) → IsRunOf tree limits events reports s →
+        (earlier later : List (Event × Report)) → BeginsNewestCycle (zip events reports) earlier later → (words : ℕ) × OwesAfter tree limits events reports words }
+    ensures ended { (tree : Tree) → IsAccepted tree → (limits : Limits) → IsTrue (are_in_range limits) → (events : List Event) (reports : List Report) (s : State) → IsRunOf tree limits events reports s →
+        (most : List (Event × Report)) → zip events reports ≡ most ++ (Gc, CycleDone) ∷ [] → (words : ℕ) × OwesAfter tree limits events reports words }
+    ensures one { (tree : Tree) (limits : Limits) (events : List Event) (reports : List Report) (words words' : ℕ) →
+        OwesAfter tree limits events reports words → OwesAfter tree limits events reports words' → words ≡ words' }
 {}

@@ -42,7 +42,7 @@ fn tells_of_outputs(threads: &(impl Threads + Wait + Sync), alloc: Global) -> bo
         limits: LIMITS,
         explain: false,
     };
-    let mut page = Device::new(Cursor::new([0; 40]));
+    let mut page = Device::new(Cursor::new([0; 52]));
     let mut none = Device::new(Cursor::new([0; 0]));
     let mut err = Device::new(Vec::new(alloc));
     let mut record = Vec::new(alloc);
@@ -70,9 +70,7 @@ fn tells_of_outputs(threads: &(impl Threads + Wait + Sync), alloc: Global) -> bo
     traced == 5
         && refused == 5
         && err.into_inner().as_slice() == b"device\n".as_slice()
-        && page
-            .into_inner()
-            .get_ref()
-            .as_slice()
-            .starts_with(b"1\ts0\tran\tP::Main+0  ldc.i4 2\t1\t1\t0\n")
+        && page.into_inner().get_ref().as_slice().starts_with(
+            b"1\ts0\tran\tP::Main+0  ldc.i4 2\t1\t1\t0\t0\tidle\tidle\n",
+        )
 }

@@ -20,3 +20,9 @@ pub mod MemberSteps
 pub mod CallSteps
 pub mod NewObjectSteps
 pub mod AllSteps
+pub mod ReachedValues
+pub mod ReachedStates
+pub mod Reaching
+pub mod Enclosing
+pub mod ReachedObjects
+pub mod ReachedRuns

@@ -1,9 +1,9 @@
-use Rattle.std.proofs.Common.{◌≡◌, ◌∙◌, ap, subst, sym}
-use Rattle.std.specs.List.{zip}
+use Rattle.std.proofs.Common.{◌≡◌, subst, sym}
 use Rattle.cil_model.specs.declared.trees.Tree.{Tree}
 use Rattle.cil_model.specs.Sources.{HasTree}
-use Rattle.reference_machine.specs.Runs.{step_reports}
 use Rattle.workers.specs.shared_machine.simulation.Runs.{IsRunOf}
+use Rattle.workers.proofs.shared_machine.interleaving_core.step_simulation.OneRun.{runs_are_one}
+use Rattle.workers.proofs.shared_machine.simulation.resolved_code.OneOperation.{one_operation}
 use Rattle.source_runs.proofs.laws.a_run_is_one.Goals as goal
 
 same_tree : (t u : Tree) → HasTree t ≡ HasTree u → t ≡ u
@@ -17,5 +17,5 @@ returns c = λ source limits text events events' reports reports' s s' h h'.
     let list : events ≡ events' = c.one_answer.ensures.one_list text events events' h.are_read h'.are_read in
     let other : IsRunOf k.tree limits events reports' s' =
     subst (λ t. IsRunOf t limits events reports' s') (sym tree) (subst (λ es. IsRunOf k'.tree limits es reports' s') (sym list) k'.is_run) in
-    let one = c.the_run_is_one.ensures k.tree limits events reports reports' k.is_run.each other.each s s' k.is_run.is_after other.is_after in
-    (list, one.0 ∙ ap (λ es. step_reports (zip es reports')) list, one.1)
+    let one = runs_are_one k.tree limits (one_operation k.tree k.is_accepted.accepted.legal) events reports reports' s s' k.is_run other in
+    (list, one.0, one.1)

@@ -1,0 +1,8 @@
+use Rattle.std.proofs.Common.{sym, subst}
+use Rattle.step_simulation.specs.simulation.collector.Conditions.{AreThere}
+use Rattle.interleaving_core.specs.Views.{content_of}
+use Rattle.interleaving_core.proofs.Collecting.{statics_there}
+use Rattle.interleaving_core.proofs.engine.Engine.flip_on.Goals as goal
+
+pub flip_static_step-requires-clause-there : goal.flip_static_step-requires-clause-there
+flip_static_step-requires-clause-there c = subst (AreThere c.args.self.now.store.heap) (sym c.as_mut_slice.ensures.value) (statics_there (content_of c.args.self.now) c.requires.sound)

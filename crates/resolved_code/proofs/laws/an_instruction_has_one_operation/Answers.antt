@@ -1,0 +1,5 @@
+use Rattle.resolved_code.proofs.OneOperation.{one_operation}
+use Rattle.resolved_code.proofs.laws.an_instruction_has_one_operation.Goals as goal
+
+pub returns : goal.returns
+returns c = one_operation
