@@ -2,13 +2,13 @@
 use Rattle.std.proofs.Common.{◌≡◌, List, [], ◌∷◌, ◌++◌, sym, ap, ◌∙◌, subst, All}
 use Rattle.std.proofs.lemmas.List.Elements.{All-head, All-tail}
 use Rattle.worker_counts.specs.Counts.{Count}
-use Rattle.source_runs.specs.shared_machine.Codes.{add}
-use Rattle.source_runs.specs.shared_machine.Histories.{count_of}
-use Rattle.source_runs.specs.shared_machine.Worlds.{AgreesWith, IfDid, added}
+use Rattle.shared_machine.specs.Codes.{add}
+use Rattle.shared_machine.specs.Histories.{count_of}
+use Rattle.shared_machine.specs.Worlds.{AgreesWith, IfDid, added}
 use Rattle.cil_model.specs.declared.events.Event.{Event}
-use Rattle.source_runs.specs.shared_machine.declared.history.Entry.{Entry}
-use Rattle.source_runs.specs.shared_machine.declared.answer.Answer.{Answer}
-use Rattle.source_runs.specs.shared_machine.declared.answer.Answer.TheVariants.{Did, NoMemory}
+use Rattle.shared_machine.specs.declared.history.Entry.{Entry}
+use Rattle.shared_machine.specs.declared.answer.Answer.{Answer}
+use Rattle.shared_machine.specs.declared.answer.Answer.TheVariants.{Did, NoMemory}
 
 pub did_counts : (x : Answer) (t u : Count) (e : Event) (h : List Entry) → IfDid x (λ r. u ≡ added t e r) → AgreesWith h u → IfDid x (λ r. count_of t.worker h ≡ add t.count e r)
 did_counts (Did r) t u e h did agrees =

@@ -1,8 +1,8 @@
 //! The calls, each with what is expected of it.
 
+ghost use Rattle.std.specs.Prelude.{◌≡◌};
+
 use crate::epochs::{counts_in_turn, threads_see_every_epoch};
-use crate::two_workers::{act_many, run_both};
-use crate::worker_runs::{goes_on_without, records_one_worker, replays_workers};
 use cil_model::events::Event;
 use cil_model::limits::Limits;
 use cil_model::memory::NoMemory;
@@ -14,18 +14,13 @@ use ilasm_reader::{ReadError, read};
 use instruction_text::CharactersText;
 use name_tables::built_in::BuiltInClass;
 use name_tables::lookups::NameTables;
-use orders::{read_source, read_text};
+use orders::read_source;
 use schedule_text::{Item, write_schedule};
-use source_runs::{Failure, Machine, Outcome, accept, run_events};
 use std::alloc::Global;
 use std::collections::HashMap;
 use std::io;
-use std::io::{ErrorKind, Read};
-use std::marker::Brand;
-use std::sync::Wait;
 use std::thread::Threads;
 use word_flip::Flip;
-use worker_counts::Blank;
 
 /// Adds 2 and 3, and prints the sum.
 pub static SUM: &str =
@@ -47,7 +42,10 @@ pub struct Call {
     pub is_as_expected: bool,
 }
 
-fn came_to(name: &'static str, is_as_expected: bool) -> Call {
+/// A call by its name, and whether it came to what is expected.
+pub fn came_to(name: &'static str, is_as_expected: bool) -> Call
+    ensures { (result.name.now ≡ name.now) × (result.is_as_expected ≡ is_as_expected) }
+{
     Call {
         name,
         is_as_expected,
@@ -55,9 +53,8 @@ fn came_to(name: &'static str, is_as_expected: bool) -> Call {
 }
 
 /// Makes the calls. One that wants memory counts as one that came to something else.
-pub fn calls(threads: &(impl Threads + Wait + Sync), alloc: Global) -> [Call; 18] {
+pub fn calls(threads: &(impl Threads + Sync), alloc: Global) -> [Call; 8] {
     [
-        came_to("a reader that fails", tells_of_readers(alloc)),
         came_to(
             "a source that is too long",
             reads_no_more(alloc).unwrap_or(false),
@@ -72,18 +69,6 @@ pub fn calls(threads: &(impl Threads + Wait + Sync), alloc: Global) -> [Call; 18
         ),
         came_to("names as keys", are_keys(alloc).unwrap_or(false)),
         came_to(
-            "equal steps as one run",
-            has_one_run(threads, alloc).unwrap_or(false),
-        ),
-        came_to(
-            "a worker in each of two threads",
-            acts_once(threads, alloc).unwrap_or(false),
-        ),
-        came_to(
-            "two threads that act often",
-            acts_often(threads, alloc).unwrap_or(false),
-        ),
-        came_to(
             "a slot that another seat loads",
             is_loaded_by_another(alloc).unwrap_or(false),
         ),
@@ -96,72 +81,7 @@ pub fn calls(threads: &(impl Threads + Wait + Sync), alloc: Global) -> [Call; 18
             counts_in_turn(alloc).unwrap_or(false),
         ),
         came_to("the plain machine", runs_plainly(alloc).unwrap_or(false)),
-        came_to(
-            "the record of one worker",
-            records_one_worker(threads, alloc).unwrap_or(false),
-        ),
-        came_to(
-            "a replay of one worker",
-            replays_workers(threads, alloc, 1).unwrap_or(false),
-        ),
-        came_to(
-            "a replay of four workers",
-            replays_workers(threads, alloc, 4).unwrap_or(false),
-        ),
-        came_to(
-            "a replay of sixteen workers",
-            replays_workers(threads, alloc, 16).unwrap_or(false),
-        ),
-        came_to(
-            "a first worker that is held",
-            goes_on_without(threads, alloc, 0).unwrap_or(false),
-        ),
-        came_to(
-            "a second worker that is held",
-            goes_on_without(threads, alloc, 1).unwrap_or(false),
-        ),
     ]
-}
-
-/// A reader that gives some bytes, and then fails.
-#[derive(Drop)]
-struct Broken {
-    left: usize,
-    kind: ErrorKind,
-}
-
-impl Read for Broken {
-    fn read(&mut self, buf: &mut [u8]) -> io::Result<usize> {
-        if self.left == 0 {
-            return Err(io::Error::from(self.kind));
-        }
-        self.left -= 1;
-        match buf.first_mut() {
-            Some(first) => {
-                *first = b's';
-                Ok(1)
-            }
-            None => Ok(0),
-        }
-    }
-}
-
-/// Whether a reader's error is told: `Memory` for want of memory, and `Device` for any other.
-fn tells_of_readers(alloc: Global) -> bool {
-    [
-        (ErrorKind::IsADirectory, Failure::Device),
-        (ErrorKind::Other, Failure::Device),
-        (ErrorKind::OutOfMemory, Failure::Memory),
-    ]
-    .iter()
-    .all(|(kind, wanted)| is_told(alloc, *kind, *wanted))
-}
-
-/// Whether an error of this kind is told so, at the first byte and behind some.
-fn is_told(alloc: Global, kind: ErrorKind, wanted: Failure) -> bool {
-    let source = read_source(alloc, Broken { left: 0, kind });
-    let text = read_text(alloc, Broken { left: 5, kind });
-    source.err().map(Failure::from) == Some(wanted) && text.err().map(Failure::from) == Some(wanted)
 }
 
 /// Whether no more of a source is read than shows that it is too long, and all of a shorter one.
@@ -223,50 +143,6 @@ fn are_keys(alloc: Global) -> Result<bool, NoMemory> {
     Ok(is_added && dog == Some(7) && cat.is_none())
 }
 
-/// Whether the history of a million equal steps has one run.
-fn has_one_run(waits: &impl Wait, alloc: Global) -> Result<bool, Failure> {
-    let events = vec![in alloc; Event::Step(255); 1_000_000]?;
-    let outcome = run_events(waits, alloc, SUM.as_bytes(), LIMITS, events.as_slice())?;
-    let runs = outcome.history.runs();
-    Ok(runs.len() == 1 && times(&outcome) == 1_000_000)
-}
-
-/// How many entries the history has.
-fn times(outcome: &Outcome) -> u64 {
-    let mut times = 0u64;
-    for run in outcome.history.runs() {
-        times = times.saturating_add(run.times);
-    }
-    times
-}
-
-/// The machine of the sum.
-fn machine(alloc: Global) -> Result<Machine, Failure> {
-    let verified = accept(alloc, SUM.as_bytes())?;
-    Ok(Machine::new(alloc, verified, LIMITS)?)
-}
-
-/// Whether two threads that act once each leave two entries.
-fn acts_once(threads: &(impl Threads + Wait + Sync), alloc: Global) -> Result<bool, Failure> {
-    let blank = Blank::new(alloc)?;
-    let core = machine(alloc)?;
-    let end = run_both::<Brand, _>(threads, alloc, blank, core, Event::Step(0), Event::Gc)?;
-    Ok(end.is_some_and(|(_, _, outcome)| times(&outcome) == 2 && !outcome.stopped))
-}
-
-/// Whether two threads that act often leave an entry for each event, and what the sum prints.
-fn acts_often(threads: &(impl Threads + Wait + Sync), alloc: Global) -> Result<bool, Failure> {
-    let blank = Blank::new(alloc)?;
-    let core = machine(alloc)?;
-    let events = (Event::Step(0), Event::Ack(0));
-    let end = act_many::<Brand, _>(threads, alloc, blank, core, events, 20_000)?;
-    Ok(end.is_some_and(|outcome| is_done(&outcome)))
-}
-
-fn is_done(outcome: &Outcome) -> bool {
-    times(outcome) == 40_000 && outcome.console() == b"5\n".as_slice() && outcome.stopped
-}
-
 /// Whether a seat loads what another one stored, and nothing from a slot that nobody stored to.
 fn is_loaded_by_another(alloc: Global) -> Result<bool, NoMemory> {
     let (flip, _copier, mut writers) = Flip::new(alloc, 2, 1, &[0, 0], 2)?;
@@ -282,12 +158,12 @@ fn is_loaded_by_another(alloc: Global) -> Result<bool, NoMemory> {
     Ok(loaded == Some(1) && nothing.is_none())
 }
 
-/// Whether the plain machine runs the sum, and shows where it stands.
-fn runs_plainly(alloc: Global) -> Result<bool, Failure> {
-    let tree = read(alloc, SUM.as_bytes())?;
-    let built_ins = BuiltInClass::all(alloc)?;
-    let names = NameTables::new(alloc, &tree, built_ins.as_slice())?;
-    Ok(is_run_plainly(alloc, &names)?)
+/// Whether the plain machine runs the sum, and shows where it stands. None where the sum has no tree or memory is wanted.
+fn runs_plainly(alloc: Global) -> Option<bool> {
+    let tree = read(alloc, SUM.as_bytes()).ok()?;
+    let built_ins = BuiltInClass::all(alloc).ok()?;
+    let names = NameTables::new(alloc, &tree, built_ins.as_slice()).ok()?;
+    is_run_plainly(alloc, &names).ok()
 }
 
 fn is_run_plainly(alloc: Global, names: &NameTables) -> Result<bool, NoMemory> {

@@ -1,12 +1,12 @@
 //! Two workers of a shared machine, in threads of their own.
 
 ghost use Rattle.std.specs.Prelude.{◌≡◌, IfOk, IfSome};
-ghost use Rattle.source_runs.specs.shared_machine.Codes.{add};
-ghost use Rattle.source_runs.specs.shared_machine.Histories.{count_of, events_of, reports_of};
-ghost use Rattle.source_runs.specs.shared_machine.Worlds.{AgreesWith, HasRun, IfDid, added, fresh};
+ghost use Rattle.shared_machine.specs.Codes.{add};
+ghost use Rattle.shared_machine.specs.Histories.{count_of, events_of, reports_of};
+ghost use Rattle.shared_machine.specs.Worlds.{AgreesWith, HasRun, IfDid, added, fresh};
 
 use cil_model::events::Event;
-use source_runs::{Answer, Machine, Opening, Outcome, Shared, stop};
+use shared_machine::{Answer, Machine, Opening, Outcome, Shared, stop};
 use std::alloc::{AllocError, Global};
 use std::sync::Wait;
 use std::thread::{Threads, join};

@@ -1,5 +1,6 @@
 -- What a user sees of the collector: room, the work of a cycle, the steps among events, and what is reachable.
-use Rattle.std.proofs.Common.{◌≡◌, true, false, List, [], ◌∷◌, ◌++◌, take, drop, Some, None, refl, codes, lit<}
+use Rattle.std.proofs.Common.{◌≡◌, ◌<◌, Bool, true, false, List, [], ◌∷◌, ◌++◌, length, take, drop, Some, None, refl, sym, ap, ◌∙◌, arith, append_assoc, codes, lit<}
+use Rattle.std.specs.Prelude.{not, ◌&&◌, ◌||◌}
 use Rattle.cil_model.specs.declared.events.Event.{Event}
 use Rattle.cil_model.specs.declared.events.Event.TheVariants.{Step, Ack, Gc}
 use Rattle.cil_model.specs.declared.phases.Phase.TheVariants.{Idle, Mark, Allocate, Copy, PreFlip, HeapFlip, ThreadFlip, Reclaim}
@@ -11,7 +12,7 @@ use Rattle.cil_model.specs.declared.types.Element.TheVariants.{Int32}
 use Rattle.cil_model.specs.Declarations.{plain}
 use Rattle.reference_machine.specs.Values.{Born}
 use Rattle.reference_machine.specs.States.{Instance, Array, State}
-use Rattle.reference_machine.specs.Cycles.{Spaces, room, is_refused, most_working, working_in_cycle, is_cycle_open, IsNewestCycle}
+use Rattle.reference_machine.specs.Cycles.{Spaces, room, is_refused, most_working, working_in_cycle, is_cycle_open, begins_cycle, BeginsNewestCycle}
 use Rattle.reference_machine.specs.Runs.{thread_part, step_reports}
 use Rattle.reference_machine.specs.Reachable.{IsReachable, from_root, from_member}
 use Rattle.reference_machine.specs.Rooms.{cell_words}
@@ -101,9 +102,48 @@ no_cycle_yet = refl
 bound : most_working 64 3 ≡ 1091
 bound = refl
 
+-- no later event of these begins a cycle, where some of them came before
+abbrev none_begins : (earlier front later : List (Event × Report)) → Bool
+none_begins earlier front [] = true
+none_begins earlier front (e ∷ rest) = (is_cycle_open (earlier ++ (front ++ e ∷ [])) || not (begins_cycle rest)) && none_begins earlier (front ++ e ∷ []) rest
+
+same_rest : (e f : Event × Report) (xs ys : List (Event × Report)) → e ∷ xs ≡ f ∷ ys → xs ≡ ys
+same_rest e f xs ys h = cc
+
+same_first : (e f : Event × Report) (xs ys : List (Event × Report)) → e ∷ xs ≡ f ∷ ys → e ≡ f
+same_first e f xs ys h = cc
+
+begins_none : (earlier front later : List (Event × Report)) → none_begins earlier front later ≡ true → (between rest : List (Event × Report)) → later ≡ between ++ rest →
+    0 < length between → is_cycle_open (earlier ++ (front ++ between)) ≡ false → begins_cycle rest ≡ false
+begins_none earlier front later h [] rest e some closed = absurd (omega (arith, some))
+begins_none earlier front [] h (f ∷ fs) rest e some closed = absurd cc
+begins_none earlier front (g ∷ later) h (f ∷ []) rest e some closed = by_first (is_cycle_open (earlier ++ (front ++ g ∷ []))) (begins_cycle rest) same h'
+  where
+    same : is_cycle_open (earlier ++ (front ++ g ∷ [])) ≡ false
+    same = ap (λ x. is_cycle_open (earlier ++ (front ++ x ∷ []))) (same_first g f later rest e) ∙ closed
+
+    h' : ((is_cycle_open (earlier ++ (front ++ g ∷ [])) || not (begins_cycle rest)) && none_begins earlier (front ++ g ∷ []) later) ≡ true
+    h' = ap (λ r. (is_cycle_open (earlier ++ (front ++ g ∷ [])) || not (begins_cycle r)) && none_begins earlier (front ++ g ∷ []) later) (sym (same_rest g f later rest e)) ∙ h
+
+    by_first : (opened begun : Bool) → opened ≡ false → ((opened || not begun) && none_begins earlier (front ++ g ∷ []) later) ≡ true → begun ≡ false
+    by_first opened false o k = refl
+    by_first false true o k = sym k
+    by_first true true o k = cc
+begins_none earlier front (g ∷ later) h (f ∷ x ∷ fs) rest e some closed =
+    begins_none earlier (front ++ g ∷ []) later (second (is_cycle_open (earlier ++ (front ++ g ∷ [])) || not (begins_cycle later)) h) (x ∷ fs) rest (same_rest g f later (x ∷ fs ++ rest) e) (omega arith)
+    (ap (λ l. is_cycle_open (earlier ++ l)) (append_assoc front (g ∷ []) (x ∷ fs) ∙ ap (λ y. front ++ y ∷ x ∷ fs) (same_first g f later (x ∷ fs ++ rest) e)) ∙ closed)
+  where
+    second : (a : Bool) {c : Bool} → (a && c) ≡ true → c ≡ true
+    second true k = k
+    second false k = cc
+
 -- the three steps before it are no part of the newest cycle
-newest_cycle : IsNewestCycle whole_cycle (take 3 whole_cycle) (drop 3 whole_cycle)
-newest_cycle = record { whole = refl; none_was_open = refl; begins = refl; goes_on = refl }
+newest_cycle : BeginsNewestCycle whole_cycle (take 3 whole_cycle) (drop 3 whole_cycle)
+newest_cycle = record { whole = refl; none_was_open = refl; begins = refl; newest = begins_none (take 3 whole_cycle) [] (drop 3 whole_cycle) refl }
+
+-- nor does it begin anew as more events follow its end
+ended_cycle : BeginsNewestCycle (whole_cycle ++ ran ∷ gc Waiting ∷ []) (take 3 whole_cycle) (drop 3 whole_cycle ++ ran ∷ gc Waiting ∷ [])
+ended_cycle = record { whole = refl; none_was_open = refl; begins = refl; newest = begins_none (take 3 whole_cycle) [] (drop 3 whole_cycle ++ ran ∷ gc Waiting ∷ []) refl }
 
 -- ---- the steps among events
 

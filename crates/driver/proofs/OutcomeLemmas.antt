@@ -18,7 +18,7 @@ use Rattle.driver.specs.Outcomes.{AreThreadsExplained, HasRun, HasTraced, IsExpl
 use Rattle.driver.specs.Threads.{ends_of, lines_from}
 use Rattle.outputs.specs.Beginnings.{AppendsBeginning}
 use Rattle.outputs.proofs.BeginningLaws.{begins_nothing}
-use Rattle.source_runs.proofs.RunLemmas.{some_budget}
+use Rattle.source_runs.proofs.RunLemmas.{comes_to, run_of, some_budget}
 
 pub for_err : {T E : Type 0} {P : Type 0} (r : Result T E) → P → IfErr r (λ _. P)
 for_err (Ok x) p = tt
@@ -54,12 +54,12 @@ shown_of c state more out out' err err' status represents shown =
 pub has_run : (source : List ℕ) (limits : Limits) (text : List ℕ) (explain : Bool) (events : List Event) (reports : List Report) (c : Content) (out out' err err' : Option (List ℕ)) (status : ℕ)
     → IsRunBy source limits text events reports c → IsMachineShown explain c out out' err err' status → HasRun source limits text explain out out' err err' status
 has_run source limits text explain events reports c out out' err err' status by left =
-    let after : StandsAfter by.1.0 limits events reports c = by.1.2.1 in
+    let after : StandsAfter by.1.0 limits events reports c = by.1.2.stands in
     record {
       events = events;
       reports = reports;
       state = after.state;
-      comes_to = record { are_read = by.0; by_events = record { tree = by.1.0; is_accepted = by.1.1; in_range = by.1.2.0; is_run = after.is_run; budgets = after.budgets } };
+      comes_to = record { are_read = by.0; by_events = comes_to source by.1.0 limits events reports c by.1.1 by.1.2.in_range after };
       after = c;
       represents = after.represents;
       explanation = left.0;
@@ -71,12 +71,12 @@ has_run source limits text explain events reports c out out' err err' status by 
 pub run_in_part : (source : List ℕ) (limits : Limits) (text : List ℕ) (explain : Bool) (events : List Event) (reports : List Report) (c : Content) (out out' err err' : Option (List ℕ))
     → IsRunBy source limits text events reports c → IsMachineShownInPart explain c out out' err err' → IsRunInPart source limits text explain out out' err err'
 run_in_part source limits text explain events reports c out out' err err' by left =
-    let after : StandsAfter by.1.0 limits events reports c = by.1.2.1 in
+    let after : StandsAfter by.1.0 limits events reports c = by.1.2.stands in
     record {
       events = events;
       reports = reports;
       state = after.state;
-      comes_to = record { are_read = by.0; by_events = record { tree = by.1.0; is_accepted = by.1.1; in_range = by.1.2.0; is_run = after.is_run; budgets = after.budgets } };
+      comes_to = record { are_read = by.0; by_events = comes_to source by.1.0 limits events reports c by.1.1 by.1.2.in_range after };
       after = c;
       represents = after.represents;
       explanation = left.0;
@@ -101,7 +101,7 @@ traced_in_part source limits text explain events begins after reports out betwee
       reports = reports;
       between = between;
       traced = traced;
-      shown = run_in_part source limits text explain events reports after between out' err err' (ready.are_read, (ready.tree, ready.is_accepted, (ready.in_range, stands))) left;
+      shown = run_in_part source limits text explain events reports after between out' err err' (ready.are_read, (ready.tree, ready.is_accepted, run_of ready.tree limits events reports after ready.is_accepted.accepted ready.in_range stands)) left;
     }
 
 -- what the machine that was traced shows
@@ -112,17 +112,19 @@ has_traced source limits text explain events begins after reports out between ou
     let first = ready.opened.represents in
     let stands : StandsAfter ready.tree limits events reports after =
     stands_after ready.tree limits begins after events reports first.0 first.1 ready.opened.begins first.2 ready.opened.same_program ready.opened.same_limits kept (some_budget limits ready.in_range) traced.each traced.follows in
+    let ran = run_of ready.tree limits events reports after ready.is_accepted.accepted ready.in_range stands in
     record {
       events = events;
       reports = reports;
       state = stands.state;
-      comes_to = record { are_read = ready.are_read; by_events = record { tree = ready.tree; is_accepted = ready.is_accepted; in_range = ready.in_range; is_run = stands.is_run; budgets = stands.budgets } };
+      comes_to = record { are_read = ready.are_read; by_events = record { tree = ready.tree; is_accepted = ready.is_accepted; in_range = ready.in_range; is_run = stands.is_run; budgets = stands.budgets; bounded = ran.bounded } };
       begins = begins;
       opened = ready.opened;
       after = after;
       between = between;
       traced = traced;
       represents = stands.represents;
+      leaves = ran.leaves;
       explanation = left.0;
       explains = left.1;
       shown = shown_of after stands.state left.0 between out' err err' status stands.represents left.2;

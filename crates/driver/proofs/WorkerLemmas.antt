@@ -17,6 +17,7 @@ use Rattle.outputs.specs.Beginnings.{AppendsBeginning}
 use Rattle.outputs.proofs.BeginningLaws.{begins_first, begins_second, begins_whole}
 use Rattle.source_runs.proofs.simulation.StandsLaws.{ends_stand, printed_stands}
 use Rattle.source_runs.specs.Runs.{HasRunTo}
+use Rattle.source_runs.proofs.RunLemmas.{comes_to}
 use Rattle.source_runs.specs.shared_machine.Histories.{events_of, reports_of}
 use Rattle.source_runs.specs.shared_machine.declared.history.Entry.{Entry}
 use Rattle.source_runs.specs.simulation.MachineContents.{Content}
@@ -67,14 +68,14 @@ told_of c text made = lines_from 0 (map end_of c.threads) ++ text ++ refusal_of 
 -- a machine that workers ran to its end shows a run by workers
 run_by_workers : (source : List ℕ) (limits : Limits) (workers : ℕ) (asked explain : Bool) (h : List Entry) (c : Content) (made : Record) (text : List ℕ)
     → (ran : HasRunTo source limits (events_of h) (reports_of h) c) → All (IsOwnOf workers) h → count_by is_live_thread c.threads ≡ 0 → IsRecordOf asked (events_of h) made → IsThreadText explain c text
-    → IsRunByWorkers source limits workers asked explain ran.2.1.state made (told_of c text made)
+    → IsRunByWorkers source limits workers asked explain ran.2.stands.state made (told_of c text made)
 run_by_workers source limits workers asked explain h c made text ran own ended is_record explains =
-    let after : StandsAfter ran.0 limits (events_of h) (reports_of h) c = ran.2.1 in
+    let after : StandsAfter ran.0 limits (events_of h) (reports_of h) c = ran.2.stands in
     let ends = ends_stand c after.state after.represents in
     record {
       entries = h;
       own = own;
-      comes_to = record { tree = ran.0; is_accepted = ran.1; in_range = ran.2.0; is_run = after.is_run; budgets = after.budgets };
+      comes_to = comes_to source ran.0 limits (events_of h) (reports_of h) c ran.1 ran.2.in_range after;
       ended = subst (λ es. list_any is_live es ≡ false) ends (none_live c.threads ended);
       is_record = is_record;
       after = c;
@@ -90,7 +91,7 @@ pub has_run_threads : (source : List ℕ) (limits : Limits) (workers : ℕ) (ask
     → IsMachineShown explain c out out' err between before → IsKept made before kept kept' between err' status → HasRunThreads source limits workers asked explain out out' err err' kept kept' status
 has_run_threads source limits workers asked explain h c made out out' err between err' kept kept' before status ran own ended is_record shown is_kept =
     let (text, explains, all) = shown in
-    let after : StandsAfter ran.0 limits (events_of h) (reports_of h) c = ran.2.1 in
+    let after : StandsAfter ran.0 limits (events_of h) (reports_of h) c = ran.2.stands in
     let lines : List ℕ = lines_from 0 (map end_of c.threads) in
     record {
       state = after.state;
@@ -109,7 +110,7 @@ pub threads_in_part : (source : List ℕ) (limits : Limits) (workers : ℕ) (ask
     → IsMachineShownInPart explain c out out' err err' → IsRunByWorkersInPart source limits workers asked explain out out' err err'
 threads_in_part source limits workers asked explain h c made out out' err err' ran own ended is_record shown =
     let (text, explains, output, errors) = shown in
-    let after : StandsAfter ran.0 limits (events_of h) (reports_of h) c = ran.2.1 in
+    let after : StandsAfter ran.0 limits (events_of h) (reports_of h) c = ran.2.stands in
     let lines : List ℕ = lines_from 0 (map end_of c.threads) in
     record {
       state = after.state;
@@ -126,7 +127,7 @@ pub threads_then_in_part : (source : List ℕ) (limits : Limits) (workers : ℕ)
     → IsMachineShown explain c out out' err between before → AppendsBeginning between err' (refusal_of made) → IsRunByWorkersInPart source limits workers asked explain out out' err err'
 threads_then_in_part source limits workers asked explain h c made out out' err between err' before ran own ended is_record shown begun =
     let (text, explains, all) = shown in
-    let after : StandsAfter ran.0 limits (events_of h) (reports_of h) c = ran.2.1 in
+    let after : StandsAfter ran.0 limits (events_of h) (reports_of h) c = ran.2.stands in
     let lines : List ℕ = lines_from 0 (map end_of c.threads) in
     record {
       state = after.state;

@@ -10,6 +10,7 @@ use Rattle.deadlocks.specs.Texts.{threads_text}
 use Rattle.deadlocks.specs.event_trace.Traces.{IsTraced, IsTracedInPart}
 use Rattle.deadlocks.specs.event_trace.declared.errors.TraceError.{TraceError}
 use Rattle.deadlocks.specs.event_trace.declared.errors.TraceError.TheVariants.{Memory as WantsMemory, Device as CantWrite}
+use Rattle.source_runs.specs.simulation.Owed.{LeavesWhatIsOwed}
 use Rattle.source_runs.specs.simulation.StandsFor.{Represents}
 use Rattle.source_runs.specs.simulation.threads_monitors.Threads.{end_of}
 use Rattle.cil_model.specs.declared.events.Event.{Event}
@@ -106,7 +107,7 @@ failure_of_tracing CantWrite = Device
 
 -- A run is traced. A machine that holds what the program begins with makes the turns of the events, with the reports of the run, and a
 -- line of each is shown, and an empty line. It represents then the state that the run comes to, and what that has printed, and how its
--- threads stand, is shown as if it were not traced.
+-- threads stand, is shown as if it were not traced. Where the last event ends a cycle, the machine has no more words in use than are owed.
 pub record HasTraced (source : List ℕ) (limits : Limits) (text : List ℕ) (explain : Bool) (out out' err err' : Option (List ℕ)) (status : ℕ) : Type 0 where
   pub events : List Event
   pub reports : List Report
@@ -118,6 +119,7 @@ pub record HasTraced (source : List ℕ) (limits : Limits) (text : List ℕ) (ex
   pub between : Option (List ℕ)
   pub traced : IsTraced begins events after reports out between
   pub represents : Represents after state
+  pub leaves : LeavesWhatIsOwed comes_to.by_events.tree limits events reports after
   pub explanation : List ℕ
   pub explains : IsThreadText explain after explanation
   pub shown : IsShown state.printed (ends_of state) explanation between out' err err' status

@@ -1,22 +1,21 @@
--- What the newest cycle of a run owes its user: the words of what was reachable in the reference machine's state when the cycle began, or was born since (this profile).
-use Rattle.std.specs.Prelude.{◌≡◌, ◌<◌, ℕ, true, false, List, ◌++◌, length, Some}
+-- What the cycles of a run owe their user: an end after so much work, and the words of all but what was reachable in the reference machine's state when the
+-- cycle began, or was born since (this profile).
+use Rattle.std.specs.Prelude.{◌≡◌, ◌≤◌, ◌++◌, ℕ, List, [], ◌∷◌, length, Some}
 use Rattle.std.specs.List.{zip}
 use Rattle.interpreter.specs.cil_model.declared.events.Event.{Event}
+use Rattle.interpreter.specs.cil_model.declared.events.Event.TheVariants.{Gc}
 use Rattle.interpreter.specs.cil_model.declared.limits.Limits.{Limits}
 use Rattle.interpreter.specs.cil_model.declared.reports.Report.{Report}
+use Rattle.interpreter.specs.cil_model.declared.reports.Report.TheVariants.{CycleDone}
 use Rattle.interpreter.specs.cil_model.declared.trees.Tree.{Tree}
-use Rattle.interpreter.specs.reference_machine.Cycles.{begins_cycle, is_cycle_open}
+use Rattle.interpreter.specs.cil_model.Fields.{static_fields}
+use Rattle.interpreter.specs.object_memory.Cells.{used_words}
+use Rattle.interpreter.specs.object_memory.Objects.{used_space}
+use Rattle.interpreter.specs.reference_machine.Cycles.{BeginsNewestCycle, most_working, working_in_cycle}
 use Rattle.interpreter.specs.reference_machine.OwedWords.{OwesWords}
 use Rattle.interpreter.specs.reference_machine.Runs.{RunsTo, opening, run, step_reports, thread_part}
 use Rattle.interpreter.specs.reference_machine.States.{State}
-
--- The events are those before their newest cycle and those from its beginning on: it begins with the event that posts Mark, where no cycle was open, and
--- no later event begins another.
-pub record BeginsNewestCycle (events earlier later : List (Event × Report)) : Type 0 where
-  pub whole : events ≡ earlier ++ later
-  pub none_was_open : is_cycle_open earlier ≡ false
-  pub begins : begins_cycle later ≡ true
-  pub newest : (between rest : List (Event × Report)) → later ≡ between ++ rest → 0 < length between → is_cycle_open (earlier ++ between) ≡ false → begins_cycle rest ≡ false
+use Rattle.simulation.specs.MachineContents.{Content}
 
 -- the reference machine comes to this state by the steps among the events
 abbrev pub ComesTo : Tree → Limits → State → List (Event × Report) → State → Type 0
@@ -34,3 +33,14 @@ pub record OwesAfter (tree : Tree) (limits : Limits) (events : List Event) (repo
   pub now : State
   pub comes : ComesTo tree limits first (zip events reports) now
   pub owes : OwesWords tree before now words
+
+-- where the last event ends a cycle, no more words are in use than are owed, all in one space
+abbrev pub LeavesWhatIsOwed : Tree → Limits → List Event → List Report → Content → Type 0
+LeavesWhatIsOwed tree limits events reports c =
+    (most : List (Event × Report)) → zip events reports ≡ most ++ (Gc, CycleDone) ∷ [] →
+    (words : ℕ) × OwesAfter tree limits events reports words × (used_space c.objects ≤ words) × (used_words c.objects.spaces.new.cells ≡ 0)
+
+-- after any of the events, the newest cycle has few working events: 16 for each word of a space, one for each static field, and 64
+abbrev pub AreCyclesBounded : Tree → Limits → List (Event × Report) → Type 0
+AreCyclesBounded tree limits events =
+    (done rest : List (Event × Report)) → events ≡ done ++ rest → working_in_cycle done ≤ most_working limits.words (length (static_fields tree))

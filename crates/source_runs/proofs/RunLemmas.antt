@@ -4,8 +4,12 @@ use Rattle.std.proofs.lemmas.Bool.{and_parts}
 use Rattle.std.proofs.lemmas.Bool.Decides.{nat_tests}
 use Rattle.std.specs.Prelude.{IfErr, IfOk, IsErrAnd, OnErr}
 use Rattle.workers.proofs.shared_machine.simulation.StandsLaws.{stands_after}
+use Rattle.workers.proofs.shared_machine.interleaving_core.step_simulation.CycleWork.{cycles_bounded}
+use Rattle.workers.proofs.shared_machine.interleaving_core.step_simulation.OwedRuns.{leaves_owed}
+use Rattle.workers.proofs.shared_machine.interleaving_core.step_simulation.Whole.{each_alike}
 use Rattle.cil_model.specs.Legality.{IsLegal}
 use Rattle.workers.specs.shared_machine.simulation.MachineContents.{Content}
+use Rattle.workers.specs.shared_machine.simulation.Runs.{StandsAfter}
 use Rattle.workers.specs.shared_machine.simulation.StandsFor.{Represents}
 use Rattle.workers.specs.shared_machine.simulation.Turns.{opening_content}
 use Rattle.workers.specs.shared_machine.Worlds.{HasRun as Ran}
@@ -23,7 +27,7 @@ use Rattle.verifier.specs.Verdicts.{IsVerdict}
 use Rattle.verifier.specs.declared.refusals.VerifyError.{VerifyError}
 use Rattle.source_runs.specs.Failures.{failure_of_verifying}
 use Rattle.source_runs.specs.declared.failure.Failure.{Failure}
-use Rattle.source_runs.specs.Runs.{IsAcceptedSource, IsNotAccepted, IsRun}
+use Rattle.source_runs.specs.Runs.{ComesToBy, IsAcceptedSource, IsNotAccepted, IsRun}
 
 pub handed_on : {T E : Type 0} {P gives : E → Type 0} (r : Result T E) → IsErrAnd r gives → ((e : E) → gives e → P e) → IfErr r P
 handed_on (Ok x) h f = tt
@@ -62,11 +66,34 @@ some_budget limits h =
     let least : nat_le 1 limits.budget ≡ true = (and_parts _ _ (and_parts _ _ (and_parts _ _ h).0).1).0 in
     grind (arith, nat_tests, least)
 
+-- a machine that stands after events has run them
+pub run_of : (tree : Tree) (limits : Limits) (events : List Event) (reports : List Report) (c : Content) → IsAccepted tree → are_in_range limits ≡ true → StandsAfter tree limits events reports c
+    → IsRun tree limits events reports c
+run_of tree limits events reports c accepted in_range stands = record {
+  in_range = in_range;
+  stands = stands;
+  bounded = cycles_bounded tree limits accepted in_range events reports stands.state stands.is_run;
+  leaves = leaves_owed each_alike tree accepted limits in_range events reports c stands;
+}
+
 -- a machine that one worker ran from its beginning
 pub ran : (tree : Tree) (limits : Limits) (m d : Content) (events : List Event) (reports : List Report) → are_in_range limits ≡ true
     → opening_content tree limits ≡ Some m → (s : State) × (opening tree limits ≡ Some s) × Represents m s → m.tree ≡ tree → m.limits ≡ limits → Ran m events reports d → IsRun tree limits events reports d
 ran tree limits m d events reports in_range opened first same_tree same_limits run =
-    (in_range, stands_after tree limits m d events reports first.0 first.1 opened first.2 same_tree same_limits run.limits (some_budget limits in_range) run.each run.follows)
+    run_of tree limits events reports d (subst IsAccepted same_tree first.2.accepted) in_range
+    (stands_after tree limits m d events reports first.0 first.1 opened first.2 same_tree same_limits run.limits (some_budget limits in_range) run.each run.follows)
+
+-- a machine that stands after events shows a run to its state
+pub comes_to : (source : List ℕ) (tree : Tree) (limits : Limits) (events : List Event) (reports : List Report) (c : Content) → IsAcceptedSource source tree → are_in_range limits ≡ true
+    → (stands : StandsAfter tree limits events reports c) → ComesToBy source limits events reports stands.state
+comes_to source tree limits events reports c is_accepted in_range stands = record {
+  tree = tree;
+  is_accepted = is_accepted;
+  in_range = in_range;
+  is_run = stands.is_run;
+  budgets = stands.budgets;
+  bounded = cycles_bounded tree limits is_accepted.accepted in_range events reports stands.state stands.is_run;
+}
 
 -- a program that was verified
 pub accepted_source : (source : List ℕ) (tree program verified : Tree) → IsAnswer source (HasTree tree) → program ≡ tree → IsVerdict program (Ok verified) → IsAcceptedSource source verified

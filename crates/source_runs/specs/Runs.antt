@@ -13,6 +13,7 @@ use Rattle.cil_model.specs.declared.trees.Tree.{Tree}
 use Rattle.ilasm_reader.specs.Answers.{IsReadAnswer}
 use Rattle.ilasm_reader.specs.declared.reading.ReadError.{ReadError}
 use Rattle.cil_model.specs.Legality.{IsLegal, least_broken}
+use Rattle.workers.specs.shared_machine.simulation.Owed.{AreCyclesBounded, LeavesWhatIsOwed}
 use Rattle.workers.specs.shared_machine.simulation.Runs.{IsRunOf, StandsAfter}
 use Rattle.reference_machine.specs.States.{State}
 use Rattle.cil_model.specs.Typings.{IsAccepted}
@@ -59,9 +60,13 @@ IsNotAccepted source failure =
 
 -- ---- the run
 
--- a machine has its limits in range, and stands after these events, of which it gave these reports
-abbrev pub IsRun : Tree → Limits → List Event → List Report → Content → Type 0
-IsRun tree limits events reports content = (are_in_range limits ≡ true) × StandsAfter tree limits events reports content
+-- A machine has its limits in range, and stands after these events, of which it gave these reports. Its cycles had few working events, and where the last event
+-- ends one, no more words are in use than are owed.
+pub record IsRun (tree : Tree) (limits : Limits) (events : List Event) (reports : List Report) (content : Content) : Type 0 where
+  pub in_range : are_in_range limits ≡ true
+  pub stands : StandsAfter tree limits events reports content
+  pub bounded : AreCyclesBounded tree limits (zip events reports)
+  pub leaves : LeavesWhatIsOwed tree limits events reports content
 
 -- a machine has run a list of events: the bytes have a tree that is an accepted program, and it stands after the events
 abbrev pub HasRunTo : List ℕ → Limits → List Event → List Report → Content → Type 0
@@ -91,13 +96,15 @@ IsNotRunBy source limits text failure = IsNotRun source limits failure
     ⊎ (IsLetIn source × (are_in_range limits ≡ true) × IsBadSchedule text failure)
 
 -- A run of a list of events comes to a state. The bytes have a tree that is an accepted program, and the reference machine's run over
--- the steps among the events is never stuck. No thread made more steps than its budget has, and one that made as many has ended.
+-- the steps among the events is never stuck. No thread made more steps than its budget has, and one that made as many has ended. Each cycle had few
+-- working events.
 pub record ComesToBy (source : List ℕ) (limits : Limits) (events : List Event) (reports : List Report) (state : State) : Type 0 where
   pub tree : Tree
   pub is_accepted : IsAcceptedSource source tree
   pub in_range : are_in_range limits ≡ true
   pub is_run : IsRunOf tree limits events reports state
   pub budgets : AreWithinBudget limits (zip events reports) state
+  pub bounded : AreCyclesBounded tree limits (zip events reports)
 
 -- a run by a text comes to a state: the text writes the events
 pub record ComesTo (source : List ℕ) (limits : Limits) (text : List ℕ) (events : List Event) (reports : List Report) (state : State) : Type 0 where

@@ -45,7 +45,10 @@ pub fn run_source(
 ///
 /// The reference machine's run over the steps among the events is never stuck. It gives the steps these reports, and the machine stands
 /// for the state that it comes to: the bytes printed are the same, and each thread stands alike. No thread makes more steps than its
-/// budget has. A step of a thread that isn't live is reported Absent; an event of a collector does nothing yet (this profile).
+/// budget has. A step of a thread that isn't live is reported Absent (this profile).
+///
+/// An acknowledgement and an event of the collector leave that state alone. No cycle of the collector has more working events than its bound, and where the
+/// last event ends a cycle, the words in use are at most those of the objects that were reachable as it began, or were born since.
 ///
 /// Faults are looked for in this order: the source (`accept`), the limits (`OutOfRange(401)`), memory for the history, threads and what
 /// is printed (`Memory`).

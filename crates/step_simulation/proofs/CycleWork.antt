@@ -20,7 +20,7 @@ use Rattle.simulation.specs.cil_model.Typings.{IsAccepted}
 use Rattle.simulation.specs.reference_machine.Cycles.{ends_cycle, most_working, work_of, work_of_newest, work_since, working_in_cycle}
 use Rattle.simulation.specs.reference_machine.States.{State}
 use Rattle.simulation.specs.reference_machine.Values.{Value as StateValue}
-use Rattle.simulation.specs.type_soundness.TypedStates.{HaveFieldTypes}
+use Rattle.simulation.specs.reference_laws.TypedStates.{HaveFieldTypes}
 use Rattle.simulation.specs.interpreter.Instructions.{Answer}
 use Rattle.simulation.specs.collector.declared.progress.Progress.{Progress}
 use Rattle.simulation.specs.loaded_program.MethodNumbers.{number_of}
@@ -177,12 +177,12 @@ module _ (tree : Tree) (limits : Limits) where
   one_more : (e : Event × Report) (es past : List (Event × Report)) → reverse (e ∷ es) ++ past ≡ reverse es ++ e ∷ past
   one_more e es past = ap (λ l. l ++ past) (reverse-append (e ∷ []) es) ∙ append_assoc (reverse es) (e ∷ []) past
 
-  bounded_after : (events past : List (Event × Report)) (c : Content) (s : State) (last : Content) → IsBounded past c → Represents c s → RefusesBeyondRoom c s events last → work_of_newest (reverse events ++ past) ≤ bound
-  bounded_after [] past c s last h r run = h.newest
-  bounded_after (e ∷ es) past c s last h r (next, turn, refused, later) =
+  bounded_after : (events rest past : List (Event × Report)) (c : Content) (s : State) (last : Content) → IsBounded past c → Represents c s → RefusesBeyondRoom c s (events ++ rest) last → work_of_newest (reverse events ++ past) ≤ bound
+  bounded_after [] rest past c s last h r run = h.newest
+  bounded_after (e ∷ es) rest past c s last h r (next, turn, refused, later) =
       let step = goes c s r e.0 (next, e.1) turn in
       subst (λ l. work_of_newest l ≤ bound) (sym (one_more e es past))
-      (bounded_after es (e ∷ past) next step.state last (bounded_then past c h e.0 (next, e.1) turn step.takes) step.represents (later step.state step.next))
+      (bounded_after es rest (e ∷ past) next step.state last (bounded_then past c h e.0 (next, e.1) turn step.takes) step.represents (later step.state step.next))
 
   -- ---- the opening
 
@@ -212,14 +212,16 @@ module _ (tree : Tree) (limits : Limits) where
   }
 
   module _ (accepted : IsAccepted tree) (in_range : IsTrue (are_in_range limits)) where
-    -- a cycle of a run has no more working events than that
-    pub cycles_bounded : (events : List Event) (reports : List Report) (s : State) → IsRunOf tree limits events reports s → working_in_cycle (zip events reports) ≤ most_working limits.words (length (static_fields tree))
-    cycles_bounded events reports s h =
+    -- no cycle of a run has more working events than that
+    pub cycles_bounded : (events : List Event) (reports : List Report) (s : State) → IsRunOf tree limits events reports s → (done rest : List (Event × Report)) → zip events reports ≡ done ++ rest →
+        working_in_cycle done ≤ most_working limits.words (length (static_fields tree))
+    cycles_bounded events reports s h done rest split =
         let opened = opening_represents tree limits accepted in_range in
         let content : opened.0 ≡ h.machine = same_Some opened.0 h.machine (sym opened.2 ∙ h.opened) in
         let state : opened.1 ≡ h.first = same_Some opened.1 h.first (sym opened.3 ∙ h.begins) in
         let represents : Represents h.machine h.first = subst (λ (c : Content). Represents c h.first) content (subst (λ (x : State). Represents opened.0 x) state opened.4) in
         let first : IsBounded [] h.machine = bounded_first h.machine (opened_unbegun h.machine h.opened) in
-        let all : work_of_newest (reverse (zip events reports)) ≤ bound =
-        subst (λ l. work_of_newest l ≤ bound) (append-nil (reverse (zip events reports))) (bounded_after (zip events reports) [] h.machine h.first h.last first represents h.refuses) in
+        let all : work_of_newest (reverse done) ≤ bound =
+        subst (λ l. work_of_newest l ≤ bound) (append-nil (reverse done))
+        (bounded_after done rest [] h.machine h.first h.last first represents (subst (λ l. RefusesBeyondRoom h.machine h.first l h.last) split h.refuses)) in
         omega (arith, all)

@@ -54,9 +54,9 @@ pub mod Refusals
 pub mod Whole
 pub mod OneRun
 mod StepRuns
-mod CycleWork
+pub mod CycleWork
 mod Walks
 mod OwedStates
 mod OpenCycles
-mod OwedRuns
 mod OwedCycles
+pub mod OwedRuns

@@ -15,18 +15,18 @@ use Rattle.simulation.specs.cil_model.declared.trees.Tree.{Tree}
 use Rattle.simulation.specs.cil_model.Ranges.{are_in_range}
 use Rattle.simulation.specs.cil_model.Typings.{IsAccepted}
 use Rattle.simulation.specs.reference_machine.OwedWords.{OwesWords, words_of_object}
-use Rattle.simulation.specs.reference_machine.Cycles.{begins_cycle, ends_cycle, is_cycle_open, is_working}
+use Rattle.simulation.specs.reference_machine.Cycles.{BeginsNewestCycle, begins_cycle, ends_cycle, is_cycle_open, is_working}
 use Rattle.simulation.specs.reference_machine.Runs.{run, step_reports, thread_part}
 use Rattle.simulation.specs.reference_machine.States.{State}
 use Rattle.simulation.proofs.reference_machine.RunLaws.{same_state}
 use Rattle.simulation.proofs.cil_model.SameLaws.{never}
 use Rattle.simulation.specs.collector.Phases.{is_of_cycle}
 use Rattle.simulation.specs.MachineContents.{Content}
-use Rattle.simulation.specs.Owed.{BeginsNewestCycle, OwesAfter}
+use Rattle.simulation.specs.Owed.{OwesAfter}
 use Rattle.simulation.specs.Runs.{IsNext, IsRunOf}
 use Rattle.simulation.specs.StandsFor.{Represents}
 use Rattle.simulation.specs.Turns.{IsTurn}
-use Rattle.simulation.specs.type_soundness.TypedStates.{IsTyped}
+use Rattle.simulation.specs.reference_laws.TypedStates.{IsTyped}
 use Rattle.simulation.proofs.CollectedReports.{IsCollected, ends, waits, works}
 use Rattle.simulation.proofs.Instructions.{InstructionsAreAlike}
 use Rattle.simulation.proofs.NameSums.{distinct_sum, is_listed}

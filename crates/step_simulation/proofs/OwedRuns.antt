@@ -23,14 +23,14 @@ use Rattle.simulation.specs.reference_machine.States.{State}
 use Rattle.simulation.specs.reference_machine.Values.{Born}
 use Rattle.simulation.proofs.reference_machine.RunLaws.{same_state}
 use Rattle.simulation.proofs.cil_model.SameLaws.{never}
-use Rattle.simulation.proofs.type_soundness.Enclosing.{IsReachedOrUnborn, reached_is_closed}
+use Rattle.simulation.proofs.reference_laws.Enclosing.{IsReachedOrUnborn, reached_is_closed}
 use Rattle.simulation.specs.object_memory.Cells.{used_words}
 use Rattle.simulation.specs.object_memory.Objects.{used_space}
 use Rattle.simulation.specs.object_memory.Spaces.{Spaces, closed}
 use Rattle.simulation.specs.collector.Phases.{is_of_cycle}
 use Rattle.simulation.specs.MachineContents.{Content}
 use Rattle.simulation.specs.Collecting.{collected}
-use Rattle.simulation.specs.Owed.{OwesAfter}
+use Rattle.simulation.specs.Owed.{LeavesWhatIsOwed, OwesAfter}
 use Rattle.simulation.specs.Runs.{IsNext, IsRunOf, RefusesBeyondRoom, StandsAfter}
 use Rattle.simulation.specs.StandsFor.{Represents}
 use Rattle.simulation.specs.Turns.{IsTurn}
@@ -43,6 +43,7 @@ use Rattle.simulation.proofs.OwedNames.{born_inside}
 use Rattle.step_simulation.proofs.Mutators.{normally}
 use Rattle.step_simulation.proofs.OpenCycles.{IsBefore, IsOpened, before_goes, gc_is, idle_of, open_then, opened_is, split_at_last, then_open}
 use Rattle.step_simulation.proofs.OpeningContents.{opening_represents}
+use Rattle.step_simulation.proofs.OwedCycles.{end_owes}
 use Rattle.step_simulation.proofs.OwedStates.{IsOwedBy, acknowledged_owed, acknowledged_posted, begins_owed, collected_owed, step_posted, stepped_owed_as}
 use Rattle.step_simulation.proofs.Walks.{Comes, GoesOn, IsAt, goes_on, walk}
 
@@ -250,3 +251,11 @@ module _ (each : InstructionsAreAlike) (tree : Tree) (accepted : IsAccepted tree
   -- no more words are in use at the end of a cycle than are owed
   pub cycle_leaves_owed : (used_space c.objects ≤ words) × (used_words c.objects.spaces.new.cells ≡ 0)
   cycle_leaves_owed = (subst (λ (m : Spaces). used_words m.old.cells ≤ words) (sym spaces_are) new_is_owed, ap (λ (m : Spaces). used_words m.new.cells) spaces_are)
+
+-- and there are such words
+pub leaves_owed : InstructionsAreAlike → (tree : Tree) → IsAccepted tree → (limits : Limits) → IsTrue (are_in_range limits) → (events : List Event) (reports : List Report) (c : Content) → StandsAfter tree limits events reports c →
+    LeavesWhatIsOwed tree limits events reports c
+leaves_owed each tree accepted limits in_range events reports c stands most over =
+    let owes = end_owes each tree accepted limits in_range events reports stands.state stands.is_run most over in
+    let left = cycle_leaves_owed each tree accepted limits in_range events reports c stands most over owes.0 owes.1 in
+    (owes.0, owes.1, left.0, left.1)

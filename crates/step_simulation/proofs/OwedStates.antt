@@ -10,8 +10,8 @@ use Rattle.simulation.specs.reference_machine.Steps.{Answers, step}
 use Rattle.simulation.specs.reference_machine.Values.{Born, ObjectName}
 use Rattle.simulation.proofs.reference_machine.StepLaws.{same_after}
 use Rattle.simulation.proofs.cil_model.SameLaws.{never}
-use Rattle.simulation.proofs.type_soundness.ReachedRuns.{step_within}
-use Rattle.simulation.proofs.type_soundness.ReachedStates.{IsClosed}
+use Rattle.simulation.proofs.reference_laws.ReachedRuns.{step_within}
+use Rattle.simulation.proofs.reference_laws.ReachedStates.{IsClosed}
 use Rattle.simulation.specs.object_memory.declared.addresses.Addr.{Addr}
 use Rattle.simulation.specs.phase_handshake.Handshakes.{Handshakes, joined}
 use Rattle.simulation.specs.interpreter.Instructions.{Answer}

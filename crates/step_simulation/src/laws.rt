@@ -9,17 +9,14 @@ ghost use Rattle.simulation.specs.cil_model.declared.events.Event.TheVariants.{S
 ghost use Rattle.simulation.specs.cil_model.declared.phases.Phase.TheVariants.{Idle, Mark};
 ghost use Rattle.simulation.specs.cil_model.declared.reports.Report.{Report};
 ghost use Rattle.simulation.specs.cil_model.declared.reports.Report.TheVariants.{Acked, CycleDone, Waiting, Worked};
-ghost use Rattle.simulation.specs.cil_model.Fields.{static_fields};
 ghost use Rattle.simulation.specs.cil_model.Legality.{IsLegal};
 ghost use Rattle.simulation.specs.cil_model.Ranges.{are_in_range};
 ghost use Rattle.simulation.specs.cil_model.Typings.{IsAccepted};
-ghost use Rattle.simulation.specs.reference_machine.Cycles.{most_working, working_in_cycle};
+ghost use Rattle.simulation.specs.reference_machine.Cycles.{BeginsNewestCycle};
 ghost use Rattle.simulation.specs.reference_machine.States.{State};
 ghost use Rattle.simulation.specs.reference_machine.Steps.{step, Answers};
 ghost use Rattle.simulation.specs.reference_machine.Runs.{IsStateAfter, is_refusal, opening};
 ghost use Rattle.simulation.specs.object_memory.declared.addresses.Addr.{Addr as AnyAddr};
-ghost use Rattle.simulation.specs.object_memory.Cells.{used_words};
-ghost use Rattle.simulation.specs.object_memory.Objects.{used_space};
 ghost use Rattle.simulation.specs.collector.Marking.{is_closed};
 ghost use Rattle.simulation.specs.collector.Phases.{is_marked_address};
 ghost use Rattle.simulation.specs.phase_handshake.Handshakes.{IsWaiting, all_seen, is_open, own_phase};
@@ -28,7 +25,7 @@ ghost use Rattle.simulation.specs.threads_monitors.Threads.{is_live_at};
 ghost use Rattle.simulation.specs.threads_monitors.declared.threads.Standing.TheVariants.{Live};
 ghost use Rattle.simulation.specs.interpreter.Instructions.{IsDone, Answer};
 ghost use Rattle.simulation.specs.MachineContents.{Content, mutator_of};
-ghost use Rattle.simulation.specs.Owed.{BeginsNewestCycle, OwesAfter};
+ghost use Rattle.simulation.specs.Owed.{AreCyclesBounded, LeavesWhatIsOwed, OwesAfter};
 ghost use Rattle.simulation.specs.Reached.{IsReached};
 ghost use Rattle.simulation.specs.Rooms.{ExceedsRoom};
 ghost use Rattle.simulation.specs.Runs.{AreSteps, IsRunOf, StandsAfter};
@@ -74,11 +71,11 @@ pub fn closed_marking_has_reached_all()
     ensures { (c : Content) → IsSound c → c.posts.posted ≡ Mark → is_closed c.progress c.objects c.posts ≡ true → (a : AnyAddr) → IsReached c a → is_marked_address c.objects.spaces a ≡ true }
 {}
 
-/// A cycle of the collector takes a bounded number of working events, whatever the threads do meanwhile: in each run the newest one has no more of them
-/// than 16 for each word of a space, one for each static field, and 64.
+/// A cycle of the collector takes a bounded number of working events, whatever the threads do meanwhile: after any of a run's events the newest one has
+/// no more of them than 16 for each word of a space, one for each static field, and 64.
 pub fn cycles_are_bounded()
     ensures { (tree : Tree) → IsAccepted tree → (limits : Limits) → IsTrue (are_in_range limits) → (events : List Event) (reports : List Report) (s : State) →
-        IsRunOf tree limits events reports s → working_in_cycle (zip events reports) ≤ most_working limits.words (length (static_fields tree)) }
+        IsRunOf tree limits events reports s → AreCyclesBounded tree limits (zip events reports) }
 {}
 
 /// The collector waits only for threads: its event is answered Waiting only where not all live threads have acknowledged the posted phase, or not all have
@@ -126,8 +123,7 @@ pub fn the_run_is_one()
 /// cycle began, or were born since. They are all in one space.
 pub fn a_cycle_leaves_what_is_owed()
     ensures { (tree : Tree) → IsAccepted tree → (limits : Limits) → IsTrue (are_in_range limits) → (events : List Event) (reports : List Report) (c : Content) → StandsAfter tree limits events reports c →
-        (most : List (Event × Report)) → zip events reports ≡ most ++ (Gc, CycleDone) ∷ [] → (words : ℕ) → OwesAfter tree limits events reports words →
-        (used_space c.objects ≤ words) × (used_words c.objects.spaces.new.cells ≡ 0) }
+        LeavesWhatIsOwed tree limits events reports c }
 {}
 
 /// There are words that are owed from the beginning of a run's newest cycle on, whatever comes later; where a run ends a cycle, it has a newest one; and no

@@ -1,8 +1,9 @@
-//! Calls that no command makes: those of the library `call_trials`, and orders whose outputs fail.
+//! Calls that no command makes: those of the libraries `call_trials` and `run_trials`, and orders whose outputs fail.
 
-use call_trials::{LIMITS, SUM, calls};
+use call_trials::{Call, LIMITS, SUM, calls};
 use driver::{Device, drive};
 use orders::Order;
+use run_trials::run_calls;
 use std::alloc::Global;
 use std::io;
 use std::io::Cursor;
@@ -12,16 +13,22 @@ use std::thread::Threads;
 /// Makes the calls, says of which something else comes than what is expected, and answers how many these are.
 pub fn try_calls(rt: &HostRuntime, threads: &(impl Threads + Wait + Sync)) -> io::Result<usize> {
     let made = calls(threads, rt.alloc());
+    let runs = run_calls(threads, rt.alloc());
+    let mut differing = tell_all(rt, &made)?;
+    differing = differing.saturating_add(tell_all(rt, &runs)?);
+    let told = tells_of_outputs(threads, rt.alloc());
+    differing = differing.saturating_add(tell(rt, "outputs that fail", told)?);
+    let count = made.len().saturating_add(runs.len()).saturating_add(1);
+    println!(rt; "calls: {count} calls, {differing} differ")?;
+    Ok(differing)
+}
+
+/// Says of which of these calls something else came, and answers how many they are.
+fn tell_all(rt: &HostRuntime, made: &[Call]) -> io::Result<usize> {
     let mut differing = 0usize;
     for call in made {
         differing = differing.saturating_add(tell(rt, call.name, call.is_as_expected)?);
     }
-    let told = tells_of_outputs(threads, rt.alloc());
-    differing = differing.saturating_add(tell(rt, "outputs that fail", told)?);
-    println!(rt;
-        "calls: {} calls, {differing} differ",
-        made.len().saturating_add(1)
-    )?;
     Ok(differing)
 }
 

@@ -1,6 +1,6 @@
 use Rattle.std.proofs.Common.{subst}
 use Rattle.std.specs.Prelude.{IfSome}
-use Rattle.source_runs.specs.shared_machine.Worlds.{AgreesWith}
+use Rattle.shared_machine.specs.Worlds.{AgreesWith}
 use Rattle.call_trials.proofs.Tickets.{did_counts}
 use Rattle.call_trials.proofs.two_workers.act_both.Goals as goal
 

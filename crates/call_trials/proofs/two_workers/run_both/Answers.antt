@@ -1,9 +1,9 @@
 use Rattle.std.proofs.Common.{◌≡◌, subst}
 use Rattle.std.specs.Prelude.{IfOk, IfSome}
 use Rattle.worker_counts.specs.Counts.{Count}
-use Rattle.source_runs.specs.shared_machine.Codes.{add}
-use Rattle.source_runs.specs.shared_machine.Histories.{count_of}
-use Rattle.source_runs.specs.shared_machine.Worlds.{IfDid}
+use Rattle.shared_machine.specs.Codes.{add}
+use Rattle.shared_machine.specs.Histories.{count_of}
+use Rattle.shared_machine.specs.Worlds.{IfDid}
 use Rattle.call_trials.proofs.two_workers.run_both.Goals as goal
 
 -- the tickets are those of the workers 0 and 1, and count nothing yet

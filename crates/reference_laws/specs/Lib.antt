@@ -1,0 +1,3 @@
+pub mod TypedStates
+pub mod Waits
+pub mod Blocking

@@ -1,0 +1,251 @@
+//! Runs by two workers, one of which is held.
+
+use crate::worker_runs::ROOM;
+use cil_model::events::Event;
+use cil_model::memory::NoMemory;
+use cil_model::phases::Phase;
+use cil_model::reports::Report;
+use source_runs::{Failure, Gate, Machine, Outcome, Run, open, run_threads};
+use std::alloc::Global;
+use std::sync::Wait;
+use std::sync::atomic::AtomicU64;
+use std::sync::atomic::Ordering::SeqCst;
+use std::thread::{Threads, yield_now};
+
+/// The first thread starts another one, in its first 20 steps, and then both go round until their budgets end them.
+static ROUND: &str = ".assembly extern mscorlib {} .assembly extern cilvm {}
+    .class public auto ansi T extends [cilvm]Cilvm.Thread {
+    .method public specialname rtspecialname instance void .ctor() cil managed { .maxstack 1
+    ldarg.0 call instance void [cilvm]Cilvm.Thread::.ctor() ret }
+    .method public virtual instance void Run() cil managed { .maxstack 0
+    again: nop br again } }
+    .class public auto ansi P extends [mscorlib]System.Object {
+    .method public static void Main() cil managed { .entrypoint .maxstack 1
+    newobj instance void T::.ctor() callvirt instance void [cilvm]Cilvm.Thread::Start()
+    again: nop br again } }";
+
+/// No waiting loop takes more turns than this.
+const MOST_TURNS: u32 = 1_000_000;
+
+/// How many passes the other worker has to begin while one is held.
+const PASSES_MEANWHILE: u64 = 50;
+
+/// How many steps the thread of the other worker makes in them, at least.
+const STEPS_MEANWHILE: u64 = 40;
+
+/// How often the collector waits at the end of them, at least.
+const WAITS_MEANWHILE: u64 = 10;
+
+/// The passes at which a worker is held, one in each run. Both threads live by then, and a cycle of the collector takes fewer passes than
+/// these.
+const HELD_PASSES: std::ops::Range<u32> = 20..70;
+
+/// The phases for whose acknowledgement the collector waits.
+const PHASES: [Phase; 8] = [
+    Phase::Idle,
+    Phase::Mark,
+    Phase::Allocate,
+    Phase::Copy,
+    Phase::PreFlip,
+    Phase::HeapFlip,
+    Phase::ThreadFlip,
+    Phase::Reclaim,
+];
+
+/// Holds one of two workers at a pass until the other one has begun some more. Up to that pass neither is ahead of the other.
+#[derive(Drop)]
+struct HoldsOne {
+    held: u8,
+    /// The pass at which it is held.
+    pass: u32,
+    /// How many passes it has begun.
+    own: AtomicU64,
+    /// How many passes the other worker has begun.
+    others: AtomicU64,
+    /// 1 where a worker did not begin as many as it had to, in time.
+    late: AtomicU64,
+}
+
+impl HoldsOne {
+    fn new(held: u8, pass: u32) -> HoldsOne {
+        HoldsOne {
+            held,
+            pass,
+            own: AtomicU64::new(0),
+            others: AtomicU64::new(0),
+            late: AtomicU64::new(0),
+        }
+    }
+
+    /// How many passes the other worker has to have begun before the held one goes on with this one.
+    fn needed(&self, turn: u32) -> u64 {
+        if turn == self.pass {
+            u64::from(turn) + PASSES_MEANWHILE
+        } else {
+            u64::from(turn)
+        }
+    }
+}
+
+/// Whether so many passes are begun in time.
+fn are_begun(passes: &AtomicU64, least: u64) -> bool {
+    for _ in 0..MOST_TURNS {
+        if passes.load(SeqCst) >= least {
+            return true;
+        }
+        yield_now();
+    }
+    false
+}
+
+impl Gate for HoldsOne {
+    fn pass(&self, worker: u8, turn: u32) {
+        let (own, others, least) = if worker == self.held {
+            (&self.own, &self.others, self.needed(turn))
+        } else {
+            (&self.others, &self.own, u64::from(turn))
+        };
+        own.fetch_add(1, SeqCst);
+        if turn <= self.pass && !are_begun(others, least) {
+            self.late.store(1, SeqCst);
+        }
+    }
+}
+
+/// Whether a second worker goes on while the first one, which drives the collector, is held at a pass: the history has steps of its thread
+/// between two events of the other.
+pub(crate) fn goes_on_without_the_first(
+    threads: &(impl Threads + Wait + Sync),
+    alloc: Global,
+) -> Result<bool, Failure> {
+    let gate = HoldsOne::new(0, HELD_PASSES.start);
+    let outcome = run_threads(threads, alloc, ROUND.as_bytes(), ROOM, 2, &gate)?;
+    Ok(gate.late.load(SeqCst) == 0 && has_steps_between(outcome.history.runs(), 0))
+}
+
+/// Whether the worker that was not held made a step of its thread, whose number is its own, between two events of the other.
+fn has_steps_between(runs: &[Run], held: u8) -> bool {
+    let mut left = runs.iter();
+    left.any(|run| run.entry.worker == held)
+        && left.any(|run| {
+            run.entry.worker != held && run.entry.event == Event::Step(run.entry.worker)
+        })
+        && left.any(|run| run.entry.worker == held)
+}
+
+/// What happened between two events of the held worker.
+#[derive(Clone, Copy)]
+struct Meanwhile {
+    /// How many steps of threads there were.
+    steps: u64,
+    /// How often the collector waited since its last work.
+    waits: u64,
+}
+
+const NOTHING: Meanwhile = Meanwhile { steps: 0, waits: 0 };
+
+impl Meanwhile {
+    /// With one more event of the other worker.
+    fn and(self, event: Event, report: Report) -> Meanwhile {
+        match (event, report) {
+            (Event::Step(_), _) => Meanwhile {
+                steps: self.steps.wrapping_add(1),
+                ..self
+            },
+            (Event::Gc, Report::Waiting) => Meanwhile {
+                waits: self.waits.wrapping_add(1),
+                ..self
+            },
+            (Event::Gc, _) => Meanwhile { waits: 0, ..self },
+            (Event::Ack(_), _) => self,
+        }
+    }
+
+    /// Whether the other worker went on for long.
+    fn is_long(self) -> bool {
+        self.steps >= STEPS_MEANWHILE
+    }
+
+    /// Whether the collector came to wait, and waited to the end.
+    fn waits_to_its_end(self) -> bool {
+        self.waits >= WAITS_MEANWHILE
+    }
+}
+
+/// The phase that was posted as a worker was let go, where the other one went on for long meanwhile and the collector came to wait, to the
+/// end of that time. The machine is at the beginning of the run.
+fn phase_waited_for(
+    alloc: Global,
+    mut machine: Machine,
+    outcome: &Outcome,
+    held: u8,
+) -> Result<Option<Phase>, Failure> {
+    let mut meanwhile = NOTHING;
+    for run in outcome.history.runs() {
+        if run.entry.worker == held {
+            if meanwhile.is_long() {
+                return Ok(meanwhile.waits_to_its_end().then_some(machine.posted()));
+            }
+            meanwhile = NOTHING;
+        }
+        for _ in 0..run.times {
+            let report = machine.step(alloc, run.entry.event)?;
+            if run.entry.worker != held {
+                meanwhile = meanwhile.and(run.entry.event, report);
+            }
+        }
+    }
+    Ok(None)
+}
+
+/// Runs two threads by two workers, one of which is held at a pass, and answers the phase for whose acknowledgement the collector waited
+/// meanwhile. None where the other worker did not go on, or the collector did not wait until the worker was let go.
+fn phase_of_held(
+    threads: &(impl Threads + Wait + Sync),
+    alloc: Global,
+    held: u8,
+    pass: u32,
+) -> Result<Option<Phase>, Failure> {
+    let gate = HoldsOne::new(held, pass);
+    let outcome = run_threads(threads, alloc, ROUND.as_bytes(), ROOM, 2, &gate)?;
+    let (machine, _) = open(alloc, ROUND.as_bytes(), ROOM, b"")?;
+    let phase = phase_waited_for(alloc, machine, &outcome, held)?;
+    Ok(if gate.late.load(SeqCst) == 0 {
+        phase
+    } else {
+        None
+    })
+}
+
+/// The phases for which the collector waited while a worker was held, one a run, each at another pass. None where it did not wait.
+fn phases_of_held(
+    threads: &(impl Threads + Wait + Sync),
+    alloc: Global,
+    held: u8,
+) -> Result<Option<Vec<Phase>>, Failure> {
+    let mut seen = Vec::with_capacity(alloc, HELD_PASSES.len()).map_err(NoMemory::from)?;
+    for pass in HELD_PASSES {
+        match phase_of_held(threads, alloc, held, pass)? {
+            Some(phase) => seen.push(phase).map_err(NoMemory::from)?,
+            None => return Ok(None),
+        }
+    }
+    Ok(Some(seen))
+}
+
+/// Whether the other of two workers goes on while one is held, in each phase of a cycle, and the collector then waits until it is let go.
+pub(crate) fn waits_in_each_phase(
+    threads: &(impl Threads + Wait + Sync),
+    alloc: Global,
+    held: u8,
+) -> Result<bool, Failure> {
+    let Some(seen) = phases_of_held(threads, alloc, held)? else {
+        return Ok(false);
+    };
+    for phase in PHASES {
+        if !seen.as_slice().contains(&phase) {
+            return Ok(false);
+        }
+    }
+    Ok(true)
+}

@@ -1,0 +1,143 @@
+//! The calls, each with what is expected of it.
+
+use crate::held_workers::{goes_on_without_the_first, waits_in_each_phase};
+use crate::worker_runs::{records_one_worker, replays_workers};
+use call_trials::{Call, LIMITS, SUM, act_many, came_to, run_both};
+use cil_model::events::Event;
+use orders::{read_source, read_text};
+use source_runs::{Failure, Machine, Outcome, accept, run_events};
+use std::alloc::Global;
+use std::io;
+use std::io::{ErrorKind, Read};
+use std::marker::Brand;
+use std::sync::Wait;
+use std::thread::Threads;
+use worker_counts::Blank;
+
+/// Makes the calls. One that wants memory counts as one that came to something else.
+pub fn run_calls(threads: &(impl Threads + Wait + Sync), alloc: Global) -> [Call; 10] {
+    [
+        came_to("a reader that fails", tells_of_readers(alloc)),
+        came_to(
+            "equal steps as one run",
+            has_one_run(threads, alloc).unwrap_or(false),
+        ),
+        came_to(
+            "a worker in each of two threads",
+            acts_once(threads, alloc).unwrap_or(false),
+        ),
+        came_to(
+            "two threads that act often",
+            acts_often(threads, alloc).unwrap_or(false),
+        ),
+        came_to(
+            "the record of one worker",
+            records_one_worker(threads, alloc).unwrap_or(false),
+        ),
+        came_to(
+            "a replay of one worker",
+            replays_workers(threads, alloc, 1).unwrap_or(false),
+        ),
+        came_to(
+            "a replay of four workers",
+            replays_workers(threads, alloc, 4).unwrap_or(false),
+        ),
+        came_to(
+            "a replay of sixteen workers",
+            replays_workers(threads, alloc, 16).unwrap_or(false),
+        ),
+        came_to(
+            "a first worker that is held",
+            goes_on_without_the_first(threads, alloc).unwrap_or(false),
+        ),
+        came_to(
+            "a worker that is held in each phase",
+            waits_in_each_phase(threads, alloc, 1).unwrap_or(false),
+        ),
+    ]
+}
+
+/// A reader that gives some bytes, and then fails.
+#[derive(Drop)]
+struct Broken {
+    left: usize,
+    kind: ErrorKind,
+}
+
+impl Read for Broken {
+    fn read(&mut self, buf: &mut [u8]) -> io::Result<usize> {
+        if self.left == 0 {
+            return Err(io::Error::from(self.kind));
+        }
+        self.left -= 1;
+        match buf.first_mut() {
+            Some(first) => {
+                *first = b's';
+                Ok(1)
+            }
+            None => Ok(0),
+        }
+    }
+}
+
+/// Whether a reader's error is told: `Memory` for want of memory, and `Device` for any other.
+fn tells_of_readers(alloc: Global) -> bool {
+    [
+        (ErrorKind::IsADirectory, Failure::Device),
+        (ErrorKind::Other, Failure::Device),
+        (ErrorKind::OutOfMemory, Failure::Memory),
+    ]
+    .iter()
+    .all(|(kind, wanted)| is_told(alloc, *kind, *wanted))
+}
+
+/// Whether an error of this kind is told so, at the first byte and behind some.
+fn is_told(alloc: Global, kind: ErrorKind, wanted: Failure) -> bool {
+    let source = read_source(alloc, Broken { left: 0, kind });
+    let text = read_text(alloc, Broken { left: 5, kind });
+    source.err().map(Failure::from) == Some(wanted) && text.err().map(Failure::from) == Some(wanted)
+}
+
+/// Whether the history of a million equal steps has one run.
+fn has_one_run(waits: &impl Wait, alloc: Global) -> Result<bool, Failure> {
+    let events = vec![in alloc; Event::Step(255); 1_000_000]?;
+    let outcome = run_events(waits, alloc, SUM.as_bytes(), LIMITS, events.as_slice())?;
+    let runs = outcome.history.runs();
+    Ok(runs.len() == 1 && times(&outcome) == 1_000_000)
+}
+
+/// How many entries the history has.
+fn times(outcome: &Outcome) -> u64 {
+    let mut times = 0u64;
+    for run in outcome.history.runs() {
+        times = times.saturating_add(run.times);
+    }
+    times
+}
+
+/// The machine of the sum.
+fn machine(alloc: Global) -> Result<Machine, Failure> {
+    let verified = accept(alloc, SUM.as_bytes())?;
+    Ok(Machine::new(alloc, verified, LIMITS)?)
+}
+
+/// Whether two threads that act once each leave two entries.
+fn acts_once(threads: &(impl Threads + Wait + Sync), alloc: Global) -> Result<bool, Failure> {
+    let blank = Blank::new(alloc)?;
+    let core = machine(alloc)?;
+    let end = run_both::<Brand, _>(threads, alloc, blank, core, Event::Step(0), Event::Gc)?;
+    Ok(end.is_some_and(|(_, _, outcome)| times(&outcome) == 2 && !outcome.stopped))
+}
+
+/// Whether two threads that act often leave an entry for each event, and what the sum prints.
+fn acts_often(threads: &(impl Threads + Wait + Sync), alloc: Global) -> Result<bool, Failure> {
+    let blank = Blank::new(alloc)?;
+    let core = machine(alloc)?;
+    let events = (Event::Step(0), Event::Ack(0));
+    let end = act_many::<Brand, _>(threads, alloc, blank, core, events, 20_000)?;
+    Ok(end.is_some_and(|outcome| is_done(&outcome)))
+}
+
+fn is_done(outcome: &Outcome) -> bool {
+    times(outcome) == 40_000 && outcome.console() == b"5\n".as_slice() && outcome.stopped
+}

@@ -1,8 +1,0 @@
-pub mod ActingMembers
-pub mod Operands
-pub mod Keeping
-pub mod InstructionSteps
-pub mod Waiting
-pub mod Lasting
-pub mod Going
-pub mod Reports

@@ -1,5 +1,0 @@
-use Rattle.thread_waits.proofs.Going.{goes_on_unless_all}
-use Rattle.thread_waits.proofs.laws.some_thread_goes_on_unless_all_are_deadlocked.Goals as goal
-
-pub returns : goal.returns
-returns c = goes_on_unless_all
