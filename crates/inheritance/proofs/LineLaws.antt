@@ -1,5 +1,5 @@
 -- Laws of lines of classes.
-use Rattle.std.proofs.Common.{◌≡◌, ◌≢◌, ◌<◌, ◌-◌, ◌⊎◌, inl, inr, ℕ, zero, suc, Bool, true, false, ◌==◌, ◌||◌, List, [], ◌∷◌, length, Option, Some, None, refl, sym, ap, subst, ◌∙◌, arith}
+use Rattle.std.proofs.Common.{◌≡◌, ◌≢◌, ◌<◌, ◌-◌, ◌↔◌, ◌⊎◌, inl, inr, ℕ, zero, suc, Bool, true, false, ◌==◌, ◌||◌, List, [], ◌∷◌, length, Option, Some, None, is_some, refl, sym, ap, subst, ◌∙◌, arith}
 use Rattle.std.specs.List.{list_any}
 use Rattle.std.proofs.lemmas.Bool.{eq-eqb}
 use Rattle.std.proofs.lemmas.Bool.Decides.{eqb_tells}
@@ -56,3 +56,38 @@ module _ (bases : List (Option ℕ)) (class : ℕ) where
           let more : length (line_within bases (suc most) (Some class)) ≡ suc most = never_ends round (suc most) (Some class) at_itself in
           let one : length (line_within bases (suc most) (Some class)) ≡ length (line_within bases most (Some class)) = ap length e in
           absurd (omega (arith, own, more, one))
+
+-- ---- whether bases end
+
+-- one class more than so many finds no further one, from a class or from nowhere on
+abbrev pub EndsFrom : List (Option ℕ) → ℕ → Option ℕ → Type 0
+EndsFrom bases n class = line_within bases (suc n) class ≡ line_within bases n class
+
+pub ends_from_none : (bases : List (Option ℕ)) (n : ℕ) → EndsFrom bases n None
+ends_from_none bases n = sym (line_of_none bases n)
+
+-- the bases of a class end as those of its base do
+pub ends_step : (bases : List (Option ℕ)) (n class : ℕ) → 0 < n → EndsFrom bases n (Some class) ↔ EndsFrom bases (n - 1) (base_in bases class)
+ends_step bases zero class h = absurd (omega (arith, h))
+ends_step bases (suc n) class h =
+    let one : n ≡ suc n - 1 = omega arith in
+    subst (λ m. EndsFrom bases (suc n) (Some class) ↔ EndsFrom bases m (base_in bases class)) one (λ e. cc e, λ e. ap (λ ns. class ∷ ns) e)
+
+pub ends_at_once : (bases : List (Option ℕ)) (o : Option ℕ) → (is_some o ≡ false) ↔ EndsFrom bases 0 o
+ends_at_once bases None = (λ e. refl, λ e. refl)
+ends_at_once bases (Some class) = (λ e. absurd (not_there (sym e)), λ e. let one : 1 ≡ 0 = ap length e in absurd (omega (arith, one)))
+
+-- where each class of a kind has a base of that kind, its line never ends
+module _ (bases : List (Option ℕ)) (IsOfKind : ℕ → Type 0) (has_base : (class : ℕ) → IsOfKind class → (base : ℕ) × (base_in bases class ≡ Some base) × IsOfKind base) where
+  long_line : (n class : ℕ) → IsOfKind class → length (line_within bases n (Some class)) ≡ n
+  long_line zero class h = refl
+  long_line (suc n) class h =
+      let further = has_base class h in
+      ap suc (ap (λ o. length (line_within bases n o)) further.1 ∙ long_line n further.0 further.2)
+
+  pub kind_never_ends : (most class : ℕ) → IsOfKind class → ¬ Ends bases most class
+  kind_never_ends most class h e =
+      let less = long_line most class h in
+      let more = long_line (suc most) class h in
+      let same : length (line_within bases (suc most) (Some class)) ≡ length (line_within bases most (Some class)) = ap length e in
+      absurd (omega (arith, less, more, same))

@@ -1,15 +1,21 @@
 -- Laws of marked declarations.
-use Rattle.std.proofs.Common.{◌≡◌, ◌<◌, ◌≤◌, ◌-◌, ℕ, zero, suc, Bool, true, false, nat_le, if◌then◌else◌, List, [], ◌∷◌, ◌++◌, length, drop, Option, Some, None, slice_index_or, slice_get, refl, sym, ap, subst, ◌∙◌, arith}
-use Rattle.std.proofs.lemmas.Bool.{le-leb, leb-true, leb-false}
+use Rattle.std.proofs.Common.{◌≡◌, ◌<◌, ◌≤◌, ◌+◌, ◌-◌, ◌⊎◌, inl, inr, ℕ, zero, suc, Bool, true, false, nat_le, if◌then◌else◌, List, [], ◌∷◌, ◌++◌, length, take, drop, replicate, Option, Some, None, slice_index_or, slice_get, refl, sym, ap, subst, ◌∙◌, arith}
+use Rattle.std.proofs.lemmas.Bool.{and_from, le-leb, leb-true, leb-false}
+use Rattle.std.proofs.lemmas.Bool.Decides.{leb_tells}
+use Rattle.std.proofs.lemmas.List.{take-append-drop, length-append}
 use Rattle.std.proofs.lemmas.Option.{same_Some, none-some}
-use Rattle.std.proofs.Math.Seq.{drop-cons}
+use Rattle.std.proofs.Math.Seq.{drop-cons, get_or-append_seam}
+use Rattle.std.proofs.Math.ListN.{get_or-append}
+use borrow.Author.Count.{below_more}
 use Rattle.cil_model.proofs.SameLaws.{both_first, both_second}
 use Rattle.inheritance.specs.declared.changes.Declared.{Declared}
 use Rattle.inheritance.specs.declared.changes.Change.{Change}
 use Rattle.inheritance.specs.Changes.{known, is_ordered}
-use Rattle.inheritance.specs.Ledgers.{pair_of}
-use Rattle.inheritance.specs.Marked.{is_marked, next_time, AreNoted, AreLater, IsReach}
-use Rattle.inheritance.proofs.ChangeLaws.{known_late}
+use Rattle.inheritance.specs.declared.forests.Forest.{Forest}
+use Rattle.inheritance.specs.Lines.{Ends}
+use Rattle.inheritance.specs.Ledgers.{pair_of, nearest_from}
+use Rattle.inheritance.specs.Marked.{is_marked, next_time, AreNoted, AreLater, HoldsTill, IsLatest, IsReach, FindsMarked}
+use Rattle.inheritance.proofs.ChangeLaws.{known_late, known_upper, ordered_behind}
 
 not_both : true ≡ false → ⊥
 not_both e = cc
@@ -101,12 +107,80 @@ none_marked marks ends reach cs t noted ordered reaches width inside low = by_va
     by_value true e =
         let within : t < length ends = omega (arith, inside, width) in
         let found = covered marks ends t within cs noted ordered None refl e in
-        let high : slice_index_or ends found.0 0 ≤ slice_index_or reach t 0 = reaches found.0 t found.1 inside in
+        let high : slice_index_or ends found.0 0 ≤ slice_index_or reach t 0 = (reaches t inside).covers found.0 (omega (arith, found.1)) in
         absurd (omega (arith, high, low, found.2))
 
+-- ---- what is found till an end
+
+pub holds_both : (P : ℕ → Type 0) (a b c : List ℕ) → HoldsTill P a b → HoldsTill P b c → HoldsTill P a c
+holds_both P a b c h k = λ s t early low high. by_end s t early low high (leb_tells (suc t) (slice_index_or b s 0))
+  where
+    by_end : (s t : ℕ) → s ≤ t → slice_index_or a s 0 ≤ t → t < slice_index_or c s 0 →
+        ((nat_le (suc t) (slice_index_or b s 0) ≡ true) × (suc t ≤ slice_index_or b s 0)) ⊎ ((nat_le (suc t) (slice_index_or b s 0) ≡ false) × (slice_index_or b s 0 < suc t)) → P t
+    by_end s t early low high (inl e) = h s t early low (omega (arith, e.1))
+    by_end s t early low high (inr e) = k s t early (omega (arith, e.1)) high
+
+-- before the first of these changes nothing changes
+known_early : (before : Option Declared) (last t : ℕ) (cs : List Change) → t < next_time last cs → is_ordered cs ≡ true → known before t cs ≡ before
+known_early before last t [] h e = refl
+known_early before last t (c ∷ cs) h e = known_late before t c.time (c ∷ cs) h (and_from _ _ (le-leb c.time c.time (omega arith)) (both_first _ _ e))
+
+-- from the time of a change to that of the next one, it says what is found
+pub known_between : (last t : ℕ) (row : List Change) (i : ℕ) (d : Change) → 0 < i → i ≤ length row → is_ordered row ≡ true →
+    (slice_index_or row (i - 1) d).time ≤ t → t < next_time last (drop i row) → known None t row ≡ (slice_index_or row (i - 1) d).found
+known_between last t row i d h k ordered early late =
+    let c = slice_index_or row (i - 1) d in
+    let one : suc (i - 1) ≡ i = omega arith in
+    let split : drop (i - 1) row ≡ c ∷ drop i row = drop-cons row (i - 1) d (omega (arith, h, k)) ∙ ap (λ n. c ∷ drop n row) one in
+    let whole : row ≡ take (i - 1) row ++ c ∷ drop i row = sym (take-append-drop (i - 1) row) ∙ ap (λ cs. take (i - 1) row ++ cs) split in
+    let behind : is_ordered (drop i row) ≡ true = both_second _ _ (ordered_behind (take (i - 1) row) (c ∷ drop i row) (sym (ap is_ordered whole) ∙ ordered)) in
+    sym (known_upper None t row (take (i - 1) row) (drop i row) c whole early) ∙ known_early c.found last t (drop i row) late behind
+
+-- ---- the latest of all ends
+
+pub latest_at_first : (ends : List ℕ) → IsLatest ends 0 0
+latest_at_first ends = record { covers = λ s h. absurd (omega (arith, h)); comes = λ h. absurd (omega (arith, h)) }
+
+pub latest_as_before : (ends : List ℕ) (n latest : ℕ) → IsLatest ends n latest → slice_index_or ends n 0 ≤ latest → IsLatest ends (n + 1) latest
+latest_as_before ends n latest l h = record {
+  covers = below_more (λ s. slice_index_or ends s 0 ≤ latest) n l.covers h;
+  comes = λ some. let found = l.comes some in (found.0, omega (arith, found.1), found.2);
+}
+
+pub latest_here : (ends : List ℕ) (n latest : ℕ) → IsLatest ends n latest → latest < slice_index_or ends n 0 → IsLatest ends (n + 1) (slice_index_or ends n 0)
+latest_here ends n latest l h = record {
+  covers = below_more (λ s. slice_index_or ends s 0 ≤ slice_index_or ends n 0) n (λ s k. let low : slice_index_or ends s 0 ≤ latest = l.covers s k in omega (arith, low, h)) (omega arith);
+  comes = λ some. (n, omega arith, refl);
+}
+
+pub reach_more : (ends reach : List ℕ) (latest : ℕ) → IsReach ends reach → IsLatest ends (length reach + 1) latest → IsReach ends (reach ++ latest ∷ [])
+reach_more ends reach latest r l = λ t h. below_more (λ t. IsLatest ends (t + 1) (slice_index_or (reach ++ latest ∷ []) t 0)) (length reach)
+    (λ t k. subst (IsLatest ends (t + 1)) (sym (get_or-append reach (latest ∷ []) 0 t k)) (r t k))
+    (subst (IsLatest ends (length reach + 1)) (sym (get_or-append_seam reach latest [] 0)) l)
+    t (omega (arith, h, length-append reach (latest ∷ [])))
+
+pub no_ends : (n s : ℕ) → ◌≡◌ {A = ℕ} (slice_index_or (replicate n 0) s 0) 0
+no_ends zero s = refl
+no_ends (suc n) zero = refl
+no_ends (suc n) (suc s) = no_ends n s
+
+-- the time up to which a marked declaration is found at a time
+pub reach_marked : (P : ℕ → Type 0) (ends old reach : List ℕ) (t : ℕ) → ((s : ℕ) → slice_index_or old s 0 ≡ 0) → HoldsTill P old ends → IsReach ends reach → t < length reach → t < slice_index_or reach t 0 → P t
+reach_marked P ends old reach t empty holds r inside high =
+    let found = (r t inside).comes (omega (arith, high)) in
+    holds found.0 t (omega (arith, found.1)) (omega (arith, empty found.0)) (omega (arith, high, found.2))
+
+-- ---- answers
+
+-- what is told of a class
+pub record IsAnswer (marks : List (List Bool)) (forest : Forest) (class : ℕ) (answer : Bool) : Type 0 where
+  pub marked : answer ≡ true → Ends forest.bases.items forest.most class → FindsMarked marks forest class
+  pub unmarked : answer ≡ false → (key : ℕ) → key < forest.keys → is_marked marks (nearest_from forest key forest.most (Some class)) ≡ false
+  pub ended : answer ≡ false → Ends forest.bases.items forest.most class
+
 -- one more answer behind others
-pub no_more : (P : ℕ → Type 0) (xs : List Bool) (b : Bool) → ((k : ℕ) → slice_get xs k ≡ Some false → P k) → (b ≡ false → P (length xs)) → (k : ℕ) → slice_get (xs ++ b ∷ []) k ≡ Some false → P k
-no_more P [] b h here zero e = here (same_Some b false e)
-no_more P [] b h here (suc k) e = absurd (none-some false e)
-no_more P (x ∷ xs) b h here zero e = h zero e
-no_more P (x ∷ xs) b h here (suc k) e = no_more (λ j. P (suc j)) xs b (λ j. h (suc j)) here k e
+pub more_answers : (P : ℕ → Bool → Type 0) (xs : List Bool) (b : Bool) → ((k : ℕ) (v : Bool) → slice_get xs k ≡ Some v → P k v) → P (length xs) b → (k : ℕ) (v : Bool) → slice_get (xs ++ b ∷ []) k ≡ Some v → P k v
+more_answers P [] b h here zero v e = subst (P zero) (same_Some b v e) here
+more_answers P [] b h here (suc k) v e = absurd (none-some v e)
+more_answers P (x ∷ xs) b h here zero v e = h zero v e
+more_answers P (x ∷ xs) b h here (suc k) v e = more_answers (λ j. P (suc j)) xs b (λ j. h (suc j)) here k v e

@@ -49,6 +49,7 @@ IsRight forest time ledger = IsRightBefore forest time (map (λ v. v.items) ledg
 
 -- each key finds the nearest class with it, from each class that was entered, whose bases end
 pub record IsDone (forest : Forest) (ledger : Ledger) : Type 0 where
+  pub width : length ledger.changes.items ≡ forest.keys
   pub ordered : AreOrdered (map (λ v. v.items) ledger.changes.items)
   pub ended : (class : ℕ) (entry : Entry) → entry_in ledger.entries.items class ≡ Some entry → Ends forest.bases.items forest.most class
   pub right : (class : ℕ) (entry : Entry) → entry_in ledger.entries.items class ≡ Some entry → (key : ℕ) → key < forest.keys → pair_of (known_of (map (λ v. v.items) ledger.changes.items) key entry.time) ≡ nearest_from forest key forest.most (Some class)
@@ -62,3 +63,12 @@ height_of entries (Some class) = option_map (λ (e : Entry). e.length) (entry_in
 abbrev pub source_of : List (Option Entry) → Option ℕ → Source
 source_of entries None = Nothing
 source_of entries (Some class) = option_map_or (λ (e : Entry). Time e.time) (entry_in entries class) Nothing
+
+-- a class that was not entered
+pub record IsLeftOut (bases : List (Option ℕ)) (entries : List (Option Entry)) (class : ℕ) : Type 0 where
+  pub within : class < length bases
+  pub absent : entry_in entries class ≡ None
+
+-- nor was its base
+abbrev pub HasBaseLeftOut : List (Option ℕ) → List (Option Entry) → ℕ → Type 0
+HasBaseLeftOut bases entries class = (base : ℕ) × (base_in bases class ≡ Some base) × IsLeftOut bases entries base

@@ -1,7 +1,7 @@
 // What is given: classes by numbers.
 
-ghost use Rattle.std.specs.Prelude.{◌≡◌, slice_index_or, map, [], None};
-ghost use Rattle.inheritance.specs.Lines.{base_in};
+ghost use Rattle.std.specs.Prelude.{◌≡◌, ◌↔◌, IsTrue, slice_index_or, map, [], None};
+ghost use Rattle.inheritance.specs.Lines.{base_in, Ends};
 
 /// Classes by numbers. Where there is no class of a number, it has no base and declares nothing.
 #[derive(Drop)]
@@ -33,5 +33,21 @@ impl Forest {
             None => &[],
             Some(keys) => keys.as_slice(),
         }
+    }
+
+    /// Whether the bases of a class end, found by going along them.
+    pub(crate) fn ends_along(&self, first: usize) -> bool
+        ensures { IsTrue result ↔ Ends self.now.bases.items self.now.most first }
+    {
+        let mut next = Some(first);
+        let mut left = self.most;
+        while left > 0 {
+            let Some(class) = next else {
+                return true;
+            };
+            next = self.base(class);
+            left -= 1;
+        }
+        next.is_none()
     }
 }

@@ -1,15 +1,16 @@
 // The nearest declaration of each key, from each class on.
 
-ghost use Rattle.std.specs.Prelude.{◌≡◌, ◌==◌, ◌<◌, ℕ, Some, IfOk, map, true};
+ghost use Rattle.std.specs.Prelude.{◌≡◌, ◌==◌, ◌<◌, ◌↔◌, ℕ, Some, IfOk, IsTrue, OnErr, OnOk, length, map};
 ghost use Rattle.std.specs.List.{position_from};
 ghost use Rattle.inheritance.specs.declared.ledgers.Entry.{Entry};
 ghost use Rattle.inheritance.specs.Lines.{Ends};
 ghost use Rattle.inheritance.specs.Changes.{known_of, AreOrdered};
-ghost use Rattle.inheritance.specs.Ledgers.{pair_of, nearest_from, entry_in, IsRight, IsDone};
+ghost use Rattle.inheritance.specs.Ledgers.{pair_of, nearest_from, entry_in, IsRight, IsDone, IsLeftOut};
 
 use crate::changes::{Declared, found_at};
 use crate::forests::Forest;
 use crate::ledgers::Ledger;
+use crate::left_out::is_complete;
 use crate::tours::tour;
 use cil_model::memory::NoMemory;
 use std::alloc::Global;
@@ -23,8 +24,12 @@ pub struct Endless;
 pub struct Inheritance {
     pub forest: Forest,
     pub(crate) ledger: Ledger,
+    /// Whether each class whose bases end was entered.
+    pub(crate) is_complete: bool,
+    ghost width: { length ledger.changes.items ≡ forest.keys },
     ghost ordered: { AreOrdered (map (λ v. v.items) ledger.changes.items) },
     ghost ended: { (class : ℕ) (entry : Entry) → entry_in ledger.entries.items class ≡ Some entry → Ends forest.bases.items forest.most class },
+    ghost endless: { IsTrue is_complete → (class : ℕ) → IsLeftOut forest.bases.items ledger.entries.items class → ¬ Ends forest.bases.items forest.most class },
     ghost right: { (class : ℕ) (entry : Entry) → entry_in ledger.entries.items class ≡ Some entry → (key : ℕ) → key < forest.keys → pair_of (known_of (map (λ v. v.items) ledger.changes.items) key entry.time) ≡ nearest_from forest key forest.most (Some class) },
 }
 
@@ -64,23 +69,31 @@ impl Inheritance {
         ensures { IfOk result (λ inheritance. inheritance.forest ≡ forest) }
     {
         let ledger = search(alloc, &forest)?;
-        Ok(Inheritance { forest, ledger })
+        let is_complete = is_complete(&forest, &ledger);
+        Ok(Inheritance {
+            forest,
+            ledger,
+            is_complete,
+        })
     }
 
-    /// The nearest class that declares a key, from a class on, with the place of the key. Takes time with the logarithm of the
-    /// number of classes that declare it. `Endless` where the bases of the class are not seen to end: use `nearest_along` then. That this
-    /// is said of no other class is tested, not proved.
+    /// The nearest class that declares a key, from a class on, with the place of the key. `Endless` exactly where the bases of the class
+    /// do not end: use `nearest_along` then. Takes time with the logarithm of the number of classes that declare the key. Where the search
+    /// had left out a class whose bases end, it would go along them; it leaves out none, which no contract says.
     pub fn nearest(&self, class: usize, key: usize) -> Result<Option<Declared>, Endless>
         requires { key < self.now.forest.keys }
-        ensures { IfOk result (λ found. pair_of found ≡ nearest_from self.now.forest key self.now.forest.most (Some class)) }
+        ensures found { IfOk result (λ found. pair_of found ≡ nearest_from self.now.forest key self.now.forest.most (Some class)) }
+        ensures ended { OnOk result (Ends self.now.forest.bases.items self.now.forest.most class) }
+        ensures endless { OnErr result (¬ Ends self.now.forest.bases.items self.now.forest.most class) }
     {
         match self.ledger.entry(class) {
-            None => Err(Endless),
             Some(entry) => Ok(found_at(self.ledger.changes.as_slice(), key, entry.time)),
+            None if self.ends(class) => Ok(self.nearest_along(class, key)),
+            None => Err(Endless),
         }
     }
 
-    /// The same, found by going along the bases, for a class whose bases are not seen to end.
+    /// The same, found by going along the bases, for a class whose bases do not end: what is found among as many classes as are looked at.
     pub fn nearest_along(&self, first: usize, key: usize) -> Option<Declared>
         ensures { pair_of result ≡ nearest_from self.now.forest key self.now.forest.most (Some first) }
     {
@@ -99,10 +112,16 @@ impl Inheritance {
         None
     }
 
-    /// Whether the bases of a class are seen to end among as many classes as are looked at.
+    /// Whether the bases of a class end among as many classes as are looked at.
     pub fn ends(&self, class: usize) -> bool
-        ensures { result ≡ true → Ends self.now.forest.bases.items self.now.forest.most class }
+        ensures { IsTrue result ↔ Ends self.now.forest.bases.items self.now.forest.most class }
     {
-        self.ledger.entry(class).is_some()
+        if self.ledger.entry(class).is_some() {
+            return true;
+        }
+        if self.is_complete && class < self.forest.bases.len() {
+            return false;
+        }
+        self.forest.ends_along(class)
     }
 }

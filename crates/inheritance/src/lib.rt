@@ -5,6 +5,7 @@ mod changes;
 mod forests;
 mod inheritance;
 mod ledgers;
+mod left_out;
 mod marked;
 mod rounds;
 mod tours;

@@ -3,10 +3,11 @@
 ghost use Rattle.std.specs.Prelude.{◌≡◌, ◌==◌, IsSome, Some};
 ghost use Rattle.instructions.specs.Frames.{binary_turn, unary_turn, shift_turn, compare_turn, convert_32_turn, convert_64_turn, comparison, in_32_bits, in_64_bits, one_or_zero};
 
+use crate::conversions::{sign_extended, truncated};
+use crate::integers::Integer;
 use crate::places::{leave, leave_result};
 use cil_model::instructions::{BinaryOperation, Comparison, ShiftOperation, UnaryOperation};
 use cil_model::phases::Phase;
-use int_ops::{Integer, sign_extended, truncated};
 use object_memory::{Heap, Value};
 use threads_monitors::{Effect, FrameMemory};
 

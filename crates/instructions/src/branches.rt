@@ -3,10 +3,10 @@
 ghost use Rattle.std.specs.Prelude.{◌≡◌, ◌^◌, ◌<◌, ℕ, IsSome, Some, slice_get, map};
 ghost use Rattle.instructions.specs.Frames.{branch_true_turn, branch_false_turn, branch_compare_turn, branch_test, switch_turn, is_set};
 
+use crate::integers::Integer;
 use crate::places::{branch_if, go_on, jump};
 use cil_model::instructions::BranchComparison;
 use cil_model::phases::Phase;
-use int_ops::Integer;
 use object_memory::{Heap, Value};
 use threads_monitors::{Effect, FrameMemory};
 

@@ -1,7 +1,8 @@
 //! The instructions of ECMA-335 III.3 and III.4, each as one function that does exactly its rule in specs/: on the frames of its
 //! thread (specs/Frames.antt), on objects, arrays and static fields by slots (specs/ObjectTurns.antt), calls and returns by the
 //! number of the method (specs/Calls.antt), the built-in members that print and lock (specs/BuiltInTurns.antt), and casts and stores
-//! of references by the types of objects (specs/TypeTurns.antt).
+//! of references by the types of objects (specs/TypeTurns.antt). The arithmetic on integers of 32 and of 64 bits, with its faults, is
+//! `Integer` (ECMA-335 III.1.5 and III.3).
 //!
 //! A rule has no answer where an operand is missing or of another kind, or where there is no such object, slot or room; that it has
 //! one is each caller's condition, which verification gives.
@@ -13,7 +14,9 @@ pub mod births;
 pub mod branches;
 pub mod calls;
 pub mod casts;
+mod conversions;
 pub mod fields;
+mod integers;
 pub mod locks;
 pub mod places;
 pub mod printing;

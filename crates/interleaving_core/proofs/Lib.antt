@@ -17,3 +17,4 @@ pub mod Collecting
 pub mod Requests
 pub mod Ends
 pub mod AwaitedObjects
+pub mod Doing

@@ -6,3 +6,4 @@ pub mod Refusals
 pub mod Statics
 pub mod Positions
 pub mod Waits
+pub mod Histories

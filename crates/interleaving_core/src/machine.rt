@@ -9,6 +9,7 @@ ghost use Rattle.reference_machine.specs.States.{State};
 ghost use Rattle.object_memory.specs.Cells.{used_words};
 ghost use Rattle.object_memory.specs.Objects.{used_space, whole_space};
 ghost use Rattle.threads_monitors.specs.Threads.{end_of, is_live, is_live_at};
+ghost use Rattle.interleaving_core.specs.Histories.{DoesMore, HasDone};
 ghost use Rattle.interleaving_core.specs.Views.{end_at, phase_at};
 ghost use Rattle.interleaving_core.specs.Positions.{position_at};
 ghost use Rattle.interleaving_core.specs.Waits.{wait_at};
@@ -90,6 +91,7 @@ impl Machine {
         ensures program { IfOk result (λ m. (m.tree ≡ program) × (m.limits ≡ limits)) }
         ensures begins { IfOk result (λ m. opening_content program limits ≡ Some m) }
         ensures opening { IfOk result (λ m. (s : State) × (opening program limits ≡ Some s) × Represents m s) }
+        ensures done { IfOk result (λ m. HasDone program limits [] [] m) }
     {
         if !are_in_range(limits) {
             return Err(Refused::Limits);
@@ -101,10 +103,14 @@ impl Machine {
 
     /// What the machine does on one event, and what it reports.
     ///
+    /// Whatever it has done since it was made, it has then done this event too: the reference machine has the same reports, no cycle of the collector had
+    /// more working events than its bound, and where this event ends a cycle, no more words are in use than are owed.
+    ///
     /// Want of memory, which a print, a start or the opening of a cycle alone can meet, changes nothing and isn't counted.
     pub fn step(&mut self, alloc: Global, event: Event) -> Result<Report, NoMemory>
         ensures turns { IfOk result (λ report. IsTurn self.old event (self.new, report)) }
         ensures follows { IfOk result (λ report. FollowsReference self.old self.new ((event, report) ∷ [])) }
+        ensures does { IfOk result (λ report. DoesMore self.old (event ∷ []) (report ∷ []) self.new) }
         ensures same { (self.new.tree ≡ self.old.tree) × (self.new.limits ≡ self.old.limits) }
         ensures memory { OnErr result (TakesMemory self.old event) }
         ensures refused { OnErr result (self.new ≡ self.old) }
@@ -126,10 +132,12 @@ impl Machine {
         ensures appended { take (length reports.old.items) reports.new.items ≡ reports.old.items }
         ensures each { OnOk result (length reports.new.items ≡ length reports.old.items + length events.now) }
         ensures follows { OnOk result (FollowsReference self.old self.new (zip events.now (drop (length reports.old.items) reports.new.items))) }
+        ensures does { OnOk result (DoesMore self.old events.now (drop (length reports.old.items) reports.new.items) self.new) }
         ensures same { (self.new.tree ≡ self.old.tree) × (self.new.limits ≡ self.old.limits) }
         ensures stopped { OnErr result ((count : ℕ) × (count < length events.now)
             × AreTurns self.old (take count events.now) self.new (drop (length reports.old.items) reports.new.items)
-            × FollowsReference self.old self.new (zip (take count events.now) (drop (length reports.old.items) reports.new.items))) }
+            × FollowsReference self.old self.new (zip (take count events.now) (drop (length reports.old.items) reports.new.items))
+            × DoesMore self.old (take count events.now) (drop (length reports.old.items) reports.new.items) self.new) }
     {
         let _engine = &self.engine;
         for event in events {

@@ -52,7 +52,7 @@ fn has_virtual_along(names: &NameTables, first: usize, key: MethodKey) -> bool
 }
 
 /// Whether some class from one on along its bases has a virtual method of this name and signature (ECMA-335 II.12.2). Only where the
-/// bases are not seen to end are they gone along.
+/// bases do not end are they gone along.
 fn implements_method(methods: &MethodTables, class: Option<usize>, key: MethodKey) -> bool
     ensures { result ≡ list_any (is_virtual_found methods.now.names.now.classes.tree.now (method_of_key key.entry)) (line_of methods.now.names.now.classes.tree.now class) }
 {
@@ -88,7 +88,7 @@ fn absent_by_name(methods: &MethodTables, class: Option<usize>, interface: usize
     }
 }
 
-/// The same; only where the class's bases are not seen to end are the methods looked up by name.
+/// The same; only where the class's bases do not end are the methods looked up by name.
 fn absent_at(methods: &MethodTables, class: Option<usize>, interface: usize) -> Option<usize>
     ensures { is_none result ≡ has_all methods.now.names.now.classes.tree.now class interface }
 {

@@ -327,7 +327,7 @@ fn plain_found(names: &NameTables, key: MethodKey, found: Option<MemberNumber>) 
 }
 
 /// The class from one on along its bases with the nearest method of this name and signature, where that is not virtual. Only where the
-/// bases are not seen to end are they gone along.
+/// bases do not end are they gone along.
 fn plain_base(methods: &MethodTables, key: MethodKey, base: Option<usize>) -> Option<usize>
     ensures { is_some result ≡ plain_numbered methods.now.names.now.classes.tree.now (method_of_key key.entry) (line_of methods.now.names.now.classes.tree.now base) }
 {

@@ -1,15 +1,15 @@
 -- Keys are the same where their numbers are.
-use Rattle.std.proofs.Common.{◌≡◌, ◌≢◌, ◌<◌, ◌+◌, ◌⊎◌, inl, inr, ℕ, zero, suc, Bool, true, false, cond, ◌||◌, ◌==◌, List, [], ◌∷◌, ◌++◌, length, map, flat_map, Option, Some, None, option_map, is_some, slice_get, slice_index_or, unwrap_or, refl, sym, ap, ◌∙◌, arith}
+use Rattle.std.proofs.Common.{◌≡◌, ◌≢◌, ◌<◌, ◌+◌, ◌⊎◌, inl, inr, ℕ, zero, suc, Bool, true, false, cond, ◌||◌, ◌==◌, List, [], ◌∷◌, ◌++◌, length, map, flat_map, Option, Some, None, option_map, is_some, slice_get, slice_index_or, unwrap_or, refl, sym, ap, subst, ◌∙◌, arith}
 use Rattle.std.specs.Prelude.{find}
 use Rattle.std.specs.List.{position_from, list_any, list_all}
 use Rattle.std.specs.Cmp.{IsEquivalence}
 use Rattle.std.proofs.lemmas.Bool.{and_from, eq-eqb}
 use Rattle.std.proofs.lemmas.Bool.Decides.{eqb_tells}
 use Rattle.std.proofs.lemmas.List.Folds.{list_any-append}
-use Rattle.std.proofs.lemmas.Option.{slice_get_within}
+use Rattle.std.proofs.lemmas.Option.{none-some, slice_get_within}
 use Rattle.cil_model.proofs.SameLaws.{both_first, both_second}
 use Rattle.inheritance.specs.Lines.{place_in}
-use Rattle.name_tables.specs.Inherited.{number_in}
+use Rattle.name_tables.specs.Inherited.{number_in, AreNumbered}
 use Rattle.name_tables.proofs.FirstPlaces.{is_some-position_from}
 use Rattle.name_tables.proofs.NumberLaws.{none_is_some, found_at_place, found_passes}
 
@@ -104,6 +104,23 @@ module _ {K : Type 0} (same : K → K → Bool) (laws : IsEquivalence same) wher
         ap (λ b. cond b (Some i) (position_from (λ k. number q == k) (i + 1) (map number xs))) (number_tells q x (both_first _ _ h)) ∙
         ap (λ o. cond (same q x) (Some i) o) (place_by_number q xs (i + 1) (both_second _ _ h))
 
+    -- the key at the place that is its number has that number again
+    number_again : (x : K) → is_known keys x ≡ true → option_map number (slice_get keys (number x)) ≡ Some (number x)
+    number_again x known =
+        let at = place_of_known x known (position_from (same x) 0 keys) refl in
+        let item = found_item (same x) keys at.0 at.1 in
+        let there : number x ≡ at.0 = ap (λ p. unwrap_or p (length keys)) at.1 in
+        let again : number item.0 ≡ number x = ap (λ o. unwrap_or o (length keys)) (position_from-congr (same item.0) (same x) (λ z. sym (laws.congr x item.0 z item.2)) 0 keys) in
+        ap (λ n. option_map number (slice_get keys n)) there ∙ ap (option_map number) item.1 ∙ ap Some again
+
+    numbered_in_row : (row : List K) → list_all (is_known keys) row ≡ true → (n i place : ℕ) → position_from (λ k. n == k) i (map number row) ≡ Some place → option_map number (slice_get keys n) ≡ Some n
+    numbered_in_row [] known n i place e = absurd (none-some place e)
+    numbered_in_row (x ∷ xs) known n i place e = by_test (numbered_in_row xs (both_second _ _ known) n (i + 1) place) (eqb_tells n (number x))
+      where
+        by_test : (position_from (λ k. n == k) (i + 1) (map number xs) ≡ Some place → option_map number (slice_get keys n) ≡ Some n) → ((n == number x) ≡ true) × (n ≡ number x) ⊎ ((n == number x) ≡ false) × (n ≢ number x) → option_map number (slice_get keys n) ≡ Some n
+        by_test further (inl h) = subst (λ m. option_map number (slice_get keys m) ≡ Some m) (sym h.1) (number_again x (both_first _ _ known))
+        by_test further (inr h) = further (sym (ap (λ b. cond b (Some i) (position_from (λ k. n == k) (i + 1) (map number xs))) h.0) ∙ e)
+
   row_at : {R : Type 0} (row_in : R → List K) (number : K → ℕ) (rows : List R) (n : ℕ) → slice_index_or (map (λ r. map number (row_in r)) rows) n [] ≡ map number (slice_index_or (map row_in rows) n [])
   row_at row_in number [] n = refl
   row_at row_in number (r ∷ rs) zero = refl
@@ -116,6 +133,11 @@ module _ {K : Type 0} (same : K → K → Bool) (laws : IsEquivalence same) wher
       ap (λ ds. position_from (λ k. number_in same keys q == k) 0 (slice_index_or ds n [])) d ∙
       ap (position_from (λ k. number_in same keys q == k) 0) (row_at row_in (number_in same keys) rows n) ∙
       place_by_number keys q (slice_index_or (map row_in rows) n []) 0 (ap (λ ks. list_all (is_known ks) (slice_index_or (map row_in rows) n [])) e ∙ known_in_rows row_in rows n)
+
+  pub numbered_in_rows : {R : Type 0} (row_in : R → List K) (rows : List R) (keys : List K) (declared : List (List ℕ)) → keys ≡ flat_map row_in rows → declared ≡ map (λ r. map (number_in same keys) (row_in r)) rows → AreNumbered same keys declared
+  numbered_in_rows row_in rows keys declared e d = λ n class place found.
+      numbered_in_row keys (slice_index_or (map row_in rows) class []) (ap (λ ks. list_all (is_known ks) (slice_index_or (map row_in rows) class [])) e ∙ known_in_rows row_in rows class) n 0 place
+      (sym (ap (λ ds. position_from (λ k. n == k) 0 (slice_index_or ds class [])) d ∙ ap (position_from (λ k. n == k) 0) (row_at row_in (number_in same keys) rows class)) ∙ found)
 
 pub number_within : {K : Type 0} (same : K → K → Bool) (keys : List K) (q : K) → number_in same keys q < length keys + 1
 number_within same keys q = by_place (position_from (same q) 0 keys) refl

@@ -1,9 +1,11 @@
 -- The tables of members stand for what the definitions find.
-use Rattle.std.proofs.Common.{◌≡◌, ◌<◌, ◌+◌, ◌-◌, ℕ, zero, suc, Bool, List, [], ◌∷◌, ◌++◌, length, take, map, Option, Some, None, option_and_then, slice_get, slice_index_or, get_or, refl, sym, ap, ◌∙◌, arith}
-use Rattle.std.specs.List.{position_from}
+use Rattle.std.proofs.Common.{◌≡◌, ◌≢◌, ◌<◌, ◌+◌, ◌-◌, ℕ, zero, suc, Bool, true, false, List, [], ◌∷◌, ◌++◌, length, take, map, Option, Some, None, option_map, option_and_then, slice_get, slice_index_or, get_or, refl, sym, ap, subst, ◌∙◌, arith}
+use Rattle.std.specs.List.{list_all, position_from}
 use Rattle.std.specs.Option.{option_map_or}
-use Rattle.std.proofs.lemmas.Option.{slice_get-get_or}
+use Rattle.std.proofs.lemmas.Option.{none-some, same_Some, slice_get-get_or}
+use Rattle.std.proofs.lemmas.Bool.{true≢false}
 use Rattle.std.proofs.lemmas.List.{get_or_default}
+use Rattle.cil_model.proofs.SameLaws.{both_first, both_second}
 use Rattle.cil_model.specs.declared.types.ClassName.{ClassName}
 use Rattle.cil_model.specs.declared.trees.Tree.{Tree}
 use Rattle.cil_model.specs.Declarations.{Declaration}
@@ -11,6 +13,7 @@ use Rattle.cil_model.specs.Chains.{longest_chain}
 use Rattle.inheritance.specs.declared.forests.Forest.{Forest}
 use Rattle.inheritance.specs.Lines as lines
 use Rattle.inheritance.specs.Ledgers.{nearest_from}
+use Rattle.inheritance.specs.Marked.{is_marked}
 use Rattle.name_tables.specs.Numbers.{declarations, class_number, chain_numbers, nearest_number}
 use Rattle.name_tables.specs.Members.{base_numbers, IsMemberTable}
 use Rattle.name_tables.proofs.Lists.{map-take_more}
@@ -91,3 +94,46 @@ module _ (tree : Tree) where
   pub nearest_in_table : {K : Type 0} (forest : Forest) (number : K → ℕ) (place : K → ℕ → Option ℕ) → IsMemberTable tree forest number place → (key : K) (c : ClassName) (n : ℕ) → class_number tree c ≡ Some n →
       nearest_from forest (number key) forest.most (Some n) ≡ nearest_number (place key) (chain_numbers tree c)
   nearest_in_table forest number place t key c n e = nearest_on_line forest number place t key n ∙ ap (nearest_number (place key)) (line_of_class c n e)
+
+  -- what is said of the forest's bases is said of the tree's
+  pub of_tree : {K : Type 0} (forest : Forest) (number : K → ℕ) (place : K → ℕ → Option ℕ) → IsMemberTable tree forest number place → (P : List (Option ℕ) → ℕ → Type 0) → P forest.bases.items forest.most → P (base_numbers tree) (longest_chain tree)
+  of_tree forest number place t P h = subst (P (base_numbers tree)) t.most (subst (λ bs. P bs forest.most) t.bases h)
+
+-- ---- what is found has a place
+
+nearest_place : (at : ℕ → Option ℕ) (ns : List ℕ) (p : ℕ × ℕ) → lines.nearest at ns ≡ Some p → at p.0 ≡ Some p.1
+nearest_place at [] p e = absurd (none-some p e)
+nearest_place at (n ∷ ns) p e = by_place (nearest_place at ns p) (at n) refl e
+  where
+    by_place : (lines.nearest at ns ≡ Some p → at p.0 ≡ Some p.1) → (o : Option ℕ) → at n ≡ o → option_map_or (λ q. Some (n, q)) o (lines.nearest at ns) ≡ Some p → at p.0 ≡ Some p.1
+    by_place further None h k = further k
+    by_place further (Some q) h k = let same : (n, q) ≡ p = same_Some (n, q) p k in subst (λ (r : ℕ × ℕ). at r.0 ≡ Some r.1) same h
+
+pub marked_place : (marks : List (List Bool)) (forest : Forest) (key class : ℕ) → is_marked marks (nearest_from forest key forest.most (Some class)) ≡ true →
+    (p : ℕ × ℕ) × (lines.place_in (map (λ r. r.items) forest.declared.items) key p.0 ≡ Some p.1)
+marked_place marks forest key class e = by_found (nearest_from forest key forest.most (Some class)) refl e
+  where
+    by_found : (o : Option (ℕ × ℕ)) → nearest_from forest key forest.most (Some class) ≡ o → is_marked marks o ≡ true → (p : ℕ × ℕ) × (lines.place_in (map (λ r. r.items) forest.declared.items) key p.0 ≡ Some p.1)
+    by_found None h k = absurd (true≢false (sym k))
+    by_found (Some p) h k = (p, nearest_place (lines.place_in (map (λ r. r.items) forest.declared.items) key) (lines.line_within forest.bases.items forest.most (Some class)) p h)
+
+-- what a map gives comes from something
+pub mapped_from : {X Y : Type 0} (f : X → Y) (o : Option X) (y : Y) → option_map f o ≡ Some y → (x : X) × (f x ≡ y)
+mapped_from f None y e = absurd (none-some y e)
+mapped_from f (Some x) y e = (x, same_Some (f x) y e)
+
+-- ---- tests of all
+
+pub all_pass : {X : Type 0} (xs : List X) → list_all (λ x. true) xs ≡ true
+all_pass [] = refl
+all_pass (x ∷ xs) = all_pass xs
+
+pub some_where_some : {X Y : Type 0} (xs : List X) (ys : List Y) → list_all (λ x. false) xs ≡ list_all (λ y. false) ys → ys ≢ [] → 0 < length xs
+some_where_some (x ∷ xs) ys e h = omega arith
+some_where_some [] [] e h = absurd (h refl)
+some_where_some [] (y ∷ ys) e h = absurd (true≢false e)
+
+pub all_at : {X : Type 0} (test : X → Bool) (xs : List X) (i : ℕ) (d : X) → i < length xs → list_all test xs ≡ true → test (get_or xs i d) ≡ true
+all_at test [] i d h e = absurd (omega (arith, h))
+all_at test (x ∷ xs) zero d h e = both_first _ _ e
+all_at test (x ∷ xs) (suc i) d h e = all_at test xs i d (omega (arith, h)) (both_second _ _ e)

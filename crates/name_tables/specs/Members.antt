@@ -17,6 +17,10 @@ use Rattle.name_tables.specs.Sameness.{same_field, same_called, called_of}
 abbrev pub base_numbers : Tree → List (Option ℕ)
 base_numbers tree = map (λ (e : ClassName × Declaration). option_and_then (class_number tree) e.1.base) (declarations tree)
 
+-- the bases of a class end
+abbrev pub EndsIn : Tree → ℕ → Type 0
+EndsIn tree class = lines.Ends (base_numbers tree) (longest_chain tree) class
+
 -- the classes of a tree with their bases, and the place of each key that they declare
 pub record IsMemberTable {K : Type 0} (tree : Tree) (forest : Forest) (number : K → ℕ) (place : K → ℕ → Option ℕ) : Type 0 where
   pub bases : forest.bases.items ≡ base_numbers tree

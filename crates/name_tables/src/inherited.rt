@@ -1,10 +1,10 @@
 // The members that classes have and inherit, each found by its key.
 
-ghost use Rattle.std.specs.Prelude.{◌≡◌, ◌+◌, ℕ, Some, IfOk, length, map, flat_map, option_map, slice_index_or, []};
+ghost use Rattle.std.specs.Prelude.{◌≡◌, ◌+◌, ℕ, Some, IfOk, OnErr, OnOk, length, map, flat_map, option_map, slice_index_or, []};
 ghost use Rattle.std.specs.List.{position_from};
-ghost use Rattle.inheritance.specs.Lines.{place_in};
+ghost use Rattle.inheritance.specs.Lines.{place_in, Ends};
 ghost use Rattle.inheritance.specs.Ledgers.{nearest_from};
-ghost use Rattle.name_tables.specs.Inherited.{number_in};
+ghost use Rattle.name_tables.specs.Inherited.{number_in, AreNumbered};
 
 use crate::places::Places;
 use cil_model::memory::NoMemory;
@@ -20,6 +20,7 @@ pub(crate) struct Inherited<K: Eq + Hash + Copy + Drop> {
     pub keys: Places<K>,
     pub inheritance: Inheritance,
     ghost within: { inheritance.forest.keys ≡ length keys + 1 },
+    ghost numbered: { AreNumbered K.eq keys (map (λ r. r.items) inheritance.forest.declared.items) },
 }
 
 fn all_keys<K: Copy + Drop>(alloc: Global, rows: &[&[K]]) -> Result<Vec<K>, NoMemory>
@@ -97,13 +98,15 @@ impl<K: Eq + Hash + Copy + Drop> Inherited<K> {
         Ok(Inherited { keys, inheritance })
     }
 
-    /// The nearest declaration of a key, from a class on. An error where the class's bases do not end.
+    /// The nearest declaration of a key, from a class on. An error exactly where the class's bases do not end.
     pub fn nearest(&self, class: usize, key: K) -> Result<Option<Declared>, Endless>
-        ensures { IfOk result (λ found. option_map (λ d. (d.class, d.place)) found ≡ nearest_from self.now.inheritance.forest (number_in K.eq self.now.keys key) self.now.inheritance.forest.most (Some class)) }
+        ensures found { IfOk result (λ found. option_map (λ d. (d.class, d.place)) found ≡ nearest_from self.now.inheritance.forest (number_in K.eq self.now.keys key) self.now.inheritance.forest.most (Some class)) }
+        ensures ended { OnOk result (Ends self.now.inheritance.forest.bases.items self.now.inheritance.forest.most class) }
+        ensures endless { OnErr result (¬ Ends self.now.inheritance.forest.bases.items self.now.inheritance.forest.most class) }
     {
         self.inheritance.nearest(class, number_of(&self.keys, key))
     }
-    /// The same for each class. Only where its bases are not seen to end are they gone along.
+    /// The same for each class. Only where its bases do not end are they gone along.
     pub fn find(&self, class: usize, key: K) -> Option<Declared>
         ensures { option_map (λ d. (d.class, d.place)) result ≡ nearest_from self.now.inheritance.forest (number_in K.eq self.now.keys key) self.now.inheritance.forest.most (Some class) }
     {

@@ -1,7 +1,7 @@
 // What the references of a tree find, by numbers.
 
-ghost use Rattle.std.specs.Prelude.{◌≡◌, [], IfOk, map, option_map, Some, true};
-ghost use Rattle.inheritance.specs.Lines.{base_in, line_within, Ends};
+ghost use Rattle.std.specs.Prelude.{◌≡◌, ◌↔◌, [], IfOk, IsTrue, map, option_map, Some, true};
+ghost use Rattle.inheritance.specs.Lines.{base_in, line_within};
 ghost use Rattle.std.specs.List.{cons_option};
 ghost use Rattle.cil_model.specs.Bodies.{virtual_reference, constructor_reference};
 ghost use Rattle.cil_model.specs.Chains.{find_field, find_method, longest_chain};
@@ -9,7 +9,7 @@ ghost use Rattle.inheritance.specs.Ledgers.{pair_of};
 ghost use Rattle.name_tables.specs.BuiltInTable.{built_in_entry};
 ghost use Rattle.cil_model.specs.Declarations.{built_ins};
 ghost use Rattle.name_tables.specs.Keys.{class_of_key, field_of_key, called_of_key, reference_of_keys};
-ghost use Rattle.name_tables.specs.Members.{base_numbers, field_key_number, call_key_number, field_place, call_place, IsMemberTable};
+ghost use Rattle.name_tables.specs.Members.{base_numbers, field_key_number, call_key_number, field_place, call_place, EndsIn, IsMemberTable};
 ghost use Rattle.name_tables.specs.Numbers.{chain_numbers, nearest_number, place_in, field_at, method_at, field_number, method_number, class_number};
 ghost use Rattle.name_tables.specs.Sameness.{same_field, same_called, called_of};
 
@@ -89,9 +89,9 @@ impl<'a> NameTables<'a> {
         }
     }
 
-    /// Whether the bases of a class are seen to end.
+    /// Whether the bases of a class end.
     pub fn ends(&self, class: usize) -> bool
-        ensures { result ≡ true → Ends (base_numbers self.now.classes.tree.now) (longest_chain self.now.classes.tree.now) class }
+        ensures { IsTrue result ↔ EndsIn self.now.classes.tree.now class }
     {
         self.fields.inheritance.ends(class)
     }

@@ -1,12 +1,13 @@
 // The methods that classes have and inherit by name and signature, whether they are static or not: all, and the virtual ones.
 
-ghost use Rattle.std.specs.Prelude.{◌≡◌, IfOk, Some, false, [], is_none, is_some, map, option_map, slice_get, slice_index_or, ℕ};
+ghost use Rattle.std.specs.Prelude.{◌≡◌, ◌≢◌, ◌<◌, IfOk, OnErr, OnOk, Some, true, false, [], is_none, is_some, length, map, nat_lt, option_map, slice_get, slice_index_or, ℕ};
 ghost use Rattle.std.specs.List.{list_all};
+ghost use Rattle.inheritance.specs.Lines.{Ends};
 ghost use Rattle.inheritance.specs.Ledgers.{nearest_from};
 ghost use Rattle.inheritance.specs.Marked.{is_marked};
 ghost use Rattle.name_tables.specs.Entries.{declaration_in};
 ghost use Rattle.name_tables.specs.Keys.{method_of_key};
-ghost use Rattle.name_tables.specs.Members.{IsMemberTable};
+ghost use Rattle.name_tables.specs.Members.{base_numbers, EndsIn, IsMemberTable};
 ghost use Rattle.name_tables.specs.Methods.{method_key_number, method_place, virtual_place, has_virtual, virtuals_of, line_of, methods_at, AreNumbers};
 ghost use Rattle.name_tables.specs.Numbers.{nearest_number};
 ghost use Rattle.name_tables.specs.Sameness.{MethodIdentity, identity_of};
@@ -135,26 +136,30 @@ fn all_numbers<'a>(
     Ok(declared)
 }
 
-/// Whether a class from one on declares a virtual method of this number. An error where its bases are not seen to end.
+/// Whether a class from one on declares a virtual method of this number. An error exactly where its bases do not end.
 fn finds(overridable: &Inherited<MethodKey>, class: usize, number: usize) -> Result<bool, Endless>
-    ensures { IfOk result (λ found. found ≡ is_some (nearest_from overridable.now.inheritance.forest number overridable.now.inheritance.forest.most (Some class))) }
+    requires { number < overridable.now.inheritance.forest.keys }
+    ensures found { IfOk result (λ found. found ≡ is_some (nearest_from overridable.now.inheritance.forest number overridable.now.inheritance.forest.most (Some class))) }
+    ensures ended { OnOk result (Ends overridable.now.inheritance.forest.bases.items overridable.now.inheritance.forest.most class) }
+    ensures endless { OnErr result (¬ Ends overridable.now.inheritance.forest.bases.items overridable.now.inheritance.forest.most class) }
 {
-    if number >= overridable.inheritance.forest.keys {
-        return Err(Endless);
-    }
     match overridable.inheritance.nearest(class, number) {
         Ok(found) => Ok(found.is_some()),
         Err(Endless) => Err(Endless),
     }
 }
 
-/// The first of these numbers of which no class from one on declares a virtual method. An error where its bases are not seen to end.
+/// The first of these numbers of which no class from one on declares a virtual method. An error exactly where its bases do not end and
+/// there is such a number.
 fn first_missing(
     overridable: &Inherited<MethodKey>,
     class: usize,
     numbers: &[usize],
 ) -> Result<Option<usize>, Endless>
-    ensures { IfOk result (λ place. is_none place ≡ list_all (λ n. is_some (nearest_from overridable.now.inheritance.forest n overridable.now.inheritance.forest.most (Some class))) numbers.now) }
+    requires { list_all (λ n. nat_lt n overridable.now.inheritance.forest.keys) numbers.now ≡ true }
+    ensures found { IfOk result (λ place. is_none place ≡ list_all (λ n. is_some (nearest_from overridable.now.inheritance.forest n overridable.now.inheritance.forest.most (Some class))) numbers.now) }
+    ensures ended { OnOk result (0 < length numbers.now → Ends overridable.now.inheritance.forest.bases.items overridable.now.inheritance.forest.most class) }
+    ensures endless { OnErr result (¬ Ends overridable.now.inheritance.forest.bases.items overridable.now.inheritance.forest.most class) }
 {
     for place in 0..numbers.len() {
         if !finds(overridable, class, numbers[place])? {
@@ -180,9 +185,11 @@ impl<'t, 'a> MethodTables<'t, 'a> {
         })
     }
 
-    /// The nearest method of this name and signature, from a class on through its bases. An error where they are not seen to end.
+    /// The nearest method of this name and signature, from a class on through its bases. An error exactly where they do not end.
     pub fn nearest(&self, class: usize, key: MethodKey) -> Result<Option<MemberNumber>, Endless>
-        ensures { IfOk result (λ found. option_map (λ m. (m.class, m.place)) found ≡ nearest_number (method_place self.now.names.now.classes.tree.now (method_of_key key.entry)) (line_of self.now.names.now.classes.tree.now (Some class))) }
+        ensures found { IfOk result (λ found. option_map (λ m. (m.class, m.place)) found ≡ nearest_number (method_place self.now.names.now.classes.tree.now (method_of_key key.entry)) (line_of self.now.names.now.classes.tree.now (Some class))) }
+        ensures ended { OnOk result (EndsIn self.now.names.now.classes.tree.now class) }
+        ensures endless { OnErr result (¬ EndsIn self.now.names.now.classes.tree.now class) }
     {
         match self.all.nearest(class, key) {
             Ok(found) => Ok(member_number(found)),
@@ -190,10 +197,12 @@ impl<'t, 'a> MethodTables<'t, 'a> {
         }
     }
 
-    /// Whether a class, or one of its bases, declares a virtual method of this name and signature. An error where its bases are not
-    /// seen to end.
+    /// Whether a class, or one of its bases, declares a virtual method of this name and signature. An error exactly where its bases
+    /// do not end.
     pub fn has_virtual(&self, class: usize, key: MethodKey) -> Result<bool, Endless>
-        ensures { IfOk result (λ found. found ≡ is_some (nearest_number (virtual_place self.now.names.now.classes.tree.now (method_of_key key.entry)) (line_of self.now.names.now.classes.tree.now (Some class)))) }
+        ensures found { IfOk result (λ found. found ≡ is_some (nearest_number (virtual_place self.now.names.now.classes.tree.now (method_of_key key.entry)) (line_of self.now.names.now.classes.tree.now (Some class)))) }
+        ensures ended { OnOk result (EndsIn self.now.names.now.classes.tree.now class) }
+        ensures endless { OnErr result (¬ EndsIn self.now.names.now.classes.tree.now class) }
     {
         match self.overridable.nearest(class, key) {
             Ok(found) => Ok(member_number(found).is_some()),
@@ -212,18 +221,26 @@ impl<'t, 'a> MethodTables<'t, 'a> {
     }
 
     /// The place of the first method of an interface of whose name and signature no class from one on declares a virtual method. An
-    /// error where the class's bases are not seen to end.
+    /// error exactly where the class's bases do not end and the interface declares a method.
     pub fn first_absent(&self, interface: usize, class: usize) -> Result<Option<usize>, Endless>
-        ensures { IfOk result (λ place. is_none place ≡ list_all (λ m. is_some (nearest_number (virtual_place self.now.names.now.classes.tree.now (identity_of m)) (line_of self.now.names.now.classes.tree.now (Some class)))) (methods_at self.now.names.now.classes.tree.now interface)) }
+        ensures found { IfOk result (λ place. is_none place ≡ list_all (λ m. is_some (nearest_number (virtual_place self.now.names.now.classes.tree.now (identity_of m)) (line_of self.now.names.now.classes.tree.now (Some class)))) (methods_at self.now.names.now.classes.tree.now interface)) }
+        ensures ended { OnOk result (methods_at self.now.names.now.classes.tree.now interface ≢ [] → EndsIn self.now.names.now.classes.tree.now class) }
+        ensures endless { OnErr result (¬ EndsIn self.now.names.now.classes.tree.now class) }
     {
         let numbers = self.numbers_at(interface);
-        Ok(first_missing(&self.overridable, class, numbers)?)
+        match first_missing(&self.overridable, class, numbers) {
+            Ok(place) => Ok(place),
+            Err(Endless) => Err(Endless),
+        }
     }
 
     /// Of each class, whether the nearest method of some name and signature is marked, by its class and place; so it is said too where
-    /// the class's bases are not seen to end. Fails for want of memory alone.
+    /// the class's bases do not end. Fails for want of memory alone.
     pub fn finds_marked(&self, alloc: Global, marks: &[Vec<bool>]) -> Result<Vec<bool>, NoMemory>
-        ensures { IfOk result (λ found. (class : ℕ) (k : MethodIdentity) → slice_get found.items class ≡ Some false → is_marked (map (λ v. v.items) marks.now) (nearest_number (method_place self.now.names.now.classes.tree.now k) (line_of self.now.names.now.classes.tree.now (Some class))) ≡ false) }
+        ensures width { IfOk result (λ found. length found.items ≡ length (base_numbers self.now.names.now.classes.tree.now)) }
+        ensures marked { IfOk result (λ found. (class : ℕ) → slice_get found.items class ≡ Some true → EndsIn self.now.names.now.classes.tree.now class → (k : MethodIdentity) × (is_marked (map (λ v. v.items) marks.now) (nearest_number (method_place self.now.names.now.classes.tree.now k) (line_of self.now.names.now.classes.tree.now (Some class))) ≡ true)) }
+        ensures unmarked { IfOk result (λ found. (class : ℕ) (k : MethodIdentity) → slice_get found.items class ≡ Some false → is_marked (map (λ v. v.items) marks.now) (nearest_number (method_place self.now.names.now.classes.tree.now k) (line_of self.now.names.now.classes.tree.now (Some class))) ≡ false) }
+        ensures ended { IfOk result (λ found. (class : ℕ) → slice_get found.items class ≡ Some false → EndsIn self.now.names.now.classes.tree.now class) }
     {
         let found = self.all.inheritance.finds_marked(alloc, marks)?;
         Ok(found)

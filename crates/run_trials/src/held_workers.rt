@@ -5,12 +5,12 @@ use cil_model::events::Event;
 use cil_model::memory::NoMemory;
 use cil_model::phases::Phase;
 use cil_model::reports::Report;
-use source_runs::{Failure, Gate, Machine, Outcome, Run, open, run_threads};
 use std::alloc::Global;
 use std::sync::Wait;
 use std::sync::atomic::AtomicU64;
 use std::sync::atomic::Ordering::SeqCst;
 use std::thread::{Threads, yield_now};
+use threaded_runs::{Failure, Gate, Machine, Run, open, run_threads};
 
 /// The first thread starts another one, in its first 20 steps, and then both go round until their budgets end them.
 static ROUND: &str = ".assembly extern mscorlib {} .assembly extern cilvm {}
@@ -145,15 +145,15 @@ struct Meanwhile {
 const NOTHING: Meanwhile = Meanwhile { steps: 0, waits: 0 };
 
 impl Meanwhile {
-    /// With one more event of the other worker.
-    fn and(self, event: Event, report: Report) -> Meanwhile {
-        match (event, report) {
+    /// With equal events of the other worker.
+    fn and(self, run: &Run) -> Meanwhile {
+        match (run.entry.event, run.entry.report) {
             (Event::Step(_), _) => Meanwhile {
-                steps: self.steps.wrapping_add(1),
+                steps: self.steps.saturating_add(run.times),
                 ..self
             },
             (Event::Gc, Report::Waiting) => Meanwhile {
-                waits: self.waits.wrapping_add(1),
+                waits: self.waits.saturating_add(run.times),
                 ..self
             },
             (Event::Gc, _) => Meanwhile { waits: 0, ..self },
@@ -172,30 +172,46 @@ impl Meanwhile {
     }
 }
 
-/// The phase that was posted as a worker was let go, where the other one went on for long meanwhile and the collector came to wait, to the
-/// end of that time. The machine is at the beginning of the run.
-fn phase_waited_for(
-    alloc: Global,
-    mut machine: Machine,
-    outcome: &Outcome,
-    held: u8,
-) -> Result<Option<Phase>, Failure> {
+/// How many runs of equal events there were as the held worker was let go, where the other one went on for long meanwhile and the collector
+/// came to wait, to the end of that time.
+fn let_go(runs: &[Run], held: u8) -> Option<usize> {
     let mut meanwhile = NOTHING;
-    for run in outcome.history.runs() {
-        if run.entry.worker == held {
-            if meanwhile.is_long() {
-                return Ok(meanwhile.waits_to_its_end().then_some(machine.posted()));
-            }
+    for (place, run) in runs.iter().enumerate() {
+        if run.entry.worker != held {
+            meanwhile = meanwhile.and(run);
+        } else if meanwhile.is_long() {
+            return meanwhile.waits_to_its_end().then_some(place);
+        } else {
             meanwhile = NOTHING;
         }
-        for _ in 0..run.times {
-            let report = machine.step(alloc, run.entry.event)?;
-            if run.entry.worker != held {
-                meanwhile = meanwhile.and(run.entry.event, report);
-            }
-        }
     }
-    Ok(None)
+    None
+}
+
+/// Does an event so often.
+fn step_often(
+    alloc: Global,
+    machine: &mut Machine,
+    event: Event,
+    times: u64,
+) -> Result<(), NoMemory> {
+    for _ in 0..times {
+        machine.step(alloc, event)?;
+    }
+    Ok(())
+}
+
+/// The phase that is posted behind so many runs of equal events. The machine is at their beginning.
+fn posted_behind(
+    alloc: Global,
+    mut machine: Machine,
+    runs: &[Run],
+    count: usize,
+) -> Result<Phase, NoMemory> {
+    for run in runs.iter().take(count) {
+        step_often(alloc, &mut machine, run.entry.event, run.times)?;
+    }
+    Ok(machine.posted())
 }
 
 /// Runs two threads by two workers, one of which is held at a pass, and answers the phase for whose acknowledgement the collector waited
@@ -208,13 +224,14 @@ fn phase_of_held(
 ) -> Result<Option<Phase>, Failure> {
     let gate = HoldsOne::new(held, pass);
     let outcome = run_threads(threads, alloc, ROUND.as_bytes(), ROOM, 2, &gate)?;
-    let (machine, _) = open(alloc, ROUND.as_bytes(), ROOM, b"")?;
-    let phase = phase_waited_for(alloc, machine, &outcome, held)?;
-    Ok(if gate.late.load(SeqCst) == 0 {
-        phase
-    } else {
-        None
-    })
+    let runs = outcome.history.runs();
+    match let_go(runs, held) {
+        Some(count) if gate.late.load(SeqCst) == 0 => {
+            let (machine, _) = open(alloc, ROUND.as_bytes(), ROOM, b"")?;
+            Ok(Some(posted_behind(alloc, machine, runs, count)?))
+        }
+        _ => Ok(None),
+    }
 }
 
 /// The phases for which the collector waited while a worker was held, one a run, each at another pass. None where it did not wait.

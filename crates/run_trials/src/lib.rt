@@ -5,4 +5,5 @@ mod held_workers;
 mod library_runs;
 mod worker_runs;
 
+pub use call_trials::{Call, LIMITS, SUM, calls};
 pub use library_runs::run_calls;

@@ -1,9 +1,7 @@
 -- What an answer says, where it is known.
-use Rattle.std.proofs.Common.{◌≡◌, List, sym, subst}
-use Rattle.cil_model.specs.declared.events.Event.{Event}
+use Rattle.std.proofs.Common.{◌≡◌, sym, subst}
 use Rattle.cil_model.specs.declared.reports.Report.{Report}
 use Rattle.interleaving_core.specs.simulation.MachineContents.{Content}
-use Rattle.interleaving_core.specs.simulation.Runs.{FollowsReference}
 use Rattle.shared_machine.specs.declared.answer.Answer.{Answer}
 use Rattle.shared_machine.specs.declared.answer.Answer.TheVariants.{Did, NoMemory}
 use Rattle.shared_machine.specs.Worlds.{IfDid}
@@ -14,7 +12,6 @@ did_is a r is P h = subst (λ x. IfDid x P) (sym is) h
 pub nothing_did : (a : Answer) → a ≡ NoMemory → (P : Report → Type 0) → IfDid a P
 nothing_did a is P = subst (λ x. IfDid x P) (sym is) tt
 
--- the reference machine follows from the same content to the same one
-pub follows_at : (one one' two two' : Content) (done : List (Event × Report)) → one ≡ one' → two' ≡ two → FollowsReference one two done → FollowsReference one' two' done
-follows_at one one' two two' done same same' follows =
-    subst (λ x. FollowsReference x two' done) same (subst (λ x. FollowsReference one x done) (sym same') follows)
+-- what is true of two contents is true of the same ones
+pub related_at : (R : Content → Content → Type 0) (one one' two two' : Content) → one ≡ one' → two' ≡ two → R one two → R one' two'
+related_at R one one' two two' same same' related = subst (λ x. R x two') same (subst (R one) (sym same') related)

@@ -13,6 +13,7 @@ use Rattle.cil_model.specs.declared.reports.Report.{Report}
 use Rattle.interleaving_core.specs.simulation.MachineContents.{Content}
 use Rattle.interleaving_core.specs.simulation.Runs.{AreTurns}
 use Rattle.interleaving_core.specs.simulation.Turns.{IsTurn}
+use Rattle.interleaving_core.proofs.Doing.{does_more}
 use Rattle.interleaving_core.proofs.Following.{turns_follow, turns_length, turns_more, turns_program}
 use Rattle.shared_machine.specs.Codes.{add}
 use Rattle.shared_machine.specs.Histories.{IsSmall, plain, entry, events_of, reports_of, add_if, counted, count_of}
@@ -54,6 +55,7 @@ has_run o core h turns =
       each = turns_length o core (events_of h) (reports_of h) turns;
       turns = turns;
       follows = turns_follow o core (events_of h) (reports_of h) turns;
+      does = does_more o core (events_of h) (reports_of h) turns;
       program = same.0;
       limits = same.1;
     }

@@ -4,6 +4,7 @@ use Rattle.std.specs.List.{zip}
 use Rattle.cil_model.specs.declared.events.Event.{Event}
 use Rattle.cil_model.specs.declared.reports.Report.{Report}
 use Rattle.object_memory.specs.Objects.{no_objects}
+use Rattle.interleaving_core.specs.Histories.{DoesMore}
 use Rattle.interleaving_core.specs.simulation.MachineContents.{Content}
 use Rattle.interleaving_core.specs.simulation.collector.Phases.{no_progress}
 use Rattle.interleaving_core.specs.simulation.phase_handshake.Handshakes.{first_handshakes}
@@ -44,11 +45,13 @@ pub record IsSound (opening : Content) (workers : ℕ) (core : Content) (history
   pub each : length book ≡ workers
   pub counts : (w n : ℕ) → slice_get book w ≡ Some n → n ≡ count_of w history
 
--- a machine has made these turns, one report an event; the reference machine follows them; program and limits are the same
+-- a machine has made these turns, one report an event; the reference machine follows them; whatever the machine had done before, it has then done these
+-- events too; program and limits are the same
 pub record HasRun (opening : Content) (events : List Event) (reports : List Report) (after : Content) : Type 0 where
   pub each : length reports ≡ length events
   pub turns : AreTurns opening events after reports
   pub follows : FollowsReference opening after (zip events reports)
+  pub does : DoesMore opening events reports after
   pub program : after.tree ≡ opening.tree
   pub limits : after.limits ≡ opening.limits
 

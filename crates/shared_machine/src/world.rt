@@ -1,6 +1,7 @@
 //! What lies under the lock, and one event on it.
 
 ghost use Rattle.std.specs.Prelude.{◌≡◌, ℕ, [], ◌∷◌, Some, length, slice_get, slice_set, true, false, All};
+ghost use Rattle.interleaving_core.specs.Histories.{DoesMore};
 ghost use Rattle.interleaving_core.specs.simulation.Runs.{FollowsReference};
 ghost use Rattle.shared_machine.specs.Codes.{add};
 ghost use Rattle.shared_machine.specs.Histories.{AreOf, IsSmall, events_of, reports_of};
@@ -79,7 +80,10 @@ fn thread_is_a_byte(event: Event)
 
 /// Does an event for the ticket's worker, and answers the machine's report. It waits for nobody.
 ///
-/// The reference machine does the same, with a birth refused exactly where it exceeds the room. The history has one entry more, the worker's count in the book and the ticket has that entry, and the stop mark stays as it was.
+/// The reference machine does the same, with a birth refused exactly where it exceeds the room. Whatever the machine has done since it was made, it has then done
+/// this event too: no cycle of the collector had more working events than its bound, and where this event ends a cycle, no more words are in use than are owed.
+///
+/// The history has one entry more, the worker's count in the book and the ticket has that entry, and the stop mark stays as it was.
 /// Want of memory, for the entry or for what the event prints or starts, changes nothing.
 pub fn perform<M: Opening>(
     world: &mut World<M>,
@@ -89,6 +93,7 @@ pub fn perform<M: Opening>(
 ) -> Answer
     ensures did { IfDid result (IsDid world.old ticket.old event world.new) }
     ensures follows { IfDid result (λ report. FollowsReference world.old.core world.new.core ((event, report) ∷ [])) }
+    ensures does { IfDid result (λ report. DoesMore world.old.core (event ∷ []) (report ∷ []) world.new.core) }
     ensures counted { IfDid result (λ report. ticket.new ≡ added ticket.old event report) }
     ensures same { IfNoMemory result ((world.new ≡ world.old) × (ticket.new ≡ ticket.old)) }
     ensures small { IsSmall event }

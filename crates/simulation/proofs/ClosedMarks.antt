@@ -1,5 +1,5 @@
 -- Where marking is closed, all is marked that frames and static fields reach.
-use Rattle.std.proofs.Common.{◌≡◌, ℕ, true, Some, subst}
+use Rattle.std.proofs.Common.{◌≡◌, true, subst}
 use Rattle.interpreter.specs.cil_model.declared.phases.Phase.{Phase}
 use Rattle.interpreter.specs.cil_model.declared.phases.Phase.TheVariants.{Mark}
 use Rattle.interpreter.specs.object_memory.declared.addresses.Addr.{Addr}

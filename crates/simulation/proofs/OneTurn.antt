@@ -1,5 +1,5 @@
 -- In a legal tree an event has one turn: a list of events brings a machine to one content, with one list of reports.
-use Rattle.std.proofs.Common.{◌≡◌, ◌∷◌, [], List, Some, None, Option, slice_get, ℕ, refl, sym, ap, ◌∙◌, subst}
+use Rattle.std.proofs.Common.{◌≡◌, List, Some, None, Option, slice_get, ℕ, sym, ap, ◌∙◌, subst}
 use Rattle.std.proofs.lemmas.Option.{same_Some}
 use Rattle.interpreter.specs.cil_model.declared.events.Event.{Event}
 use Rattle.interpreter.specs.cil_model.declared.events.Event.TheVariants.{Step, Ack, Gc}

@@ -1,2 +1,2 @@
-pub use Rattle.workers.proofs.shared_machine.simulation as simulation
+pub use Rattle.shared_machine.proofs.simulation as simulation
 pub mod RunLemmas

@@ -1,27 +1,23 @@
 -- What an error that a `?` hands on is, and what a machine that was made and run shows of its source.
-use Rattle.std.proofs.Common.{◌≡◌, ◌↔◌, ◌<◌, nat_le, ℕ, Bool, true, false, List, Some, Result, Ok, Err, refl, sym, ◌∙◌, subst, arith, inl, inr}
+use Rattle.std.proofs.Common.{◌≡◌, ◌↔◌, ◌<◌, nat_le, ℕ, Bool, true, false, List, [], Result, Ok, Err, refl, sym, ◌∙◌, subst, arith, inl, inr}
 use Rattle.std.proofs.lemmas.Bool.{and_parts}
 use Rattle.std.proofs.lemmas.Bool.Decides.{nat_tests}
 use Rattle.std.specs.Prelude.{IfErr, IfOk, IsErrAnd, OnErr}
-use Rattle.workers.proofs.shared_machine.simulation.StandsLaws.{stands_after}
-use Rattle.workers.proofs.shared_machine.interleaving_core.step_simulation.CycleWork.{cycles_bounded}
-use Rattle.workers.proofs.shared_machine.interleaving_core.step_simulation.OwedRuns.{leaves_owed}
-use Rattle.workers.proofs.shared_machine.interleaving_core.step_simulation.Whole.{each_alike}
+use Rattle.shared_machine.proofs.interleaving_core.step_simulation.CycleWork.{cycles_bounded}
+use Rattle.shared_machine.proofs.interleaving_core.step_simulation.OwedRuns.{leaves_owed}
+use Rattle.shared_machine.proofs.interleaving_core.step_simulation.Whole.{each_alike}
 use Rattle.cil_model.specs.Legality.{IsLegal}
-use Rattle.workers.specs.shared_machine.simulation.MachineContents.{Content}
-use Rattle.workers.specs.shared_machine.simulation.Runs.{StandsAfter}
-use Rattle.workers.specs.shared_machine.simulation.StandsFor.{Represents}
-use Rattle.workers.specs.shared_machine.simulation.Turns.{opening_content}
-use Rattle.workers.specs.shared_machine.Worlds.{HasRun as Ran}
+use Rattle.shared_machine.specs.interleaving_core.Histories.{HasDone}
+use Rattle.shared_machine.specs.simulation.MachineContents.{Content}
+use Rattle.shared_machine.specs.simulation.Runs.{StandsAfter}
+use Rattle.shared_machine.specs.Worlds.{HasRun as Ran}
 use Rattle.cil_model.specs.Ranges.{are_in_range}
-use Rattle.reference_machine.specs.Runs.{opening}
 use Rattle.cil_model.specs.Sources.{HasTree, IsAnswer}
-use Rattle.reference_machine.specs.States.{State}
 use Rattle.cil_model.specs.declared.events.Event.{Event}
 use Rattle.cil_model.specs.declared.limits.Limits.{Limits}
 use Rattle.cil_model.specs.declared.reports.Report.{Report}
 use Rattle.cil_model.specs.declared.trees.Tree.{Tree}
-use Rattle.workers.specs.shared_machine.interleaving_core.declared.machine.Refused.TheVariants.{Limits as BadLimits}
+use Rattle.shared_machine.specs.interleaving_core.declared.machine.Refused.TheVariants.{Limits as BadLimits}
 use Rattle.cil_model.specs.Typings.{IsAccepted}
 use Rattle.verifier.specs.Verdicts.{IsVerdict}
 use Rattle.verifier.specs.declared.refusals.VerifyError.{VerifyError}
@@ -76,12 +72,11 @@ run_of tree limits events reports c accepted in_range stands = record {
   leaves = leaves_owed each_alike tree accepted limits in_range events reports c stands;
 }
 
--- a machine that one worker ran from its beginning
-pub ran : (tree : Tree) (limits : Limits) (m d : Content) (events : List Event) (reports : List Report) → are_in_range limits ≡ true
-    → opening_content tree limits ≡ Some m → (s : State) × (opening tree limits ≡ Some s) × Represents m s → m.tree ≡ tree → m.limits ≡ limits → Ran m events reports d → IsRun tree limits events reports d
-ran tree limits m d events reports in_range opened first same_tree same_limits run =
-    run_of tree limits events reports d (subst IsAccepted same_tree first.2.accepted) in_range
-    (stands_after tree limits m d events reports first.0 first.1 opened first.2 same_tree same_limits run.limits (some_budget limits in_range) run.each run.follows)
+-- a machine that ran from its beginning
+pub ran : (tree : Tree) (limits : Limits) (m d : Content) (events : List Event) (reports : List Report) → HasDone tree limits [] [] m → Ran m events reports d → IsRun tree limits events reports d
+ran tree limits m d events reports made run =
+    let all = run.does tree limits [] [] made in
+    record { in_range = all.in_range; stands = all.stands; bounded = all.bounded; leaves = all.leaves }
 
 -- a machine that stands after events shows a run to its state
 pub comes_to : (source : List ℕ) (tree : Tree) (limits : Limits) (events : List Event) (reports : List Report) (c : Content) → IsAcceptedSource source tree → are_in_range limits ≡ true

@@ -15,9 +15,9 @@ use Rattle.metadata.specs.declared.program.MetaError.TheVariants.{OutOfMemory as
 use Rattle.verifier.specs.Numbers.{typing_number_of}
 use Rattle.verifier.specs.declared.refusals.VerifyError.{VerifyError}
 use Rattle.verifier.specs.declared.refusals.VerifyError.TheVariants.{OutOfMemory as UnverifiedForMemory}
-use Rattle.workers.specs.shared_machine.interleaving_core.Refusals.{number_of as making_number_of}
-use Rattle.workers.specs.shared_machine.interleaving_core.declared.machine.Refused.{Refused as NotMade}
-use Rattle.workers.specs.shared_machine.interleaving_core.declared.machine.Refused.TheVariants.{OutOfMemory as NotMadeForMemory}
+use Rattle.shared_machine.specs.interleaving_core.Refusals.{number_of as making_number_of}
+use Rattle.shared_machine.specs.interleaving_core.declared.machine.Refused.{Refused as NotMade}
+use Rattle.shared_machine.specs.interleaving_core.declared.machine.Refused.TheVariants.{OutOfMemory as NotMadeForMemory}
 use Rattle.schedule_text.specs.Errors.{number_of as schedule_number_of}
 use Rattle.schedule_text.specs.declared.errors.ScheduleError.{ScheduleError}
 use Rattle.schedule_text.specs.declared.errors.ScheduleError.TheVariants.{OutOfMemory as UnscheduledForMemory}

@@ -1,11 +1,11 @@
 -- What comes of a source by a list of events: it is accepted and run, or why not (this profile).
 use Rattle.std.specs.Prelude.{◌≡◌, ◌≢◌, ◌⊎◌, ℕ, true, false, List, Some, Err}
 use Rattle.std.specs.List.{zip}
-use Rattle.workers.specs.shared_machine.simulation.Budgets.{AreWithinBudget}
+use Rattle.shared_machine.specs.simulation.Budgets.{AreWithinBudget}
 use Rattle.cil_model.specs.Ranges.{are_in_range}
 use Rattle.cil_model.specs.Sources.{HasTree, IsAnswer}
-use Rattle.workers.specs.shared_machine.simulation.StandsFor.{Represents}
-use Rattle.workers.specs.shared_machine.simulation.Turns.{opening_content}
+use Rattle.shared_machine.specs.simulation.StandsFor.{Represents}
+use Rattle.shared_machine.specs.simulation.Turns.{opening_content}
 use Rattle.reference_machine.specs.Runs.{opening}
 use Rattle.cil_model.specs.declared.events.Event.{Event}
 use Rattle.cil_model.specs.declared.limits.Limits.{Limits}
@@ -13,8 +13,8 @@ use Rattle.cil_model.specs.declared.trees.Tree.{Tree}
 use Rattle.ilasm_reader.specs.Answers.{IsReadAnswer}
 use Rattle.ilasm_reader.specs.declared.reading.ReadError.{ReadError}
 use Rattle.cil_model.specs.Legality.{IsLegal, least_broken}
-use Rattle.workers.specs.shared_machine.simulation.Owed.{AreCyclesBounded, LeavesWhatIsOwed}
-use Rattle.workers.specs.shared_machine.simulation.Runs.{IsRunOf, StandsAfter}
+use Rattle.shared_machine.specs.simulation.Owed.{AreCyclesBounded, LeavesWhatIsOwed}
+use Rattle.shared_machine.specs.simulation.Runs.{IsRunOf, StandsAfter}
 use Rattle.reference_machine.specs.States.{State}
 use Rattle.cil_model.specs.Typings.{IsAccepted}
 use Rattle.cil_model.specs.declared.reports.Report.{Report}
@@ -23,8 +23,8 @@ use Rattle.metadata.specs.declared.program.MetaError.{MetaError}
 use Rattle.metadata.specs.declared.program.MetaError.TheVariants.{OutOfMemory as NoMemoryForNames}
 use Rattle.verifier.specs.Verdicts.{IsVerdict}
 use Rattle.verifier.specs.declared.refusals.VerifyError.{VerifyError}
-use Rattle.workers.specs.shared_machine.simulation.MachineContents.{Content}
-use Rattle.workers.specs.shared_machine.interleaving_core.declared.machine.Refused.TheVariants.{Limits as BadLimits}
+use Rattle.shared_machine.specs.simulation.MachineContents.{Content}
+use Rattle.shared_machine.specs.interleaving_core.declared.machine.Refused.TheVariants.{Limits as BadLimits}
 use Rattle.schedule_text.specs.Items.{words}
 use Rattle.schedule_text.specs.Readings.{AreRead, IsFirstFault}
 use Rattle.schedule_text.specs.declared.errors.ScheduleError.{ScheduleError}

@@ -15,11 +15,11 @@ use itoa::Buffer;
 use metadata::MetaError;
 use outputs::{NotWritten, Output};
 use schedule_text::ScheduleError;
+use shared_machine::Refused;
 use std::alloc::AllocError;
 use std::io;
 use std::io::ErrorKind;
 use verifier::VerifyError;
-use workers::Refused;
 
 /// Why an order was not carried out.
 #[derive(Clone, Copy, Debug, PartialEq, Eq)]

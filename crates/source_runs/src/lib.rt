@@ -4,11 +4,7 @@
 mod failure;
 pub mod laws;
 mod running;
-mod threaded;
 
 pub use failure::{Failure, report, status_of_failure, tell};
 pub use running::{accept, open, run_events, run_source};
-pub use threaded::run_threads;
-pub use workers::{
-    Answer, Gate, History, Machine, OpenGate, Opening, Outcome, Run, Shared, stop, write_record,
-};
+pub use shared_machine::{Answer, History, Machine, Opening, Outcome, Run, Shared, stop};

@@ -1,7 +1,7 @@
 //! From the bytes of a source to what its run leaves.
 
 ghost use Rattle.std.specs.Prelude.{◌≡◌, IfErr, IfOk};
-ghost use Rattle.workers.specs.shared_machine.Histories.{events_of, reports_of};
+ghost use Rattle.shared_machine.specs.Histories.{events_of, reports_of};
 ghost use Rattle.source_runs.specs.Runs.{HasRunTo, IsAcceptedSource, IsNotAccepted};
 ghost use Rattle.source_runs.specs.Runs.{IsNotRun, IsNotRunBy, IsNotRunWithin, IsReady, IsRun, IsRunBy};
 
@@ -10,12 +10,12 @@ use cil_model::events::Event;
 use cil_model::limits::Limits;
 use class_layout::lay_out;
 use schedule_text::read_schedule;
+use shared_machine::{Machine, Outcome, run_alone};
 use std::alloc::Global;
 use std::marker::Brand;
 use std::sync::Wait;
 use verifier::{Verified, verify};
 use worker_counts::Blank;
-use workers::{Machine, Outcome, run_alone};
 
 /// Runs a source by the events that a schedule's text writes, as `run_events` runs a list of them.
 ///

@@ -1,5 +1,5 @@
 -- In a run each cycle of the collector has a bounded number of working events.
-use Rattle.std.proofs.Common.{◌≡◌, ◌⊎◌, inl, inr, ◌+◌, ◌*◌, ◌≤◌, ℕ, suc, Bool, true, false, if◌then◌else◌, IsTrue, List, [], ◌∷◌, ◌++◌, reverse, length, Option, Some, None, option_and_then, option_map, slice_get, refl, sym, ap, ◌∙◌, subst, append_assoc, append-nil, arith}
+use Rattle.std.proofs.Common.{◌≡◌, ◌+◌, ◌*◌, ◌≤◌, ℕ, suc, Bool, true, false, if◌then◌else◌, IsTrue, List, [], ◌∷◌, ◌++◌, reverse, length, Option, Some, None, option_and_then, option_map, slice_get, refl, sym, ap, ◌∙◌, subst, append_assoc, append-nil, arith}
 use Rattle.std.specs.List.{zip}
 use Rattle.std.proofs.lemmas.List.{reverse-append}
 use Rattle.std.proofs.lemmas.Option.{same_Some}
@@ -8,7 +8,6 @@ use Rattle.simulation.specs.cil_model.declared.events.Event.TheVariants.{Step, A
 use Rattle.simulation.specs.cil_model.declared.limits.Limits.{Limits}
 use Rattle.simulation.specs.cil_model.declared.phases.Phase.{Phase}
 use Rattle.simulation.specs.cil_model.declared.reports.Report.{Report}
-use Rattle.simulation.specs.cil_model.declared.reports.Report.TheVariants.{Ran, Blocked, Ended as HasEnded, Absent, Acked, NothingPosted, Worked, Waiting, CycleDone}
 use Rattle.simulation.specs.cil_model.declared.trees.Method.{Method}
 use Rattle.simulation.specs.cil_model.declared.trees.Tree.{Tree}
 use Rattle.simulation.specs.cil_model.declared.types.ClassName.{ClassName}
@@ -21,65 +20,23 @@ use Rattle.simulation.specs.reference_machine.Cycles.{ends_cycle, most_working, 
 use Rattle.simulation.specs.reference_machine.States.{State}
 use Rattle.simulation.specs.reference_machine.Values.{Value as StateValue}
 use Rattle.simulation.specs.reference_laws.TypedStates.{HaveFieldTypes}
-use Rattle.simulation.specs.interpreter.Instructions.{Answer}
 use Rattle.simulation.specs.collector.declared.progress.Progress.{Progress}
 use Rattle.simulation.specs.loaded_program.MethodNumbers.{number_of}
 use Rattle.simulation.specs.object_memory.declared.values.Value.{Value}
-use Rattle.simulation.specs.phase_handshake.Handshakes.{Handshakes, joined}
 use Rattle.simulation.specs.MachineContents.{Content}
 use Rattle.simulation.specs.Runs.{IsNext, IsRunOf, RefusesBeyondRoom}
 use Rattle.simulation.specs.StandsFor.{IsValue, Represents}
-use Rattle.simulation.specs.Turns.{IsTurn, content_at, left_by, opening_content, seats_after}
+use Rattle.simulation.specs.Turns.{IsTurn, content_at, opening_content}
 use Rattle.simulation.proofs.cil_model.Lists.{none_is_some}
 use Rattle.simulation.proofs.AgreeLaws.{agree_length}
 use Rattle.simulation.proofs.CollectorWork.{collector_takes}
 use Rattle.simulation.proofs.WorkLeft.{TakesWork, acknowledgement_leaves, cycle_work, grey_there, heap_matters, left_in, left_with, own_is_early, static_count, work_left}
-use Rattle.step_simulation.proofs.Finished.{HasBegun, IsFinished, finished_by, same_program, step_by}
+use Rattle.step_simulation.proofs.Finished.{same_program}
+use Rattle.step_simulation.proofs.KeptPosts.{KeepsCollector, step_keeps}
 use Rattle.step_simulation.proofs.OpeningContents.{opening_represents}
 use Rattle.step_simulation.proofs.Settling.{KeepsOwnRoom}
 use Rattle.step_simulation.proofs.Steps.{step_follows}
 use Rattle.step_simulation.proofs.Whole.{acknowledgement_keeps, collection_keeps, each_alike}
-
--- ---- what steps keep
-
--- the same phase and rounds are posted
-record KeepsPosts (h k : Handshakes) : Type 0 where
-  posted : k.posted ≡ h.posted
-  round : k.has_round ≡ h.has_round
-
--- a thread that ends leaves, and with any other report the seats stay
-seats_keep : (h : Handshakes) (t : ℕ) (r : Report) → KeepsPosts h (seats_after h t r)
-seats_keep h t (HasEnded e) = record { posted = refl; round = refl }
-seats_keep h t Ran = record { posted = refl; round = refl }
-seats_keep h t Blocked = record { posted = refl; round = refl }
-seats_keep h t Absent = record { posted = refl; round = refl }
-seats_keep h t Acked = record { posted = refl; round = refl }
-seats_keep h t NothingPosted = record { posted = refl; round = refl }
-seats_keep h t Worked = record { posted = refl; round = refl }
-seats_keep h t Waiting = record { posted = refl; round = refl }
-seats_keep h t CycleDone = record { posted = refl; round = refl }
-
-keeps_then : {h k l : Handshakes} → KeepsPosts h k → KeepsPosts k l → KeepsPosts h l
-keeps_then f g = record { posted = g.posted ∙ f.posted; round = g.round ∙ f.round }
-
--- and the collector is as far
-record KeepsCollector (c d : Content) : Type 0 where
-  posts : KeepsPosts c.posts d.posts
-  progress : d.progress ≡ c.progress
-
-step_keeps : (c : Content) (t : ℕ) (after : Content × Report) → IsTurn c (Step t) after → KeepsCollector c after.0
-step_keeps c t after turn =
-    step_by c after (λ (x : Content × Report). KeepsCollector c x.0) (λ r. record { posts = record { posted = refl; round = refl }; progress = refl }) (λ t left m a there done is. by_way t left a (finished_by c t left a after a.outcome is)) t turn
-  where
-    begun : (t left : ℕ) (a : Answer) (way : IsFinished c t left a a.outcome after) → KeepsPosts c.posts way.posts
-    begun t left a way = by_case way.are
-      where
-        by_case : ((way.threads ≡ (left_by c t left a).threads) × (way.posts ≡ c.posts)) ⊎ (HasBegun c.limits.budget (left_by c t left a).threads way.threads × (way.posts ≡ joined c.posts (length (left_by c t left a).threads) t)) → KeepsPosts c.posts way.posts
-        by_case (inl (same, posts)) = record { posted = ap (λ (h : Handshakes). h.posted) posts; round = ap (λ (h : Handshakes). h.has_round) posts }
-        by_case (inr (more, posts)) = record { posted = ap (λ (h : Handshakes). h.posted) posts; round = ap (λ (h : Handshakes). h.has_round) posts }
-
-    by_way : (t left : ℕ) (a : Answer) → IsFinished c t left a a.outcome after → KeepsCollector c after.0
-    by_way t left a way = subst (λ (x : Content × Report). KeepsCollector c x.0) way.is (record { posts = keeps_then (begun t left a way) (seats_keep way.posts t _); progress = refl })
 
 -- so the heap alone may make a difference to the work that is left
 heap_alone : (c d : Content) → d.tree ≡ c.tree → d.limits ≡ c.limits → KeepsCollector c d → work_left d ≡ left_with c d.objects.spaces

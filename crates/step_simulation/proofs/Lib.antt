@@ -54,9 +54,10 @@ pub mod Refusals
 pub mod Whole
 pub mod OneRun
 mod StepRuns
+mod KeptPosts
 pub mod CycleWork
 mod Walks
 mod OwedStates
-mod OpenCycles
+pub mod OpenCycles
 mod OwedCycles
 pub mod OwedRuns

@@ -27,7 +27,8 @@ use Rattle.simulation.specs.StandsFor.{Represents}
 use Rattle.simulation.specs.Turns.{IsTurn, content_at, opening_content}
 use Rattle.simulation.proofs.CollectedReports.{IsCollected, collected_is, ends, waits, works}
 use Rattle.simulation.proofs.Instructions.{InstructionsAreAlike}
-use Rattle.step_simulation.proofs.OwedStates.{acknowledged_posted, step_posted}
+use Rattle.step_simulation.proofs.KeptPosts.{step_posted}
+use Rattle.step_simulation.proofs.OwedStates.{acknowledged_posted}
 use Rattle.step_simulation.proofs.Steps.{step_follows}
 use Rattle.step_simulation.proofs.Whole.{acknowledgement_keeps, collection_keeps}
 

@@ -44,7 +44,8 @@ use Rattle.step_simulation.proofs.Mutators.{normally}
 use Rattle.step_simulation.proofs.OpenCycles.{IsBefore, IsOpened, before_goes, gc_is, idle_of, open_then, opened_is, split_at_last, then_open}
 use Rattle.step_simulation.proofs.OpeningContents.{opening_represents}
 use Rattle.step_simulation.proofs.OwedCycles.{end_owes}
-use Rattle.step_simulation.proofs.OwedStates.{IsOwedBy, acknowledged_owed, acknowledged_posted, begins_owed, collected_owed, step_posted, stepped_owed_as}
+use Rattle.step_simulation.proofs.KeptPosts.{step_posted}
+use Rattle.step_simulation.proofs.OwedStates.{IsOwedBy, acknowledged_owed, acknowledged_posted, begins_owed, collected_owed, stepped_owed_as}
 use Rattle.step_simulation.proofs.Walks.{Comes, GoesOn, IsAt, goes_on, walk}
 
 module _ (each : InstructionsAreAlike) where

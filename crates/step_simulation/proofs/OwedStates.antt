@@ -1,9 +1,8 @@
 -- While a cycle is open, each object that it keeps has the name of one that is owed; so where it ends, no more words are in use than are owed.
-use Rattle.std.proofs.Common.{◌≡◌, ◌⊎◌, ℕ, Bool, true, if◌then◌else◌, length, Some, None, refl, inl, inr, sym, ap, ◌∙◌, subst}
+use Rattle.std.proofs.Common.{◌≡◌, ℕ, Bool, true, if◌then◌else◌, length, Some, None, refl, inl, inr, sym, ap, ◌∙◌, subst}
 use Rattle.simulation.specs.cil_model.declared.events.Event.TheVariants.{Step}
 use Rattle.simulation.specs.cil_model.declared.phases.Phase.TheVariants.{Idle}
 use Rattle.simulation.specs.cil_model.declared.reports.Report.{Report}
-use Rattle.simulation.specs.cil_model.declared.reports.Report.TheVariants.{Ran, Blocked, Ended as HasEnded, Absent, Acked, NothingPosted, Worked, Waiting, CycleDone}
 use Rattle.simulation.specs.reference_machine.Runs.{is_refusal}
 use Rattle.simulation.specs.reference_machine.States.{State}
 use Rattle.simulation.specs.reference_machine.Steps.{Answers, step}
@@ -13,12 +12,10 @@ use Rattle.simulation.proofs.cil_model.SameLaws.{never}
 use Rattle.simulation.proofs.reference_laws.ReachedRuns.{step_within}
 use Rattle.simulation.proofs.reference_laws.ReachedStates.{IsClosed}
 use Rattle.simulation.specs.object_memory.declared.addresses.Addr.{Addr}
-use Rattle.simulation.specs.phase_handshake.Handshakes.{Handshakes, joined}
-use Rattle.simulation.specs.interpreter.Instructions.{Answer}
 use Rattle.simulation.specs.MachineContents.{Content}
 use Rattle.simulation.specs.Collecting.{collected, with_acknowledgement}
 use Rattle.simulation.specs.StandsFor.{Names, Represents, StandsBy}
-use Rattle.simulation.specs.Turns.{IsTurn, left_by, seats_after}
+use Rattle.simulation.specs.Turns.{IsTurn}
 use Rattle.simulation.proofs.AcknowledgementCases.{after_acknowledgement}
 use Rattle.simulation.proofs.AcknowledgedNames.{acknowledgement_represents, acknowledgement_stands}
 use Rattle.simulation.proofs.CollectedRests.{collected_represents}
@@ -28,37 +25,12 @@ use Rattle.simulation.proofs.KeptEvents.{HasNames, Renames, acknowledged_has, co
 use Rattle.simulation.proofs.KeptNames.{AreCopiesOfMarked, IsNamed, is_copying, is_kept}
 use Rattle.simulation.proofs.NamedMemories.{IsKnown}
 use Rattle.simulation.proofs.OwedNames.{cut_inside, inside_is, is_cut_inside, name_inside, stands_inside}
-use Rattle.step_simulation.proofs.Finished.{HasBegun, IsFinished, finished_by, step_by}
+use Rattle.step_simulation.proofs.KeptPosts.{step_posted}
 use Rattle.step_simulation.proofs.Mutators.{KeepsOwnNames, normally, normally_from, normally_keeps}
 use Rattle.step_simulation.proofs.Settling.{KeepsOwnRoom}
 use Rattle.step_simulation.proofs.Steps.{step_names}
 
--- ---- what is posted
-
--- a thread that ends leaves, and with any other report the seats stay
-seats_posted : (h : Handshakes) (t : ℕ) (r : Report) → (seats_after h t r).posted ≡ h.posted
-seats_posted h t (HasEnded e) = refl
-seats_posted h t Ran = refl
-seats_posted h t Blocked = refl
-seats_posted h t Absent = refl
-seats_posted h t Acked = refl
-seats_posted h t NothingPosted = refl
-seats_posted h t Worked = refl
-seats_posted h t Waiting = refl
-seats_posted h t CycleDone = refl
-
--- no step posts a phase,
-pub step_posted : (c : Content) (t : ℕ) (after : Content × Report) → IsTurn c (Step t) after → after.0.posts.posted ≡ c.posts.posted
-step_posted c t after turn = step_by c after (λ (x : Content × Report). x.0.posts.posted ≡ c.posts.posted) (λ r. refl) (λ t left m a there done is. by_way t left a (finished_by c t left a after a.outcome is)) t turn
-  where
-    by_way : (t left : ℕ) (a : Answer) → IsFinished c t left a a.outcome after → after.0.posts.posted ≡ c.posts.posted
-    by_way t left a way = subst (λ (x : Content × Report). x.0.posts.posted ≡ c.posts.posted) way.is (seats_posted way.posts t _ ∙ by_begun way.are)
-      where
-        by_begun : ((way.threads ≡ (left_by c t left a).threads) × (way.posts ≡ c.posts)) ⊎ (HasBegun c.limits.budget (left_by c t left a).threads way.threads × (way.posts ≡ joined c.posts (length (left_by c t left a).threads) t)) → way.posts.posted ≡ c.posts.posted
-        by_begun (inl (same, posts)) = ap (λ (h : Handshakes). h.posted) posts
-        by_begun (inr (more, posts)) = ap (λ (h : Handshakes). h.posted) posts
-
--- and no acknowledgement
+-- no acknowledgement posts a phase
 pub acknowledged_posted : (c : Content) (t : ℕ) → (with_acknowledgement c t).0.posts.posted ≡ c.posts.posted
 acknowledged_posted c t = after_acknowledgement c t (λ (x : Content). x.posts.posted ≡ c.posts.posted) (record {
   nothing = refl;

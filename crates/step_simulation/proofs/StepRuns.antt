@@ -1,5 +1,5 @@
 -- In a run of steps alone nothing is collected: a birth is refused exactly beyond the words that all births so far have left of one space.
-use Rattle.std.proofs.Common.{◌≡◌, ◌⊎◌, ◌↔◌, ◌+◌, ◌-◌, if◌then◌else◌, ℕ, zero, suc, Bool, true, false, IsTrue, List, [], ◌∷◌, Option, Some, None, length, option_and_then, option_map, replicate, slice_get, slice_set, refl, inl, inr, sym, ap, ◌∙◌, subst, arith}
+use Rattle.std.proofs.Common.{◌≡◌, ◌⊎◌, ◌+◌, ◌-◌, if◌then◌else◌, ℕ, zero, suc, true, false, IsTrue, List, [], ◌∷◌, Option, Some, None, length, option_and_then, option_map, replicate, slice_get, slice_set, refl, inl, inr, sym, ap, ◌∙◌, subst, arith}
 use Rattle.std.specs.Prelude.{nat_le}
 use Rattle.std.specs.List.{zip}
 use Rattle.std.specs.Option.{option_map_or}

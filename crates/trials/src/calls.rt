@@ -1,9 +1,8 @@
 //! Calls that no command makes: those of the libraries `call_trials` and `run_trials`, and orders whose outputs fail.
 
-use call_trials::{Call, LIMITS, SUM, calls};
 use driver::{Device, drive};
 use orders::Order;
-use run_trials::run_calls;
+use run_trials::{Call, LIMITS, SUM, calls, run_calls};
 use std::alloc::Global;
 use std::io;
 use std::io::Cursor;

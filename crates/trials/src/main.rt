@@ -12,9 +12,8 @@ mod records;
 mod reports;
 mod texts;
 
-use driver::Device;
+use driver::{Device, Failure, report};
 use machine_comparison::{try_programs, try_schedules};
-use source_runs::{Failure, report};
 use std::io;
 use std::process::ExitCode;
 use std::sync::Wait;

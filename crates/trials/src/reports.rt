@@ -3,12 +3,10 @@
 use crate::outcomes::Files;
 use cil_model::limits::Limits;
 use cil_model::reports::{End, Report};
-use driver::Device;
+use driver::{Device, Failure, Run, report, run_events};
 use machine_comparison::{difference, difference_by_chance};
 use orders::Order;
 use schedule_text::read_schedule;
-use shared_machine::Run;
-use source_runs::{Failure, report, run_events};
 use std::alloc::Global;
 use std::io;
 use std::io::Write;

@@ -1,4 +1,5 @@
-use Rattle.std.proofs.Common.{map}
+use Rattle.std.proofs.Common.{map, sym, ◌∙◌}
+use Rattle.std.proofs.lemmas.List.{length-map}
 use Rattle.inheritance.proofs.LedgerLaws.{entered_ends}
 use Rattle.inheritance.proofs.inheritance.search.Goals as goal
 
@@ -7,6 +8,7 @@ returns c =
     let f = c.args.forest.now in
     let r = c.loop-time.invariant in
     record {
+      width = sym (length-map c.loop-time.ledger.changes.items (λ v. v.items)) ∙ r.width;
       ordered = r.up_to.ordered;
       ended = λ class entry e. entered_ends f (map (λ v. v.items) c.loop-time.ledger.changes.items) class entry (r.entered class entry e);
       right = λ class entry e key h. let was = r.entered class entry e in was.right key f.most h was.short;

@@ -12,7 +12,7 @@ returns-in_default c = sym (no_number c.args.names.now.classes.tree.now (source_
 pub returns-then-ends : goal.returns-then-ends
 returns-then-ends c =
     let t = c.args.names.now.classes.tree.now in
-    sym (not_own t (source_name c.args.class.now) c.in-Some.number (sym (c.number.ensures ∙ ap (class_number t) c.of_source.ensures) ∙ c.in-Some.is) (c.ends.ensures c.if-ends.true))
+    sym (not_own t (source_name c.args.class.now) c.in-Some.number (sym (c.number.ensures ∙ ap (class_number t) c.of_source.ensures) ∙ c.in-Some.is) (c.ends.ensures.0 c.if-ends.true))
 
 pub returns : goal.returns
 returns c =

@@ -15,5 +15,5 @@ returns-in-Ok c =
     let line = line_of t (Some c.in-Some.number) in
     let found : Method → Bool = λ m. is_some (nearest_number (virtual_place t (identity_of m)) line) in
     let declared : Method → Bool = λ m. list_any (is_virtual_found t (identity_of m)) (line_of t c.args.class) in
-    c.in-Ok.ensures ∙
+    c.in-Ok.ensures.found ∙
     list_all_congr found declared (λ m. virtual_on_line t (identity_of m) line ∙ ap (λ o. list_any (is_virtual_found t (identity_of m)) (line_of t o)) (sym c.in-Some.is)) (methods_at t c.args.interface)

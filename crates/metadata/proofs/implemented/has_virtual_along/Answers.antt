@@ -1,6 +1,7 @@
 use Rattle.std.proofs.Common.{◌≡◌, ◌-◌, ◌||◌, ℕ, Bool, sym, ap, ◌∙◌, arith}
 use Rattle.std.specs.List.{list_any}
 use Rattle.inheritance.specs.Lines.{base_in, line_within}
+use Rattle.inheritance.proofs.LineLaws.{line_of_none}
 use Rattle.name_tables.specs.Keys.{method_of_key}
 use Rattle.name_tables.specs.Members.{base_numbers}
 use Rattle.programs.specs.Found.{is_virtual_found}
@@ -32,3 +33,10 @@ returns c =
     let p : ℕ → Bool = is_virtual_found t (method_of_key c.args.key) in
     let done : c.loop-left.left ≡ 0 = omega arith in
     sym (ap (λ n. list_any p (line_within (base_numbers t) n c.loop-left.next)) done) ∙ c.loop-left.invariant
+
+pub returns-in_default : goal.returns-in_default
+returns-in_default c =
+    let t = c.args.names.now.classes.tree.now in
+    let bases = base_numbers t in
+    let p : ℕ → Bool = is_virtual_found t (method_of_key c.args.key) in
+    sym (ap (λ o. list_any p (line_within bases c.loop-left.left o)) c.in_default.is ∙ ap (list_any p) (line_of_none bases c.loop-left.left)) ∙ c.loop-left.invariant

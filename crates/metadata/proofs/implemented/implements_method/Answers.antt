@@ -18,7 +18,7 @@ returns-in_default c =
 pub returns-in-Ok : goal.returns-in-Ok
 returns-in-Ok c =
     let t = c.args.methods.now.names.now.classes.tree.now in
-    c.in-Ok.ensures ∙ virtual_on_line t (method_of_key c.args.key) (line_of t (Some c.in-Some.class)) ∙ ap (λ o. list_any (is_virtual_found t (method_of_key c.args.key)) (line_of t o)) (sym c.in-Some.is)
+    c.in-Ok.ensures.found ∙ virtual_on_line t (method_of_key c.args.key) (line_of t (Some c.in-Some.class)) ∙ ap (λ o. list_any (is_virtual_found t (method_of_key c.args.key)) (line_of t o)) (sym c.in-Some.is)
 
 pub returns-in-Err : goal.returns-in-Err
 returns-in-Err c =

@@ -28,5 +28,5 @@ returns-in-Ok c =
     let k = method_of_key c.args.key in
     let plain : Method → Bool = λ m. not (is_virtual m.kind) in
     let at : ℕ → Bool = λ n. option_map_or plain (method_found t k n) false in
-    c.plain_found.ensures ∙ of_pair at c.in-Ok.found ∙ ap (λ (o : Option (ℕ × ℕ)). option_map_or (λ (p : ℕ × ℕ). at p.0) o false) c.in-Ok.ensures ∙
+    c.plain_found.ensures ∙ of_pair at c.in-Ok.found ∙ ap (λ (o : Option (ℕ × ℕ)). option_map_or (λ (p : ℕ × ℕ). at p.0) o false) c.in-Ok.ensures.found ∙
     sym (tested t k plain (line_of t (Some c.in-Some.base))) ∙ sym (plain_tested t k (line_of t (Some c.in-Some.base))) ∙ ap (λ o. plain_numbered t k (line_of t o)) (sym c.in-Some.is)

@@ -24,4 +24,4 @@ returns-in-Ok c = λ e.
     let is_abstract : Method → Bool = λ m. is_abstract_method m.kind in
     let at : ℕ → Bool = λ n. option_map_or is_abstract (method_found t k n) false in
     ap (λ o. top_open t k (line_of t o)) c.in-Some.is ∙ top_tested t k (line_of t (Some c.in-Some.class)) ∙ tested t k is_abstract (line_of t (Some c.in-Some.class)) ∙
-    sym (ap (λ (o : Option (ℕ × ℕ)). option_map_or (λ (p : ℕ × ℕ). at p.0) o false) c.in-Ok.ensures) ∙ sym (of_pair at c.in-Ok.found) ∙ sym c.is_abstract_found.ensures ∙ e
+    sym (ap (λ (o : Option (ℕ × ℕ)). option_map_or (λ (p : ℕ × ℕ). at p.0) o false) c.in-Ok.ensures.found) ∙ sym (of_pair at c.in-Ok.found) ∙ sym c.is_abstract_found.ensures ∙ e

@@ -25,4 +25,4 @@ returns-in-Some c = λ e k.
     let none : list_any (hides_one t (line_of t c.base-base.result)) (map (λ (m : Bor Method). m.now) c.as_slice.result.now) ≡ false = c.may_hide_one.ensures (not_true c.may_hide_one.result e) in
     let own = sym (ap (λ o. list_any (hides_one t (line_of t o)) (map (λ (m : Bor Method). m.now) declared.methods.items)) c.base-base.ensures) ∙
     ap (λ (ms : List (Bor Method)). list_any (hides_one t (line_of t c.base-base.result)) (map (λ m. m.now) ms)) (sym c.as_slice.ensures.value) ∙ none in
-    stays_clear t k c.args.class (entry_of declared) entry (c.ends.ensures c.if-not-ends.false) (sym (ap (λ o. hidden_open t k (line_of t o)) c.base-base.ensures) ∙ clear) own
+    stays_clear t k c.args.class (entry_of declared) entry (c.ends.ensures.0 c.if-not-ends.false) (sym (ap (λ o. hidden_open t k (line_of t o)) c.base-base.ensures) ∙ clear) own

@@ -6,5 +6,5 @@ is_some-map : {X Y : Type 0} (f : X → Y) (o : Option X) → is_some (option_ma
 is_some-map f None = refl
 is_some-map f (Some x) = refl
 
-pub returns-in-Ok : goal.returns-in-Ok
-returns-in-Ok c = c.is_some.ensures ∙ sym (is_some-map (λ (d : Declared). (d.class, d.place)) c.in-Ok.found) ∙ ap is_some c.in-Ok.ensures
+pub returns-in-Ok-clause-found : goal.returns-in-Ok-clause-found
+returns-in-Ok-clause-found c = c.is_some.ensures ∙ sym (is_some-map (λ (d : Declared). (d.class, d.place)) c.in-Ok.found) ∙ ap is_some c.in-Ok.ensures.found

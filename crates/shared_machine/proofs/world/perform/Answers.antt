@@ -1,6 +1,7 @@
 use Rattle.std.proofs.Common.{ap, ◌∙◌, [], ◌∷◌}
+use Rattle.interleaving_core.specs.Histories.{DoesMore}
 use Rattle.interleaving_core.specs.simulation.Runs.{FollowsReference}
-use Rattle.shared_machine.proofs.Answering.{did_is, nothing_did, follows_at}
+use Rattle.shared_machine.proofs.Answering.{did_is, nothing_did, related_at}
 use Rattle.shared_machine.proofs.Histories.{sound_more, sound_at, history_is}
 use Rattle.shared_machine.proofs.world.perform.Goals as goal
 use Rattle.shared_machine.proofs.world.perform.Goals.{in-Ok, in-Err}
@@ -26,6 +27,14 @@ pub returns-clause-follows : goal.returns-clause-follows
 returns-clause-follows g c =
     elim c.match-step.branch [
       | in-Ok w ↦ did_is c.match-step.result w.in-Ok.report w.result-is (λ report. FollowsReference c.args.world.now.core c.match-step.world-inside.core ((c.args.event, report) ∷ []))
-          (follows_at c.world.inside.core c.args.world.now.core c.step.new.self c.match-step.world-inside.core ((c.args.event, w.in-Ok.report) ∷ []) (ap (λ x. x.core) c.world.view_is) (ap (λ x. x.core) w.world-inside-is) w.in-Ok.ensures.follows)
+          (related_at (λ x y. FollowsReference x y ((c.args.event, w.in-Ok.report) ∷ [])) c.world.inside.core c.args.world.now.core c.step.new.self c.match-step.world-inside.core (ap (λ x. x.core) c.world.view_is) (ap (λ x. x.core) w.world-inside-is) w.in-Ok.ensures.follows)
       | in-Err w ↦ nothing_did c.match-step.result w.result-is (λ report. FollowsReference c.args.world.now.core c.match-step.world-inside.core ((c.args.event, report) ∷ []))
+    ]
+
+pub returns-clause-does : goal.returns-clause-does
+returns-clause-does g c =
+    elim c.match-step.branch [
+      | in-Ok w ↦ did_is c.match-step.result w.in-Ok.report w.result-is (λ report. DoesMore c.args.world.now.core (c.args.event ∷ []) (report ∷ []) c.match-step.world-inside.core)
+          (related_at (λ x y. DoesMore x (c.args.event ∷ []) (w.in-Ok.report ∷ []) y) c.world.inside.core c.args.world.now.core c.step.new.self c.match-step.world-inside.core (ap (λ x. x.core) c.world.view_is) (ap (λ x. x.core) w.world-inside-is) w.in-Ok.ensures.does)
+      | in-Err w ↦ nothing_did c.match-step.result w.result-is (λ report. DoesMore c.args.world.now.core (c.args.event ∷ []) (report ∷ []) c.match-step.world-inside.core)
     ]

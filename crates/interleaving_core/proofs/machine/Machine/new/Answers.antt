@@ -1,6 +1,7 @@
-use Rattle.std.proofs.Common.{◌≡◌, ◌∙◌, arith, sym, true}
+use Rattle.std.proofs.Common.{◌≡◌, ◌∙◌, [], arith, refl, sym, true}
 use Rattle.cil_model.specs.Ranges.{are_in_range}
 use Rattle.interleaving_core.specs.Views.{content_of}
+use Rattle.interleaving_core.proofs.Doing.{has_done}
 use Rattle.interleaving_core.proofs.Sound.{opened_represents}
 use Rattle.interleaving_core.proofs.machine.Machine.new.Goals as goal
 
@@ -19,3 +20,8 @@ pub returns-clause-opening : goal.returns-clause-opening
 returns-clause-opening c =
     let in_range : are_in_range c.args.limits ≡ true = sym c.are_in_range.ensures ∙ c.if-not-are_in_range.false in
     opened_represents c.args.program c.args.limits c.in_ok-opened.ensures.accepted in_range (content_of c.in_ok-opened.field-0) c.in_ok-opened.ensures.opening
+
+pub returns-clause-done : goal.returns-clause-done
+returns-clause-done c =
+    let first = content_of c.in_ok-opened.field-0 in
+    has_done c.args.program c.args.limits first first [] [] c.in_ok-opened.ensures.accepted (sym c.are_in_range.ensures ∙ c.if-not-are_in_range.false) c.in_ok-opened.ensures.opening (refl, refl)

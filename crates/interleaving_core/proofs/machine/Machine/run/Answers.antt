@@ -1,6 +1,7 @@
 use Rattle.std.proofs.Common.{◌≡◌, ◌+◌, ◌++◌, ◌∷◌, ◌∙◌, [], arith, ap, drop, length, subst, sym, take}
 use Rattle.std.proofs.lemmas.List.{append-nil, take_all}
 use Rattle.step_simulation.specs.simulation.Runs.{AreTurns}
+use Rattle.interleaving_core.proofs.Doing.{does_more}
 use Rattle.interleaving_core.proofs.Following.{RunSoFar, SameProgram, all_reported, run_begun, run_follows, run_program, run_step, run_turns, turns_follow}
 use Rattle.interleaving_core.proofs.Refusing.{on_err}
 use Rattle.interleaving_core.proofs.machine.Machine.run.Goals as goal
@@ -17,6 +18,9 @@ loop-event-preserved c =
 pub returns-clause-turns : goal.returns-clause-turns
 returns-clause-turns c = run_turns c.args.self.now c.loop-event.self c.args.reports.now.items c.loop-event.reports.items c.args.events.now
     (subst (λ es. RunSoFar c.args.self.now c.args.reports.now.items es c.loop-event.self c.loop-event.reports.items) (take_all c.loop-event.event-index c.args.events.now (omega arith)) c.loop-event.invariant)
+
+pub returns-clause-does : goal.returns-clause-does
+returns-clause-does c = does_more c.args.self.now c.loop-event.self c.args.events.now (drop (length c.args.reports.now.items) c.loop-event.reports.items) (returns-clause-turns c)
 
 pub returns-clause-each : goal.returns-clause-each
 returns-clause-each c = all_reported c.args.self.now c.loop-event.self c.args.reports.now.items c.loop-event.reports.items c.args.events.now
@@ -39,7 +43,7 @@ returns-in_err-reserve-clause-stopped c =
     let events = take c.loop-event.event-index c.args.events.now in
     let turns = run_turns c.args.self.now c.loop-event.self c.args.reports.now.items c.loop-event.reports.items events c.loop-event.invariant in
     let own = subst (λ rs. AreTurns c.args.self.now events c.loop-event.self (drop (length c.args.reports.now.items) rs)) (sym c.in_err-reserve.ensures.items) turns in
-    on_err c.from_residual.result (c.loop-event.event-index, omega arith, own, turns_follow _ _ events _ own)
+    on_err c.from_residual.result (c.loop-event.event-index, omega arith, own, turns_follow _ _ events _ own, does_more _ _ events _ own)
 
 pub returns-in_err-step-clause-same : goal.returns-in_err-step-clause-same
 returns-in_err-step-clause-same c =
@@ -52,4 +56,4 @@ returns-in_err-step-clause-stopped c =
     let turns = run_turns c.args.self.now c.loop-event.self c.args.reports.now.items c.loop-event.reports.items events c.loop-event.invariant in
     let own = subst (λ x. AreTurns c.args.self.now events x (drop (length c.args.reports.now.items) c.reserve.new.self.items)) (sym c.in_err-step.ensures.refused)
     (subst (λ rs. AreTurns c.args.self.now events c.loop-event.self (drop (length c.args.reports.now.items) rs)) (sym c.in_ok-reserve.ensures.items) turns) in
-    on_err c.from_residual-in_err-step.result (c.loop-event.event-index, omega arith, own, turns_follow _ _ events _ own)
+    on_err c.from_residual-in_err-step.result (c.loop-event.event-index, omega arith, own, turns_follow _ _ events _ own, does_more _ _ events _ own)

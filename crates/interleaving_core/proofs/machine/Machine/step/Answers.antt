@@ -2,7 +2,9 @@ use Rattle.std.proofs.Common.{[], ◌∷◌, subst}
 use Rattle.std.specs.Prelude.{IfOk}
 use Rattle.std.proofs.lemmas.Result.{IfOk-weaker}
 use Rattle.step_simulation.specs.simulation.Runs.{FollowsReference}
+use Rattle.interleaving_core.specs.Histories.{DoesMore}
 use Rattle.interleaving_core.specs.Views.{content_of}
+use Rattle.interleaving_core.proofs.Doing.{does_one}
 use Rattle.interleaving_core.proofs.Following.{SameProgram, turn_follows}
 use Rattle.interleaving_core.proofs.Sound.{can_go_on, same_after, sound_after}
 use Rattle.interleaving_core.proofs.machine.Machine.step.Goals as goal
@@ -17,6 +19,11 @@ pub returns-clause-follows : goal.returns-clause-follows
 returns-clause-follows c =
     subst (λ x. IfOk c.step.result (λ report. FollowsReference x (content_of c.step.new.self) ((c.args.event, report) ∷ []))) c.self.view_is
     (IfOk-weaker c.step.result _ _ (λ report turn. turn_follows (content_of c.self.inside.engine) (content_of c.step.new.self, report) c.args.event turn) c.step.ensures.turns)
+
+pub returns-clause-does : goal.returns-clause-does
+returns-clause-does c =
+    subst (λ x. IfOk c.step.result (λ report. DoesMore x (c.args.event ∷ []) (report ∷ []) (content_of c.step.new.self))) c.self.view_is
+    (IfOk-weaker c.step.result _ _ (λ report turn. does_one (content_of c.self.inside.engine) (content_of c.step.new.self) c.args.event report turn) c.step.ensures.turns)
 
 pub returns-clause-same : goal.returns-clause-same
 returns-clause-same c =

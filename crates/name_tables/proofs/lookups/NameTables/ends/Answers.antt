@@ -1,10 +1,12 @@
-use Rattle.std.proofs.Common.{ℕ, List, Option, subst}
+use Rattle.std.proofs.Common.{◌↔◌}
+use Rattle.std.specs.Prelude.{IsTrue}
 use Rattle.inheritance.specs.Lines.{Ends}
-use Rattle.name_tables.specs.Members.{base_numbers}
+use Rattle.name_tables.specs.Members.{field_key_number, field_place}
+use Rattle.name_tables.proofs.MemberLaws.{of_tree}
 use Rattle.name_tables.proofs.lookups.NameTables.ends.Goals as goal
 
 pub returns : goal.returns
-returns c = λ h.
-    let are = c.args.self.now.fields_are in
-    subst (λ (most : ℕ). Ends (base_numbers c.args.self.now.classes.tree.now) most c.args.class) are.most (
-    subst (λ (bases : List (Option ℕ)). Ends bases c.args.self.now.fields.inheritance.forest.most c.args.class) are.bases (c.ends.ensures h))
+returns c =
+    let t = c.args.self.now.classes.tree.now in
+    let fields = c.args.self.now.fields in
+    of_tree t fields.inheritance.forest (field_key_number fields.keys) (field_place t) c.args.self.now.fields_are (λ bases most. IsTrue c.ends.result ↔ Ends bases most c.args.class) c.ends.ensures

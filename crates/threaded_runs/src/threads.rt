@@ -8,16 +8,15 @@ ghost use Rattle.workers.specs.shared_machine.Histories.{events_of, reports_of};
 ghost use Rattle.workers.specs.shared_machine.declared.shared.TheConstants.{MOST_WORKERS};
 ghost use Rattle.workers.specs.Work.{IsOwnOf};
 
-use crate::failure::Failure;
-use crate::running::accept;
 use cil_model::limits::Limits;
+use source_runs::{Failure, Machine, Outcome, accept};
 use std::alloc::Global;
 use std::marker::Brand;
 use std::sync::Wait;
 use std::thread::Threads;
 use verifier::Verified;
 use worker_counts::Blank;
-use workers::{Gate, Machine, Outcome, run_together};
+use workers::{Gate, run_together};
 
 /// Runs a source by so many workers, 1 to 16, each in a thread of its own, until no thread of the program is live, as `run_together` does,
 /// and answers the machine after that with the history. A pass of a worker is told to `gate`.

@@ -1,0 +1,38 @@
+// The classes that the search leaves out.
+
+ghost use Rattle.std.specs.Prelude.{◌≡◌, ◌↔◌, ℕ, IsTrue};
+ghost use Rattle.inheritance.specs.Lines.{Ends};
+ghost use Rattle.inheritance.specs.Ledgers.{IsLeftOut, HasBaseLeftOut};
+
+use crate::forests::Forest;
+use crate::ledgers::Ledger;
+
+/// Whether a class was not entered.
+fn is_left_out(forest: &Forest, ledger: &Ledger, class: usize) -> bool
+    ensures { IsTrue result ↔ IsLeftOut forest.now.bases.items ledger.now.entries.items class }
+{
+    class < forest.bases.len() && ledger.entry(class).is_none()
+}
+
+/// Whether the base of a class was not entered.
+fn has_base_left_out(forest: &Forest, ledger: &Ledger, class: usize) -> bool
+    ensures { IsTrue result ↔ HasBaseLeftOut forest.now.bases.items ledger.now.entries.items class }
+{
+    match forest.base(class) {
+        None => false,
+        Some(base) => is_left_out(forest, ledger, base),
+    }
+}
+
+/// Whether each class that was not entered has a base that was not entered either: then the bases of none of them end. Takes time with
+/// the number of classes.
+pub(crate) fn is_complete(forest: &Forest, ledger: &Ledger) -> bool
+    ensures { IsTrue result → (class : ℕ) → IsLeftOut forest.now.bases.items ledger.now.entries.items class → ¬ Ends forest.now.bases.items forest.now.most class }
+{
+    for class in 0..forest.bases.len() {
+        if is_left_out(forest, ledger, class) && !has_base_left_out(forest, ledger, class) {
+            return false;
+        }
+    }
+    true
+}

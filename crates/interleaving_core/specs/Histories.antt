@@ -1,0 +1,30 @@
+-- What a machine has done since it was made, and that it goes on so (this profile).
+use Rattle.std.specs.Prelude.{◌≡◌, ◌++◌, true, List, Some}
+use Rattle.std.specs.List.{zip}
+use Rattle.cil_model.specs.Ranges.{are_in_range}
+use Rattle.cil_model.specs.Typings.{IsAccepted}
+use Rattle.cil_model.specs.declared.events.Event.{Event}
+use Rattle.cil_model.specs.declared.limits.Limits.{Limits}
+use Rattle.cil_model.specs.declared.reports.Report.{Report}
+use Rattle.cil_model.specs.declared.trees.Tree.{Tree}
+use Rattle.step_simulation.specs.simulation.MachineContents.{Content}
+use Rattle.step_simulation.specs.simulation.Owed.{AreCyclesBounded, LeavesWhatIsOwed}
+use Rattle.step_simulation.specs.simulation.Runs.{AreTurns, StandsAfter}
+use Rattle.step_simulation.specs.simulation.Turns.{opening_content}
+
+-- A machine that was made for an accepted program has done these events, with these reports, and it stands after them. Its cycles had few working events, and
+-- where the last event ends one, no more words are in use than are owed.
+pub record HasDone (tree : Tree) (limits : Limits) (events : List Event) (reports : List Report) (c : Content) : Type 0 where
+  pub accepted : IsAccepted tree
+  pub in_range : are_in_range limits ≡ true
+  pub first : Content
+  pub opens : opening_content tree limits ≡ Some first
+  pub turns : AreTurns first events c reports
+  pub stands : StandsAfter tree limits events reports c
+  pub bounded : AreCyclesBounded tree limits (zip events reports)
+  pub leaves : LeavesWhatIsOwed tree limits events reports c
+
+-- whatever it has done before, it has then done these events too
+abbrev pub DoesMore : Content → List Event → List Report → Content → Type 0
+DoesMore c events reports after =
+    (tree : Tree) (limits : Limits) (before : List Event) (given : List Report) → HasDone tree limits before given c → HasDone tree limits (before ++ events) (given ++ reports) after

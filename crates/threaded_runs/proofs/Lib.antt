@@ -1,0 +1,1 @@
+pub use Rattle.source_runs.proofs as source_runs
