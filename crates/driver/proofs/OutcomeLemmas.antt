@@ -1,7 +1,7 @@
 -- What a run that is shown, whole or in part, shows of its source.
 use Rattle.std.proofs.Common.{◌≡◌, ◌++◌, ℕ, Bool, true, false, List, [], map, Option, Result, Ok, Err, refl, ap, sym, ◌∙◌, subst, inl, inr}
 use Rattle.std.specs.Prelude.{IfErr}
-use Rattle.threaded_runs.proofs.source_runs.simulation.StandsLaws.{ends_stand, printed_stands, stands_after}
+use Rattle.threaded_runs.proofs.source_runs.simulation.StandsLaws.{ends_stand, printed_stands}
 use Rattle.threaded_runs.specs.source_runs.simulation.MachineContents.{Content}
 use Rattle.threaded_runs.specs.source_runs.simulation.Runs.{StandsAfter}
 use Rattle.threaded_runs.specs.source_runs.simulation.StandsFor.{Represents}
@@ -18,7 +18,8 @@ use Rattle.driver.specs.Outcomes.{AreThreadsExplained, HasRun, HasTraced, IsExpl
 use Rattle.driver.specs.Threads.{ends_of, lines_from}
 use Rattle.outputs.specs.Beginnings.{AppendsBeginning}
 use Rattle.outputs.proofs.BeginningLaws.{begins_nothing}
-use Rattle.threaded_runs.proofs.source_runs.RunLemmas.{comes_to, run_of, some_budget}
+use Rattle.threaded_runs.proofs.source_runs.RunLemmas.{comes_to}
+use Rattle.threaded_runs.proofs.source_runs.interleaving_core.Doing.{has_done}
 
 pub for_err : {T E : Type 0} {P : Type 0} (r : Result T E) → P → IfErr r (λ _. P)
 for_err (Ok x) p = tt
@@ -59,7 +60,7 @@ has_run source limits text explain events reports c out out' err err' status by 
       events = events;
       reports = reports;
       state = after.state;
-      comes_to = record { are_read = by.0; by_events = comes_to source by.1.0 limits events reports c by.1.1 by.1.2.in_range after };
+      comes_to = record { are_read = by.0; by_events = comes_to source by.1.0 limits events reports c by.1.1 by.1.2 };
       after = c;
       represents = after.represents;
       explanation = left.0;
@@ -76,7 +77,7 @@ run_in_part source limits text explain events reports c out out' err err' by lef
       events = events;
       reports = reports;
       state = after.state;
-      comes_to = record { are_read = by.0; by_events = comes_to source by.1.0 limits events reports c by.1.1 by.1.2.in_range after };
+      comes_to = record { are_read = by.0; by_events = comes_to source by.1.0 limits events reports c by.1.1 by.1.2 };
       after = c;
       represents = after.represents;
       explanation = left.0;
@@ -87,12 +88,10 @@ run_in_part source limits text explain events reports c out out' err err' by lef
 
 -- what the machine that was traced shows in part
 pub traced_in_part : (source : List ℕ) (limits : Limits) (text : List ℕ) (explain : Bool) (events : List Event) (begins after : Content) (reports : List Report) (out between out' err err' : Option (List ℕ))
-    → IsReady source limits text events begins → IsTraced begins events after reports out between → after.limits ≡ begins.limits
+    → IsReady source limits text events begins → IsTraced begins events after reports out between
     → IsMachineShownInPart explain after between out' err err' → IsTracedThenInPart source limits text explain out out' err err'
-traced_in_part source limits text explain events begins after reports out between out' err err' ready traced kept left =
-    let first = ready.opened.represents in
-    let stands : StandsAfter ready.tree limits events reports after =
-    stands_after ready.tree limits begins after events reports first.0 first.1 ready.opened.begins first.2 ready.opened.same_program ready.opened.same_limits kept (some_budget limits ready.in_range) traced.each traced.follows in
+traced_in_part source limits text explain events begins after reports out between out' err err' ready traced left =
+    let done = has_done ready.tree limits begins after events reports ready.is_accepted.accepted ready.in_range ready.opened.begins traced.turns in
     record {
       events = events;
       begins = begins;
@@ -101,30 +100,28 @@ traced_in_part source limits text explain events begins after reports out betwee
       reports = reports;
       between = between;
       traced = traced;
-      shown = run_in_part source limits text explain events reports after between out' err err' (ready.are_read, (ready.tree, ready.is_accepted, run_of ready.tree limits events reports after ready.is_accepted.accepted ready.in_range stands)) left;
+      shown = run_in_part source limits text explain events reports after between out' err err' (ready.are_read, (ready.tree, ready.is_accepted, done)) left;
     }
 
 -- what the machine that was traced shows
 pub has_traced : (source : List ℕ) (limits : Limits) (text : List ℕ) (explain : Bool) (events : List Event) (begins after : Content) (reports : List Report) (out between out' err err' : Option (List ℕ)) (status : ℕ)
-    → IsReady source limits text events begins → IsTraced begins events after reports out between → after.limits ≡ begins.limits
+    → IsReady source limits text events begins → IsTraced begins events after reports out between
     → IsMachineShown explain after between out' err err' status → HasTraced source limits text explain out out' err err' status
-has_traced source limits text explain events begins after reports out between out' err err' status ready traced kept left =
-    let first = ready.opened.represents in
-    let stands : StandsAfter ready.tree limits events reports after =
-    stands_after ready.tree limits begins after events reports first.0 first.1 ready.opened.begins first.2 ready.opened.same_program ready.opened.same_limits kept (some_budget limits ready.in_range) traced.each traced.follows in
-    let ran = run_of ready.tree limits events reports after ready.is_accepted.accepted ready.in_range stands in
+has_traced source limits text explain events begins after reports out between out' err err' status ready traced left =
+    let done = has_done ready.tree limits begins after events reports ready.is_accepted.accepted ready.in_range ready.opened.begins traced.turns in
+    let stands = done.stands in
     record {
       events = events;
       reports = reports;
       state = stands.state;
-      comes_to = record { are_read = ready.are_read; by_events = record { tree = ready.tree; is_accepted = ready.is_accepted; in_range = ready.in_range; is_run = stands.is_run; budgets = stands.budgets; bounded = ran.bounded } };
+      comes_to = record { are_read = ready.are_read; by_events = record { tree = ready.tree; is_accepted = ready.is_accepted; in_range = ready.in_range; is_run = stands.is_run; budgets = stands.budgets; bounded = done.bounded } };
       begins = begins;
       opened = ready.opened;
       after = after;
       between = between;
       traced = traced;
       represents = stands.represents;
-      leaves = ran.leaves;
+      leaves = done.leaves;
       explanation = left.0;
       explains = left.1;
       shown = shown_of after stands.state left.0 between out' err err' status stands.represents left.2;

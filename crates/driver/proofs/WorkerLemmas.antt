@@ -75,7 +75,7 @@ run_by_workers source limits workers asked explain h c made text ran own ended i
     record {
       entries = h;
       own = own;
-      comes_to = comes_to source ran.0 limits (events_of h) (reports_of h) c ran.1 ran.2.in_range after;
+      comes_to = comes_to source ran.0 limits (events_of h) (reports_of h) c ran.1 ran.2;
       ended = subst (λ es. list_any is_live es ≡ false) ends (none_live c.threads ended);
       is_record = is_record;
       after = c;

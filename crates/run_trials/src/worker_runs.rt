@@ -41,8 +41,14 @@ pub(crate) fn records_one_worker(
     alloc: Global,
 ) -> Result<bool, Failure> {
     let outcome = run_threads(threads, alloc, SUM.as_bytes(), LIMITS, 1, &OpenGate)?;
+    let is_recorded = has_record(alloc, &outcome, "s0 g s0 g a0 s0 g s0 g s0 g*2")?;
+    Ok(is_recorded && outcome.console() == b"5\n".as_slice())
+}
+
+/// Whether the history of a run has this record.
+fn has_record(alloc: Global, outcome: &Outcome, wanted: &str) -> Result<bool, Failure> {
     let record = write_record(alloc, &outcome.history)?;
-    Ok(record.as_str() == "s0 g s0 g a0 s0 g s0 g s0 g*2" && outcome.console() == b"5\n".as_slice())
+    Ok(record.as_str() == wanted)
 }
 
 /// Whether so many workers run three threads to their ends, and whoever replays their record gets the same bytes, the same ends and the
@@ -54,17 +60,33 @@ pub(crate) fn replays_workers(
 ) -> Result<bool, Failure>
     requires { (1 ≤ workers) × (workers ≤ 16) }
 {
-    let source = COUNTING.as_bytes();
-    let outcome = run_threads(threads, alloc, source, ROOM, workers, &OpenGate)?;
+    let outcome = run_threads(
+        threads,
+        alloc,
+        COUNTING.as_bytes(),
+        ROOM,
+        workers,
+        &OpenGate,
+    )?;
+    Ok(is_counted(&outcome) && is_repeated(threads, alloc, &outcome)?)
+}
+
+/// Whether whoever replays the record of a run of the three threads gets the same bytes, the same ends and the same record.
+fn is_repeated(waits: &impl Wait, alloc: Global, outcome: &Outcome) -> Result<bool, Failure> {
     let record = write_record(alloc, &outcome.history)?;
-    let again = run_source(threads, alloc, source, ROOM, record.as_bytes())?;
-    let same_record = write_record(alloc, &again.history)?;
+    let again = run_source(waits, alloc, COUNTING.as_bytes(), ROOM, record.as_bytes())?;
     Ok(
-        is_counted(&outcome)
-            && again.console() == outcome.console()
-            && again.ends(alloc)?.as_slice() == outcome.ends(alloc)?.as_slice()
-            && same_record.as_str() == record.as_str(),
+        again.console() == outcome.console()
+            && has_record(alloc, &again, record.as_str())?
+            && have_same_ends(alloc, outcome, &again)?,
     )
+}
+
+/// Whether the threads of two runs have the same ends.
+fn have_same_ends(alloc: Global, one: &Outcome, other: &Outcome) -> Result<bool, Failure> {
+    let ends = one.ends(alloc)?;
+    let others = other.ends(alloc)?;
+    Ok(ends.as_slice() == others.as_slice())
 }
 
 fn is_counted(outcome: &Outcome) -> bool {

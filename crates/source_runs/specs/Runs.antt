@@ -13,8 +13,8 @@ use Rattle.cil_model.specs.declared.trees.Tree.{Tree}
 use Rattle.ilasm_reader.specs.Answers.{IsReadAnswer}
 use Rattle.ilasm_reader.specs.declared.reading.ReadError.{ReadError}
 use Rattle.cil_model.specs.Legality.{IsLegal, least_broken}
-use Rattle.shared_machine.specs.simulation.Owed.{AreCyclesBounded, LeavesWhatIsOwed}
-use Rattle.shared_machine.specs.simulation.Runs.{IsRunOf, StandsAfter}
+use Rattle.shared_machine.specs.simulation.Owed.{AreCyclesBounded}
+use Rattle.shared_machine.specs.simulation.Runs.{IsRunOf}
 use Rattle.reference_machine.specs.States.{State}
 use Rattle.cil_model.specs.Typings.{IsAccepted}
 use Rattle.cil_model.specs.declared.reports.Report.{Report}
@@ -24,6 +24,7 @@ use Rattle.metadata.specs.declared.program.MetaError.TheVariants.{OutOfMemory as
 use Rattle.verifier.specs.Verdicts.{IsVerdict}
 use Rattle.verifier.specs.declared.refusals.VerifyError.{VerifyError}
 use Rattle.shared_machine.specs.simulation.MachineContents.{Content}
+use Rattle.shared_machine.specs.interleaving_core.Histories.{HasDone}
 use Rattle.shared_machine.specs.interleaving_core.declared.machine.Refused.TheVariants.{Limits as BadLimits}
 use Rattle.schedule_text.specs.Items.{words}
 use Rattle.schedule_text.specs.Readings.{AreRead, IsFirstFault}
@@ -60,17 +61,10 @@ IsNotAccepted source failure =
 
 -- ---- the run
 
--- A machine has its limits in range, and stands after these events, of which it gave these reports. Its cycles had few working events, and where the last event
--- ends one, no more words are in use than are owed.
-pub record IsRun (tree : Tree) (limits : Limits) (events : List Event) (reports : List Report) (content : Content) : Type 0 where
-  pub in_range : are_in_range limits ≡ true
-  pub stands : StandsAfter tree limits events reports content
-  pub bounded : AreCyclesBounded tree limits (zip events reports)
-  pub leaves : LeavesWhatIsOwed tree limits events reports content
-
--- a machine has run a list of events: the bytes have a tree that is an accepted program, and it stands after the events
+-- a machine has run a list of events: the bytes have a tree that is an accepted program, and a machine that was made for it has done the events, with
+-- all that this says
 abbrev pub HasRunTo : List ℕ → Limits → List Event → List Report → Content → Type 0
-HasRunTo source limits events reports content = (tree : Tree) × IsAcceptedSource source tree × IsRun tree limits events reports content
+HasRunTo source limits events reports content = (tree : Tree) × IsAcceptedSource source tree × HasDone tree limits events reports content
 
 -- why an accepted program was not run: its limits come first, then memory
 abbrev pub IsNotRunWithin : Limits → Failure → Type 0

@@ -2,8 +2,9 @@
 
 ghost use Rattle.std.specs.Prelude.{◌≡◌, IfErr, IfOk};
 ghost use Rattle.shared_machine.specs.Histories.{events_of, reports_of};
+ghost use Rattle.shared_machine.specs.interleaving_core.Histories.{HasDone};
 ghost use Rattle.source_runs.specs.Runs.{HasRunTo, IsAcceptedSource, IsNotAccepted};
-ghost use Rattle.source_runs.specs.Runs.{IsNotRun, IsNotRunBy, IsNotRunWithin, IsReady, IsRun, IsRunBy};
+ghost use Rattle.source_runs.specs.Runs.{IsNotRun, IsNotRunBy, IsNotRunWithin, IsReady, IsRunBy};
 
 use crate::failure::Failure;
 use cil_model::events::Event;
@@ -87,7 +88,7 @@ fn run(
     events: &[Event],
 ) -> Result<Outcome, Failure>
     ensures events { IfOk result (λ outcome. events_of outcome.history.entries ≡ events.now) }
-    ensures ran { IfOk result (λ outcome. IsRun program limits events.now (reports_of outcome.history.entries) outcome.machine) }
+    ensures ran { IfOk result (λ outcome. HasDone program limits events.now (reports_of outcome.history.entries) outcome.machine) }
     ensures refused { IfErr result (IsNotRunWithin limits) }
 {
     let machine = Machine::new(alloc, program, limits)?;

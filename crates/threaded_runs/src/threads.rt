@@ -2,9 +2,10 @@
 
 ghost use Rattle.std.specs.Prelude.{◌≡◌, ◌≤◌, All, IfErr, IfOk};
 ghost use Rattle.std.specs.List.{count_by};
-ghost use Rattle.source_runs.specs.Runs.{HasRunTo, IsNotRun, IsNotRunWithin, IsRun};
+ghost use Rattle.source_runs.specs.Runs.{HasRunTo, IsNotRun, IsNotRunWithin};
 ghost use Rattle.workers.specs.shared_machine.simulation.threads_monitors.Threads.{is_live};
 ghost use Rattle.workers.specs.shared_machine.Histories.{events_of, reports_of};
+ghost use Rattle.workers.specs.shared_machine.interleaving_core.Histories.{HasDone};
 ghost use Rattle.workers.specs.shared_machine.declared.shared.TheConstants.{MOST_WORKERS};
 ghost use Rattle.workers.specs.Work.{IsOwnOf};
 
@@ -56,7 +57,7 @@ fn run<R: Threads + Wait + Sync, G: Gate + Sync>(
     gate: &G,
 ) -> Result<Outcome, Failure>
     requires { (1 ≤ workers) × (workers ≤ MOST_WORKERS) }
-    ensures ran { IfOk result (λ outcome. IsRun program limits (events_of outcome.history.entries) (reports_of outcome.history.entries) outcome.machine) }
+    ensures ran { IfOk result (λ outcome. HasDone program limits (events_of outcome.history.entries) (reports_of outcome.history.entries) outcome.machine) }
     ensures own { IfOk result (λ outcome. All (IsOwnOf workers) outcome.history.entries) }
     ensures ended { IfOk result (λ outcome. count_by is_live outcome.machine.threads ≡ 0) }
     ensures refused { IfErr result (IsNotRunWithin limits) }

@@ -20,12 +20,13 @@ use std::sync::Wait;
 use std::thread::Threads;
 
 /// The groups of cases. Those of `NAME` stand in the file `NAME.txt`.
-const GROUPS: [&str; 11] = [
+const GROUPS: [&str; 12] = [
     "command_line",
     "commands",
     "schedules",
     "sources",
     "refusals",
+    "hostile",
     "machine",
     "collections",
     "traces",

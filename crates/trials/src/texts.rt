@@ -4,7 +4,7 @@ use cil_model::limits::Limits;
 use std::alloc::{AllocError, Global};
 
 /// The bytes of a text of lines, each of which ends in a line feed. A line `@NUMBER TEXT` stands for so many lines of the text, in
-/// which `#` is the line's number from 0, and `@@NUMBER TEXT` for the same without line feeds.
+/// which `#` is the line's number from 0 and `#+1` the next one, and `@@NUMBER TEXT` for the same without line feeds.
 pub fn expanded(alloc: Global, text: &str) -> Result<Vec<u8>, AllocError> {
     let mut bytes = Vec::new(alloc);
     for line in text.split('\n') {
@@ -35,12 +35,24 @@ fn add_repeated(
 ) -> Result<(), AllocError> {
     let (count, text) = repeated.split_once(" ").unwrap_or(("", ""));
     for number in 0..number_of(Some(count)) {
-        let number = number.to_string(alloc)?;
-        let text = text.replace(alloc, "#", number.as_str())?;
-        bytes.extend_from_slice(text.as_bytes())?;
+        add_numbered(alloc, bytes, text, number)?;
         bytes.extend_from_slice(end.as_bytes())?;
     }
     Ok(())
+}
+
+/// Adds the text with a number in the place of each `#`, and the next one in that of each `#+1`.
+fn add_numbered(
+    alloc: Global,
+    bytes: &mut Vec<u8>,
+    text: &str,
+    number: u32,
+) -> Result<(), AllocError> {
+    let next = number.wrapping_add(1).to_string(alloc)?;
+    let text = text.replace(alloc, "#+1", next.as_str())?;
+    let own = number.to_string(alloc)?;
+    let text = text.replace(alloc, "#", own.as_str())?;
+    bytes.extend_from_slice(text.as_bytes())
 }
 
 /// The words of a command: blanks stand between them, and a part between two `'` is one word.

@@ -42,7 +42,7 @@ returns-clause-done g c =
     if_ok c.show.result c.show.ensures.shown (λ status shown.
     has_traced c.args.source.now c.args.limits c.args.text.now c.args.explain c.in_ok-machine.events.items machine after traced.0 begun between (g.W.Output.contents c.show.new.out)
     (g.E.Output.contents c.args.err.now) (g.E.Output.contents c.show.new.err) status c.in_ok-machine.ensures.opened
-    (subst (λ es. IsTraced machine es after traced.0 begun between) c.as_slice.ensures.value traced.1) c.in_ok-write_trace.ensures.same.1 shown)
+    (subst (λ es. IsTraced machine es after traced.0 begun between) c.as_slice.ensures.value traced.1) shown)
 
 pub returns-clause-failed : goal.returns-clause-failed
 returns-clause-failed g c =
@@ -62,4 +62,4 @@ returns-clause-in_part g c =
     on_err_of c.show.result c.show.ensures.begun (λ shown.
     inr (inr (traced_in_part c.args.source.now c.args.limits c.args.text.now c.args.explain c.in_ok-machine.events.items machine after traced.0 begun between (g.W.Output.contents c.show.new.out)
     (g.E.Output.contents c.args.err.now) (g.E.Output.contents c.show.new.err) c.in_ok-machine.ensures.opened
-    (subst (λ es. IsTraced machine es after traced.0 begun between) c.as_slice.ensures.value traced.1) c.in_ok-write_trace.ensures.same.1 shown)))
+    (subst (λ es. IsTraced machine es after traced.0 begun between) c.as_slice.ensures.value traced.1) shown)))

@@ -1,15 +1,14 @@
 use Rattle.std.proofs.Common.{inl, inr, subst, sym}
 use Rattle.source_runs.specs.Runs.{IsNotRunBy}
-use Rattle.source_runs.proofs.RunLemmas.{handed_on, made_in_range}
+use Rattle.source_runs.proofs.RunLemmas.{handed_on}
 use Rattle.source_runs.proofs.running.open.Goals as goal
 
 pub returns-clause-opened : goal.returns-clause-opened
 returns-clause-opened c =
-    let machine = c.in_ok-machine.machine in
     record {
       tree = c.in_ok-verified.verified;
       is_accepted = c.in_ok-verified.ensures.accepted;
-      in_range = made_in_range c.args.limits machine c.in_ok-machine.ensures.limits;
+      in_range = c.in_ok-machine.ensures.done.in_range;
       opened = record {
         same_program = c.in_ok-machine.ensures.program.0;
         same_limits = c.in_ok-machine.ensures.program.1;
@@ -26,6 +25,5 @@ returns-in_err-verified-clause-refused c =
 
 pub returns-in_err-events-clause-refused : goal.returns-in_err-events-clause-refused
 returns-in_err-events-clause-refused c =
-    let in_range = made_in_range c.args.limits c.in_ok-machine.machine c.in_ok-machine.ensures.limits in
     handed_on c.from_residual-in_err-events.result c.from_residual-in_err-events.ensures.1 (λ failure same.
-    inr ((c.in_ok-verified.verified, c.in_ok-verified.ensures.accepted), in_range, (c.in_err-events.field-0.0, c.in_err-events.ensures, same)))
+    inr ((c.in_ok-verified.verified, c.in_ok-verified.ensures.accepted), c.in_ok-machine.ensures.done.in_range, (c.in_err-events.field-0.0, c.in_err-events.ensures, same)))
