@@ -25,7 +25,7 @@ static ROUND: &str = ".assembly extern mscorlib {} .assembly extern cilvm {}
     again: nop br again } }";
 
 /// No waiting loop takes more turns than this.
-const MOST_TURNS: u32 = 1_000_000;
+const MOST_TURNS: u32 = 50_000_000;
 
 /// How many passes the other worker has to begin while one is held.
 const PASSES_MEANWHILE: u64 = 50;
@@ -36,9 +36,9 @@ const STEPS_MEANWHILE: u64 = 40;
 /// How often the collector waits at the end of them, at least.
 const WAITS_MEANWHILE: u64 = 10;
 
-/// The passes at which a worker is held, one in each run. Both threads live by then, and a cycle of the collector takes fewer passes than
-/// these.
-const HELD_PASSES: std::ops::Range<u32> = 20..70;
+/// The passes at which a worker is held, one in each run. Both threads live by then, and these are several cycles of the collector, so that
+/// no phase is missed, in whatever order the workers come.
+const HELD_PASSES: std::ops::Range<u32> = 20..220;
 
 /// The phases for whose acknowledgement the collector waits.
 const PHASES: [Phase; 8] = [
@@ -234,31 +234,29 @@ fn phase_of_held(
     }
 }
 
-/// The phases for which the collector waited while a worker was held, one a run, each at another pass. None where it did not wait.
+/// The phases for which the collector waited while a worker was held, at most one a run, each at another pass.
 fn phases_of_held(
     threads: &(impl Threads + Wait + Sync),
     alloc: Global,
     held: u8,
-) -> Result<Option<Vec<Phase>>, Failure> {
+) -> Result<Vec<Phase>, Failure> {
     let mut seen = Vec::with_capacity(alloc, HELD_PASSES.len()).map_err(NoMemory::from)?;
     for pass in HELD_PASSES {
-        match phase_of_held(threads, alloc, held, pass)? {
-            Some(phase) => seen.push(phase).map_err(NoMemory::from)?,
-            None => return Ok(None),
+        if let Some(phase) = phase_of_held(threads, alloc, held, pass)? {
+            seen.push(phase).map_err(NoMemory::from)?;
         }
     }
-    Ok(Some(seen))
+    Ok(seen)
 }
 
-/// Whether the other of two workers goes on while one is held, in each phase of a cycle, and the collector then waits until it is let go.
+/// Whether in each phase of a cycle there is a run in which the other of two workers went on while one was held, and the collector then
+/// waited until it was let go.
 pub(crate) fn waits_in_each_phase(
     threads: &(impl Threads + Wait + Sync),
     alloc: Global,
     held: u8,
 ) -> Result<bool, Failure> {
-    let Some(seen) = phases_of_held(threads, alloc, held)? else {
-        return Ok(false);
-    };
+    let seen = phases_of_held(threads, alloc, held)?;
     for phase in PHASES {
         if !seen.as_slice().contains(&phase) {
             return Ok(false);
