@@ -5,6 +5,7 @@ ghost use Rattle.cil_model.specs.declared.reports.Report.{Report};
 ghost use Rattle.deadlocks.specs.event_trace.Traces.{IsTraced, IsTracedInPart};
 ghost use Rattle.flip_trial.specs.Trial.{place_count};
 ghost use Rattle.outputs.specs.Beginnings.{AppendsBeginning};
+ghost use Rattle.schedule_text.specs.Items.{events_of};
 ghost use Rattle.threaded_runs.specs.source_runs.Failures.{IsOfWriting, is_refusal};
 ghost use Rattle.orders.specs.Orders.{record_file_of};
 ghost use Rattle.driver.specs.Outcomes.{HasNotRun, HasRun, HasTraced, IsChecked, IsDone, IsNotChecked, failure_of_tracing};
@@ -15,12 +16,12 @@ ghost use Rattle.driver.specs.Outcomes.{IsRunInPart, IsTellingCut, IsTraceInPart
 use crate::explaining::tell_failure;
 use crate::running_threads::show_threads;
 use crate::showing::{say_accepted, show, show_trial};
-use cil_model::events::Event;
 use cil_model::limits::Limits;
 use deadlocks::{TraceError, trace};
 use flip_trial::Sizes;
 use orders::Order;
 use outputs::{NotWritten, Output};
+use schedule_text::Item;
 use std::alloc::Global;
 use std::sync::Wait;
 use std::thread::Threads;
@@ -223,24 +224,24 @@ fn show_trace<W: Output, E: Output>(
         ⊎ ((IsTraceInPart source.now limits text.now (W.contents out.old) (W.contents out.new) × (E.contents err.new ≡ E.contents err.old))
         ⊎ IsTracedThenInPart source.now limits text.now explain (W.contents out.old) (W.contents out.new) (E.contents err.old) (E.contents err.new))) }
 {
-    let (mut machine, events) = open(alloc, source, limits, text)?;
-    write_trace(alloc, &mut machine, events.as_slice(), out)?;
+    let (mut machine, items) = open(alloc, source, limits, text)?;
+    write_trace(alloc, &mut machine, items.as_slice(), out)?;
     show(alloc, explain, &machine, out, err)
 }
 
-/// Gives a machine its events, and writes a line of each and an empty line.
+/// Gives a machine the events of these items, and writes a line of each and an empty line.
 fn write_trace<W: Output>(
     alloc: Global,
     machine: &mut Machine,
-    events: &[Event],
+    items: &[Item],
     out: &mut W,
 ) -> Result<(), Failure>
-    ensures traced { OnOk result ((reports : List Report) × IsTraced machine.old events.now machine.new reports (W.contents out.old) (W.contents out.new)) }
+    ensures traced { OnOk result ((reports : List Report) × IsTraced machine.old (events_of items.now) machine.new reports (W.contents out.old) (W.contents out.new)) }
     ensures same { (machine.new.tree ≡ machine.old.tree) × (machine.new.limits ≡ machine.old.limits) }
-    ensures stopped { OnErr result (IsTracedInPart machine.old events.now machine.new (W.contents out.old) (W.contents out.new)) }
+    ensures stopped { OnErr result (IsTracedInPart machine.old (events_of items.now) machine.new (W.contents out.old) (W.contents out.new)) }
     ensures failed { IfErr result IsOfWriting }
 {
-    match trace(alloc, machine, events, out) {
+    match trace(alloc, machine, items, out) {
         Ok(()) => Ok(()),
         Err(error) => Err(failure_of(error)),
     }

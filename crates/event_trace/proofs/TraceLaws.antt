@@ -1,10 +1,14 @@
 -- Traces, event by event.
-use Rattle.std.proofs.Common.{◌≡◌, ◌+◌, ◌<◌, ◌⊎◌, ℕ, suc, List, [], ◌∷◌, ◌++◌, length, take, get_or, Option, inl, inr, refl, sym, ap, subst, ◌∙◌, arith, append-nil, append_assoc}
+use Rattle.std.proofs.Common.{◌≡◌, ◌+◌, ◌<◌, ◌≤◌, ◌⊎◌, ℕ, suc, List, [], ◌∷◌, ◌++◌, length, take, get_or, Option, inl, inr, refl, sym, ap, subst, ◌∙◌, arith, append-nil, append_assoc}
 use Rattle.std.proofs.KnownBytes.{Appends-nil, Appends-trans}
-use Rattle.std.proofs.lemmas.List.{length-take-le, take_all, take_more}
+use Rattle.std.proofs.Math.Seq.{take-append_seam}
+use Rattle.std.proofs.lemmas.List.{length-append, take_all}
 use Rattle.std.specs.Io.KnownBytes.{Appends}
 use Rattle.cil_model.specs.declared.events.Event.{Event}
 use Rattle.cil_model.specs.declared.reports.Report.{Report}
+use Rattle.schedule_text.specs.Items.{events_of}
+use Rattle.schedule_text.specs.declared.items.Item.{Item}
+use Rattle.schedule_text.proofs.SoFar.{so_far, so_far_all, so_far_before, so_far_more, so_far_none}
 use Rattle.interleaving_core.specs.simulation.MachineContents.{Content}
 use Rattle.interleaving_core.specs.simulation.Runs.{AreTurns}
 use Rattle.interleaving_core.specs.simulation.Turns.{IsTurn}
@@ -102,23 +106,20 @@ pub trace_begun : (c : Content) (pending : List ℕ) (out : Option (List ℕ)) �
 trace_begun c pending out empty = record { reports = []; text = []; traced = (refl, refl, refl); held = ([], sym empty, Appends-nil out) }
 
 -- the lines with one more
-line_more : (c d after : Content) (es : List Event) (i : ℕ) (x : Event) (r : Report) (reports : List Report) (text : List ℕ) → i < length es → AreTraced 1 c (take i es) d reports text → IsTurn d (get_or es i x) (after, r) →
-    AreTraced 1 c (take (i + 1) es) after (reports ++ r ∷ []) (text ++ line_of (i + 1) (get_or es i x) r d after)
-line_more c d after es i x r reports text below traced turn =
-    let e = get_or es i x in
-    let many : length (take i es) ≡ i = length-take-le i es (omega (arith, below)) in
-    let number : 1 + length (take i es) ≡ i + 1 = omega (arith, many) in
-    subst (λ l. AreTraced 1 c l after (reports ++ r ∷ []) (text ++ line_of (i + 1) e r d after)) (sym (take_more es i x below))
-    (subst (λ m. AreTraced 1 c (take i es ++ e ∷ []) after (reports ++ r ∷ []) (text ++ line_of m e r d after)) number (traced_more 1 c d after (take i es) reports text e r traced turn))
+line_more : (c d after : Content) (es : List Event) (n : ℕ) (e : Event) (r : Report) (reports : List Report) (text : List ℕ) → n ≡ length es + 1 → AreTraced 1 c es d reports text → IsTurn d e (after, r) →
+    AreTraced 1 c (es ++ e ∷ []) after (reports ++ r ∷ []) (text ++ line_of n e r d after)
+line_more c d after es n e r reports text is traced turn =
+    let number : 1 + length es ≡ n = omega (arith, is) in
+    subst (λ m. AreTraced 1 c (es ++ e ∷ []) after (reports ++ r ∷ []) (text ++ line_of m e r d after)) number (traced_more 1 c d after es reports text e r traced turn)
 
-pub trace_step : (c d after : Content) (es : List Event) (i : ℕ) (x : Event) (r : Report) (pending more : List ℕ) (out so_far new : Option (List ℕ)) → i < length es → TracedSoFar c (take i es) d pending out so_far →
-    IsTurn d (get_or es i x) (after, r) → TakesAllBut more so_far new (pending ++ line_of (i + 1) (get_or es i x) r d after) → TracedSoFar c (take (i + 1) es) after more out new
-trace_step c d after es i x r pending more out so_far new below h turn wrote =
-    let line = line_of (i + 1) (get_or es i x) r d after in
+pub trace_step : (c d after : Content) (es : List Event) (n : ℕ) (e : Event) (r : Report) (pending more : List ℕ) (out so_far new : Option (List ℕ)) → n ≡ length es + 1 → TracedSoFar c es d pending out so_far →
+    IsTurn d e (after, r) → TakesAllBut more so_far new (pending ++ line_of n e r d after) → TracedSoFar c (es ++ e ∷ []) after more out new
+trace_step c d after es n e r pending more out so_far new is h turn wrote =
+    let line = line_of n e r d after in
     record {
       reports = h.reports ++ r ∷ [];
       text = h.text ++ line;
-      traced = line_more c d after es i x r h.reports h.text below h.traced turn;
+      traced = line_more c d after es n e r h.reports h.text is h.traced turn;
       held = takes_more out so_far new h.text line pending more h.held wrote;
     }
 
@@ -161,29 +162,38 @@ same_so_far c d es pending out new h = turns_program c d es h.reports (traced_tu
 pub nothing_traced : (c : Content) (es : List Event) (out : Option (List ℕ)) → IsTracedInPart c es c out out
 nothing_traced c es out = record { count = 0; within = omega arith; reports = []; turns = (refl, refl); text = []; lines = (refl, refl, refl); begun = inl (begins_nothing out []) }
 
--- the next event isn't done, or its line is not wholly written
-pub stopped_at : (c d after : Content) (es : List Event) (i : ℕ) (x : Event) (pending : List ℕ) (out so_far new : Option (List ℕ)) → i < length es → TracedSoFar c (take i es) d pending out so_far →
-    IsEventCut (i + 1) (get_or es i x) d after pending so_far new → IsTracedInPart c es after out new
-stopped_at c d after es i x pending out so_far new below h (inl kept) =
-    let lines = subst (λ y. AreTraced 1 c (take i es) y h.reports h.text) (sym kept.0) h.traced in
+-- no more events are done, and a beginning of what was pending is written
+pub stopped_before : (c d after : Content) (all es rest : List Event) (pending : List ℕ) (out so_far new : Option (List ℕ)) → all ≡ es ++ rest → TracedSoFar c es d pending out so_far → after ≡ d →
+    AppendsBeginning so_far new pending → IsTracedInPart c all after out new
+stopped_before c d after all es rest pending out so_far new split h same begun =
+    let front : es ≡ take (length es) all = sym (ap (take (length es)) split ∙ take-append_seam es rest) in
+    let lines = subst (λ l. AreTraced 1 c l after h.reports h.text) front (subst (λ y. AreTraced 1 c es y h.reports h.text) (sym same) h.traced) in
     record {
-      count = i;
-      within = omega (arith, below);
+      count = length es;
+      within = omega (arith, ap length split, length-append es rest);
       reports = h.reports;
-      turns = traced_turns 1 c after (take i es) h.reports h.text lines;
+      turns = traced_turns 1 c after (take (length es) all) h.reports h.text lines;
       text = h.text;
       lines = lines;
-      begun = inl (begins_pending out so_far new h.text pending h.held kept.1);
+      begun = inl (begins_pending out so_far new h.text pending h.held begun);
     }
-stopped_at c d after es i x pending out so_far new below h (inr done) =
+
+-- the next event isn't done, or its line is not wholly written
+pub stopped_at : (c d after : Content) (all es : List Event) (n : ℕ) (e : Event) (rest : List Event) (pending : List ℕ) (out so_far new : Option (List ℕ)) → all ≡ es ++ e ∷ rest → n ≡ length es + 1 →
+    TracedSoFar c es d pending out so_far → IsEventCut n e d after pending so_far new → IsTracedInPart c all after out new
+stopped_at c d after all es n e rest pending out so_far new split is h (inl kept) =
+    stopped_before c d after all es (e ∷ rest) pending out so_far new split h kept.0 kept.1
+stopped_at c d after all es n e rest pending out so_far new split is h (inr done) =
     let r = done.0 in
-    let line = line_of (i + 1) (get_or es i x) r d after in
-    let lines = line_more c d after es i x r h.reports h.text below h.traced done.1 in
+    let line = line_of n e r d after in
+    let whole : all ≡ (es ++ e ∷ []) ++ rest = split ∙ sym (append_assoc es (e ∷ []) rest) in
+    let front : es ++ e ∷ [] ≡ take (length (es ++ e ∷ [])) all = sym (ap (take (length (es ++ e ∷ []))) whole ∙ take-append_seam (es ++ e ∷ []) rest) in
+    let lines = subst (λ l. AreTraced 1 c l after (h.reports ++ r ∷ []) (h.text ++ line)) front (line_more c d after es n e r h.reports h.text is h.traced done.1) in
     record {
-      count = i + 1;
-      within = omega (arith, below);
+      count = length (es ++ e ∷ []);
+      within = omega (arith, ap length whole, length-append (es ++ e ∷ []) rest);
       reports = h.reports ++ r ∷ [];
-      turns = traced_turns 1 c after (take (i + 1) es) (h.reports ++ r ∷ []) (h.text ++ line) lines;
+      turns = traced_turns 1 c after (take (length (es ++ e ∷ [])) all) (h.reports ++ r ∷ []) (h.text ++ line) lines;
       text = h.text ++ line;
       lines = lines;
       begun = inl (begins_rest out so_far new h.text pending line h.held done.2);
@@ -193,3 +203,50 @@ stopped_at c d after es i x pending out so_far new below h (inr done) =
 pub event_cut : (n : ℕ) (e : Event) (c after : Content) (pending : List ℕ) (out new : Option (List ℕ)) → (after ≡ c) ⊎ ((r : Report) × IsTurn c e (after, r)) → AppendsBeginning out new pending → IsEventCut n e c after pending out new
 event_cut n e c after pending out new (inl same) k = inl (same, k)
 event_cut n e c after pending out new (inr done) k = inr (done.0, done.1, begins_first out new pending (line_of n e done.0 c after) k)
+
+-- ---- item by item
+
+module _ (c d : Content) (items : List Item) (i : ℕ) (pending : List ℕ) (out out' : Option (List ℕ)) where
+  -- none of an item's yet
+  pub traced_none : (e : Event) → TracedSoFar c (events_of (take i items)) d pending out out' → TracedSoFar c (so_far items i e 0) d pending out out'
+  traced_none e h = subst (λ es. TracedSoFar c es d pending out out') (sym (so_far_none items i e)) h
+
+  -- one more of them
+  pub traced_time : (e : Event) (k n : ℕ) (r : Report) (after : Content) (more : List ℕ) (new : Option (List ℕ)) → n ≡ length (so_far items i e k) + 1 → TracedSoFar c (so_far items i e k) d pending out out' →
+      IsTurn d e (after, r) → TakesAllBut more out' new (pending ++ line_of n e r d after) → TracedSoFar c (so_far items i e (k + 1)) after more out new
+  traced_time e k n r after more new is h turn wrote =
+      subst (λ es. TracedSoFar c es after more out new) (so_far_more items i e k) (trace_step c d after (so_far items i e k) n e r pending more out out' new is h turn wrote)
+
+  -- all of them
+  pub traced_item : (x : Item) (k : ℕ) → i < length items → (get_or items i x).count ≤ k → k ≤ (get_or items i x).count → TracedSoFar c (so_far items i (get_or items i x).event k) d pending out out' →
+      TracedSoFar c (events_of (take (i + 1) items)) d pending out out'
+  traced_item x k below past within h =
+      let all : k ≡ (get_or items i x).count = omega (arith, past, within) in
+      subst (λ es. TracedSoFar c es d pending out out') (ap (λ m. so_far items i (get_or items i x).event m) all ∙ so_far_all items i x below) h
+
+  -- the item's next event isn't done, or its line is not wholly written
+  pub item_cut : (x : Item) (k n : ℕ) (after : Content) (new : Option (List ℕ)) → i < length items → k < (get_or items i x).count → n ≡ length (so_far items i (get_or items i x).event k) + 1 →
+      TracedSoFar c (so_far items i (get_or items i x).event k) d pending out out' → IsEventCut n (get_or items i x).event d after pending out' new → IsTracedInPart c (events_of items) after out new
+  item_cut x k n after new below few is h cut =
+      let e = (get_or items i x).event in
+      stopped_at c d after (events_of items) (so_far items i e k) n e _ pending out out' new (so_far_before items i x below k few) is h cut
+
+  -- no number is left for it
+  pub number_cut : (x : Item) (k : ℕ) → i < length items → k < (get_or items i x).count → TracedSoFar c (so_far items i (get_or items i x).event k) d pending out out' → IsTracedInPart c (events_of items) d out out'
+  number_cut x k below few h =
+      let e = (get_or items i x).event in
+      stopped_before c d d (events_of items) (so_far items i e k) _ pending out out' out' (so_far_before items i x below k few) h refl (begins_nothing out' pending)
+
+-- ---- how many events there are so far
+
+module _ (items : List Item) (i n : ℕ) where
+  pub number_none : (e : Event) → n ≡ length (events_of (take i items)) → n ≡ length (so_far items i e 0)
+  number_none e is = is ∙ ap length (sym (so_far_none items i e))
+
+  pub number_time : (e : Event) (k next : ℕ) → next ≡ n + 1 → n ≡ length (so_far items i e k) → next ≡ length (so_far items i e (k + 1))
+  number_time e k next more is = more ∙ ap (λ m. m + 1) is ∙ sym (length-append (so_far items i e k) (e ∷ [])) ∙ ap length (so_far_more items i e k)
+
+  pub number_item : (x : Item) (k : ℕ) → i < length items → (get_or items i x).count ≤ k → k ≤ (get_or items i x).count → n ≡ length (so_far items i (get_or items i x).event k) → n ≡ length (events_of (take (i + 1) items))
+  number_item x k below past within is =
+      let all : k ≡ (get_or items i x).count = omega (arith, past, within) in
+      is ∙ ap length (ap (λ m. so_far items i (get_or items i x).event m) all ∙ so_far_all items i x below)

@@ -1,9 +1,10 @@
-//! Runs a machine by a list of events, and writes a line of each.
+//! Runs a machine by the events that items stand for, and writes a line of each.
 
-ghost use Rattle.std.specs.Prelude.{◌≡◌, ◌⊎◌, ◌++◌, OnErr, OnOk, List, option_and_then, option_map};
+ghost use Rattle.std.specs.Prelude.{◌≡◌, ◌⊎◌, ◌+◌, ◌++◌, IfOk, OnErr, OnOk, List, option_and_then, option_map};
 ghost use Rattle.cil_model.specs.declared.reports.Report.{Report as AnyReport};
 ghost use Rattle.interleaving_core.specs.Views.{phase_at};
 ghost use Rattle.interleaving_core.specs.simulation.Turns.{IsTurn};
+ghost use Rattle.schedule_text.specs.Items.{events_of};
 ghost use Rattle.event_trace.specs.Columns.{found_at, heap_for, line_of, position_for, thread_of};
 ghost use Rattle.event_trace.specs.Lines.{seen};
 ghost use Rattle.event_trace.specs.Pieces.{TakesAllBut};
@@ -21,9 +22,11 @@ use cil_model::memory::NoMemory;
 use cil_model::phases::Phase;
 use interleaving_core::{Machine, Position};
 use outputs::Output;
+use schedule_text::Item;
 use std::alloc::Global;
 
-/// Does the events in order, as `Machine::run` does, and writes a line of each, and an empty line behind the last.
+/// Does the events that these items stand for in order, as `Machine::run` does, and writes a line of each, and an empty line behind the
+/// last.
 ///
 /// A line has ten columns, with a tab between two: the number of the event, from 1; the event as a schedule writes it; its report; the
 /// instruction that its thread was at before it; how many frames the thread has after it; how many values are on the stack of the one
@@ -33,33 +36,40 @@ use std::alloc::Global;
 ///
 /// Lines are put together and written in pieces of 32 KiB or more, what is left of them at the end. It takes memory for a list of where
 /// each method is declared, for a piece and one line, and no more than the machine itself for events. It stops at the first want of memory,
-/// where it writes what it has put together, and at the first write that fails. So many events are done then, and a beginning of their
-/// lines is written, and no empty line unless all of them are done.
+/// where it writes what it has put together, at the first write that fails, and, with `Memory`, before an event whose number no `usize`
+/// holds. So many events are done then, and a beginning of their lines is written, and no empty line unless all of them are done.
 pub fn trace<W: Output>(
     alloc: Global,
     machine: &mut Machine,
-    events: &[Event],
+    items: &[Item],
     out: &mut W,
 ) -> Result<(), TraceError>
-    ensures traced { OnOk result ((reports : List AnyReport) × IsTraced machine.old events.now machine.new reports (W.contents out.old) (W.contents out.new)) }
+    ensures traced { OnOk result ((reports : List AnyReport) × IsTraced machine.old (events_of items.now) machine.new reports (W.contents out.old) (W.contents out.new)) }
     ensures same { (machine.new.tree ≡ machine.old.tree) × (machine.new.limits ≡ machine.old.limits) }
-    ensures stopped { OnErr result (IsTracedInPart machine.old events.now machine.new (W.contents out.old) (W.contents out.new)) }
+    ensures stopped { OnErr result (IsTracedInPart machine.old (events_of items.now) machine.new (W.contents out.old) (W.contents out.new)) }
 {
     let methods = MethodPlaces::new(alloc, machine.tree())?;
     let mut pending = Vec::new(alloc);
-    for (index, event) in events.iter().enumerate() {
-        trace_event(
-            alloc,
-            machine,
-            &methods,
-            index + 1,
-            *event,
-            &mut pending,
-            out,
-        )?;
+    let mut number = 0;
+    for item in items {
+        for _time in 0..item.count {
+            number = next_number(number)?;
+            let event = item.event;
+            trace_event(alloc, machine, &methods, number, event, &mut pending, out)?;
+        }
     }
     write_end(pending.as_slice(), out)?;
     Ok(())
+}
+
+/// The number of the next event. `Memory` where no `usize` holds it.
+fn next_number(number: usize) -> Result<usize, TraceError>
+    ensures { IfOk result (λ next. next ≡ number + 1) }
+{
+    match number.checked_add(1) {
+        Some(next) => Ok(next),
+        None => Err(TraceError::Memory),
+    }
 }
 
 /// Does one event, and puts the line of its number behind those that are pending, which are written once they fill a piece. Where memory

@@ -8,9 +8,10 @@ use cil_plain::{PlainMachine, PlainNames};
 use ilasm_reader::read;
 use name_tables::built_in::BuiltInClass;
 use name_tables::lookups::NameTables;
-use schedule_text::read_schedule;
+use schedule_text::{Item, read_schedule};
 use source_runs::{Failure, Machine, accept};
 use std::alloc::Global;
+use std::iter::repeat_n;
 
 /// What the machine told of a run, up to the first event after which the plain machine told something else.
 #[derive(Drop)]
@@ -43,24 +44,24 @@ pub(crate) fn difference_in(trial: Result<Trial, Failure>) -> Result<Option<Stri
 }
 
 fn compare_by(alloc: Global, source: &[u8], limits: Limits, text: &[u8]) -> Result<Trial, Failure> {
-    let events = read_schedule(alloc, text)?;
-    compare(alloc, source, limits, events.as_slice())
+    let items = read_schedule(alloc, text)?;
+    compare(alloc, source, limits, items.as_slice())
 }
 
-/// The same of a list of events, with all that the machine told; a source or limits that are refused are a failure.
+/// The same of the events that items stand for, with all that the machine told; a source or limits that are refused are a failure.
 ///
 /// The plain machine is told which births the machine refused.
 pub fn compare(
     alloc: Global,
     source: &[u8],
     limits: Limits,
-    events: &[Event],
+    items: &[Item],
 ) -> Result<Trial, Failure> {
     let mut machine = Machine::new(alloc, accept(alloc, source)?, limits)?;
     let tree = read(alloc, source)?;
     let built_ins = BuiltInClass::all(alloc)?;
     let names = NameTables::new(alloc, &tree, built_ins.as_slice())?;
-    compare_with(alloc, &mut machine, &names, limits, events)
+    compare_with(alloc, &mut machine, &names, limits, items)
 }
 
 /// The same of a machine, and of the names of the tree that it runs.
@@ -69,13 +70,13 @@ fn compare_with(
     machine: &mut Machine,
     names: &NameTables,
     limits: Limits,
-    events: &[Event],
+    items: &[Item],
 ) -> Result<Trial, Failure> {
     let names = PlainNames::new(alloc, &*names)?;
     let opened = PlainMachine::new(alloc, &names, limits)?;
     match opened {
         None => no_entry_point(alloc),
-        Some(mut plain) => Ok(run(alloc, machine, &mut plain, events)?),
+        Some(mut plain) => Ok(run(alloc, machine, &mut plain, items)?),
     }
 }
 
@@ -96,14 +97,17 @@ fn run(
     alloc: Global,
     machine: &mut Machine,
     plain: &mut PlainMachine,
-    events: &[Event],
+    items: &[Item],
 ) -> Result<Trial, NoMemory> {
     let mut reports = Vec::new(alloc);
     let mut difference = None;
-    for event in events {
-        let came = machine.step(alloc, *event)?;
+    for event in items
+        .iter()
+        .flat_map(|item| repeat_n(item.event, item.count))
+    {
+        let came = machine.step(alloc, event)?;
         reports.push(came)?;
-        let wanted = expected(plain, *event, came)?;
+        let wanted = expected(plain, event, came)?;
         if wanted != Some(came) || !are_alike(machine, plain) {
             difference = Some(told(alloc, reports.len(), came, wanted, plain)?);
             break;

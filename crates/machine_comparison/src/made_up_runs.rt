@@ -6,6 +6,7 @@ use crate::random::Random;
 use cil_model::events::Event;
 use cil_model::limits::Limits;
 use cil_model::reports::{End, Fault, Report};
+use schedule_text::Item;
 use source_runs::Failure;
 use std::alloc::{AllocError, Global};
 use std::{fs, io};
@@ -84,8 +85,8 @@ pub fn difference_by_chance(
     source: &[u8],
     limits: Limits,
 ) -> Result<Option<String>, Failure> {
-    let events = events_among(alloc, &mut Random::new(PROGRAMS))?;
-    difference_in(compare(alloc, source, limits, events.as_slice()))
+    let items = items_among(alloc, &mut Random::new(PROGRAMS))?;
+    difference_in(compare(alloc, source, limits, items.as_slice()))
 }
 
 /// Does the program of a number. One that is refused counts as one that differs.
@@ -98,8 +99,8 @@ fn try_program(
     let source = source_of(rt.alloc(), &*grammar, number)?;
     let mut random = Random::new(number.wrapping_add(PROGRAMS));
     let limits = limits_among(&mut random);
-    let events = events_among(rt.alloc(), &mut random)?;
-    match compare(rt.alloc(), source.as_bytes(), limits, events.as_slice()) {
+    let items = items_among(rt.alloc(), &mut random)?;
+    match compare(rt.alloc(), source.as_bytes(), limits, items.as_slice()) {
         Ok(trial) => {
             tally.add(&trial)?;
             if let Some(difference) = &trial.difference {
@@ -125,12 +126,13 @@ fn limits_among(random: &mut Random) -> Limits {
     }
 }
 
-fn events_among(alloc: Global, random: &mut Random) -> Result<Vec<Event>, AllocError> {
-    let mut events = Vec::new(alloc);
+fn items_among(alloc: Global, random: &mut Random) -> Result<Vec<Item>, AllocError> {
+    let mut items = Vec::new(alloc);
     for _ in 0..EVENTS {
-        events.push(event_among(random))?;
+        let event = event_among(random);
+        items.push(Item { event, count: 1 })?;
     }
-    Ok(events)
+    Ok(items)
 }
 
 /// Mostly a step of the first thread; and so many acknowledgements and events of the collector that it does whole cycles meanwhile.

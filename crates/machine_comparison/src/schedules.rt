@@ -3,6 +3,7 @@
 use crate::machines::compare;
 use cil_model::events::Event;
 use cil_model::limits::Limits;
+use schedule_text::Item;
 use source_runs::Failure;
 use std::fs;
 
@@ -67,8 +68,8 @@ fn try_schedule(
         budget,
         depth: 1,
     };
-    let events = events_of(number);
-    let trial = compare(rt.alloc(), source, limits, events.as_slice())?;
+    let items = items_of(number);
+    let trial = compare(rt.alloc(), source, limits, items.as_slice())?;
     if trial.printed.as_slice() == b"5\n".as_slice() {
         count.printing = count.printing.saturating_add(1);
     }
@@ -79,13 +80,16 @@ fn try_schedule(
     Ok(())
 }
 
-/// The events of the schedule of a number: its digits to the base of five, the last one first.
-fn events_of(number: usize) -> [Event; LENGTH] {
-    let mut events = [Event::Gc; LENGTH];
+/// The schedule of a number, an event an item: the number's digits to the base of five, the last one first.
+fn items_of(number: usize) -> [Item; LENGTH] {
+    let mut items = [Item {
+        event: Event::Gc,
+        count: 1,
+    }; LENGTH];
     let mut rest = number;
-    for event in events.iter_mut() {
-        *event = EVENTS[rest % EVENTS.len()];
+    for item in items.iter_mut() {
+        item.event = EVENTS[rest % EVENTS.len()];
         rest /= EVENTS.len();
     }
-    events
+    items
 }

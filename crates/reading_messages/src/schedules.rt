@@ -24,7 +24,7 @@ struct Item<'a> {
 /// How many events an item writes; None where it can't be read. Fails for want of memory alone.
 fn count_events(alloc: Global, word: &[u8]) -> Result<Option<usize>, NoMemory> {
     match read_schedule(alloc, word) {
-        Ok(events) => Ok(Some(events.len())),
+        Ok(items) => Ok(Some(items.first().map_or(0, |item| item.count))),
         Err(ScheduleError::OutOfMemory) => Err(NoMemory),
         Err(_) => Ok(None),
     }

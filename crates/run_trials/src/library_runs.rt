@@ -5,6 +5,7 @@ use crate::worker_runs::{records_one_worker, replays_workers};
 use call_trials::{Call, LIMITS, SUM, act_many, came_to, run_both};
 use cil_model::events::Event;
 use orders::{read_source, read_text};
+use schedule_text::Item;
 use std::alloc::Global;
 use std::io;
 use std::io::{ErrorKind, Read};
@@ -100,8 +101,11 @@ fn is_told(alloc: Global, kind: ErrorKind, wanted: Failure) -> bool {
 
 /// Whether the history of a million equal steps has one run.
 fn has_one_run(waits: &impl Wait, alloc: Global) -> Result<bool, Failure> {
-    let events = vec![in alloc; Event::Step(255); 1_000_000]?;
-    let outcome = run_events(waits, alloc, SUM.as_bytes(), LIMITS, events.as_slice())?;
+    let steps = Item {
+        event: Event::Step(255),
+        count: 1_000_000,
+    };
+    let outcome = run_events(waits, alloc, SUM.as_bytes(), LIMITS, &[steps])?;
     let runs = outcome.history.runs();
     Ok(runs.len() == 1 && times(&outcome) == 1_000_000)
 }

@@ -5,3 +5,4 @@ pub mod ReadingLemmas
 pub mod WritingLemmas
 pub mod TextLemmas
 pub mod RunLemmas
+pub mod SoFar

@@ -1,9 +1,9 @@
 //! Reads the text of a schedule.
-ghost use Rattle.std.specs.Prelude.{◌≡◌, ◌+◌, ◌-◌, ◌^◌, ◌≤◌, ◌++◌, ◌&&◌, nat_lt, Some, None, IfErr, position, MatchOption, MatchResult, OnOk, IsTrue, if◌then◌else◌, min, replicate, vec_len};
+ghost use Rattle.std.specs.Prelude.{◌≡◌, ◌+◌, ◌-◌, ◌^◌, ◌≤◌, ◌&&◌, length, nat_lt, Some, None, IfErr, IfOk, position, MatchOption, MatchResult, OnOk, IsTrue, if◌then◌else◌, min};
 ghost use Rattle.std.specs.List.{list_all};
 ghost use Rattle.std.specs.Char.{is_ascii_digit};
 ghost use Rattle.std.specs.Str.Parse.{digits_value};
-ghost use Rattle.schedule_text.specs.Items.{IsItem, Names, capped_event, capped_item, is_number, is_numbered, is_separator, is_star, words};
+ghost use Rattle.schedule_text.specs.Items.{IsItem, Names, capped_event, capped_item, events_of, is_number, is_numbered, is_separator, is_star, words};
 ghost use Rattle.schedule_text.specs.Readings.{AreRead, IsAdded, IsFaultOf, IsFaulty, IsFirstFault};
 ghost use Rattle.schedule_text.specs.declared.items.Item.{Item};
 
@@ -12,7 +12,7 @@ use crate::items::{Item, is_numbered};
 use cil_model::events::Event;
 use std::alloc::Global;
 
-/// Reads the events that a text writes, in their order.
+/// Reads the items that a text writes, in their order: each is an event, and how many times over it stands.
 ///
 /// Items are separated by one or more of the bytes 9, 10, 13 and 32, which may also stand at both
 /// ends. An item is `g` (an event of the collector), `s` and a thread's number (its step) or `a` and
@@ -23,33 +23,36 @@ use std::alloc::Global;
 /// # Errors
 /// The first bad item decides: `NoItem` where it is not of this form, else `NoThread` where its
 /// thread's number is above 15, else `TooLong` where there are more than 1,000,000 events up to it
-/// and with it. `OutOfMemory` comes only where memory for the events of a good item is refused: no
-/// memory is taken for the events of a bad one.
-pub fn read_schedule(alloc: Global, text: &[u8]) -> Result<Vec<Event>, ScheduleError>
-    ensures { MatchResult result (λ events. AreRead (words text.now) events.items)
+/// and with it. `OutOfMemory` comes only where memory for a good item is refused: no memory is taken
+/// for a bad one.
+pub fn read_schedule(alloc: Global, text: &[u8]) -> Result<Vec<Item>, ScheduleError>
+    ensures { MatchResult result (λ items. AreRead (words text.now) (events_of items.items))
         (IsFirstFault (words text.now)) }
 {
-    let mut events = Vec::new(alloc);
+    let mut items = Vec::new(alloc);
+    let mut events = 0;
     for word in text
         .split(|byte| is_separator(*byte))
         .filter(|word| !word.is_empty())
     {
-        append_word(&mut events, word)?;
+        events = append_word(&mut items, events, word)?;
     }
-    Ok(events)
+    Ok(items)
 }
 
-/// Adds the events that a word writes to those before it.
-fn append_word(events: &mut Vec<Event>, word: &[u8]) -> Result<(), ScheduleError>
-    requires { vec_len events.old ≤ MOST_EVENTS }
+/// Adds the item that a word writes to those before it, which stand for so many events, and answers for how many they stand then.
+fn append_word(items: &mut Vec<Item>, events: usize, word: &[u8]) -> Result<usize, ScheduleError>
+    requires few { events ≤ MOST_EVENTS }
+    requires many { events ≡ length (events_of items.old.items) }
+    ensures many { IfOk result (λ events. (events ≡ length (events_of items.new.items)) × (events ≤ MOST_EVENTS)) }
     ensures ok { OnOk result ((item : Item) × IsItem word.now item
-        × IsAdded events.old.items item events.new.items) }
-    ensures err { IfErr result (IsFaulty (vec_len events.old) word.now) }
+        × IsAdded (events_of items.old.items) item (events_of items.new.items)) }
+    ensures err { IfErr result (IsFaulty events word.now) }
 {
     let Some(item) = read_item(word) else {
         return Err(ScheduleError::NoItem);
     };
-    append(events, item)
+    append(items, events, item)
 }
 
 fn is_separator(byte: u8) -> bool
@@ -162,18 +165,21 @@ fn value_of(digits: &[u8]) -> u32
     value
 }
 
-/// Adds an item's events to those before it.
-fn append(events: &mut Vec<Event>, item: Item) -> Result<(), ScheduleError>
-    requires { vec_len events.old ≤ MOST_EVENTS }
-    ensures ok { OnOk result (IsAdded events.old.items item events.new.items) }
-    ensures err { IfErr result (λ error. IsFaultOf (vec_len events.old) item error) }
+/// Adds an item to those before it, which stand for so many events, and answers for how many they stand then.
+fn append(items: &mut Vec<Item>, events: usize, item: Item) -> Result<usize, ScheduleError>
+    requires few { events ≤ MOST_EVENTS }
+    requires many { events ≡ length (events_of items.old.items) }
+    ensures many { IfOk result (λ events. (events ≡ length (events_of items.new.items)) × (events ≤ MOST_EVENTS)) }
+    ensures ok { OnOk result (IsAdded (events_of items.old.items) item (events_of items.new.items)) }
+    ensures err { IfErr result (IsFaultOf events item) }
 {
     if !is_numbered(item.event) {
         return Err(ScheduleError::NoThread);
     }
-    if item.count > MOST_EVENTS - events.len() {
+    if item.count > MOST_EVENTS - events {
         return Err(ScheduleError::TooLong);
     }
-    events.resize(events.len() + item.count, item.event)?;
-    Ok(())
+    items.reserve(1)?;
+    items.push_reserved(item);
+    Ok(events + item.count)
 }

@@ -1,10 +1,13 @@
 -- A worker that is alone: its count fixes the history.
-use Rattle.std.proofs.Common.{◌≡◌, ℕ, ◌+◌, ◌<◌, List, [], ◌∷◌, ◌++◌, take, get_or, length, refl, sym, ap, ◌∙◌, subst, arith, eq-eqb, All, nat_eq}
-use Rattle.std.proofs.lemmas.List.{length-append, take_more}
+use Rattle.std.proofs.Common.{◌≡◌, ℕ, ◌+◌, ◌<◌, List, [], ◌≤◌, ◌∷◌, ◌++◌, get_or, take, length, refl, sym, ap, ◌∙◌, subst, arith, eq-eqb, All, nat_eq}
+use Rattle.std.proofs.lemmas.List.{length-append}
 use Rattle.std.proofs.lemmas.List.Elements.{All-head, All-nil, All-push, All-tail, All-weaker}
 use Rattle.worker_counts.specs.Counts.{Count}
 use Rattle.cil_model.specs.declared.events.Event.{Event}
 use Rattle.cil_model.specs.declared.reports.Report.{Report}
+use Rattle.schedule_text.specs.Items.{events_of as events_in}
+use Rattle.schedule_text.specs.declared.items.Item.{Item}
+use Rattle.schedule_text.proofs.SoFar.{so_far, so_far_all, so_far_more, so_far_none}
 use Rattle.shared_machine.specs.Codes.{add}
 use Rattle.shared_machine.specs.Histories.{AreOf, AreSmall, IsSmall, count_of, entry, events_of, pairs_if, pairs_of}
 use Rattle.shared_machine.specs.Worlds.{AgreesWith, IfDid, added}
@@ -75,17 +78,36 @@ counted_first t is = record {
   count = ap (λ (c : Count). c.count) is;
 }
 
-pub counted_more : (events : List Event) (i : ℕ) (d e : Event) (t next : Count) (x : Answer) (r : Report) → i < length events → e ≡ get_or events i d → IsSmall e → HasCounted (take i events) t → x ≡ Did r
-    → IfDid x (λ s. next ≡ added t e s) → HasCounted (take (i + 1) events) next
-counted_more events i d e t next x r below is small h told did' =
+pub counted_more : (events : List Event) (e : Event) (t next : Count) (x : Answer) (r : Report) → IsSmall e → HasCounted events t → x ≡ Did r
+    → IfDid x (λ s. next ≡ added t e s) → HasCounted (events ++ e ∷ []) next
+counted_more events e t next x r small h told did' =
     let did : next ≡ added t e r = subst (λ (a : Answer). IfDid a (λ s. next ≡ added t e s)) told did' in
     record {
       entries = h.entries ++ entry 0 e r ∷ [];
-      are = events-more h.entries (entry 0 e r) ∙ ap (λ (es : List Event). es ++ e ∷ []) h.are ∙ ap (λ (x : Event). take i events ++ x ∷ []) is ∙ sym (take_more events i d below);
+      are = events-more h.entries (entry 0 e r) ∙ ap (λ (es : List Event). es ++ e ∷ []) h.are;
       mine = All-push IsMine h.entries (entry 0 e r) h.mine (refl, small);
       worker = ap (λ (c : Count). c.worker) did ∙ h.worker;
       count = ap (λ (c : Count). c.count) did ∙ ap (λ n. add n e r) h.count ∙ sym (count_mine 0 h.entries e r);
     }
+
+-- ---- item by item
+
+-- none of an item's yet
+pub counted_none : (items : List Item) (i : ℕ) (e : Event) (t : Count) → HasCounted (events_in (take i items)) t → HasCounted (so_far items i e 0) t
+counted_none items i e t h = subst (λ es. HasCounted es t) (sym (so_far_none items i e)) h
+
+-- one more of them
+pub counted_time : (items : List Item) (i : ℕ) (e : Event) (n : ℕ) (t next : Count) (x : Answer) (r : Report) → IsSmall e → HasCounted (so_far items i e n) t → x ≡ Did r
+    → IfDid x (λ s. next ≡ added t e s) → HasCounted (so_far items i e (n + 1)) next
+counted_time items i e n t next x r small h told did =
+    subst (λ es. HasCounted es next) (so_far_more items i e n) (counted_more (so_far items i e n) e t next x r small h told did)
+
+-- all of them
+pub counted_item : (items : List Item) (i : ℕ) (d : Item) (n : ℕ) (t : Count) → i < length items → (get_or items i d).count ≤ n → n ≤ (get_or items i d).count
+    → HasCounted (so_far items i (get_or items i d).event n) t → HasCounted (events_in (take (i + 1) items)) t
+counted_item items i d n t below past within h =
+    let all : n ≡ (get_or items i d).count = omega (arith, past, within) in
+    subst (λ es. HasCounted es t) (ap (λ m. so_far items i (get_or items i d).event m) all ∙ so_far_all items i d below) h
 
 -- so these are the history's
 pub counted_all : (events : List Event) (t : Count) (history : List Entry) → HasCounted events t → AreOf 1 history → AgreesWith history t → events_of history ≡ events

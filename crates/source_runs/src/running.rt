@@ -1,16 +1,16 @@
 //! From the bytes of a source to what its run leaves.
 
 ghost use Rattle.std.specs.Prelude.{◌≡◌, IfErr, IfOk};
+ghost use Rattle.schedule_text.specs.Items.{events_of as events_in};
 ghost use Rattle.shared_machine.specs.Histories.{events_of, reports_of};
 ghost use Rattle.shared_machine.specs.interleaving_core.Histories.{HasDone};
 ghost use Rattle.source_runs.specs.Runs.{HasRunTo, IsAcceptedSource, IsNotAccepted};
 ghost use Rattle.source_runs.specs.Runs.{IsNotRun, IsNotRunBy, IsNotRunWithin, IsReady, IsRunBy};
 
 use crate::failure::Failure;
-use cil_model::events::Event;
 use cil_model::limits::Limits;
 use class_layout::lay_out;
-use schedule_text::read_schedule;
+use schedule_text::{Item, read_schedule};
 use shared_machine::{Machine, Outcome, run_alone};
 use std::alloc::Global;
 use std::marker::Brand;
@@ -18,7 +18,7 @@ use std::sync::Wait;
 use verifier::{Verified, verify};
 use worker_counts::Blank;
 
-/// Runs a source by the events that a schedule's text writes, as `run_events` runs a list of them.
+/// Runs a source by the events that a schedule's text writes, as `run_events` runs those of its items.
 ///
 /// Faults are looked for in this order: the source, the limits, the schedule, memory for the history, threads and what is printed.
 pub fn run_source(
@@ -32,7 +32,7 @@ pub fn run_source(
     ensures refused { IfErr result (IsNotRunBy source.now limits text.now) }
 {
     match read_schedule(alloc, text) {
-        Ok(events) => run_events(rt, alloc, source, limits, events.as_slice()),
+        Ok(items) => run_events(rt, alloc, source, limits, items.as_slice()),
         Err(error) => {
             // What is wrong with the source or the limits is told first.
             run_events(rt, alloc, source, limits, &[])?;
@@ -41,8 +41,9 @@ pub fn run_source(
     }
 }
 
-/// Runs a source by a list of events, of any length and any threads, and answers the machine after them with the history: each event
-/// with its report, in order. One worker performs them, each under the lock of a shared machine, and counts them with its ticket.
+/// Runs a source by the events that these items stand for, as many as they are and of any threads, and answers the machine after them with
+/// the history: each event with its report, in order. One worker performs them, each under the lock of a shared machine, and counts them
+/// with its ticket.
 ///
 /// The reference machine's run over the steps among the events is never stuck. It gives the steps these reports, and the machine stands
 /// for the state that it comes to: the bytes printed are the same, and each thread stands alike. No thread makes more steps than its
@@ -58,14 +59,14 @@ pub fn run_events(
     alloc: Global,
     source: &[u8],
     limits: Limits,
-    events: &[Event],
+    items: &[Item],
 ) -> Result<Outcome, Failure>
-    ensures events { IfOk result (λ outcome. events_of outcome.history.entries ≡ events.now) }
-    ensures ran { IfOk result (λ outcome. HasRunTo source.now limits events.now (reports_of outcome.history.entries) outcome.machine) }
+    ensures events { IfOk result (λ outcome. events_of outcome.history.entries ≡ events_in items.now) }
+    ensures ran { IfOk result (λ outcome. HasRunTo source.now limits (events_in items.now) (reports_of outcome.history.entries) outcome.machine) }
     ensures refused { IfErr result (IsNotRun source.now limits) }
 {
     let verified = accept(alloc, source)?;
-    run(rt, alloc, verified, limits, events)
+    run(rt, alloc, verified, limits, items)
 }
 
 /// The verified program of a source, whose tree is the one that the bytes have. It is legal, and each of its methods has a typing.
@@ -79,24 +80,24 @@ pub fn accept(alloc: Global, source: &[u8]) -> Result<Verified, Failure>
     Ok(verify(alloc, program, layout)?)
 }
 
-/// The machine of a program after these events, which one worker performs.
+/// The machine of a program after the events of these items, which one worker performs.
 fn run(
     rt: &impl Wait,
     alloc: Global,
     program: Verified,
     limits: Limits,
-    events: &[Event],
+    items: &[Item],
 ) -> Result<Outcome, Failure>
-    ensures events { IfOk result (λ outcome. events_of outcome.history.entries ≡ events.now) }
-    ensures ran { IfOk result (λ outcome. HasDone program limits events.now (reports_of outcome.history.entries) outcome.machine) }
+    ensures events { IfOk result (λ outcome. events_of outcome.history.entries ≡ events_in items.now) }
+    ensures ran { IfOk result (λ outcome. HasDone program limits (events_in items.now) (reports_of outcome.history.entries) outcome.machine) }
     ensures refused { IfErr result (IsNotRunWithin limits) }
 {
     let machine = Machine::new(alloc, program, limits)?;
     let blank = Blank::new(alloc)?;
-    Ok(run_alone::<Brand, _>(rt, alloc, blank, machine, events)?)
+    Ok(run_alone::<Brand, _>(rt, alloc, blank, machine, items)?)
 }
 
-/// The machine of a source before its first event, and the events that a schedule's text writes.
+/// The machine of a source before its first event, and the items that a schedule's text writes.
 ///
 /// Faults are looked for in this order: the source (as `accept` does), the limits (`OutOfRange(401)`), the schedule (`Refused` with a
 /// number from 501 on); `Memory` where memory runs out.
@@ -105,12 +106,12 @@ pub fn open(
     source: &[u8],
     limits: Limits,
     text: &[u8],
-) -> Result<(Machine, Vec<Event>), Failure>
-    ensures opened { IfOk result (λ run. IsReady source.now limits text.now run.1.items run.0) }
+) -> Result<(Machine, Vec<Item>), Failure>
+    ensures opened { IfOk result (λ run. IsReady source.now limits text.now (events_in run.1.items) run.0) }
     ensures refused { IfErr result (IsNotRunBy source.now limits text.now) }
 {
     let verified = accept(alloc, source)?;
     let machine = Machine::new(alloc, verified, limits)?;
-    let events = read_schedule(alloc, text)?;
-    Ok((machine, events))
+    let items = read_schedule(alloc, text)?;
+    Ok((machine, items))
 }

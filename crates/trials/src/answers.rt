@@ -6,7 +6,7 @@ use class_layout::lay_out;
 use ilasm_reader::read;
 use metadata::{Program, resolve};
 use orders::Order;
-use schedule_text::read_schedule;
+use schedule_text::{Item, read_schedule};
 use std::alloc::{AllocError, Global};
 use verifier::verify;
 
@@ -45,7 +45,16 @@ fn program_answer(alloc: Global, program: Program) -> Result<String, AllocError>
 
 fn schedule_answer(alloc: Global, text: &[u8]) -> Result<String, AllocError> {
     match read_schedule(alloc, text) {
-        Ok(events) => format!(in alloc; "{} events", events.len()),
+        Ok(items) => format!(in alloc; "{} events", count_events(items.as_slice())),
         Err(error) => format!(in alloc; "error {}: {error}", error.number()),
     }
+}
+
+/// How many events items stand for.
+fn count_events(items: &[Item]) -> usize {
+    let mut events = 0usize;
+    for item in items {
+        events = events.saturating_add(item.count);
+    }
+    events
 }

@@ -89,13 +89,13 @@ fn add_events(
     let Some((limits, text)) = run_of(order, files) else {
         return Ok(());
     };
-    let events = read_schedule(alloc, text)?;
+    let items = read_schedule(alloc, text)?;
     let outcome = run_events(
         waits,
         alloc,
         files.source.as_slice(),
         limits,
-        events.as_slice(),
+        items.as_slice(),
     )?;
     add_reports(outcome.history.runs(), out)?;
     add_used(outcome.machine.used(), out)?;

@@ -1,5 +1,6 @@
 use Rattle.std.proofs.Common.{inl, inr, refl, subst, sym}
 use Rattle.deadlocks.specs.event_trace.Traces.{IsTraced, IsTracedInPart}
+use Rattle.schedule_text.specs.Items.{events_of}
 use Rattle.driver.specs.Outcomes.{HasNotRun, IsTraceInPart}
 use Rattle.threaded_runs.specs.source_runs.Failures.{IsOfWriting}
 use Rattle.threaded_runs.proofs.source_runs.RunLemmas.{handed_on, if_err, if_ok, on_err, on_err_of}
@@ -28,8 +29,8 @@ returns-in_err-write_trace-clause-in_part g c =
     let after = c.write_trace.new.machine in
     let begun = g.W.Output.contents c.args.out.now in
     let between = g.W.Output.contents c.write_trace.new.out in
-    let traced = subst (λ es. IsTracedInPart machine es after begun between) c.as_slice.ensures.value c.in_err-write_trace.ensures.stopped in
-    let cut : IsTraceInPart c.args.source.now c.args.limits c.args.text.now begun between = record { events = c.in_ok-machine.events.items; begins = machine; ready = c.in_ok-machine.ensures.opened; after = after; traced = traced } in
+    let traced = subst (λ items. IsTracedInPart machine (events_of items) after begun between) c.as_slice.ensures.value c.in_err-write_trace.ensures.stopped in
+    let cut : IsTraceInPart c.args.source.now c.args.limits c.args.text.now begun between = record { events = events_of c.in_ok-machine.items.items; begins = machine; ready = c.in_ok-machine.ensures.opened; after = after; traced = traced } in
     on_err c.from_residual-in_err-write_trace.result (inr (inl (cut, refl)))
 
 pub returns-clause-done : goal.returns-clause-done
@@ -40,9 +41,9 @@ returns-clause-done g c =
     let between = g.W.Output.contents c.write_trace.new.out in
     let traced = c.in_ok-write_trace.ensures.traced in
     if_ok c.show.result c.show.ensures.shown (λ status shown.
-    has_traced c.args.source.now c.args.limits c.args.text.now c.args.explain c.in_ok-machine.events.items machine after traced.0 begun between (g.W.Output.contents c.show.new.out)
+    has_traced c.args.source.now c.args.limits c.args.text.now c.args.explain (events_of c.in_ok-machine.items.items) machine after traced.0 begun between (g.W.Output.contents c.show.new.out)
     (g.E.Output.contents c.args.err.now) (g.E.Output.contents c.show.new.err) status c.in_ok-machine.ensures.opened
-    (subst (λ es. IsTraced machine es after traced.0 begun between) c.as_slice.ensures.value traced.1) shown)
+    (subst (λ items. IsTraced machine (events_of items) after traced.0 begun between) c.as_slice.ensures.value traced.1) shown)
 
 pub returns-clause-failed : goal.returns-clause-failed
 returns-clause-failed g c =
@@ -60,6 +61,6 @@ returns-clause-in_part g c =
     let between = g.W.Output.contents c.write_trace.new.out in
     let traced = c.in_ok-write_trace.ensures.traced in
     on_err_of c.show.result c.show.ensures.begun (λ shown.
-    inr (inr (traced_in_part c.args.source.now c.args.limits c.args.text.now c.args.explain c.in_ok-machine.events.items machine after traced.0 begun between (g.W.Output.contents c.show.new.out)
+    inr (inr (traced_in_part c.args.source.now c.args.limits c.args.text.now c.args.explain (events_of c.in_ok-machine.items.items) machine after traced.0 begun between (g.W.Output.contents c.show.new.out)
     (g.E.Output.contents c.args.err.now) (g.E.Output.contents c.show.new.err) c.in_ok-machine.ensures.opened
-    (subst (λ es. IsTraced machine es after traced.0 begun between) c.as_slice.ensures.value traced.1) shown)))
+    (subst (λ items. IsTraced machine (events_of items) after traced.0 begun between) c.as_slice.ensures.value traced.1) shown)))

@@ -1,61 +1,102 @@
-use Rattle.std.proofs.Common.{◌≤◌, ◌++◌, ◌∷◌, ◌∙◌, [], length, subst, sym, take}
-use Rattle.std.proofs.lemmas.List.{take_all}
+use Rattle.std.proofs.Common.{◌≤◌, ◌+◌, ◌++◌, ◌∷◌, ◌∙◌, [], ap, length, subst, sym, take}
 use Rattle.std.specs.Io.KnownBytes.{Appends}
+use Rattle.cil_model.specs.declared.events.Event.TheVariants.{Gc}
 use Rattle.cil_model.specs.declared.trees.Tree.{Tree}
+use Rattle.schedule_text.specs.Items.{events_of}
+use Rattle.schedule_text.proofs.SoFar.{so_far_whole}
 use Rattle.interleaving_core.proofs.Refusing.{on_err}
 use Rattle.outputs.specs.Beginnings.{AppendsBeginning}
 use Rattle.event_trace.specs.Places.{ArePlacesOf}
-use Rattle.event_trace.proofs.TraceLaws.{TracedSoFar, all_traced, end_cut, nothing_traced, same_so_far, stopped_at, trace_step}
+use Rattle.event_trace.proofs.TraceLaws.{TracedSoFar, all_traced, end_cut, item_cut, nothing_traced, number_cut, number_item, number_none, number_time, same_so_far}
+use Rattle.event_trace.proofs.TraceLaws.{traced_item, traced_none, traced_time}
 use Rattle.event_trace.proofs.tracing.trace.Goals as goal
 
-pub loop-index-preserved : goal.loop-index-preserved
-loop-index-preserved g c =
-    let done = c.in_ok-trace_event.ensures in record {
-      so_far = trace_step c.args.machine.now c.loop-index.machine c.trace_event.new.machine c.args.events.now c.loop-index.index _ done.traced.0 c.loop-index.pending.items c.trace_event.new.pending.items
-          (g.W.Output.contents c.args.out.now) (g.W.Output.contents c.loop-index.out) (g.W.Output.contents c.trace_event.new.out) c.loop-index-test.true c.loop-index.invariant.so_far done.traced.1 done.traced.2;
-      places = subst (λ (t : Tree). ArePlacesOf t c.in_ok-methods.methods) (sym done.same.0) c.loop-index.invariant.places;
+pub loop-time-init : goal.loop-time-init
+loop-time-init g c =
+    let items = c.args.items.now in
+    let i = c.loop-item.item-index in
+    let before = c.loop-item.invariant in
+    record {
+      traced = traced_none c.args.machine.now c.loop-item.machine items i c.loop-item.pending.items (g.W.Output.contents c.args.out.now) (g.W.Output.contents c.loop-item.out) Gc before.traced;
+      number = number_none items i c.loop-item.number Gc before.number;
+      places = before.places;
+    }
+
+pub loop-time-preserved : goal.loop-time-preserved
+loop-time-preserved g c =
+    let items = c.args.items.now in
+    let i = c.loop-item.item-index in
+    let before = c.loop-time.invariant in
+    let done = c.in_ok-trace_event.ensures in
+    record {
+      traced = traced_time c.args.machine.now c.loop-time.machine items i c.loop-time.pending.items (g.W.Output.contents c.args.out.now) (g.W.Output.contents c.loop-time.out) _ c.loop-time._time _ done.traced.0
+          c.trace_event.new.machine c.trace_event.new.pending.items (g.W.Output.contents c.trace_event.new.out) (c.in_ok-number.ensures ∙ ap (λ n. n + 1) before.number) before.traced done.traced.1 done.traced.2;
+      number = number_time items i c.loop-time.number _ c.loop-time._time c.in_ok-number.number c.in_ok-number.ensures before.number;
+      places = subst (λ (t : Tree). ArePlacesOf t c.in_ok-methods.methods) (sym done.same.0) before.places;
+    }
+
+pub loop-item-preserved : goal.loop-item-preserved
+loop-item-preserved g c =
+    let items = c.args.items.now in
+    let i = c.loop-item.item-index in
+    let before = c.loop-time.invariant in
+    record {
+      traced = traced_item c.args.machine.now c.loop-time.machine items i c.loop-time.pending.items (g.W.Output.contents c.args.out.now) (g.W.Output.contents c.loop-time.out) _ c.loop-time._time c.loop-item-test.true
+          c.loop-time-test.false c.loop-time.auto._time-end before.traced;
+      number = number_item items i c.loop-time.number _ c.loop-time._time c.loop-item-test.true c.loop-time-test.false c.loop-time.auto._time-end before.number;
+      places = before.places;
     }
 
 pub returns-clause-traced : goal.returns-clause-traced
 returns-clause-traced g c =
-    let past : length c.args.events.now ≤ c.loop-index.index = c.loop-index-test.false in
+    let past : length c.args.items.now ≤ c.loop-item.item-index = c.loop-item-test.false in
     let begun = g.W.Output.contents c.args.out.now in
-    let so_far = g.W.Output.contents c.loop-index.out in
+    let so_far = g.W.Output.contents c.loop-item.out in
     let new = g.W.Output.contents c.write_end.new.out in
-    all_traced c.args.machine.now c.loop-index.machine c.args.events.now c.loop-index.pending.items begun so_far new
-    (subst (λ es. TracedSoFar c.args.machine.now es c.loop-index.machine c.loop-index.pending.items begun so_far) (take_all c.loop-index.index c.args.events.now past) c.loop-index.invariant.so_far)
+    all_traced c.args.machine.now c.loop-item.machine (events_of c.args.items.now) c.loop-item.pending.items begun so_far new
+    (subst (λ es. TracedSoFar c.args.machine.now es c.loop-item.machine c.loop-item.pending.items begun so_far) (so_far_whole c.args.items.now c.loop-item.item-index past) c.loop-item.invariant.traced)
     (subst (λ bytes. Appends so_far new (bytes ++ 10 ∷ [])) c.as_slice.ensures.value c.in_ok-write_end.ensures.written)
 
 pub returns-clause-same : goal.returns-clause-same
 returns-clause-same g c =
-    same_so_far c.args.machine.now c.loop-index.machine (take c.loop-index.index c.args.events.now) c.loop-index.pending.items (g.W.Output.contents c.args.out.now) (g.W.Output.contents c.loop-index.out) c.loop-index.invariant.so_far
+    same_so_far c.args.machine.now c.loop-item.machine (events_of (take c.loop-item.item-index c.args.items.now)) c.loop-item.pending.items (g.W.Output.contents c.args.out.now) (g.W.Output.contents c.loop-item.out) c.loop-item.invariant.traced
 
 pub returns-in_err-write_end-clause-same : goal.returns-in_err-write_end-clause-same
 returns-in_err-write_end-clause-same g c =
-    same_so_far c.args.machine.now c.loop-index.machine (take c.loop-index.index c.args.events.now) c.loop-index.pending.items (g.W.Output.contents c.args.out.now) (g.W.Output.contents c.loop-index.out) c.loop-index.invariant.so_far
+    same_so_far c.args.machine.now c.loop-item.machine (events_of (take c.loop-item.item-index c.args.items.now)) c.loop-item.pending.items (g.W.Output.contents c.args.out.now) (g.W.Output.contents c.loop-item.out) c.loop-item.invariant.traced
 
 pub returns-in_err-write_end-clause-stopped : goal.returns-in_err-write_end-clause-stopped
 returns-in_err-write_end-clause-stopped g c =
-    let past : length c.args.events.now ≤ c.loop-index.index = c.loop-index-test.false in
+    let past : length c.args.items.now ≤ c.loop-item.item-index = c.loop-item-test.false in
     let begun = g.W.Output.contents c.args.out.now in
-    let so_far = g.W.Output.contents c.loop-index.out in
+    let so_far = g.W.Output.contents c.loop-item.out in
     let new = g.W.Output.contents c.write_end.new.out in
     on_err c.from_residual-in_err-write_end.result
-    (end_cut c.args.machine.now c.loop-index.machine c.args.events.now c.loop-index.pending.items begun so_far new
-    (subst (λ es. TracedSoFar c.args.machine.now es c.loop-index.machine c.loop-index.pending.items begun so_far) (take_all c.loop-index.index c.args.events.now past) c.loop-index.invariant.so_far)
+    (end_cut c.args.machine.now c.loop-item.machine (events_of c.args.items.now) c.loop-item.pending.items begun so_far new
+    (subst (λ es. TracedSoFar c.args.machine.now es c.loop-item.machine c.loop-item.pending.items begun so_far) (so_far_whole c.args.items.now c.loop-item.item-index past) c.loop-item.invariant.traced)
     (subst (λ bytes. AppendsBeginning so_far new (bytes ++ 10 ∷ [])) c.as_slice.ensures.value c.in_err-write_end.ensures.begun))
 
 pub returns-in_err-trace_event-clause-same : goal.returns-in_err-trace_event-clause-same
 returns-in_err-trace_event-clause-same g c =
-    let before = same_so_far c.args.machine.now c.loop-index.machine (take c.loop-index.index c.args.events.now) c.loop-index.pending.items (g.W.Output.contents c.args.out.now) (g.W.Output.contents c.loop-index.out)
-    c.loop-index.invariant.so_far in
+    let before = same_so_far c.args.machine.now c.loop-time.machine _ c.loop-time.pending.items (g.W.Output.contents c.args.out.now) (g.W.Output.contents c.loop-time.out) c.loop-time.invariant.traced in
     let same = c.in_err-trace_event.ensures.same in (same.0 ∙ before.0, same.1 ∙ before.1)
 
 pub returns-in_err-trace_event-clause-stopped : goal.returns-in_err-trace_event-clause-stopped
 returns-in_err-trace_event-clause-stopped g c =
     on_err c.from_residual-in_err-trace_event.result
-    (stopped_at c.args.machine.now c.loop-index.machine c.trace_event.new.machine c.args.events.now c.loop-index.index _ c.loop-index.pending.items (g.W.Output.contents c.args.out.now) (g.W.Output.contents c.loop-index.out)
-    (g.W.Output.contents c.trace_event.new.out) c.loop-index-test.true c.loop-index.invariant.so_far c.in_err-trace_event.ensures.stopped)
+    (item_cut c.args.machine.now c.loop-time.machine c.args.items.now c.loop-item.item-index c.loop-time.pending.items (g.W.Output.contents c.args.out.now) (g.W.Output.contents c.loop-time.out) _ c.loop-time._time _
+    c.trace_event.new.machine (g.W.Output.contents c.trace_event.new.out) c.loop-item-test.true c.loop-time-test.true (c.in_ok-number.ensures ∙ ap (λ n. n + 1) c.loop-time.invariant.number) c.loop-time.invariant.traced
+    c.in_err-trace_event.ensures.stopped)
+
+pub returns-in_err-number-clause-same : goal.returns-in_err-number-clause-same
+returns-in_err-number-clause-same g c =
+    same_so_far c.args.machine.now c.loop-time.machine _ c.loop-time.pending.items (g.W.Output.contents c.args.out.now) (g.W.Output.contents c.loop-time.out) c.loop-time.invariant.traced
+
+pub returns-in_err-number-clause-stopped : goal.returns-in_err-number-clause-stopped
+returns-in_err-number-clause-stopped g c =
+    on_err c.from_residual-in_err-number.result
+    (number_cut c.args.machine.now c.loop-time.machine c.args.items.now c.loop-item.item-index c.loop-time.pending.items (g.W.Output.contents c.args.out.now) (g.W.Output.contents c.loop-time.out) _ c.loop-time._time
+    c.loop-item-test.true c.loop-time-test.true c.loop-time.invariant.traced)
 
 pub returns-in_err-methods-clause-stopped : goal.returns-in_err-methods-clause-stopped
-returns-in_err-methods-clause-stopped g c = on_err c.from_residual.result (nothing_traced c.args.machine.now c.args.events.now (g.W.Output.contents c.args.out.now))
+returns-in_err-methods-clause-stopped g c = on_err c.from_residual.result (nothing_traced c.args.machine.now (events_of c.args.items.now) (g.W.Output.contents c.args.out.now))

@@ -1,4 +1,3 @@
-use Rattle.std.proofs.Common.{vec_len}
 use Rattle.schedule_text.proofs.ReadingLemmas.{fault_of, if_err, on_ok, uncapped_added}
 use Rattle.schedule_text.proofs.reading.append_word.Goals as goal
 
@@ -10,4 +9,4 @@ returns-clause-ok c =
 pub returns-clause-err : goal.returns-clause-err
 returns-clause-err c =
     let written = c.in-Some.ensures in
-    if_err c.append.result (λ error. fault_of (vec_len c.args.events.now) c.args.word.now c.in-Some.item written.0 error written.1 written.2) c.append.ensures.err
+    if_err c.append.result (λ error. fault_of c.args.events c.args.word.now c.in-Some.item written.0 error written.1 written.2) c.append.ensures.err

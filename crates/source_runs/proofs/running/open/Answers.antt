@@ -15,7 +15,7 @@ returns-clause-opened c =
         begins = c.in_ok-machine.ensures.begins;
         represents = c.in_ok-machine.ensures.opening;
       };
-      are_read = c.in_ok-events.ensures;
+      are_read = c.in_ok-items.ensures;
     }
 
 pub returns-in_err-verified-clause-refused : goal.returns-in_err-verified-clause-refused
@@ -23,7 +23,7 @@ returns-in_err-verified-clause-refused c =
     handed_on c.from_residual.result c.from_residual.ensures.1 (λ failure same.
     subst (IsNotRunBy c.args.source.now c.args.limits c.args.text.now) (sym same) (inl (inl c.in_err-verified.ensures.refused)))
 
-pub returns-in_err-events-clause-refused : goal.returns-in_err-events-clause-refused
-returns-in_err-events-clause-refused c =
-    handed_on c.from_residual-in_err-events.result c.from_residual-in_err-events.ensures.1 (λ failure same.
-    inr ((c.in_ok-verified.verified, c.in_ok-verified.ensures.accepted), c.in_ok-machine.ensures.done.in_range, (c.in_err-events.field-0.0, c.in_err-events.ensures, same)))
+pub returns-in_err-items-clause-refused : goal.returns-in_err-items-clause-refused
+returns-in_err-items-clause-refused c =
+    handed_on c.from_residual-in_err-items.result c.from_residual-in_err-items.ensures.1 (λ failure same.
+    inr ((c.in_ok-verified.verified, c.in_ok-verified.ensures.accepted), c.in_ok-machine.ensures.done.in_range, (c.in_err-items.field-0.0, c.in_err-items.ensures, same)))
