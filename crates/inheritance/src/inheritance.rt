@@ -1,7 +1,6 @@
 // The nearest declaration of each key, from each class on.
 
 ghost use Rattle.std.specs.Prelude.{◌≡◌, ◌==◌, ◌<◌, ◌↔◌, ℕ, Some, IfOk, IsTrue, OnErr, OnOk, length, map};
-ghost use Rattle.std.specs.List.{position_from};
 ghost use Rattle.inheritance.specs.declared.ledgers.Entry.{Entry};
 ghost use Rattle.inheritance.specs.Lines.{Ends};
 ghost use Rattle.inheritance.specs.Changes.{known_of, AreOrdered};
@@ -45,24 +44,6 @@ fn search(alloc: Global, forest: &Forest) -> Result<Ledger, NoMemory>
     Ok(ledger)
 }
 
-fn is_key(key: usize, own: usize) -> bool
-    ensures { result ≡ (key == own) }
-{
-    key == own
-}
-
-/// The first place of a key among those that a class declares.
-fn place_of(keys: &[usize], key: usize) -> Option<usize>
-    ensures { result ≡ position_from (λ k. key == k) 0 keys.now }
-{
-    for place in 0..keys.len() {
-        if is_key(key, keys[place]) {
-            return Some(place);
-        }
-    }
-    None
-}
-
 impl Inheritance {
     /// Takes time and memory with the number of classes and of declarations, but for logarithms. Fails for want of memory alone.
     pub fn new(alloc: Global, forest: Forest) -> Result<Self, NoMemory>
@@ -78,7 +59,7 @@ impl Inheritance {
     }
 
     /// The nearest class that declares a key, from a class on, with the place of the key. `Endless` exactly where the bases of the class
-    /// do not end: use `nearest_along` then. Takes time with the logarithm of the number of classes that declare the key. Where the search
+    /// do not end. Takes time with the logarithm of the number of classes that declare the key. Where the search
     /// had left out a class whose bases end, it would go along them; it leaves out none, which no contract says.
     pub fn nearest(&self, class: usize, key: usize) -> Result<Option<Declared>, Endless>
         requires { key < self.now.forest.keys }
@@ -88,28 +69,9 @@ impl Inheritance {
     {
         match self.ledger.entry(class) {
             Some(entry) => Ok(found_at(self.ledger.changes.as_slice(), key, entry.time)),
-            None if self.ends(class) => Ok(self.nearest_along(class, key)),
+            None if self.ends(class) => Ok(self.forest.nearest_along(class, key)),
             None => Err(Endless),
         }
-    }
-
-    /// The same, found by going along the bases, for a class whose bases do not end: what is found among as many classes as are looked at.
-    pub fn nearest_along(&self, first: usize, key: usize) -> Option<Declared>
-        ensures { pair_of result ≡ nearest_from self.now.forest key self.now.forest.most (Some first) }
-    {
-        let mut next = Some(first);
-        let mut left = self.forest.most;
-        while left > 0 {
-            let Some(class) = next else {
-                return None;
-            };
-            if let Some(place) = place_of(self.forest.keys_of(class), key) {
-                return Some(Declared { class, place });
-            }
-            next = self.forest.base(class);
-            left -= 1;
-        }
-        None
     }
 
     /// Whether the bases of a class end among as many classes as are looked at.

@@ -2,15 +2,19 @@
 #![tactic(auto)]
 
 mod changes;
+mod cut_cycles;
+mod cut_lookups;
 mod forests;
 mod inheritance;
 mod ledgers;
 mod left_out;
 mod marked;
+mod nearest;
 mod rounds;
 mod tours;
 
 pub use changes::Declared;
+pub use cut_cycles::CutCycles;
 pub use forests::Forest;
 pub use inheritance::{Endless, Inheritance};
 pub use rounds::least_own_base;

@@ -97,7 +97,7 @@ impl Inheritance {
         ensures { IsTrue result ↔ FindsMarked (map (λ v. v.items) marks.now) self.now.forest class }
     {
         for key in 0..self.forest.keys {
-            if is_marked(marks, self.nearest_along(class, key)) {
+            if is_marked(marks, self.forest.nearest_along(class, key)) {
                 return true;
             }
         }

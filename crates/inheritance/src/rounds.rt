@@ -40,19 +40,33 @@ fn least_round(bases: &[Option<usize>], start: usize) -> usize {
     least
 }
 
-/// The least class that bases lead back to. Its contract says nothing: whoever asks tries the class. Takes time with the number of
-/// classes. Fails for want of memory alone.
-pub fn least_own_base(alloc: Global, bases: &[Option<usize>]) -> Result<Option<usize>, NoMemory> {
+/// A class of each cycle of bases. Its contract says nothing: whoever asks tries the classes. Takes time with the number of classes.
+/// Fails for want of memory alone.
+pub(crate) fn cycle_classes(
+    alloc: Global,
+    bases: &[Option<usize>],
+) -> Result<Vec<usize>, NoMemory> {
     let mut marks = vec![in alloc; None; bases.len()]?;
-    let mut found = None;
+    let mut classes = Vec::new(alloc);
     for start in 0..bases.len() {
         if let Some(class) = met_again(bases, marks.as_mut_slice(), start) {
-            let least = least_round(bases, class);
-            found = match found {
-                Some(other) if other < least => Some(other),
-                _ => Some(least),
-            };
+            classes.push(class)?;
         }
+    }
+    Ok(classes)
+}
+
+/// The least class that bases lead back to. Its contract says nothing, as that of these classes. Takes time with the number of
+/// classes. Fails for want of memory alone.
+pub fn least_own_base(alloc: Global, bases: &[Option<usize>]) -> Result<Option<usize>, NoMemory> {
+    let mut found = None;
+    let classes = cycle_classes(alloc, bases)?;
+    for class in classes.as_slice() {
+        let least = least_round(bases, *class);
+        found = match found {
+            Some(other) if other < least => Some(other),
+            _ => Some(least),
+        };
     }
     Ok(found)
 }

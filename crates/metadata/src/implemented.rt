@@ -2,6 +2,7 @@
 
 ghost use Rattle.std.specs.Prelude.{◌≡◌, IfOk, IfSome, Some, true, is_none, is_some, map, slice_get};
 ghost use Rattle.std.specs.List.{list_any, list_all};
+ghost use Rattle.cil_model.specs.declared.trees.Tree.{Tree};
 ghost use Rattle.cil_model.specs.Chains.{methods_declared};
 ghost use Rattle.cil_model.specs.Legality.{implements_all, lacks_implementation};
 ghost use Rattle.metadata.specs.Implemented.{has_all, AreKnown};
@@ -122,6 +123,15 @@ fn is_noted(known: &[Option<usize>], class: usize, interface: usize) -> bool
     }
 }
 
+/// Notes of a class that each method of an interface is found as a virtual one from it on.
+fn note(known: &mut Vec<Option<usize>>, class: usize, interface: usize)
+    ensures { (tree : Tree) → AreKnown tree known.old.items → has_all tree (Some class) interface ≡ true → AreKnown tree known.new.items }
+{
+    if class < known.len() {
+        known[class] = Some(interface);
+    }
+}
+
 /// Whether each method of an interface is found as a virtual one from a class on. Where it is, that is noted of the class.
 fn has_all(
     methods: &MethodTables,
@@ -133,21 +143,18 @@ fn has_all(
     ensures found { result ≡ true → has_all methods.now.names.now.classes.tree.now (Some class) interface ≡ true }
     ensures known { AreKnown methods.now.names.now.classes.tree.now known.new.items }
 {
-    if class >= known.len() {
-        return false;
-    }
     if is_noted(known.as_slice(), class, interface) {
         return true;
     }
     if absent_at(methods, Some(class), interface).is_some() {
         return false;
     }
-    known[class] = Some(interface);
+    note(known, class, interface);
     true
 }
 
 /// The first method of an interface for which no class from one on has a virtual one. There is none where its base has them all: so an
-/// interface that many classes with one base list is looked through once.
+/// interface that many classes with one base list, or each class of a chain, is looked through once.
 fn absent_from(
     methods: &MethodTables,
     known: &mut Vec<Option<usize>>,
@@ -168,6 +175,7 @@ fn absent_from(
         return absent_at(methods, class, interface);
     };
     if has_all(methods, known, base, interface) {
+        note(known, number, interface);
         return None;
     }
     absent_at(methods, class, interface)

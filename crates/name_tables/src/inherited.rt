@@ -1,14 +1,16 @@
 // The members that classes have and inherit, each found by its key.
 
-ghost use Rattle.std.specs.Prelude.{◌≡◌, ◌+◌, ℕ, Some, IfOk, OnErr, OnOk, length, map, flat_map, option_map, slice_index_or, []};
+ghost use Rattle.std.specs.Prelude.{◌≡◌, ◌+◌, ◌<◌, ℕ, Some, IfOk, OnErr, OnOk, length, map, flat_map, option_map, slice_index_or, []};
 ghost use Rattle.std.specs.List.{position_from};
+ghost use Rattle.std.specs.Option.{ForSome};
 ghost use Rattle.inheritance.specs.Lines.{place_in, Ends};
-ghost use Rattle.inheritance.specs.Ledgers.{nearest_from};
+ghost use Rattle.inheritance.specs.Ledgers.{pair_of, nearest_from};
+ghost use Rattle.inheritance.specs.CutCycles.{IsCut};
 ghost use Rattle.name_tables.specs.Inherited.{number_in, AreNumbered};
 
 use crate::places::Places;
 use cil_model::memory::NoMemory;
-use inheritance::{Declared, Endless, Forest, Inheritance};
+use inheritance::{CutCycles, Declared, Endless, Forest, Inheritance};
 use std::alloc::Global;
 use std::cmp::Eq;
 use std::hash::Hash;
@@ -19,6 +21,8 @@ use std::hash::Hash;
 pub(crate) struct Inherited<K: Eq + Hash + Copy + Drop> {
     pub keys: Places<K>,
     pub inheritance: Inheritance,
+    cycles: Option<CutCycles>,
+    ghost cut: { ForSome cycles (λ c. IsCut inheritance.forest c.cut.forest) },
     ghost within: { inheritance.forest.keys ≡ length keys + 1 },
     ghost numbered: { AreNumbered K.eq keys (map (λ r. r.items) inheritance.forest.declared.items) },
 }
@@ -94,8 +98,13 @@ impl<K: Eq + Hash + Copy + Drop> Inherited<K> {
             keys: count,
             most,
         };
+        let cycles = CutCycles::new(alloc, &forest)?;
         let inheritance = Inheritance::new(alloc, forest)?;
-        Ok(Inherited { keys, inheritance })
+        Ok(Inherited {
+            keys,
+            inheritance,
+            cycles,
+        })
     }
 
     /// The nearest declaration of a key, from a class on. An error exactly where the class's bases do not end.
@@ -106,15 +115,25 @@ impl<K: Eq + Hash + Copy + Drop> Inherited<K> {
     {
         self.inheritance.nearest(class, number_of(&self.keys, key))
     }
-    /// The same for each class. Only where its bases do not end are they gone along.
+
+    /// What the key of a number finds, from a class on whose bases do not end.
+    fn nearest_round(&self, class: usize, number: usize) -> Option<Declared>
+        requires { number < self.now.inheritance.forest.keys }
+        ensures { pair_of result ≡ nearest_from self.now.inheritance.forest number self.now.inheritance.forest.most (Some class) }
+    {
+        match &self.cycles {
+            None => self.inheritance.forest.nearest_along(class, number),
+            Some(cycles) => cycles.nearest(&self.inheritance.forest, class, number),
+        }
+    }
+
+    /// The same for each class.
     pub fn find(&self, class: usize, key: K) -> Option<Declared>
         ensures { option_map (λ d. (d.class, d.place)) result ≡ nearest_from self.now.inheritance.forest (number_in K.eq self.now.keys key) self.now.inheritance.forest.most (Some class) }
     {
         match self.nearest(class, key) {
             Ok(found) => found,
-            Err(Endless) => self
-                .inheritance
-                .nearest_along(class, number_of(&self.keys, key)),
+            Err(Endless) => self.nearest_round(class, number_of(&self.keys, key)),
         }
     }
 }

@@ -1,6 +1,5 @@
 use Rattle.std.proofs.Common.{◌≡◌, true, false, Option, Some, None, is_some, is_none, refl, sym, ◌∙◌}
 use Rattle.metadata.specs.Implemented.{has_all}
-use Rattle.metadata.proofs.KnownLaws.{known_more}
 use Rattle.metadata.proofs.implemented.has_all.Goals as goal
 
 not_some : {X : Type 0} (o : Option X) → is_some o ≡ false → is_none o ≡ true
@@ -16,5 +15,5 @@ returns c =
     let here : has_all t (Some c.args.class) c.args.interface ≡ true = sym c.absent_at.ensures ∙ not_some c.absent_at.result (sym c.is_some.ensures ∙ c.if-is_some.false) in
     record {
       found = λ e. here;
-      known = known_more t c.args.known.now.items c.args.class c.args.interface c.requires here;
+      known = c.note.ensures t c.requires here;
     }

@@ -3,11 +3,11 @@ use Rattle.std.specs.List.{position_from}
 use Rattle.std.specs.Option.{option_map_or}
 use Rattle.inheritance.specs.Lines.{base_in, line_within, place_in, nearest}
 use Rattle.inheritance.proofs.LineLaws.{line_step}
-use Rattle.inheritance.proofs.inheritance.Inheritance.nearest_along.Goals as goal
+use Rattle.inheritance.proofs.forests.Forest.nearest_along.Goals as goal
 
 pub returns-in-Some-place_of : goal.returns-in-Some-place_of
 returns-in-Some-place_of c =
-    let f = c.args.self.now.forest in
+    let f = c.args.self.now in
     let bases = f.bases.items in
     let left = c.loop-left.left in
     let class = c.in-Some.class in
@@ -18,7 +18,7 @@ returns-in-Some-place_of c =
 
 pub loop-left-preserved : goal.loop-left-preserved
 loop-left-preserved c =
-    let f = c.args.self.now.forest in
+    let f = c.args.self.now in
     let bases = f.bases.items in
     let left = c.loop-left.left in
     let class = c.in-Some.class in

@@ -1,0 +1,148 @@
+// Cycles of bases, each cut at one class, so that lines along them end.
+
+ghost use Rattle.std.specs.Prelude.{◌≡◌, Some, IfOk, IsTrue, map};
+ghost use Rattle.inheritance.specs.Lines.{base_in};
+ghost use Rattle.inheritance.specs.CutCycles.{part_in, part_of, AreParts, HasBasesOf, IsCut};
+
+use crate::forests::Forest;
+use crate::inheritance::Inheritance;
+use crate::tours::classes_behind_bases;
+use cil_model::memory::NoMemory;
+use std::alloc::Global;
+
+/// The classes from one on through its bases up to where a cycle is cut or the bases end: the last of them, and how many they are.
+#[derive(Clone, Copy, Debug)]
+pub(crate) struct Part {
+    pub last: usize,
+    pub length: usize,
+}
+
+/// The same classes, but that each cycle of bases is cut: one class of it has no base. A line that goes round is made of two parts
+/// without a cycle, that of its first class and that of the base at which it goes on.
+#[derive(Drop)]
+pub struct CutCycles {
+    pub cut: Inheritance,
+    pub(crate) parts: Vec<Option<Part>>,
+    ghost parted: { AreParts cut.forest.bases.items parts.items },
+}
+
+/// Bases without those of some classes. Fails for want of memory alone.
+fn cut_bases(
+    alloc: Global,
+    bases: &[Option<usize>],
+    classes: &[usize],
+) -> Result<Vec<Option<usize>>, NoMemory>
+    ensures { IfOk result (λ cut. HasBasesOf bases.now cut.items) }
+{
+    let mut cut = Vec::new(alloc);
+    cut.extend_from_slice(bases)?;
+    for place in 0..classes.len() {
+        let class = classes[place];
+        if class < cut.len() {
+            cut[class] = None;
+        }
+    }
+    Ok(cut)
+}
+
+fn copy_of(alloc: Global, row: &[usize]) -> Result<Vec<usize>, NoMemory>
+    ensures { IfOk result (λ copy. copy.items ≡ row.now) }
+{
+    let mut copy = Vec::new(alloc);
+    copy.extend_from_slice(row)?;
+    Ok(copy)
+}
+
+fn copies_of(alloc: Global, rows: &[Vec<usize>]) -> Result<Vec<Vec<usize>>, NoMemory>
+    ensures { IfOk result (λ copies. map (λ v. v.items) copies.items ≡ map (λ v. v.items) rows.now) }
+{
+    let mut copies = Vec::new(alloc);
+    for place in 0..rows.len() {
+        copies.push(copy_of(alloc, rows[place].as_slice())?)?;
+    }
+    Ok(copies)
+}
+
+/// The same classes without the bases of some. Fails for want of memory alone.
+pub(crate) fn cut_forest(
+    alloc: Global,
+    forest: &Forest,
+    classes: &[usize],
+) -> Result<Forest, NoMemory>
+    ensures { IfOk result (λ cut. IsCut forest.now cut) }
+{
+    Ok(Forest {
+        bases: cut_bases(alloc, forest.bases.as_slice(), classes)?,
+        declared: copies_of(alloc, forest.declared.as_slice())?,
+        keys: forest.keys,
+        most: forest.most,
+    })
+}
+
+pub(crate) fn part_in(parts: &[Option<Part>], class: usize) -> Option<Part>
+    ensures { result ≡ part_in parts.now class }
+{
+    match parts.get(class) {
+        None => None,
+        Some(part) => *part,
+    }
+}
+
+/// The part of a class's line by that of its base.
+fn part_of(parts: &[Option<Part>], class: usize, base: Option<usize>) -> Option<Part> {
+    let Some(base) = base else {
+        return Some(Part {
+            last: class,
+            length: 1,
+        });
+    };
+    let part = part_in(parts, base)?;
+    Some(Part {
+        last: part.last,
+        length: part.length.checked_add(1)?,
+    })
+}
+
+/// The parts of all lines. Its contract says nothing: whoever asks tries them.
+pub(crate) fn parts_of(
+    alloc: Global,
+    bases: &[Option<usize>],
+) -> Result<Vec<Option<Part>>, NoMemory> {
+    let mut parts = vec![in alloc; None; bases.len()]?;
+    let classes = classes_behind_bases(alloc, bases)?;
+    for class in classes.as_slice() {
+        if *class < parts.len() && *class < bases.len() {
+            parts[*class] = part_of(parts.as_slice(), *class, bases[*class]);
+        }
+    }
+    Ok(parts)
+}
+
+/// Whether a class's part follows from that of its base.
+fn is_part(cut: &Forest, parts: &[Option<Part>], class: usize, part: Part) -> bool
+    ensures { IsTrue result → part_of parts.now class (base_in cut.now.bases.items class) ≡ Some part }
+{
+    match cut.base(class) {
+        None => part.last == class && part.length == 1,
+        Some(base) => match part_in(parts, base) {
+            None => false,
+            Some(next) => {
+                next.last == part.last && part.length > 0 && next.length == part.length - 1
+            }
+        },
+    }
+}
+
+/// Whether all parts follow from those of bases.
+pub(crate) fn are_parts(cut: &Forest, parts: &[Option<Part>]) -> bool
+    ensures { IsTrue result → AreParts cut.now.bases.items parts.now }
+{
+    for class in 0..parts.len() {
+        if let Some(part) = parts[class] {
+            if !is_part(cut, parts, class, part) {
+                return false;
+            }
+        }
+    }
+    true
+}

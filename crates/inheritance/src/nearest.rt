@@ -1,0 +1,48 @@
+// The nearest declaration of a key, found by going along bases.
+
+ghost use Rattle.std.specs.Prelude.{◌≡◌, ◌==◌, Some};
+ghost use Rattle.std.specs.List.{position_from};
+ghost use Rattle.inheritance.specs.Ledgers.{pair_of, nearest_from};
+
+use crate::changes::Declared;
+use crate::forests::Forest;
+
+fn is_key(key: usize, own: usize) -> bool
+    ensures { result ≡ (key == own) }
+{
+    key == own
+}
+
+/// The first place of a key among those that a class declares.
+fn place_of(keys: &[usize], key: usize) -> Option<usize>
+    ensures { result ≡ position_from (λ k. key == k) 0 keys.now }
+{
+    for place in 0..keys.len() {
+        if is_key(key, keys[place]) {
+            return Some(place);
+        }
+    }
+    None
+}
+
+impl Forest {
+    /// The nearest class that declares a key, from a class on, with the place of the key, found by going along the bases: what is
+    /// found among as many classes as are looked at. Takes time with these classes and what they declare.
+    pub fn nearest_along(&self, first: usize, key: usize) -> Option<Declared>
+        ensures { pair_of result ≡ nearest_from self.now key self.now.most (Some first) }
+    {
+        let mut next = Some(first);
+        let mut left = self.most;
+        while left > 0 {
+            let Some(class) = next else {
+                return None;
+            };
+            if let Some(place) = place_of(self.keys_of(class), key) {
+                return Some(Declared { class, place });
+            }
+            next = self.base(class);
+            left -= 1;
+        }
+        None
+    }
+}
