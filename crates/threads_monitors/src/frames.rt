@@ -133,6 +133,20 @@ impl FrameMemory {
         requires room { size self.old.running < self.old.room }
         ensures { self.new ≡ with_inserted self.old below value }
     {
+        if below == 0 {
+            self.push(value);
+        } else {
+            self.insert_beneath(below, value);
+        }
+    }
+
+    /// The same, for any number of values above it. Apart, so that a birth whose constructor has no arguments is short.
+    #[inline(never)]
+    fn insert_beneath(&mut self, below: usize, value: Value)
+        requires there { below ≤ length self.old.running.stack }
+        requires room { size self.old.running < self.old.room }
+        ensures { self.new ≡ with_inserted self.old below value }
+    {
         let place = self.values.len() - below;
         let inserted = self.values.insert(place, value);
         inserted.unwrap();

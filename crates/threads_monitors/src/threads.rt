@@ -91,6 +91,18 @@ impl Thread {
     pub fn settle(&mut self, effect: Effect) -> Report
         ensures { (self.new, result) ≡ settled effect self.old }
     {
+        if effect == Effect::GoesOn && self.steps_left > 1 && self.is_live() {
+            self.steps_left -= 1;
+            return Report::Ran;
+        }
+        self.settle_any(effect)
+    }
+
+    /// The same for any step. Apart, so that a step that goes on is short.
+    #[cold]
+    fn settle_any(&mut self, effect: Effect) -> Report
+        ensures { (self.new, result) ≡ settled effect self.old }
+    {
         if !self.is_live() {
             return Report::Absent;
         }

@@ -4,7 +4,7 @@ use Rattle.std.specs.Result.{is_ok}
 use Rattle.std.specs.List.{insert}
 use Rattle.threads_monitors.specs.Activations.{IsSound}
 use Rattle.threads_monitors.proofs.Memories.{has_room, after_insert}
-use Rattle.threads_monitors.proofs.frames.FrameMemory.insert.Goals as goal
+use Rattle.threads_monitors.proofs.frames.FrameMemory.insert_beneath.Goals as goal
 
 pub unwrap-requires : goal.unwrap-requires
 unwrap-requires c =
