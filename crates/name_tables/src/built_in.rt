@@ -1,6 +1,6 @@
 // The built-in classes, made from their table.
 
-ghost use Rattle.std.specs.Prelude.{◌≡◌, IfOk, Some, codes, option_to_list, map, slice_get, pos, ◌∷◌, [], true, false};
+ghost use Rattle.std.specs.Prelude.{◌≡◌, ◌++◌, IfOk, Some, codes, option_to_list, map, slice_get, pos, ◌∷◌, [], true, false};
 ghost use Rattle.cil_model.specs.declared.instructions.Instruction.TheVariants.{Return};
 ghost use Rattle.cil_model.specs.Declarations.{built_ins, void_method, plain, object_constructor, no_code, return_alone, run_method};
 
@@ -75,14 +75,15 @@ fn return_alone(alloc: Global) -> Result<Code, NoMemory>
     })
 }
 
-/// A method without a result, of at most one parameter.
-fn method(
+/// Adds a method without a result, of at most one parameter.
+fn add_method(
     alloc: Global,
+    methods: &mut Vec<Method>,
     name: MethodName,
     parameter: Option<Element>,
     kind: MethodKind,
-) -> Result<Method, NoMemory>
-    ensures { IfOk result (λ m. m ≡ void_method name (map plain (option_to_list parameter)) kind) }
+) -> Result<(), NoMemory>
+    ensures { IfOk result (λ _. methods.new.items ≡ methods.old.items ++ void_method name (map plain (option_to_list parameter)) kind ∷ []) }
 {
     let parameters = match parameter {
         None => Vec::new(alloc),
@@ -93,55 +94,54 @@ fn method(
             },
         ]?,
     };
-    Ok(Method {
+    methods.push(Method {
         name,
         signature: Signature {
             parameters: Sequence::new(parameters),
             return_type: None,
         },
         kind,
-    })
+    })?;
+    Ok(())
 }
 
-fn static_method(alloc: Global, name: &str, parameter: Element) -> Result<Method, NoMemory>
-    ensures { IfOk result (λ m. m ≡ void_method (MethodName.Named name.now) (plain parameter ∷ []) (MethodKind.Static no_code)) }
+fn add_static(
+    alloc: Global,
+    methods: &mut Vec<Method>,
+    name: &str,
+    parameter: Element,
+) -> Result<(), NoMemory>
+    ensures { IfOk result (λ _. methods.new.items ≡ methods.old.items ++ void_method (MethodName.Named name.now) (plain parameter ∷ []) (MethodKind.Static no_code) ∷ []) }
 {
     let name = MethodName::Named(text(alloc, name)?);
-    method(
-        alloc,
-        name,
-        Some(parameter),
-        MethodKind::Static(no_code(alloc)),
-    )
+    let kind = MethodKind::Static(no_code(alloc));
+    add_method(alloc, methods, name, Some(parameter), kind)
 }
 
-fn instance_method(alloc: Global, name: &str) -> Result<Method, NoMemory>
-    ensures { IfOk result (λ m. m ≡ void_method (MethodName.Named name.now) [] (MethodKind.Instance no_code)) }
+fn add_instance(alloc: Global, methods: &mut Vec<Method>, name: &str) -> Result<(), NoMemory>
+    ensures { IfOk result (λ _. methods.new.items ≡ methods.old.items ++ void_method (MethodName.Named name.now) [] (MethodKind.Instance no_code) ∷ []) }
 {
     let name = MethodName::Named(text(alloc, name)?);
-    method(alloc, name, None, MethodKind::Instance(no_code(alloc)))
+    let kind = MethodKind::Instance(no_code(alloc));
+    add_method(alloc, methods, name, None, kind)
 }
 
-fn constructor(alloc: Global) -> Result<Method, NoMemory>
-    ensures { IfOk result (λ m. m ≡ object_constructor) }
+fn add_constructor(alloc: Global, methods: &mut Vec<Method>) -> Result<(), NoMemory>
+    ensures { IfOk result (λ _. methods.new.items ≡ methods.old.items ++ object_constructor ∷ []) }
 {
-    method(
-        alloc,
-        MethodName::Constructor,
-        None,
-        MethodKind::Instance(no_code(alloc)),
-    )
+    let kind = MethodKind::Instance(no_code(alloc));
+    add_method(alloc, methods, MethodName::Constructor, None, kind)
 }
 
-fn run(alloc: Global) -> Result<Method, NoMemory>
-    ensures { IfOk result (λ m. m ≡ run_method) }
+fn add_run(alloc: Global, methods: &mut Vec<Method>) -> Result<(), NoMemory>
+    ensures { IfOk result (λ _. methods.new.items ≡ methods.old.items ++ run_method ∷ []) }
 {
     let name = MethodName::Named(text(alloc, "Run")?);
     let kind = MethodKind::Virtual {
         is_new_slot: true,
         code: return_alone(alloc)?,
     };
-    method(alloc, name, None, kind)
+    add_method(alloc, methods, name, None, kind)
 }
 
 impl BuiltInClass {
@@ -151,7 +151,7 @@ impl BuiltInClass {
         ensures { IfOk result (λ b. Some (built_in_entry b) ≡ slice_get built_ins 0) }
     {
         let mut methods = Vec::new(alloc);
-        methods.push(constructor(alloc)?)?;
+        add_constructor(alloc, &mut methods)?;
         Ok(BuiltInClass {
             name: object_name(alloc)?,
             base: None,
@@ -173,9 +173,9 @@ impl BuiltInClass {
         ensures { IfOk result (λ b. Some (built_in_entry b) ≡ slice_get built_ins 2) }
     {
         let mut methods = Vec::new(alloc);
-        methods.push(static_method(alloc, "WriteLine", Element::Int32)?)?;
-        methods.push(static_method(alloc, "WriteLine", Element::Int64)?)?;
-        methods.push(static_method(alloc, "WriteLine", Element::String)?)?;
+        add_static(alloc, &mut methods, "WriteLine", Element::Int32)?;
+        add_static(alloc, &mut methods, "WriteLine", Element::Int64)?;
+        add_static(alloc, &mut methods, "WriteLine", Element::String)?;
         Ok(BuiltInClass {
             name: class_name(alloc, "mscorlib", "System.Console")?,
             base: None,
@@ -187,8 +187,8 @@ impl BuiltInClass {
         ensures { IfOk result (λ b. Some (built_in_entry b) ≡ slice_get built_ins 3) }
     {
         let mut methods = Vec::new(alloc);
-        methods.push(static_method(alloc, "Enter", Element::Object)?)?;
-        methods.push(static_method(alloc, "Exit", Element::Object)?)?;
+        add_static(alloc, &mut methods, "Enter", Element::Object)?;
+        add_static(alloc, &mut methods, "Exit", Element::Object)?;
         Ok(BuiltInClass {
             name: class_name(alloc, "mscorlib", "System.Threading.Monitor")?,
             base: None,
@@ -200,10 +200,10 @@ impl BuiltInClass {
         ensures { IfOk result (λ b. Some (built_in_entry b) ≡ slice_get built_ins 4) }
     {
         let mut methods = Vec::new(alloc);
-        methods.push(constructor(alloc)?)?;
-        methods.push(run(alloc)?)?;
-        methods.push(instance_method(alloc, "Start")?)?;
-        methods.push(instance_method(alloc, "Join")?)?;
+        add_constructor(alloc, &mut methods)?;
+        add_run(alloc, &mut methods)?;
+        add_instance(alloc, &mut methods, "Start")?;
+        add_instance(alloc, &mut methods, "Join")?;
         Ok(BuiltInClass {
             name: class_name(alloc, "cilvm", "Cilvm.Thread")?,
             base: Some(object_name(alloc)?),

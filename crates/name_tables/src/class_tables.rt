@@ -25,14 +25,15 @@ pub struct ClassTable<'a> {
     ghost calls_are: { map called_of_key calls ≡ map called_of (declaration_in class).methods },
 }
 
-fn field_keys<'a>(alloc: Global, fields: &[&'a Field]) -> Result<Vec<FieldKey<'a>>, NoMemory>
-    ensures { IfOk result (λ v. map field_of_key v.items ≡ map (λ f. f.now) fields.now) }
+fn field_places<'a>(alloc: Global, fields: &[&'a Field]) -> Result<Places<FieldKey<'a>>, NoMemory>
+    ensures { IfOk result (λ places. map field_of_key places ≡ map (λ f. f.now) fields.now) }
 {
     let mut keys = Vec::new(alloc);
     for field in fields {
         keys.push(FieldKey::of(field))?;
     }
-    Ok(keys)
+    let places = Places::new(alloc, keys)?;
+    Ok(places)
 }
 
 pub fn method_keys<'a>(
@@ -48,14 +49,25 @@ pub fn method_keys<'a>(
     Ok(keys)
 }
 
-fn call_keys<'a>(alloc: Global, methods: &[&'a Method]) -> Result<Vec<CallKey<'a>>, NoMemory>
-    ensures { IfOk result (λ v. map called_of_key v.items ≡ map called_of (map (λ m. m.now) methods.now)) }
+fn method_places<'a>(
+    alloc: Global,
+    methods: &[&'a Method],
+) -> Result<Places<MethodKey<'a>>, NoMemory>
+    ensures { IfOk result (λ places. map method_of_key places ≡ map identity_of (map (λ m. m.now) methods.now)) }
+{
+    let places = Places::new(alloc, method_keys(alloc, methods)?)?;
+    Ok(places)
+}
+
+fn call_places<'a>(alloc: Global, methods: &[&'a Method]) -> Result<Places<CallKey<'a>>, NoMemory>
+    ensures { IfOk result (λ places. map called_of_key places ≡ map called_of (map (λ m. m.now) methods.now)) }
 {
     let mut keys = Vec::new(alloc);
     for method in methods {
         keys.push(CallKey::of(method))?;
     }
-    Ok(keys)
+    let places = Places::new(alloc, keys)?;
+    Ok(places)
 }
 
 fn method_at<'a>(methods: &[&'a Method], place: usize) -> Option<&'a Method>
@@ -69,9 +81,9 @@ impl<'a> ClassTable<'a> {
     pub fn new(alloc: Global, class: DeclaredClass<'a>) -> Result<Self, NoMemory>
         ensures { IfOk result (λ t. t.class ≡ class.entry) }
     {
-        let fields = Places::new(alloc, field_keys(alloc, class.fields.as_slice())?)?;
-        let methods = Places::new(alloc, method_keys(alloc, class.methods.as_slice())?)?;
-        let calls = Places::new(alloc, call_keys(alloc, class.methods.as_slice())?)?;
+        let fields = field_places(alloc, class.fields.as_slice())?;
+        let methods = method_places(alloc, class.methods.as_slice())?;
+        let calls = call_places(alloc, class.methods.as_slice())?;
         Ok(ClassTable {
             class,
             fields,

@@ -27,14 +27,16 @@ pub(crate) struct Inherited<K: Eq + Hash + Copy + Drop> {
     ghost numbered: { AreNumbered K.eq keys (map (λ r. r.items) inheritance.forest.declared.items) },
 }
 
-fn all_keys<K: Copy + Drop>(alloc: Global, rows: &[&[K]]) -> Result<Vec<K>, NoMemory>
-    ensures { IfOk result (λ v. v.items ≡ flat_map (λ row. row.now) rows.now) }
+/// The keys of all rows, with where each stands first.
+fn all_keys<K: Eq + Hash + Copy + Drop>(alloc: Global, rows: &[&[K]]) -> Result<Places<K>, NoMemory>
+    ensures { IfOk result (λ keys. keys ≡ flat_map (λ row. row.now) rows.now) }
 {
     let mut keys = Vec::new(alloc);
     for row in rows {
         keys.extend_from_slice(row)?;
     }
-    Ok(keys)
+    let places = Places::new(alloc, keys)?;
+    Ok(places)
 }
 
 fn number_of<K: Eq + Hash + Copy + Drop>(keys: &Places<K>, key: K) -> usize
@@ -74,6 +76,41 @@ pub(crate) fn numbers<K: Eq + Hash + Copy + Drop>(
     Ok(numbers)
 }
 
+/// The classes with their bases and the numbers of the keys that each declares.
+fn numbered<K: Eq + Hash + Copy + Drop>(
+    alloc: Global,
+    bases: Vec<Option<usize>>,
+    keys: &Places<K>,
+    rows: &[&[K]],
+    most: usize,
+) -> Result<Forest, NoMemory>
+    ensures bases { IfOk result (λ f. f.bases.items ≡ bases.items) }
+    ensures most { IfOk result (λ f. f.most ≡ most) }
+    ensures keys { IfOk result (λ f. f.keys ≡ length keys.now + 1) }
+    ensures declared { IfOk result (λ f. map (λ r. r.items) f.declared.items ≡ map (λ row. map (number_in K.eq keys.now) row.now) rows.now) }
+{
+    let declared = numbers(alloc, keys, rows)?;
+    let Some(count) = keys.keys().len().checked_add(1) else {
+        return Err(NoMemory);
+    };
+    Ok(Forest {
+        bases,
+        declared,
+        keys: count,
+        most,
+    })
+}
+
+/// The nearest declarations of all keys, and where some classes' bases do not end, those with the cycles cut.
+fn searched(alloc: Global, forest: Forest) -> Result<(Inheritance, Option<CutCycles>), NoMemory>
+    ensures whole { IfOk result (λ r. r.0.forest ≡ forest) }
+    ensures cut { IfOk result (λ r. ForSome r.1 (λ c. IsCut forest c.cut.forest)) }
+{
+    let cycles = CutCycles::new(alloc, &forest)?;
+    let inheritance = Inheritance::new(alloc, forest)?;
+    Ok((inheritance, cycles))
+}
+
 impl<K: Eq + Hash + Copy + Drop> Inherited<K> {
     /// From the base of each class and the keys that it declares. No chain has more classes than the most. Fails for want of memory
     /// alone.
@@ -87,19 +124,9 @@ impl<K: Eq + Hash + Copy + Drop> Inherited<K> {
         ensures most { IfOk result (λ t. t.inheritance.forest.most ≡ most) }
         ensures places { IfOk result (λ t. (key : K) (class : ℕ) → place_in (map (λ r. r.items) t.inheritance.forest.declared.items) (number_in K.eq t.keys key) class ≡ position_from (K.eq key) 0 (slice_index_or (map (λ row. row.now) rows.now) class [])) }
     {
-        let keys = Places::new(alloc, all_keys(alloc, rows)?)?;
-        let declared = numbers(alloc, &keys, rows)?;
-        let Some(count) = keys.keys().len().checked_add(1) else {
-            return Err(NoMemory);
-        };
-        let forest = Forest {
-            bases,
-            declared,
-            keys: count,
-            most,
-        };
-        let cycles = CutCycles::new(alloc, &forest)?;
-        let inheritance = Inheritance::new(alloc, forest)?;
+        let keys = all_keys(alloc, rows)?;
+        let forest = numbered(alloc, bases, &keys, rows, most)?;
+        let (inheritance, cycles) = searched(alloc, forest)?;
         Ok(Inherited {
             keys,
             inheritance,

@@ -136,6 +136,19 @@ fn all_numbers<'a>(
     Ok(declared)
 }
 
+/// The virtual methods of all classes, and the numbers of the methods of all classes among them.
+fn numbered_virtual<'a>(
+    alloc: Global,
+    classes: &ClassTables<'a>,
+) -> Result<(Inherited<MethodKey<'a>>, Vec<Vec<usize>>), NoMemory>
+    ensures overridable { IfOk result (λ r. IsMemberTable classes.now.tree.now r.0.inheritance.forest (method_key_number r.0.keys) (λ key. virtual_place classes.now.tree.now (method_of_key key))) }
+    ensures declared { IfOk result (λ r. AreNumbers classes.now.tree.now r.0.keys (map (λ row. row.items) r.1.items)) }
+{
+    let overridable = all_virtual(alloc, classes)?;
+    let declared = all_numbers(alloc, classes, &overridable)?;
+    Ok((overridable, declared))
+}
+
 /// Whether a class from one on declares a virtual method of this number. An error exactly where its bases do not end.
 fn finds(overridable: &Inherited<MethodKey>, class: usize, number: usize) -> Result<bool, Endless>
     requires { number < overridable.now.inheritance.forest.keys }
@@ -175,8 +188,7 @@ impl<'t, 'a> MethodTables<'t, 'a> {
         ensures { IfOk result (λ t. t.names.now.classes.tree.now ≡ names.now.classes.tree.now) }
     {
         let all = all_methods(alloc, &names.classes)?;
-        let overridable = all_virtual(alloc, &names.classes)?;
-        let declared = all_numbers(alloc, &names.classes, &overridable)?;
+        let (overridable, declared) = numbered_virtual(alloc, &names.classes)?;
         Ok(MethodTables {
             names,
             all,

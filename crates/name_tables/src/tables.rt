@@ -1,6 +1,6 @@
 // Every class of a tree with its members, found by name and by number.
 
-ghost use Rattle.std.specs.Prelude.{◌≡◌, ◌++◌, IfOk, map, option_map, option_and_then, slice_get};
+ghost use Rattle.std.specs.Prelude.{◌≡◌, ◌++◌, ◌∷◌, [], IfOk, map, option_map, option_and_then, slice_get};
 ghost use Rattle.cil_model.specs.Declarations.{built_ins, declaration_of};
 ghost use Rattle.cil_model.specs.Chains.{longest_chain};
 ghost use Rattle.name_tables.specs.BuiltInTable.{built_in_entry};
@@ -15,7 +15,7 @@ use crate::classes::DeclaredClass;
 use crate::keys::{CallKey, ClassKey, FieldKey, MethodKey};
 use crate::places::Places;
 use cil_model::memory::NoMemory;
-use cil_model::trees::{Method, Tree};
+use cil_model::trees::{Class, Method, Tree};
 use std::alloc::Global;
 
 /// Every class that a name may stand for: the built-in ones, then those of the source, in order. A class's number is its
@@ -29,6 +29,32 @@ pub struct ClassTables<'a> {
     ghost names_are: { map class_of_key names ≡ map (λ e. e.0) (declarations tree.now) },
 }
 
+fn add_built_in<'a>(
+    alloc: Global,
+    classes: &mut Vec<ClassTable<'a>>,
+    class: &'a BuiltInClass,
+) -> Result<(), NoMemory>
+    ensures { IfOk result (λ _. map (λ t. entry_of t.class) classes.new.items ≡ map (λ t. entry_of t.class) classes.old.items ++ built_in_entry class.now ∷ []) }
+{
+    let declared = DeclaredClass::of_built_in(alloc, class)?;
+    let table = ClassTable::new(alloc, declared)?;
+    classes.push(table)?;
+    Ok(())
+}
+
+fn add_source<'a>(
+    alloc: Global,
+    classes: &mut Vec<ClassTable<'a>>,
+    class: &'a Class,
+) -> Result<(), NoMemory>
+    ensures { IfOk result (λ _. map (λ t. entry_of t.class) classes.new.items ≡ map (λ t. entry_of t.class) classes.old.items ++ source_entry class.now ∷ []) }
+{
+    let declared = DeclaredClass::of_source(alloc, class)?;
+    let table = ClassTable::new(alloc, declared)?;
+    classes.push(table)?;
+    Ok(())
+}
+
 fn class_tables<'a>(
     alloc: Global,
     tree: &'a Tree,
@@ -38,12 +64,10 @@ fn class_tables<'a>(
 {
     let mut classes = Vec::new(alloc);
     for class in table {
-        let declared = DeclaredClass::of_built_in(alloc, class)?;
-        classes.push(ClassTable::new(alloc, declared)?)?;
+        add_built_in(alloc, &mut classes, class)?;
     }
     for class in tree.classes.as_slice() {
-        let declared = DeclaredClass::of_source(alloc, class)?;
-        classes.push(ClassTable::new(alloc, declared)?)?;
+        add_source(alloc, &mut classes, class)?;
     }
     Ok(classes)
 }
