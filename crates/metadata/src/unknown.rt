@@ -29,11 +29,18 @@ use std::alloc::Global;
 
 // ---- names of assemblies and classes
 
+/// Whether a text has these characters.
+fn is_text(text: &Text, characters: &str) -> bool
+    ensures { result ≡ same_text text.now characters.now }
+{
+    text.as_str() == characters
+}
+
 /// Whether an extern is one of the two libraries of this profile.
 fn is_known_extern(name: &Text) -> bool
     ensures { result ≡ is_known_extern name.now }
 {
-    name.as_str() == "mscorlib" || name.as_str() == "cilvm"
+    is_text(name, "mscorlib") || is_text(name, "cilvm")
 }
 
 /// The first extern that is none of the two libraries.
@@ -113,7 +120,7 @@ fn is_named(class: &ClassName, assembly: &str, name: &str) -> bool
 {
     match &class.assembly {
         None => false,
-        Some(own) => own.as_str() == assembly && class.name.as_str() == name,
+        Some(own) => is_text(own, assembly) && is_text(&class.name, name),
     }
 }
 
