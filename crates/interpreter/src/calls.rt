@@ -59,6 +59,7 @@ fn act(
 
 /// Calls the method of a flat number (ECMA-335 III.3.19): a built-in member without code does its action, another gets a frame.
 /// `NoMemory` of a print alone, where nothing is changed.
+#[inline(always)]
 pub(crate) fn run(
     program: &LoadedProgram,
     mutator: Mutator,

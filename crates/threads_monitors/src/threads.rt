@@ -82,7 +82,10 @@ impl Thread {
     pub fn is_live(&self) -> bool
         ensures { result ≡ is_live self.now }
     {
-        self.end().is_none()
+        match &self.standing {
+            Standing::Live(_) => true,
+            Standing::Ended(_) => false,
+        }
     }
 
     /// Counts a step of the thread by what its instruction came to, and reports it. A blocked step counts too. The thread ends
