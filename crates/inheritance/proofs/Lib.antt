@@ -1,5 +1,5 @@
 mod ChangeLaws
 pub mod LineLaws
 mod CutLaws
-mod MarkedLaws
+mod SoughtLaws
 mod LedgerLaws

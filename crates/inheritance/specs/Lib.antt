@@ -2,4 +2,5 @@ pub mod Changes
 pub mod Lines
 pub mod Ledgers
 pub mod Marked
+pub mod Sought
 pub mod CutCycles

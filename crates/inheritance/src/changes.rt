@@ -1,7 +1,7 @@
 // What keys find, as it changes while the classes are gone through.
 
 ghost use Rattle.std.specs.Prelude.{◌≡◌, ◌<◌, true, None, OnOk, length, map};
-ghost use Rattle.inheritance.specs.Changes.{is_ordered, known, known_of, found_from, is_earlier, AreOrdered, AreUpTo, AddsChange, AddsChanges};
+ghost use Rattle.inheritance.specs.Changes.{changes_of, is_ordered, known, known_of, found_from, is_earlier, AreOrdered, AreUpTo, AddsChange, AddsChanges};
 
 use cil_model::memory::NoMemory;
 
@@ -50,15 +50,22 @@ fn latest(changes: &[Change], time: usize) -> Option<Declared>
     }
 }
 
+/// The changes of a key.
+pub(crate) fn changes_of(changes: &[Vec<Change>], key: usize) -> &[Change]
+    ensures { result.now ≡ changes_of (map (λ v. v.items) changes.now) key }
+{
+    match changes.get(key) {
+        None => &[],
+        Some(row) => row.as_slice(),
+    }
+}
+
 /// What a key finds at a time.
 pub(crate) fn found_at(changes: &[Vec<Change>], key: usize, time: usize) -> Option<Declared>
     requires { AreOrdered (map (λ v. v.items) changes.now) }
     ensures { result ≡ known_of (map (λ v. v.items) changes.now) key time }
 {
-    match changes.get(key) {
-        None => None,
-        Some(row) => latest(row.as_slice(), time),
-    }
+    latest(changes_of(changes, key), time)
 }
 
 /// Notes what a key finds from a time on, where there is such a key. Fails for want of memory alone.

@@ -8,9 +8,9 @@ mod forests;
 mod inheritance;
 mod ledgers;
 mod left_out;
-mod marked;
 mod nearest;
 mod rounds;
+mod sought;
 mod tours;
 
 pub use changes::Declared;

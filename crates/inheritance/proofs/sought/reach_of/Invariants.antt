@@ -1,6 +1,6 @@
 use Rattle.std.proofs.Common.{◌≡◌, length}
-use Rattle.inheritance.specs.Marked.{IsLatest, IsReach}
-use Rattle.inheritance.proofs.marked.reach_of.Given as goal
+use Rattle.inheritance.specs.Sought.{IsLatest, IsReach}
+use Rattle.inheritance.proofs.sought.reach_of.Given as goal
 
 abbrev pub invariant-loop-time : goal.invariant-loop-time
 invariant-loop-time l = record {

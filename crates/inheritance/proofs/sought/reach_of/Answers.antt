@@ -1,9 +1,9 @@
 use Rattle.std.proofs.Common.{◌+◌, ◌∷◌, [], length, sym, ap, ◌∙◌, subst, arith}
 use Rattle.std.proofs.lemmas.List.{length-append}
-use Rattle.inheritance.specs.Marked.{IsLatest, IsReach}
-use Rattle.inheritance.proofs.MarkedLaws.{latest_at_first, latest_as_before, latest_here, reach_more}
-use Rattle.inheritance.proofs.marked.reach_of.Goals as goal
-use Rattle.inheritance.proofs.marked.reach_of.Goals.{then-latest-ends, else-latest-ends}
+use Rattle.inheritance.specs.Sought.{IsLatest, IsReach}
+use Rattle.inheritance.proofs.SoughtLaws.{latest_at_first, latest_as_before, latest_here, reach_more}
+use Rattle.inheritance.proofs.sought.reach_of.Goals as goal
+use Rattle.inheritance.proofs.sought.reach_of.Goals.{then-latest-ends, else-latest-ends}
 
 pub loop-time-init : goal.loop-time-init
 loop-time-init c = record {
