@@ -1,6 +1,6 @@
 // The methods that classes have and inherit by name and signature, whether they are static or not: all, and the virtual ones.
 
-ghost use Rattle.std.specs.Prelude.{◌≡◌, ◌≢◌, ◌<◌, IfOk, OnErr, OnOk, Some, true, false, [], is_none, is_some, length, map, nat_lt, option_map, slice_get, slice_index_or, ℕ};
+ghost use Rattle.std.specs.Prelude.{◌≡◌, ◌≢◌, ◌<◌, Bool, IfOk, OnErr, OnOk, Some, true, false, [], is_none, is_some, length, map, nat_lt, not, option_map, slice_get, slice_index_or, ℕ};
 ghost use Rattle.std.specs.List.{list_all};
 ghost use Rattle.inheritance.specs.Lines.{Ends};
 ghost use Rattle.inheritance.specs.Ledgers.{nearest_from};
@@ -244,6 +244,19 @@ impl<'t, 'a> MethodTables<'t, 'a> {
             Ok(place) => Ok(place),
             Err(Endless) => Err(Endless),
         }
+    }
+
+    /// Of each class, whether for some method of an interface no class from it on declares a virtual one of that name and signature; so
+    /// it is said too where the class's bases do not end. Takes time with the number of classes, of the interface's methods, and of the
+    /// declarations of these, where all bases end. Fails for want of memory alone.
+    pub fn lacks_some(&self, alloc: Global, interface: usize) -> Result<Vec<bool>, NoMemory>
+        ensures width { IfOk result (λ lacking. length lacking.items ≡ length (base_numbers self.now.names.now.classes.tree.now)) }
+        ensures told { IfOk result (λ lacking. (class : ℕ) (b : Bool) → slice_get lacking.items class ≡ Some b → EndsIn self.now.names.now.classes.tree.now class → b ≡ not (list_all (λ m. is_some (nearest_number (virtual_place self.now.names.now.classes.tree.now (identity_of m)) (line_of self.now.names.now.classes.tree.now (Some class)))) (methods_at self.now.names.now.classes.tree.now interface))) }
+        ensures ended { IfOk result (λ lacking. (class : ℕ) → slice_get lacking.items class ≡ Some false → EndsIn self.now.names.now.classes.tree.now class) }
+    {
+        let numbers = self.numbers_at(interface);
+        let lacking = self.overridable.inheritance.finds_nothing(alloc, numbers)?;
+        Ok(lacking)
     }
 
     /// Of each class, whether the nearest method of some name and signature is marked, by its class and place; so it is said too where
