@@ -5,5 +5,4 @@ pub mod MentionLaws
 pub mod ImplementLaws
 pub mod CountLaws
 pub mod MethodLaws
-pub mod KnownLaws
 pub mod OpenLaws

@@ -1,5 +1,6 @@
 -- The methods of interfaces, for all classes at once.
-use Rattle.std.specs.Prelude.{◌≡◌, ℕ, Bool, true, List, Option, Some, slice_get}
+use Rattle.std.specs.Prelude.{◌≡◌, ℕ, Bool, true, false, List, Option, Some, Vec, slice_get}
+use Rattle.std.specs.Global.{Global}
 use Rattle.std.specs.List.{list_any, list_all}
 use Rattle.cil_model.specs.declared.trees.Tree.{Tree}
 use Rattle.cil_model.specs.declared.trees.Method.{Method}
@@ -11,6 +12,14 @@ use Rattle.programs.specs.Found.{is_virtual_found}
 abbrev pub has_all : Tree → Option ℕ → ℕ → Bool
 has_all tree class interface = list_all (λ (m : Method). list_any (is_virtual_found tree (identity_of m)) (line_of tree class)) (methods_at tree interface)
 
--- of each class with an interface beside it that is so
-abbrev pub AreKnown : Tree → List (Option ℕ) → Type 0
-AreKnown tree known = (class interface : ℕ) → slice_get known class ≡ Some (Some interface) → has_all tree (Some class) interface ≡ true
+-- from a class of which the table of an interface says that it lacks nothing each method of the interface has a virtual one
+abbrev pub IsTable : Tree → ℕ → List Bool → Type 0
+IsTable tree interface table = (class : ℕ) → slice_get table class ≡ Some false → has_all tree (Some class) interface ≡ true
+
+-- the table of an interface, where there is one, says of a class that it lacks nothing
+abbrev pub IsTold : List (Option (Vec Bool Global)) → ℕ → ℕ → Type 0
+IsTold tables class interface = (table : Vec Bool Global) × (slice_get tables interface ≡ Some (Some table)) × (slice_get table.items class ≡ Some false)
+
+-- the tables of some interfaces
+abbrev pub AreTables : Tree → List (Option (Vec Bool Global)) → Type 0
+AreTables tree tables = (interface : ℕ) (table : Vec Bool Global) → slice_get tables interface ≡ Some (Some table) → IsTable tree interface table.items

@@ -1,17 +1,17 @@
 // The methods of listed interfaces.
 
-ghost use Rattle.std.specs.Prelude.{◌≡◌, IfOk, IfSome, Some, true, is_none, is_some, map, slice_get};
+ghost use Rattle.std.specs.Prelude.{◌≡◌, IfOk, Some, is_none, is_some, map};
 ghost use Rattle.std.specs.List.{list_any, list_all};
-ghost use Rattle.cil_model.specs.declared.trees.Tree.{Tree};
 ghost use Rattle.cil_model.specs.Chains.{methods_declared};
 ghost use Rattle.cil_model.specs.Legality.{implements_all, lacks_implementation};
-ghost use Rattle.metadata.specs.Implemented.{has_all, AreKnown};
+ghost use Rattle.metadata.specs.Implemented.{has_all, AreTables};
 ghost use Rattle.programs.specs.Found.{is_virtual_found};
 ghost use Rattle.name_tables.specs.Keys.{method_of_key};
 ghost use Rattle.name_tables.specs.Methods.{line_of, methods_at};
 ghost use Rattle.name_tables.specs.Sameness.{identity_of};
 
 use crate::doubled::interfaces_named;
+use crate::lacking::{is_told, lacking_tables};
 use crate::violations::{ListedMethod, NotImplemented};
 use cil_model::memory::NoMemory;
 use cil_model::trees::{Class, Method};
@@ -102,115 +102,50 @@ fn absent_at(methods: &MethodTables, class: Option<usize>, interface: usize) -> 
     }
 }
 
-/// The interface that is noted of a class.
-fn noted(known: &[Option<usize>], class: usize) -> Option<usize>
-    ensures { IfSome result (λ interface. slice_get known.now class ≡ Some (Some interface)) }
-{
-    match known.get(class) {
-        None => None,
-        Some(None) => None,
-        Some(Some(interface)) => Some(*interface),
-    }
-}
-
-/// Whether an interface is noted of a class.
-fn is_noted(known: &[Option<usize>], class: usize, interface: usize) -> bool
-    ensures { result ≡ true → slice_get known.now class ≡ Some (Some interface) }
-{
-    match noted(known, class) {
-        None => false,
-        Some(own) => own == interface,
-    }
-}
-
-/// Notes of a class that each method of an interface is found as a virtual one from it on.
-fn note(known: &mut Vec<Option<usize>>, class: usize, interface: usize)
-    ensures { (tree : Tree) → AreKnown tree known.old.items → has_all tree (Some class) interface ≡ true → AreKnown tree known.new.items }
-{
-    if class < known.len() {
-        known[class] = Some(interface);
-    }
-}
-
-/// Whether each method of an interface is found as a virtual one from a class on. Where it is, that is noted of the class.
-fn has_all(
-    methods: &MethodTables,
-    known: &mut Vec<Option<usize>>,
-    class: usize,
-    interface: usize,
-) -> bool
-    requires { AreKnown methods.now.names.now.classes.tree.now known.old.items }
-    ensures found { result ≡ true → has_all methods.now.names.now.classes.tree.now (Some class) interface ≡ true }
-    ensures known { AreKnown methods.now.names.now.classes.tree.now known.new.items }
-{
-    if is_noted(known.as_slice(), class, interface) {
-        return true;
-    }
-    if absent_at(methods, Some(class), interface).is_some() {
-        return false;
-    }
-    note(known, class, interface);
-    true
-}
-
-/// The first method of an interface for which no class from one on has a virtual one. There is none where its base has them all: so an
-/// interface that many classes with one base list, or each class of a chain, is looked through once.
+/// The same; none where the interface's table says of the class that it lacks none.
 fn absent_from(
     methods: &MethodTables,
-    known: &mut Vec<Option<usize>>,
+    tables: &[Option<Vec<bool>>],
     class: Option<usize>,
     interface: usize,
 ) -> Option<usize>
-    requires { AreKnown methods.now.names.now.classes.tree.now known.old.items }
-    ensures absent { is_none result ≡ has_all methods.now.names.now.classes.tree.now class interface }
-    ensures known { AreKnown methods.now.names.now.classes.tree.now known.new.items }
+    requires { AreTables methods.now.names.now.classes.tree.now tables.now }
+    ensures { is_none result ≡ has_all methods.now.names.now.classes.tree.now class interface }
 {
-    let Some(number) = class else {
-        return absent_at(methods, class, interface);
-    };
-    if !methods.names.ends(number) {
-        return absent_at(methods, class, interface);
+    match class {
+        Some(number) if is_told(tables, number, interface) => None,
+        _ => absent_at(methods, class, interface),
     }
-    let Some(base) = methods.names.base(number) else {
-        return absent_at(methods, class, interface);
-    };
-    if has_all(methods, known, base, interface) {
-        note(known, number, interface);
-        return None;
-    }
-    absent_at(methods, class, interface)
 }
 
 /// The first method of an interface for which no class from one on has a virtual one.
 fn absent_in(
     methods: &MethodTables,
-    known: &mut Vec<Option<usize>>,
+    tables: &[Option<Vec<bool>>],
     class: Option<usize>,
     interface: &ClassName,
 ) -> Option<usize>
-    requires { AreKnown methods.now.names.now.classes.tree.now known.old.items }
-    ensures known { AreKnown methods.now.names.now.classes.tree.now known.new.items }
-    ensures absent { is_none result ≡ list_all (λ m. list_any (is_virtual_found methods.now.names.now.classes.tree.now (identity_of m)) (line_of methods.now.names.now.classes.tree.now class)) (methods_declared methods.now.names.now.classes.tree.now interface.now) }
+    requires { AreTables methods.now.names.now.classes.tree.now tables.now }
+    ensures { is_none result ≡ list_all (λ m. list_any (is_virtual_found methods.now.names.now.classes.tree.now (identity_of m)) (line_of methods.now.names.now.classes.tree.now class)) (methods_declared methods.now.names.now.classes.tree.now interface.now) }
 {
     match methods.names.classes.number(ClassKey::of(interface)) {
         None => None,
-        Some(number) => absent_from(methods, known, class, number),
+        Some(number) => absent_from(methods, tables, class, number),
     }
 }
 
 /// The first listed interface with a method for which no class from one on has a virtual one, and that method.
 fn absent_in_list(
     methods: &MethodTables,
-    known: &mut Vec<Option<usize>>,
+    tables: &[Option<Vec<bool>>],
     class: Option<usize>,
     interfaces: &[ClassName],
 ) -> Option<ListedMethod>
-    requires { AreKnown methods.now.names.now.classes.tree.now known.old.items }
-    ensures known { AreKnown methods.now.names.now.classes.tree.now known.new.items }
-    ensures absent { is_none result ≡ list_all (λ i. list_all (λ m. list_any (is_virtual_found methods.now.names.now.classes.tree.now (identity_of m)) (line_of methods.now.names.now.classes.tree.now class)) (methods_declared methods.now.names.now.classes.tree.now i)) interfaces.now }
+    requires { AreTables methods.now.names.now.classes.tree.now tables.now }
+    ensures { is_none result ≡ list_all (λ i. list_all (λ m. list_any (is_virtual_found methods.now.names.now.classes.tree.now (identity_of m)) (line_of methods.now.names.now.classes.tree.now class)) (methods_declared methods.now.names.now.classes.tree.now i)) interfaces.now }
 {
     for (interface, name) in interfaces.iter().enumerate() {
-        if let Some(method) = absent_in(methods, known, class, name) {
+        if let Some(method) = absent_in(methods, tables, class, name) {
             return Some(ListedMethod { interface, method });
         }
     }
@@ -220,15 +155,14 @@ fn absent_in_list(
 /// The first method of an interface that a class lists for which the class's chain has no virtual one.
 fn absent_in_class(
     methods: &MethodTables,
-    known: &mut Vec<Option<usize>>,
+    tables: &[Option<Vec<bool>>],
     class: &Class,
 ) -> Option<ListedMethod>
-    requires { AreKnown methods.now.names.now.classes.tree.now known.old.items }
-    ensures known { AreKnown methods.now.names.now.classes.tree.now known.new.items }
-    ensures absent { is_none result ≡ implements_all methods.now.names.now.classes.tree.now class.now }
+    requires { AreTables methods.now.names.now.classes.tree.now tables.now }
+    ensures { is_none result ≡ implements_all methods.now.names.now.classes.tree.now class.now }
 {
     let own = methods.names.classes.number(ClassKey::of_source(class));
-    absent_in_list(methods, known, own, interfaces_named(&class.kind))
+    absent_in_list(methods, tables, own, interfaces_named(&class.kind))
 }
 
 /// The first class that lacks a method of an interface that it lists; none where there is none (number 204). Fails for want of memory
@@ -239,12 +173,11 @@ pub fn not_implemented(
 ) -> Result<Option<NotImplemented>, NoMemory>
     ensures { IfOk result (λ absent. is_some absent ≡ lacks_implementation methods.now.names.now.classes.tree.now) }
 {
+    let tables = lacking_tables(alloc, methods)?;
     let names = methods.names;
-    let count = names.bases().len();
-    let mut known = vec![in alloc; None; count]?;
     let classes = names.classes.tree.classes.as_slice();
     for (class, declared) in classes.iter().enumerate() {
-        if let Some(listed) = absent_in_class(methods, &mut known, declared) {
+        if let Some(listed) = absent_in_class(methods, tables.as_slice(), declared) {
             return Ok(Some(NotImplemented { class, listed }));
         }
     }

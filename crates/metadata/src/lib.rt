@@ -6,6 +6,7 @@ mod doubled;
 mod entry;
 mod implemented;
 mod kinds;
+mod lacking;
 mod limits;
 pub mod mentions;
 mod open_slots;

@@ -12,10 +12,10 @@ use Rattle.programs.specs.Found.{is_virtual_found}
 use Rattle.metadata.proofs.ImplementLaws.{implemented}
 use Rattle.metadata.proofs.implemented.absent_in_class.Goals as goal
 
-pub returns-clause-absent : goal.returns-clause-absent
-returns-clause-absent c =
+pub returns : goal.returns
+returns c =
     let t = c.args.methods.now.names.now.classes.tree.now in
     let k = c.args.class.now in
     let all : List ℕ → List ClassName → Bool = λ ns is. list_all (λ i. list_all (λ (m : Method). list_any (is_virtual_found t (identity_of m)) ns) (methods_declared t i)) is in
-    c.absent_in_list.ensures.absent ∙ ap (λ (o : Option ℕ). all (line_of t o) c.interfaces_named.result.now) (c.number-own.ensures ∙ ap (class_number t) c.of_source.ensures) ∙
+    c.absent_in_list.ensures ∙ ap (λ (o : Option ℕ). all (line_of t o) c.interfaces_named.result.now) (c.number-own.ensures ∙ ap (class_number t) c.of_source.ensures) ∙
     ap (λ ns. all ns c.interfaces_named.result.now) (line_is_chain t (longest_chain t) (Some (source_name k))) ∙ ap (all (chain_numbers t (source_name k))) c.interfaces_named.ensures ∙ implemented t (source_name k) (interfaces_named k.kind)

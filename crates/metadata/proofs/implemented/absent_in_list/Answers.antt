@@ -12,8 +12,5 @@ use Rattle.metadata.proofs.implemented.absent_in_list.Goals as goal
 pub loop-interface-preserved : goal.loop-interface-preserved
 loop-interface-preserved c =
     let t = c.args.methods.now.names.now.classes.tree.now in
-    record {
-      rest = all_after (λ (i : ClassName). list_all (λ (m : Method). list_any (is_virtual_found t (identity_of m)) (line_of t c.args.class)) (methods_declared t i)) c.args.interfaces.now c.loop-interface.interface c.index-interfaces-interface.result (omega arith) c.index-interfaces-interface.is
-          (sym c.absent_in.ensures.absent ∙ ap is_none c.in_default.is) ∙ c.loop-interface.invariant.rest;
-      known = c.absent_in.ensures.known;
-    }
+    all_after (λ (i : ClassName). list_all (λ (m : Method). list_any (is_virtual_found t (identity_of m)) (line_of t c.args.class)) (methods_declared t i)) c.args.interfaces.now c.loop-interface.interface c.index-interfaces-interface.result (omega arith) c.index-interfaces-interface.is
+    (sym c.absent_in.ensures ∙ ap is_none c.in_default.is) ∙ c.loop-interface.invariant

@@ -1,0 +1,9 @@
+use Rattle.std.proofs.Common.{◌≡◌, length}
+use Rattle.metadata.specs.Implemented.{AreTables}
+use Rattle.metadata.proofs.lacking.lacking_tables.Given as goal
+
+abbrev pub invariant-loop-interface : goal.invariant-loop-interface
+invariant-loop-interface l = record {
+  width : length l.tables.items ≡ l.interface;
+  tables : AreTables l.methods.names.now.classes.tree.now l.tables.items;
+}

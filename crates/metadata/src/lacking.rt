@@ -1,0 +1,120 @@
+// The classes that lack a method of an interface, found for all classes at once where many list it.
+
+ghost use Rattle.std.specs.Prelude.{◌≡◌, IfOk, Some, true, false, slice_get};
+ghost use Rattle.std.specs.Option.{ForSome};
+ghost use Rattle.metadata.specs.Implemented.{IsTable, IsTold, AreTables};
+
+use crate::doubled::interfaces_named;
+use cil_model::memory::NoMemory;
+use cil_model::types::ClassName;
+use name_tables::classes::DeclaredClass;
+use name_tables::keys::ClassKey;
+use name_tables::lookups::NameTables;
+use name_tables::methods::MethodTables;
+use std::alloc::Global;
+
+/// How often interfaces are listed, by their numbers, and how many classes and methods there are. No contract says so: it decides how
+/// long the methods of interfaces are looked up, not what is found.
+#[derive(Drop)]
+struct Listings {
+    times: Vec<usize>,
+    declarations: usize,
+}
+
+fn count_listed(names: &NameTables, interfaces: &[ClassName], times: &mut Vec<usize>) {
+    for name in interfaces {
+        if let Some(interface) = names.classes.number(ClassKey::of(name)) {
+            if interface < times.len() {
+                times[interface] = times[interface].saturating_add(1);
+            }
+        }
+    }
+}
+
+fn method_count(class: Option<&DeclaredClass>) -> usize {
+    match class {
+        None => 0,
+        Some(declared) => declared.methods.len(),
+    }
+}
+
+impl Listings {
+    /// Fails for want of memory alone.
+    fn new(alloc: Global, names: &NameTables) -> Result<Self, NoMemory> {
+        let count = names.bases().len();
+        let mut times = vec![in alloc; 0; count]?;
+        for class in names.classes.tree.classes.as_slice() {
+            count_listed(names, interfaces_named(&class.kind), &mut times);
+        }
+        let mut declarations = count;
+        for class in 0..count {
+            declarations = declarations.saturating_add(method_count(names.classes.class(class)));
+        }
+        Ok(Listings {
+            times,
+            declarations,
+        })
+    }
+
+    /// Whether looking up each method of an interface for each class that lists it takes longer than looking at all classes at once. That
+    /// takes some steps for each declaration, of which a look-up takes as long as four.
+    fn are_many(&self, names: &NameTables, interface: usize) -> bool {
+        let methods = method_count(names.classes.class(interface));
+        match self.times.get(interface) {
+            None => false,
+            Some(times) => times.saturating_mul(methods) > self.declarations / 4,
+        }
+    }
+}
+
+/// The classes that lack a method of an interface, where many list it. Fails for want of memory alone.
+fn table_of(
+    alloc: Global,
+    methods: &MethodTables,
+    listings: &Listings,
+    interface: usize,
+) -> Result<Option<Vec<bool>>, NoMemory>
+    ensures { IfOk result (λ table. ForSome table (λ t. IsTable methods.now.names.now.classes.tree.now interface t.items)) }
+{
+    if !listings.are_many(methods.names, interface) {
+        return Ok(None);
+    }
+    let table = methods.lacks_some(alloc, interface)?;
+    Ok(Some(table))
+}
+
+/// Of each interface that many classes list: of each class, whether it may lack a method of the interface. So it takes no time with
+/// both the classes that list an interface and its methods. Fails for want of memory alone.
+pub(crate) fn lacking_tables(
+    alloc: Global,
+    methods: &MethodTables,
+) -> Result<Vec<Option<Vec<bool>>>, NoMemory>
+    ensures { IfOk result (λ tables. AreTables methods.now.names.now.classes.tree.now tables.items) }
+{
+    let listings = Listings::new(alloc, methods.names)?;
+    let mut tables = Vec::new(alloc);
+    for interface in 0..methods.names.bases().len() {
+        tables.push(table_of(alloc, methods, &listings, interface)?)?;
+    }
+    Ok(tables)
+}
+
+fn is_false(table: &[bool], class: usize) -> bool
+    ensures { result ≡ true → slice_get table.now class ≡ Some false }
+{
+    match table.get(class) {
+        None => false,
+        Some(lacks) => !*lacks,
+    }
+}
+
+/// Whether the table of an interface says of a class that it lacks none of the methods.
+pub(crate) fn is_told(tables: &[Option<Vec<bool>>], class: usize, interface: usize) -> bool
+    ensures { result ≡ true → IsTold tables.now class interface }
+{
+    match tables.get(interface) {
+        None => false,
+        Some(None) => false,
+        Some(Some(table)) => is_false(table.as_slice(), class),
+    }
+}
