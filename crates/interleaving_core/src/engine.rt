@@ -51,6 +51,7 @@ pub struct Engine {
 
 impl Engine {
     /// What an event does. Want of memory, which a print, a start or the opening of a cycle alone can meet, changes nothing.
+    #[inline(always)]
     pub fn step(&mut self, alloc: Global, event: Event) -> Result<Report, NoMemory>
         requires ready { CanGoOn self.old }
         ensures turns { IfOk result (λ report. IsTurn (content_of self.old) event (content_of self.new, report)) }

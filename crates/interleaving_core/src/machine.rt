@@ -107,6 +107,7 @@ impl Machine {
     /// more working events than its bound, and where this event ends a cycle, no more words are in use than are owed.
     ///
     /// Want of memory, which a print, a start or the opening of a cycle alone can meet, changes nothing and isn't counted.
+    #[inline(always)]
     pub fn step(&mut self, alloc: Global, event: Event) -> Result<Report, NoMemory>
         ensures turns { IfOk result (λ report. IsTurn self.old event (self.new, report)) }
         ensures follows { IfOk result (λ report. FollowsReference self.old self.new ((event, report) ∷ [])) }

@@ -94,21 +94,19 @@ pub plain-push : (xs : List Run) (e : Entry) → plain (xs ++ record { entry = e
 plain-push [] e = refl
 plain-push (x ∷ xs) e = ap (λ (l : List Entry). replicate x.times x.entry ++ l) (plain-push xs e) ∙ sym (append_assoc (replicate x.times x.entry) (plain xs) (e ∷ []))
 
-last_longer : (xs : List Run) (k : ℕ) (old : Run) (e : Entry) → length xs ≡ suc k → get_or xs k old ≡ old → old.entry ≡ e → plain (set xs k (record { entry = e; times = suc old.times })) ≡ plain xs ++ e ∷ []
-last_longer [] k old e len is same = absurd (omega arith)
-last_longer (x ∷ []) zero old e len is same =
-    let t : x.times ≡ old.times = ap (λ (r : Run). r.times) is in
-    let f : x.entry ≡ e = ap (λ (r : Run). r.entry) is ∙ same in
-    append-nil _ ∙ replicate-more old.times e ∙ sym (ap (λ (l : List Entry). l ++ e ∷ []) (append-nil _ ∙ ap (λ (n : ℕ). replicate n x.entry) t ∙ ap (λ (y : Entry). replicate old.times y) f))
-last_longer (x ∷ y ∷ ys) zero old e len is same = absurd (omega arith)
-last_longer (x ∷ []) (suc k) old e len is same = absurd (omega arith)
-last_longer (x ∷ y ∷ ys) (suc k) old e len is same =
-    ap (λ (l : List Entry). replicate x.times x.entry ++ l) (last_longer (y ∷ ys) k old e (omega arith) is same) ∙ sym (append_assoc (replicate x.times x.entry) (plain (y ∷ ys)) (e ∷ []))
+last_longer : (xs : List Run) (k : ℕ) (d : Run) (e : Entry) → length xs ≡ suc k → (get_or xs k d).entry ≡ e → plain (set xs k (record { entry = e; times = suc (get_or xs k d).times })) ≡ plain xs ++ e ∷ []
+last_longer [] k d e len same = absurd (omega arith)
+last_longer (x ∷ []) zero d e len same = append-nil _ ∙ replicate-more x.times e ∙ sym (ap (λ (l : List Entry). l ++ e ∷ []) (append-nil _ ∙ ap (λ (y : Entry). replicate x.times y) same))
+last_longer (x ∷ y ∷ ys) zero d e len same = absurd (omega arith)
+last_longer (x ∷ []) (suc k) d e len same = absurd (omega arith)
+last_longer (x ∷ y ∷ ys) (suc k) d e len same =
+    ap (λ (l : List Entry). replicate x.times x.entry ++ l) (last_longer (y ∷ ys) k d e (omega arith) same) ∙ sym (append_assoc (replicate x.times x.entry) (plain (y ∷ ys)) (e ∷ []))
 
-pub plain-longer : (xs : List Run) (n : ℕ) (old new : Run) (e : Entry) → n ≡ length xs → n ≢ 0 → old ≡ get_or xs (n - 1) old → old.entry ≡ e → new ≡ record { entry = e; times = old.times + 1 } → plain (set xs (n - 1) new) ≡ plain xs ++ e ∷ []
-plain-longer xs n old new e len some is same new_is =
-    let more : new ≡ record { entry = e; times = suc old.times } = new_is ∙ ap (λ (t : ℕ). record { entry = e; times = t }) (add-one old.times) in
-    ap (λ (r : Run). plain (set xs (n - 1) r)) more ∙ last_longer xs (n - 1) old e (omega arith) (sym is) same
+pub plain-longer : (xs : List Run) (n : ℕ) (d new : Run) (e : Entry) → n ≡ length xs → n ≢ 0 → (get_or xs (n - 1) d).entry ≡ e → new ≡ record (get_or xs (n - 1) d) { times = (get_or xs (n - 1) d).times + 1 } → plain (set xs (n - 1) new) ≡ plain xs ++ e ∷ []
+plain-longer xs n d new e len some same new_is =
+    let old : Run = get_or xs (n - 1) d in
+    let more : new ≡ record { entry = e; times = suc old.times } = new_is ∙ ap (λ (y : Entry × ℕ). record { entry = y.0; times = y.1 }) (λ i. (same i, add-one old.times i)) in
+    ap (λ (r : Run). plain (set xs (n - 1) r)) more ∙ last_longer xs (n - 1) d e (omega arith) same
 
 -- the same under equations
 pub sound_at : (o : Content) (workers : ℕ) (core core' : Content) (h h' : List Entry) (book book' : List ℕ) → IsSound o workers core h book → core' ≡ core → h' ≡ h → book' ≡ book → IsSound o workers core' h' book'

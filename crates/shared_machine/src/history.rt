@@ -1,13 +1,17 @@
 //! The history of a shared machine, as runs of equal entries.
 
-ghost use Rattle.std.specs.Prelude.{◌≡◌, ℕ, List, ◌+◌, ◌∷◌, ◌++◌, [], true, false, OnOk, IfSome};
+ghost use Rattle.std.specs.Prelude.{◌≡◌, ◌<◌, ℕ, List, ◌∷◌, ◌++◌, [], true, false, OnOk};
 ghost use Rattle.shared_machine.specs.Histories.{Fixes, plain};
 ghost use Rattle.shared_machine.specs.declared.history.Entry.{Entry};
+ghost use Rattle.shared_machine.specs.declared.history.TheConstants.{MOST_TIMES};
 
 use cil_model::events::Event;
 use cil_model::reports::Report;
 use std::alloc::{AllocError, Global};
 use std::marker::Model;
+
+/// How often an entry is in a run at most.
+const MOST_TIMES: u64 = u64::MAX;
 
 /// One event of a worker, with what the machine reported of it.
 #[derive(Clone, Copy, PartialEq, Eq, Debug)]
@@ -69,7 +73,7 @@ impl History {
         requires { self.old.ready ≡ true }
         ensures { self.new.entries ≡ self.old.entries ++ entry ∷ [] }
     {
-        if !lengthen(&mut self.runs, entry) {
+        if !lengthen(&mut self.runs, &entry) {
             match self.runs.push(Run { entry, times: 1 }) {
                 Ok(()) => {}
                 Err(_) => unreachable!(),
@@ -112,36 +116,23 @@ fn is_same_report(one: Report, other: Report) -> bool
     one == other
 }
 
-/// The run with one entry more, if it is a run of this entry and can be longer.
-fn longer(run: &Run, entry: &Entry) -> Option<Run>
-    ensures { IfSome result (λ more. (run.now.entry ≡ entry.now) × (more ≡ record { entry = entry.now; times = run.now.times + 1 })) }
+/// Whether a run is one of this entry, and can be longer.
+fn can_be_longer(run: &Run, entry: &Entry) -> bool
+    ensures { result ≡ true → (run.now.entry ≡ entry.now) × (run.now.times < MOST_TIMES) }
 {
-    let times = run.times.checked_add(1)?;
-    if is_same(&run.entry, entry) {
-        Some(Run {
-            entry: *entry,
-            times,
-        })
-    } else {
-        None
-    }
+    run.times < MOST_TIMES && is_same(&run.entry, entry)
 }
 
 /// Makes the last run longer by one, where it is one of this entry. Else it answers false, and the runs stay.
-fn lengthen(runs: &mut Vec<Run>, entry: Entry) -> bool
-    ensures longer { result ≡ true → plain runs.new.items ≡ plain runs.old.items ++ entry ∷ [] }
+fn lengthen(runs: &mut Vec<Run>, entry: &Entry) -> bool
+    ensures longer { result ≡ true → plain runs.new.items ≡ plain runs.old.items ++ entry.now ∷ [] }
     ensures same { result ≡ false → runs.new ≡ runs.old }
 {
     let all = runs.as_slice();
     let count = all.len();
-    if count == 0 {
+    if count == 0 || !can_be_longer(&all[count - 1], entry) {
         return false;
     }
-    match longer(&runs[count - 1], &entry) {
-        Some(run) => {
-            runs[count - 1] = run;
-            true
-        }
-        None => false,
-    }
+    runs[count - 1].times += 1;
+    true
 }

@@ -81,6 +81,7 @@ impl<M: Opening> Shared<M> {
     /// Takes the lock, does an event for the ticket's worker as `perform` does it, and gives the lock and the ticket back.
     ///
     /// The ticket counts the event with the report that is answered. At want of memory it is as it was, and so is the machine.
+    #[inline(always)]
     pub fn act<R: Wait>(
         &self,
         rt: &R,

@@ -85,6 +85,8 @@ fn thread_is_a_byte(event: Event)
 ///
 /// The history has one entry more, the worker's count in the book and the ticket has that entry, and the stop mark stays as it was.
 /// Want of memory, for the entry or for what the event prints or starts, changes nothing.
+// A call on the way of an event is dear: what it saves on the stack has to be written before the lock is given back.
+#[inline(always)]
 pub fn perform<M: Opening>(
     world: &mut World<M>,
     alloc: Global,
