@@ -5,20 +5,17 @@ use Rattle.std.specs.List.{position_from, list_any, list_all}
 use Rattle.std.specs.Cmp.{IsEquivalence}
 use Rattle.std.proofs.lemmas.Bool.{and_from, eq-eqb}
 use Rattle.std.proofs.lemmas.Bool.Decides.{eqb_tells}
+use Rattle.std.proofs.lemmas.List.{length-map}
 use Rattle.std.proofs.lemmas.List.Folds.{list_any-append}
 use Rattle.std.proofs.lemmas.Option.{none-some, slice_get_within}
 use Rattle.cil_model.proofs.SameLaws.{both_first, both_second}
 use Rattle.inheritance.specs.Lines.{place_in}
 use Rattle.name_tables.specs.Inherited.{number_in, AreNumbered}
-use Rattle.name_tables.proofs.FirstPlaces.{is_some-position_from}
-use Rattle.name_tables.proofs.NumberLaws.{none_is_some, found_at_place, found_passes}
+use Rattle.name_tables.proofs.FirstPlaces.{is_some-position_from, position_from-congr}
+use Rattle.name_tables.proofs.NumberLaws.{none_is_some, position_from-map, found_at_place, found_passes}
 
 lost : true ≡ false → ⊥
 lost e = cc
-
-pub position_from-congr : {X : Type 0} (test other : X → Bool) → ((x : X) → test x ≡ other x) → (i : ℕ) (xs : List X) → position_from test i xs ≡ position_from other i xs
-position_from-congr test other same i [] = refl
-position_from-congr test other same i (x ∷ xs) = ap (λ b. cond b (Some i) (position_from test (i + 1) xs)) (same x) ∙ ap (λ o. cond (other x) (Some i) o) (position_from-congr test other same (i + 1) xs)
 
 found_item : {X : Type 0} (test : X → Bool) (xs : List X) (i : ℕ) → position_from test 0 xs ≡ Some i → (y : X) × (slice_get xs i ≡ Some y) × (test y ≡ true)
 found_item {X} test xs i e = by_find (find test xs) refl (sym (ap (option_map (slice_get xs)) e) ∙ found_at_place test xs)
@@ -41,7 +38,7 @@ all_wider test other wider (x ∷ xs) h = and_from _ _ (wider x (both_first _ _ 
 
 module _ {K : Type 0} (same : K → K → Bool) (laws : IsEquivalence same) where
   -- a key is among those of the rows
-  abbrev is_known : List K → K → Bool
+  abbrev pub is_known : List K → K → Bool
   is_known keys x = list_any (same x) keys
 
   known_in_row : (row : List K) → list_all (is_known row) row ≡ true
@@ -91,7 +88,7 @@ module _ {K : Type 0} (same : K → K → Bool) (laws : IsEquivalence same) wher
             let turned : same item.0 x ≡ true = laws.symm item.0 x ∙ item.2 in
             absurd (lost (sym (laws.congr q item.0 x meets ∙ turned) ∙ h))
 
-    number_tells : (q x : K) → is_known keys x ≡ true → (number q == number x) ≡ same q x
+    pub number_tells : (q x : K) → is_known keys x ≡ true → (number q == number x) ≡ same q x
     number_tells q x known = by_test (same q x) refl
       where
         by_test : (b : Bool) → same q x ≡ b → (number q == number x) ≡ b
@@ -121,7 +118,7 @@ module _ {K : Type 0} (same : K → K → Bool) (laws : IsEquivalence same) wher
         by_test further (inl h) = subst (λ m. option_map number (slice_get keys m) ≡ Some m) (sym h.1) (number_again x (both_first _ _ known))
         by_test further (inr h) = further (sym (ap (λ b. cond b (Some i) (position_from (λ k. n == k) (i + 1) (map number xs))) h.0) ∙ e)
 
-  row_at : {R : Type 0} (row_in : R → List K) (number : K → ℕ) (rows : List R) (n : ℕ) → slice_index_or (map (λ r. map number (row_in r)) rows) n [] ≡ map number (slice_index_or (map row_in rows) n [])
+  pub row_at : {R : Type 0} (row_in : R → List K) (number : K → ℕ) (rows : List R) (n : ℕ) → slice_index_or (map (λ r. map number (row_in r)) rows) n [] ≡ map number (slice_index_or (map row_in rows) n [])
   row_at row_in number [] n = refl
   row_at row_in number (r ∷ rs) zero = refl
   row_at row_in number (r ∷ rs) (suc n) = row_at row_in number rs n
@@ -148,3 +145,8 @@ number_within same keys q = by_place (position_from (same q) 0 keys) refl
         let item = found_item (same q) keys i e in
         let inside : i < length keys = slice_get_within keys i item.0 item.1 in
         omega (arith, inside)
+
+-- the number of a key is that of what it stands for
+pub number_of_view : {K X : Type 0} (view : K → X) (same : X → X → Bool) (keys : List K) (key : K) → number_in (λ a b. same (view a) (view b)) keys key ≡ number_in same (map view keys) (view key)
+number_of_view view same keys key =
+    ap (λ o. unwrap_or o (length keys)) (sym (position_from-map view (same (view key)) 0 keys)) ∙ ap (unwrap_or (position_from (same (view key)) 0 (map view keys))) (sym (length-map keys view))

@@ -1,5 +1,6 @@
 pub mod MemberLaws
 mod KeyNumbers
+mod MethodNumbers
 mod VirtualNumbers
 pub mod FirstPlaces
 pub mod Lists

@@ -1,9 +1,10 @@
 -- Lists as a loop goes along them.
-use Rattle.std.proofs.Common.{◌≡◌, ◌<◌, ◌+◌, ℕ, List, [], ◌∷◌, ◌++◌, length, take, get_or, map, flat_map, option_map, Option, Some, None, refl, sym, ap, ◌∙◌}
-use Rattle.std.specs.List.{filter_map}
+use Rattle.std.proofs.Common.{◌≡◌, ◌<◌, ◌+◌, ℕ, Bool, true, false, cond, List, [], ◌∷◌, ◌++◌, length, take, get_or, map, flat_map, option_map, slice_get, Option, Some, None, refl, sym, ap, ◌∙◌, arith}
+use Rattle.std.specs.List.{filter, filter_map}
 use Rattle.std.proofs.lemmas.Grind.{flat_map-append}
-use Rattle.std.proofs.lemmas.List.{take_more, map-append, append-nil}
-use Rattle.std.proofs.lemmas.List.Elements.{filter_map-append}
+use Rattle.std.proofs.lemmas.List.{take_more, map-append, append-nil, length-map, get_or-map}
+use Rattle.std.proofs.lemmas.Option.{none-some, same_Some, slice_get_within, get_or_from_slice_get}
+use Rattle.std.proofs.lemmas.List.Elements.{filter-append, filter_map-append}
 
 -- one more item
 pub take_one_more : {X : Type 0} (xs : List X) (i : ℕ) (x : X) → i < length xs → x ≡ get_or xs i x → take (i + 1) xs ≡ take i xs ++ x ∷ []
@@ -27,3 +28,31 @@ map_of_map f g (x ∷ xs) = ap (λ ys. g (f x) ∷ ys) (map_of_map f g xs)
 pub option_map_of_map : {X Y Z : Type 0} (f : X → Y) (g : Y → Z) (o : Option X) → option_map g (option_map f o) ≡ option_map (λ x. g (f x)) o
 option_map_of_map f g None = refl
 option_map_of_map f g (Some x) = refl
+
+-- where two maps make the same list, what they make of the items at one place
+pub alike_at : {X Y Z : Type 0} (f : X → Z) (g : Y → Z) (xs : List X) (ys : List Y) (i : ℕ) (x : X) (y : Y) → map f xs ≡ map g ys → i < length ys → x ≡ get_or xs i x → y ≡ get_or ys i y → f x ≡ g y
+alike_at f g xs ys i x y e l h k =
+    let inside : i < length xs = omega (arith, l, length-map xs f, length-map ys g, ap length e) in
+    ap f h ∙ sym (get_or-map f xs i x (f x) inside) ∙ ap (λ zs. get_or zs i (f x)) e ∙ get_or-map g ys i y (f x) l ∙ ap g (sym k)
+
+-- one more row, made of one more item
+pub one_more_row : {R Y Z : Type 0} (view : R → Z) (f : Y → Z) (rows more : List R) (ys : List Y) (i : ℕ) (r : R) (y : Y) → i < length ys → y ≡ get_or ys i y → map view rows ≡ map f (take i ys) → more ≡ rows ++ r ∷ [] → view r ≡ f y → map view more ≡ map f (take (i + 1) ys)
+one_more_row view f rows more ys i r y l k e m h =
+    ap (map view) m ∙ map-append view rows (r ∷ []) ∙ ap (λ zs. zs ++ view r ∷ []) e ∙ ap (λ z. map f (take i ys) ++ z ∷ []) h ∙ sym (map-take_more f ys i y l k)
+
+-- what one more item adds to those that pass
+pub map-filter-take_more : {X Y : Type 0} (f : X → Y) (test : X → Bool) (xs : List X) (i : ℕ) (passes : Bool) (y d : Y) → option_map test (slice_get xs i) ≡ Some passes → get_or (map f xs) i d ≡ y →
+    map f (filter test (take (i + 1) xs)) ≡ map f (filter test (take i xs)) ++ cond passes (y ∷ []) []
+map-filter-take_more {X} f test xs i passes y d e h = by_item (slice_get xs i) refl e
+  where
+    one : (x : X) → map f (filter test (x ∷ [])) ≡ cond (test x) (f x ∷ []) []
+    one x = elim (test x) as (λ b. map f (cond b (x ∷ []) []) ≡ cond b (f x ∷ []) []) [ true ↦ refl | false ↦ refl ]
+
+    by_item : (o : Option X) → slice_get xs i ≡ o → option_map test o ≡ Some passes → map f (filter test (take (i + 1) xs)) ≡ map f (filter test (take i xs)) ++ cond passes (y ∷ []) []
+    by_item None k p = absurd (none-some passes p)
+    by_item (Some x) k p =
+        let inside : i < length xs = slice_get_within xs i x k in
+        let here : get_or xs i x ≡ x = get_or_from_slice_get xs i x x k in
+        let made : f x ≡ y = ap f (sym here) ∙ sym (get_or-map f xs i x d inside) ∙ h in
+        ap (λ ys. map f (filter test ys)) (take_one_more xs i x inside (sym here)) ∙ ap (map f) (filter-append test (take i xs) (x ∷ [])) ∙ map-append f (filter test (take i xs)) (filter test (x ∷ [])) ∙
+        ap (λ ys. map f (filter test (take i xs)) ++ ys) (one x ∙ ap (λ b. cond b (f x ∷ []) []) (same_Some (test x) passes p) ∙ ap (λ z. cond passes (z ∷ []) []) made)

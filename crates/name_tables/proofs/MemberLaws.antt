@@ -26,7 +26,7 @@ map_at f [] n = refl
 map_at f (r ∷ rs) zero = refl
 map_at f (r ∷ rs) (suc n) = map_at f rs n
 
-place_at : {X Y : Type 0} (part : X → List Y) (test : Y → Bool) (xs : List X) (n : ℕ) → position_from test 0 (slice_index_or (map part xs) n []) ≡ option_and_then (λ x. position_from test 0 (part x)) (slice_get xs n)
+pub place_at : {X Y : Type 0} (part : X → List Y) (test : Y → Bool) (xs : List X) (n : ℕ) → position_from test 0 (slice_index_or (map part xs) n []) ≡ option_and_then (λ x. position_from test 0 (part x)) (slice_get xs n)
 place_at part test [] n = refl
 place_at part test (x ∷ xs) zero = refl
 place_at part test (x ∷ xs) (suc n) = place_at part test xs n
@@ -137,3 +137,30 @@ pub all_at : {X : Type 0} (test : X → Bool) (xs : List X) (i : ℕ) (d : X) �
 all_at test [] i d h e = absurd (omega (arith, h))
 all_at test (x ∷ xs) zero d h e = both_first _ _ e
 all_at test (x ∷ xs) (suc i) d h e = all_at test xs i d (omega (arith, h)) (both_second _ _ e)
+
+-- ---- what a class itself declares
+
+found_first : (at : ℕ → Option ℕ) (n q : ℕ) (ns : List ℕ) → at n ≡ Some q → nearest_number at (n ∷ ns) ≡ Some (n, q)
+found_first at n q ns e = ap (λ o. option_map_or (λ place. Some (n, place)) o (nearest_number at ns)) e
+
+absent_first : (at : ℕ → Option ℕ) (n : ℕ) (ns : List ℕ) → at n ≡ None → nearest_number at (n ∷ ns) ≡ nearest_number at ns
+absent_first at n ns e = ap (λ o. option_map_or (λ place. Some (n, place)) o (nearest_number at ns)) e
+
+number_place : (at : ℕ → Option ℕ) (ns : List ℕ) (p : ℕ × ℕ) → nearest_number at ns ≡ Some p → at p.0 ≡ Some p.1
+number_place at ns p e = nearest_place at ns p (same at ns ∙ e)
+  where
+    same : (f : ℕ → Option ℕ) (xs : List ℕ) → lines.nearest f xs ≡ nearest_number f xs
+    same f [] = refl
+    same f (x ∷ xs) = ap (λ o. option_map_or (λ place. Some (x, place)) (f x) o) (same f xs)
+
+-- what is found along a line in its first class is found in that class alone
+pub found_in_own : (at : ℕ → Option ℕ) (n : ℕ) (ns : List ℕ) (p : ℕ × ℕ) → nearest_number at (n ∷ ns) ≡ Some p → p.0 ≡ n → Some p ≡ nearest_number at (n ∷ [])
+found_in_own at n ns p e own = sym (found_first at n p.1 [] (ap at (sym own) ∙ number_place at (n ∷ ns) p e) ∙ ap (λ x. Some (x, p.1)) (sym own))
+
+-- what is found elsewhere, or not at all, is not in the first class
+pub not_in_own : (at : ℕ → Option ℕ) (n : ℕ) (ns : List ℕ) → ((q : ℕ) → nearest_number at (n ∷ ns) ≢ Some (n, q)) → None ≡ nearest_number at (n ∷ [])
+not_in_own at n ns other = by_place (at n) refl
+  where
+    by_place : (o : Option ℕ) → at n ≡ o → None ≡ nearest_number at (n ∷ [])
+    by_place None e = sym (absent_first at n [] e)
+    by_place (Some q) e = absurd (other q (found_first at n q ns e))

@@ -1,18 +1,18 @@
 -- The numbers of methods among the virtual ones.
-use Rattle.std.proofs.Common.{◌≡◌, ℕ, ◌+◌, suc, true, ◌&&◌, ◌||◌, not, List, [], ◌∷◌, length, Option, Some, None, is_some, is_none, nat_lt, slice_index_or, refl, ap, ◌∙◌, arith}
+use Rattle.std.proofs.Common.{◌≡◌, ◌<◌, ℕ, zero, suc, Bool, true, ◌&&◌, ◌||◌, not, List, [], ◌∷◌, map, Option, Some, None, is_some, is_none, nat_lt, slice_get, slice_index_or, refl, ap, ◌∙◌, arith}
 use Rattle.std.proofs.lemmas.Bool.{le-leb}
 use Rattle.std.specs.List.{list_all, list_any}
+use Rattle.std.specs.Option.{option_map_or}
+use Rattle.cil_model.specs.declared.types.ClassName.{ClassName}
 use Rattle.cil_model.specs.declared.trees.Tree.{Tree}
 use Rattle.cil_model.specs.declared.trees.Method.{Method}
+use Rattle.cil_model.specs.Declarations.{Declaration}
 use Rattle.inheritance.specs.declared.forests.Forest.{Forest}
 use Rattle.inheritance.specs.Ledgers.{nearest_from}
-use Rattle.name_tables.specs.declared.keys.MethodKey.{MethodKey}
-use Rattle.name_tables.specs.Keys.{method_of_key}
 use Rattle.name_tables.specs.Members.{IsMemberTable}
-use Rattle.name_tables.specs.Methods.{method_key_number, virtual_place, line_of, methods_at, AreNumbers}
-use Rattle.name_tables.specs.Numbers.{nearest_number}
-use Rattle.name_tables.specs.Sameness.{MethodIdentity, same_identity, identity_of}
-use Rattle.name_tables.proofs.KeyNumbers.{number_within}
+use Rattle.name_tables.specs.Methods.{virtual_place, line_of, methods_at, AreNumbers}
+use Rattle.name_tables.specs.Numbers.{declarations, nearest_number}
+use Rattle.name_tables.specs.Sameness.{MethodIdentity, identity_of}
 use Rattle.name_tables.proofs.MemberLaws.{nearest_on_line, all_pass}
 
 -- where something is none not all are some
@@ -24,15 +24,35 @@ some_none {Y = Y} f (x ∷ xs) = by_first (some_none f xs) (f x)
     by_first further None = refl
     by_first further (Some y) = further
 
-module _ (tree : Tree) (keys : List MethodKey) (forest : Forest) (rows : List (List ℕ)) (numbered : AreNumbers tree keys rows) where
-  pub are_keys : forest.keys ≡ length keys + 1 → (interface : ℕ) → list_all (λ n. nat_lt n forest.keys) (slice_index_or rows interface []) ≡ true
-  are_keys within interface = numbered interface (λ n. nat_lt n forest.keys) (λ k. true) is_key ∙ all_pass (methods_at tree interface)
-    where
-      is_key : (key : MethodKey) → nat_lt (method_key_number keys key) forest.keys ≡ true
-      is_key key = let low = number_within (λ (a b : MethodKey). same_identity (method_of_key a) (method_of_key b)) keys key in le-leb (suc (method_key_number keys key)) forest.keys (omega (arith, low, within))
+all_of_map : {X Y : Type 0} (f : X → Y) (p : Y → Bool) (xs : List X) → list_all p (map f xs) ≡ list_all (λ x. p (f x)) xs
+all_of_map f p [] = refl
+all_of_map f p (x ∷ xs) = ap (λ b. p (f x) && b) (all_of_map f p xs)
 
-  -- all virtual methods that an interface wants are found by their numbers
-  pub found_by_numbers : IsMemberTable tree forest (method_key_number keys) (λ key. virtual_place tree (method_of_key key)) → (interface class : ℕ) →
-      list_all (λ n. is_some (nearest_from forest n forest.most (Some class))) (slice_index_or rows interface []) ≡ list_all (λ (m : Method). is_some (nearest_number (virtual_place tree (identity_of m)) (line_of tree (Some class)))) (methods_at tree interface)
-  found_by_numbers table interface class = numbered interface (λ n. is_some (nearest_from forest n forest.most (Some class))) (λ (k : MethodIdentity). is_some (nearest_number (virtual_place tree k) (line_of tree (Some class))))
-      (λ key. ap is_some (nearest_on_line tree forest (method_key_number keys) (λ x. virtual_place tree (method_of_key x)) table key class))
+all_alike : {X : Type 0} (p q : X → Bool) → ((x : X) → p x ≡ q x) → (xs : List X) → list_all p xs ≡ list_all q xs
+all_alike p q same [] = refl
+all_alike p q same (x ∷ xs) = ap (λ b. b && list_all p xs) (same x) ∙ ap (λ b. q x && b) (all_alike p q same xs)
+
+module _ (tree : Tree) (number : MethodIdentity → ℕ) (rows : List (List ℕ)) (numbered : AreNumbers tree number rows) where
+  -- what is said of the numbers of a class's methods is said of these
+  pub said_of_numbers : (q : ℕ → Bool) (class : ℕ) → list_all q (slice_index_or rows class []) ≡ list_all (λ (m : Method). q (number (identity_of m))) (methods_at tree class)
+  said_of_numbers q class = ap (λ rs. list_all q (slice_index_or rs class [])) numbered ∙ of (declarations tree) class
+    where
+      of : (es : List (ClassName × Declaration)) (n : ℕ) →
+          list_all q (slice_index_or (map (λ (e : ClassName × Declaration). map (λ (m : Method). number (identity_of m)) e.1.methods) es) n []) ≡ list_all (λ (m : Method). q (number (identity_of m))) (option_map_or (λ (e : ClassName × Declaration). e.1.methods) (slice_get es n) [])
+      of [] n = refl
+      of (e ∷ es) zero = all_of_map (λ (m : Method). number (identity_of m)) q e.1.methods
+      of (e ∷ es) (suc n) = of es n
+
+  module _ (forest : Forest) where
+    pub are_keys : ((k : MethodIdentity) → number k < forest.keys) → (interface : ℕ) → list_all (λ n. nat_lt n forest.keys) (slice_index_or rows interface []) ≡ true
+    are_keys within interface =
+        said_of_numbers (λ n. nat_lt n forest.keys) interface ∙ all_alike (λ (m : Method). nat_lt (number (identity_of m)) forest.keys) (λ m. true) (λ m. let low = within (identity_of m) in le-leb (suc (number (identity_of m))) forest.keys (omega (arith, low))) (methods_at tree interface) ∙
+        all_pass (methods_at tree interface)
+
+    -- all virtual methods that an interface wants are found by their numbers
+    pub found_by_numbers : IsMemberTable tree forest number (virtual_place tree) → (interface class : ℕ) →
+        list_all (λ n. is_some (nearest_from forest n forest.most (Some class))) (slice_index_or rows interface []) ≡ list_all (λ (m : Method). is_some (nearest_number (virtual_place tree (identity_of m)) (line_of tree (Some class)))) (methods_at tree interface)
+    found_by_numbers table interface class =
+        said_of_numbers (λ n. is_some (nearest_from forest n forest.most (Some class))) interface ∙
+        all_alike (λ (m : Method). is_some (nearest_from forest (number (identity_of m)) forest.most (Some class))) (λ (m : Method). is_some (nearest_number (virtual_place tree (identity_of m)) (line_of tree (Some class))))
+        (λ m. ap is_some (nearest_on_line tree forest number (virtual_place tree) table (identity_of m) class)) (methods_at tree interface)

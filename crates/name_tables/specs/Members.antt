@@ -7,11 +7,10 @@ use Rattle.cil_model.specs.Chains.{longest_chain}
 use Rattle.inheritance.specs.declared.forests.Forest.{Forest}
 use Rattle.inheritance.specs.Lines as lines
 use Rattle.name_tables.specs.declared.keys.FieldKey.{FieldKey}
-use Rattle.name_tables.specs.declared.keys.CallKey.{CallKey}
 use Rattle.name_tables.specs.Inherited.{number_in}
-use Rattle.name_tables.specs.Keys.{field_of_key, called_of_key}
+use Rattle.name_tables.specs.Keys.{field_of_key}
 use Rattle.name_tables.specs.Numbers.{declarations, class_number, place_in}
-use Rattle.name_tables.specs.Sameness.{same_field, same_called, called_of}
+use Rattle.name_tables.specs.Sameness.{same_field}
 
 -- the number of the base of each class
 abbrev pub base_numbers : Tree → List (Option ℕ)
@@ -30,13 +29,6 @@ pub record IsMemberTable {K : Type 0} (tree : Tree) (forest : Forest) (number : 
 abbrev pub field_key_number : List FieldKey → FieldKey → ℕ
 field_key_number keys key = number_in (λ (a b : FieldKey). same_field (field_of_key a) (field_of_key b)) keys key
 
-abbrev pub call_key_number : List CallKey → CallKey → ℕ
-call_key_number keys key = number_in (λ (a b : CallKey). same_called (called_of_key a) (called_of_key b)) keys key
-
 -- the place of a field in a class
 abbrev pub field_place : Tree → FieldKey → ℕ → Option ℕ
 field_place tree key class = place_in (λ d. d.fields) (same_field (field_of_key key)) tree class
-
--- the place of a method in a class
-abbrev pub call_place : Tree → CallKey → ℕ → Option ℕ
-call_place tree key class = place_in (λ d. d.methods) (λ m. same_called (called_of_key key) (called_of m)) tree class

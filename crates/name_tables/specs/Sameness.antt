@@ -1,9 +1,10 @@
 -- What fields and methods are known by beside their class, and when two are the same.
-use Rattle.std.specs.Prelude.{Bool, ◌&&◌}
+use Rattle.std.specs.Prelude.{Bool, ◌&&◌, ◌==◌}
 use Rattle.cil_model.specs.declared.types.Signature.{Signature}
 use Rattle.cil_model.specs.declared.instructions.MethodName.{MethodName}
 use Rattle.cil_model.specs.declared.trees.Field.{Field}
 use Rattle.cil_model.specs.declared.trees.Method.{Method}
+use Rattle.name_tables.specs.declared.keys.CallNumber.{CallNumber}
 use Rattle.cil_model.specs.Same.{same_flag, same_text, same_type, same_signature, same_method_name}
 use Rattle.cil_model.specs.Chains.{is_static}
 
@@ -28,3 +29,7 @@ called_of m = (identity_of m, is_static m.kind)
 
 abbrev pub same_called : MethodIdentity × Bool → MethodIdentity × Bool → Bool
 same_called a b = same_identity a.0 b.0 && same_flag a.1 b.1
+
+-- calls whose methods' names and signatures have numbers
+abbrev pub same_call : CallNumber → CallNumber → Bool
+same_call a b = (a.number == b.number) && same_flag a.is_static b.is_static

@@ -1,11 +1,12 @@
 -- When fields and methods are the same they are equal, and the other way round.
-use Rattle.std.proofs.Common.{◌≡◌, Bool, IsTrue}
-use Rattle.std.proofs.lemmas.Bool.{and_from}
+use Rattle.std.proofs.Common.{◌≡◌, Bool, refl, IsTrue}
+use Rattle.std.proofs.lemmas.Bool.{and_from, eqb-true, eq-eqb}
 use Rattle.std.specs.Cmp.{IsEquivalence}
 use Rattle.cil_model.specs.declared.trees.Field.{Field}
 use Rattle.cil_model.proofs.SameLaws.{both_first, both_second, same_text_equal, same_flag_equal, same_type_equal, same_signature_equal, same_method_name_equal}
 use Rattle.cil_model.proofs.SameLaws.{same_text_itself, same_flag_itself, same_type_itself, same_signature_itself, same_method_name_itself, equivalence}
-use Rattle.name_tables.specs.Sameness.{MethodIdentity, same_field, same_identity, same_called}
+use Rattle.name_tables.specs.declared.keys.CallNumber.{CallNumber}
+use Rattle.name_tables.specs.Sameness.{MethodIdentity, same_field, same_identity, same_called, same_call}
 
 -- ---- what is the same is equal
 
@@ -25,6 +26,12 @@ same_identity_equal a b h = λ i. record {
 pub same_called_equal : (a b : MethodIdentity × Bool) → IsTrue (same_called a b) → a ≡ b
 same_called_equal a b h = λ i. (same_identity_equal a.0 b.0 (both_first _ _ h) i, same_flag_equal a.1 b.1 (both_second _ _ h) i)
 
+pub same_call_equal : (a b : CallNumber) → IsTrue (same_call a b) → a ≡ b
+same_call_equal a b h = λ i. record {
+  number = eqb-true a.number b.number (both_first _ _ h) i;
+  is_static = same_flag_equal a.is_static b.is_static (both_second _ _ h) i;
+}
+
 -- ---- what is equal is the same
 
 pub same_field_itself : (f : Field) → IsTrue (same_field f f)
@@ -36,6 +43,9 @@ same_identity_itself m = and_from _ _ (same_method_name_itself m.name) (same_sig
 pub same_called_itself : (m : MethodIdentity × Bool) → IsTrue (same_called m m)
 same_called_itself m = and_from _ _ (same_identity_itself m.0) (same_flag_itself m.1)
 
+pub same_call_itself : (c : CallNumber) → IsTrue (same_call c c)
+same_call_itself c = and_from _ _ (eq-eqb c.number c.number refl) (same_flag_itself c.is_static)
+
 pub field_equivalence : IsEquivalence same_field
 field_equivalence = equivalence same_field same_field_itself same_field_equal
 
@@ -44,3 +54,6 @@ identity_equivalence = equivalence same_identity same_identity_itself same_ident
 
 pub called_equivalence : IsEquivalence same_called
 called_equivalence = equivalence same_called same_called_itself same_called_equal
+
+pub call_equivalence : IsEquivalence same_call
+call_equivalence = equivalence same_call same_call_itself same_call_equal

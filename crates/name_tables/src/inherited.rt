@@ -39,7 +39,37 @@ fn all_keys<K: Eq + Hash + Copy + Drop>(alloc: Global, rows: &[&[K]]) -> Result<
     Ok(places)
 }
 
-fn number_of<K: Eq + Hash + Copy + Drop>(keys: &Places<K>, key: K) -> usize
+/// The numbers of all keys, row by row.
+fn own_numbers<K: Eq + Hash + Copy + Drop>(
+    alloc: Global,
+    keys: &Places<K>,
+    rows: &[&[K]],
+) -> Result<Vec<Vec<usize>>, NoMemory>
+    requires { keys.now ≡ flat_map (λ row. row.now) rows.now }
+    ensures { IfOk result (λ v. map (λ r. r.items) v.items ≡ map (λ row. map (number_in K.eq keys.now) row.now) rows.now) }
+{
+    let mut numbers = Vec::with_capacity(alloc, rows.len())?;
+    let mut rest = keys.numbers();
+    for row in rows {
+        let (own, others) = rest.split_at(row.len());
+        numbers.push(own.to_vec(alloc)?)?;
+        rest = others;
+    }
+    Ok(numbers)
+}
+
+/// The rows as slices.
+pub(crate) fn slices<K>(alloc: Global, rows: &[Vec<K>]) -> Result<Vec<&[K]>, NoMemory>
+    ensures { IfOk result (λ v. map (λ row. row.now) v.items ≡ map (λ row. row.items) rows.now) }
+{
+    let mut slices = Vec::with_capacity(alloc, rows.len())?;
+    for row in rows {
+        slices.push(row.as_slice())?;
+    }
+    Ok(slices)
+}
+
+pub(crate) fn number_of<K: Eq + Hash + Copy + Drop>(keys: &Places<K>, key: K) -> usize
     ensures { result ≡ number_in K.eq keys.now key }
 {
     match keys.first(key) {
@@ -76,25 +106,35 @@ pub(crate) fn numbers<K: Eq + Hash + Copy + Drop>(
     Ok(numbers)
 }
 
+/// The bases once more.
+fn copied(alloc: Global, bases: &[Option<usize>]) -> Result<Vec<Option<usize>>, NoMemory>
+    ensures { IfOk result (λ v. v.items ≡ bases.now) }
+{
+    let mut copies = Vec::with_capacity(alloc, bases.len())?;
+    copies.extend_from_slice(bases)?;
+    Ok(copies)
+}
+
 /// The classes with their bases and the numbers of the keys that each declares.
 fn numbered<K: Eq + Hash + Copy + Drop>(
     alloc: Global,
-    bases: Vec<Option<usize>>,
+    bases: &[Option<usize>],
     keys: &Places<K>,
     rows: &[&[K]],
     most: usize,
 ) -> Result<Forest, NoMemory>
-    ensures bases { IfOk result (λ f. f.bases.items ≡ bases.items) }
+    requires { keys.now ≡ flat_map (λ row. row.now) rows.now }
+    ensures bases { IfOk result (λ f. f.bases.items ≡ bases.now) }
     ensures most { IfOk result (λ f. f.most ≡ most) }
     ensures keys { IfOk result (λ f. f.keys ≡ length keys.now + 1) }
     ensures declared { IfOk result (λ f. map (λ r. r.items) f.declared.items ≡ map (λ row. map (number_in K.eq keys.now) row.now) rows.now) }
 {
-    let declared = numbers(alloc, keys, rows)?;
+    let declared = own_numbers(alloc, keys, rows)?;
     let Some(count) = keys.keys().len().checked_add(1) else {
         return Err(NoMemory);
     };
     Ok(Forest {
-        bases,
+        bases: copied(alloc, bases)?,
         declared,
         keys: count,
         most,
@@ -116,12 +156,14 @@ impl<K: Eq + Hash + Copy + Drop> Inherited<K> {
     /// alone.
     pub fn new(
         alloc: Global,
-        bases: Vec<Option<usize>>,
+        bases: &[Option<usize>],
         rows: &[&[K]],
         most: usize,
     ) -> Result<Self, NoMemory>
-        ensures bases { IfOk result (λ t. t.inheritance.forest.bases.items ≡ bases.items) }
+        ensures bases { IfOk result (λ t. t.inheritance.forest.bases.items ≡ bases.now) }
         ensures most { IfOk result (λ t. t.inheritance.forest.most ≡ most) }
+        ensures keys { IfOk result (λ t. t.keys ≡ flat_map (λ row. row.now) rows.now) }
+        ensures declared { IfOk result (λ t. map (λ r. r.items) t.inheritance.forest.declared.items ≡ map (λ row. map (number_in K.eq t.keys) row.now) rows.now) }
         ensures places { IfOk result (λ t. (key : K) (class : ℕ) → place_in (map (λ r. r.items) t.inheritance.forest.declared.items) (number_in K.eq t.keys key) class ≡ position_from (K.eq key) 0 (slice_index_or (map (λ row. row.now) rows.now) class [])) }
     {
         let keys = all_keys(alloc, rows)?;

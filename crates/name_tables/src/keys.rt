@@ -3,10 +3,9 @@
 ghost use Rattle.std.specs.Prelude.{◌≡◌, option_map};
 ghost use Rattle.cil_model.specs.Same.{same_options, same_lists, same_text, same_type};
 
-use crate::kinds::is_static;
 use cil_model::instructions::MethodName;
 use cil_model::texts::Text;
-use cil_model::trees::{Class, Field, Method};
+use cil_model::trees::{Class, Field};
 use cil_model::types::{ClassName, DeclaredType, Signature};
 use std::hash::{Hash, Hasher};
 
@@ -37,6 +36,13 @@ pub struct MethodKey<'a> {
     pub name: Option<&'a Text>,
     pub parameters: &'a [DeclaredType],
     pub return_type: Option<&'a DeclaredType>,
+}
+
+/// A method by the number of its name and signature, and its staticness.
+#[derive(Clone, Copy)]
+pub struct CallNumber {
+    pub number: usize,
+    pub is_static: bool,
 }
 
 /// A method by its name, signature and staticness.
@@ -216,43 +222,37 @@ impl Hash for MethodKey<'_> {
     }
 }
 
-impl PartialEq for CallKey<'_> {
+impl PartialEq for CallNumber {
     ghost use Rattle.std.specs.Cmp.{partial_equiv_from_equiv};
-    ghost use Rattle.std.proofs.lemmas.Cmp.{on_equiv};
-    ghost use Rattle.name_tables.specs.Sameness.{same_called};
-    ghost use Rattle.name_tables.specs.SamenessLaws.{called_equivalence};
-    ghost use Rattle.name_tables.specs.Keys.{called_of_key};
+    ghost use Rattle.name_tables.specs.Sameness.{same_call};
+    ghost use Rattle.name_tables.specs.SamenessLaws.{call_equivalence};
 
-    ghost eq = { λ a b. same_called (called_of_key a) (called_of_key b) };
+    ghost eq = { same_call };
 
-    ghost laws = { partial_equiv_from_equiv (on_equiv called_of_key called_equivalence) };
+    ghost laws = { partial_equiv_from_equiv call_equivalence };
 
     fn eq(&self, other: &Self) -> bool {
-        self.method == other.method && self.is_static == other.is_static
+        self.number == other.number && self.is_static == other.is_static
     }
 }
 
-impl Eq for CallKey<'_> {
-    ghost use Rattle.std.proofs.lemmas.Cmp.{on_equiv};
-    ghost use Rattle.name_tables.specs.SamenessLaws.{called_equivalence};
-    ghost use Rattle.name_tables.specs.Keys.{called_of_key};
+impl Eq for CallNumber {
+    ghost use Rattle.name_tables.specs.SamenessLaws.{call_equivalence};
 
-    ghost laws = { on_equiv called_of_key called_equivalence };
+    ghost laws = { call_equivalence };
 }
 
-impl Hash for CallKey<'_> {
+impl Hash for CallNumber {
     ghost use Rattle.std.proofs.Common.{ap};
     ghost use Rattle.std.specs.Hash as fed;
-    ghost use Rattle.name_tables.specs.SamenessLaws.{same_called_equal};
-    ghost use Rattle.name_tables.specs.Keys.{called_of_key};
-    ghost use Rattle.name_tables.specs.Hashes.{fed_method};
+    ghost use Rattle.name_tables.specs.SamenessLaws.{same_call_equal};
 
-    ghost hash_input = { λ k. fed_method (called_of_key k).0 };
+    ghost hash_input = { λ c. fed.usize c.number };
 
-    ghost respects_eq = { λ a b h. ap (λ v. fed_method v.0) (same_called_equal (called_of_key a) (called_of_key b) h) };
+    ghost respects_eq = { λ a b h. ap (λ v. fed.usize v.number) (same_call_equal a b h) };
 
     fn hash<H: Hasher>(&self, state: &mut H) {
-        self.method.hash(state);
+        self.number.hash(state);
     }
 }
 
@@ -363,20 +363,6 @@ impl<'a> MethodKey<'a> {
             name: None,
             parameters,
             return_type: None,
-        }
-    }
-}
-
-impl<'a> CallKey<'a> {
-    ghost use Rattle.name_tables.specs.Keys.{called_of_key};
-    ghost use Rattle.name_tables.specs.Sameness.{called_of};
-
-    pub fn of(method: &'a Method) -> Self
-        ensures { called_of_key result ≡ called_of method.now }
-    {
-        CallKey {
-            method: MethodKey::new(&method.name, &method.signature),
-            is_static: is_static(&method.kind),
         }
     }
 }

@@ -1,6 +1,6 @@
 // What the references of a tree find, by numbers.
 
-ghost use Rattle.std.specs.Prelude.{◌≡◌, ◌↔◌, [], IfOk, IsTrue, map, option_map, Some, true};
+ghost use Rattle.std.specs.Prelude.{◌≡◌, ◌↔◌, ◌∷◌, [], IfOk, IsTrue, map, option_map, Some, true};
 ghost use Rattle.inheritance.specs.Lines.{base_in, line_within};
 ghost use Rattle.std.specs.List.{cons_option};
 ghost use Rattle.cil_model.specs.Bodies.{virtual_reference, constructor_reference};
@@ -9,14 +9,15 @@ ghost use Rattle.inheritance.specs.Ledgers.{pair_of};
 ghost use Rattle.name_tables.specs.BuiltInTable.{built_in_entry};
 ghost use Rattle.cil_model.specs.Declarations.{built_ins};
 ghost use Rattle.name_tables.specs.Keys.{class_of_key, field_of_key, called_of_key, reference_of_keys};
-ghost use Rattle.name_tables.specs.Members.{base_numbers, field_key_number, call_key_number, field_place, call_place, EndsIn, IsMemberTable};
+ghost use Rattle.name_tables.specs.Members.{base_numbers, field_key_number, field_place, EndsIn, IsMemberTable};
+ghost use Rattle.name_tables.specs.Methods.{call_number, call_of, call_place, identity_number, line_of, IsMethodTable};
 ghost use Rattle.name_tables.specs.Numbers.{chain_numbers, nearest_number, place_in, field_at, method_at, field_number, method_number, class_number};
 ghost use Rattle.name_tables.specs.Sameness.{same_field, same_called, called_of};
 
 use crate::built_in::BuiltInClass;
-use crate::inherited::Inherited;
-use crate::keys::{CallKey, ClassKey, FieldKey, MethodKey};
-use crate::members::{all_calls, all_fields};
+use crate::inherited::{Inherited, number_of};
+use crate::keys::{CallKey, CallNumber, ClassKey, FieldKey, MethodKey};
+use crate::members::{all_calls, all_fields, all_methods, base_numbers};
 use crate::tables::ClassTables;
 use cil_model::instructions::{FieldReference, MethodReference};
 use cil_model::memory::NoMemory;
@@ -38,9 +39,11 @@ pub struct MemberNumber {
 pub struct NameTables<'a> {
     pub classes: ClassTables<'a>,
     fields: Inherited<FieldKey<'a>>,
-    calls: Inherited<CallKey<'a>>,
+    pub(crate) methods: Inherited<MethodKey<'a>>,
+    calls: Inherited<CallNumber>,
     ghost fields_are: { IsMemberTable classes.tree.now fields.inheritance.forest (field_key_number fields.keys) (field_place classes.tree.now) },
-    ghost calls_are: { IsMemberTable classes.tree.now calls.inheritance.forest (call_key_number calls.keys) (call_place classes.tree.now) },
+    ghost methods_are: { IsMethodTable classes.tree.now methods.keys methods.inheritance.forest },
+    ghost calls_are: { IsMemberTable classes.tree.now calls.inheritance.forest (call_number methods.keys calls.keys) (call_place classes.tree.now) },
 }
 
 /// A declaration as a member.
@@ -63,11 +66,14 @@ impl<'a> NameTables<'a> {
         ensures { IfOk result (λ t. t.classes.tree.now ≡ tree.now) }
     {
         let classes = ClassTables::new(alloc, tree, table)?;
-        let fields = all_fields(alloc, &classes)?;
-        let calls = all_calls(alloc, &classes)?;
+        let bases = base_numbers(alloc, &classes)?;
+        let fields = all_fields(alloc, &classes, bases.as_slice())?;
+        let methods = all_methods(alloc, &classes, bases.as_slice())?;
+        let calls = all_calls(alloc, &classes, bases.as_slice(), &methods)?;
         Ok(NameTables {
             classes,
             fields,
+            methods,
             calls,
         })
     }
@@ -134,14 +140,47 @@ impl<'a> NameTables<'a> {
         member_number(self.fields.find(class, key))
     }
 
+    /// The number of a method's name and signature, with its staticness.
+    fn call_number(&self, key: CallKey) -> CallNumber
+        ensures { result ≡ call_of (identity_number self.now.methods.keys) (called_of_key key.entry) }
+    {
+        CallNumber {
+            number: number_of(&self.methods.keys, key.method),
+            is_static: key.is_static,
+        }
+    }
+
+    /// The nearest method from the class of a number on.
+    fn call_from(&self, class: usize, key: CallKey) -> Option<MemberNumber>
+        ensures { option_map (λ m. (m.class, m.place)) result ≡ nearest_number (call_place self.now.classes.tree.now (called_of_key key.entry)) (line_of self.now.classes.tree.now (Some class)) }
+    {
+        member_number(self.calls.find(class, self.call_number(key)))
+    }
+
     /// The nearest method of a class's chain.
     fn nearest_call(&self, owner: ClassKey, key: CallKey) -> Option<MemberNumber>
-        ensures { option_map (λ m. (m.class, m.place)) result ≡ nearest_number (call_place self.now.classes.tree.now key.entry) (chain_numbers self.now.classes.tree.now (class_of_key owner.entry)) }
+        ensures { option_map (λ m. (m.class, m.place)) result ≡ nearest_number (call_place self.now.classes.tree.now (called_of_key key.entry)) (chain_numbers self.now.classes.tree.now (class_of_key owner.entry)) }
     {
         let Some(class) = self.classes.number(owner) else {
             return None;
         };
-        member_number(self.calls.find(class, key))
+        self.call_from(class, key)
+    }
+
+    /// The method that the class of a number itself declares.
+    fn own_call_of(&self, class: usize, key: CallKey) -> Option<MemberNumber>
+        ensures { option_map (λ m. (m.class, m.place)) result ≡ nearest_number (call_place self.now.classes.tree.now (called_of_key key.entry)) (class ∷ []) }
+    {
+        match self.call_from(class, key) {
+            None => None,
+            Some(found) => {
+                if found.class == class {
+                    Some(found)
+                } else {
+                    None
+                }
+            }
+        }
     }
 
     /// The method that a class itself declares.
@@ -150,10 +189,7 @@ impl<'a> NameTables<'a> {
     {
         match self.classes.number(owner) {
             None => None,
-            Some(class) => match self.classes.call(class, key) {
-                None => None,
-                Some(place) => Some(MemberNumber { class, place }),
-            },
+            Some(class) => self.own_call_of(class, key),
         }
     }
 

@@ -1,16 +1,19 @@
 // The fields and methods that the classes of a tree have and inherit.
 
-ghost use Rattle.std.specs.Prelude.{◌≡◌, IfOk, map, option_map};
+ghost use Rattle.std.specs.Prelude.{◌≡◌, ℕ, IfOk, length, map, option_map};
 ghost use Rattle.name_tables.specs.Entries.{declaration_in};
-ghost use Rattle.name_tables.specs.Keys.{field_of_key, called_of_key};
-ghost use Rattle.name_tables.specs.Members.{base_numbers, field_key_number, call_key_number, field_place, call_place, IsMemberTable};
-ghost use Rattle.name_tables.specs.Sameness.{called_of};
+ghost use Rattle.name_tables.specs.Keys.{field_of_key, method_of_key};
+ghost use Rattle.name_tables.specs.Members.{base_numbers, field_key_number, field_place, IsMemberTable};
+ghost use Rattle.name_tables.specs.Methods.{call_number, call_of, call_place, IsMethodTable};
+ghost use Rattle.name_tables.specs.Sameness.{MethodIdentity, identity_of, called_of};
 
 use crate::class_tables::ClassTable;
-use crate::inherited::Inherited;
-use crate::keys::{CallKey, ClassKey, FieldKey};
+use crate::inherited::{Inherited, slices};
+use crate::keys::{CallNumber, ClassKey, FieldKey, MethodKey};
+use crate::kinds::is_static;
 use crate::tables::ClassTables;
 use cil_model::memory::NoMemory;
+use cil_model::trees::{Field, Method};
 use std::alloc::Global;
 
 /// The number of the base of each class.
@@ -27,28 +30,60 @@ pub(crate) fn base_numbers(
     Ok(bases)
 }
 
-fn field_rows<'t, 'a>(
-    alloc: Global,
-    tables: &'t [ClassTable<'a>],
-) -> Result<Vec<&'t [FieldKey<'a>]>, NoMemory>
-    ensures { IfOk result (λ v. map (λ row. map field_of_key row.now) v.items ≡ map (λ t. (declaration_in t.class).fields) tables.now) }
+fn field_keys<'a>(alloc: Global, fields: &[&'a Field]) -> Result<Vec<FieldKey<'a>>, NoMemory>
+    ensures { IfOk result (λ v. map field_of_key v.items ≡ map (λ f. f.now) fields.now) }
 {
-    let mut rows = Vec::new(alloc);
+    let mut keys = Vec::with_capacity(alloc, fields.len())?;
+    for field in fields {
+        keys.push(FieldKey::of(field))?;
+    }
+    Ok(keys)
+}
+
+/// The methods of a class by the numbers of their names and signatures, and their staticness.
+fn call_numbers(
+    alloc: Global,
+    methods: &[&Method],
+    numbers: &[usize],
+) -> Result<Vec<CallNumber>, NoMemory>
+    requires { length numbers.now ≡ length methods.now }
+    ensures { IfOk result (λ v. (number : MethodIdentity → ℕ) → numbers.now ≡ map (λ m. number (identity_of m.now)) methods.now → v.items ≡ map (λ m. call_of number (called_of m.now)) methods.now) }
+{
+    let mut keys = Vec::with_capacity(alloc, methods.len())?;
+    for place in 0..methods.len() {
+        keys.push(CallNumber {
+            number: numbers[place],
+            is_static: is_static(&methods[place].kind),
+        })?;
+    }
+    Ok(keys)
+}
+
+fn field_rows<'a>(
+    alloc: Global,
+    tables: &[ClassTable<'a>],
+) -> Result<Vec<Vec<FieldKey<'a>>>, NoMemory>
+    ensures { IfOk result (λ v. map (λ row. map field_of_key row.items) v.items ≡ map (λ t. (declaration_in t.class).fields) tables.now) }
+{
+    let mut rows = Vec::with_capacity(alloc, tables.len())?;
     for table in tables {
-        rows.push(table.field_keys())?;
+        rows.push(field_keys(alloc, table.class.fields.as_slice())?)?;
     }
     Ok(rows)
 }
 
-fn call_rows<'t, 'a>(
+fn call_rows(
     alloc: Global,
-    tables: &'t [ClassTable<'a>],
-) -> Result<Vec<&'t [CallKey<'a>]>, NoMemory>
-    ensures { IfOk result (λ v. map (λ row. map called_of_key row.now) v.items ≡ map (λ t. map called_of (declaration_in t.class).methods) tables.now) }
+    tables: &[ClassTable],
+    numbers: &[Vec<usize>],
+) -> Result<Vec<Vec<CallNumber>>, NoMemory>
+    requires { map (λ r. length r.items) numbers.now ≡ map (λ t. length (declaration_in t.class).methods) tables.now }
+    ensures { IfOk result (λ v. (number : MethodIdentity → ℕ) → map (λ r. r.items) numbers.now ≡ map (λ t. map (λ m. number (identity_of m)) (declaration_in t.class).methods) tables.now → map (λ r. r.items) v.items ≡ map (λ t. map (λ m. call_of number (called_of m)) (declaration_in t.class).methods) tables.now) }
 {
-    let mut rows = Vec::new(alloc);
-    for table in tables {
-        rows.push(table.call_keys())?;
+    let mut rows = Vec::with_capacity(alloc, tables.len())?;
+    for place in 0..tables.len() {
+        let methods = tables[place].class.methods.as_slice();
+        rows.push(call_numbers(alloc, methods, numbers[place].as_slice())?)?;
     }
     Ok(rows)
 }
@@ -57,24 +92,58 @@ fn call_rows<'t, 'a>(
 pub(crate) fn all_fields<'a>(
     alloc: Global,
     classes: &ClassTables<'a>,
+    bases: &[Option<usize>],
 ) -> Result<Inherited<FieldKey<'a>>, NoMemory>
+    requires { bases.now ≡ base_numbers classes.now.tree.now }
     ensures { IfOk result (λ t. IsMemberTable classes.now.tree.now t.inheritance.forest (field_key_number t.keys) (field_place classes.now.tree.now)) }
 {
-    let bases = base_numbers(alloc, classes)?;
-    let rows = field_rows(alloc, classes.all())?;
+    let keys = field_rows(alloc, classes.all())?;
+    let rows = slices(alloc, keys.as_slice())?;
+    let table = Inherited::new(alloc, bases, rows.as_slice(), classes.longest_chain())?;
+    Ok(table)
+}
+
+fn method_rows<'t, 'a>(
+    alloc: Global,
+    tables: &'t [ClassTable<'a>],
+) -> Result<Vec<&'t [MethodKey<'a>]>, NoMemory>
+    ensures { IfOk result (λ v. map (λ row. map method_of_key row.now) v.items ≡ map (λ t. map identity_of (declaration_in t.class).methods) tables.now) }
+{
+    let mut rows = Vec::with_capacity(alloc, tables.len())?;
+    for table in tables {
+        rows.push(table.method_keys())?;
+    }
+    Ok(rows)
+}
+
+/// The methods of all classes by name and signature. Fails for want of memory alone.
+pub(crate) fn all_methods<'a>(
+    alloc: Global,
+    classes: &ClassTables<'a>,
+    bases: &[Option<usize>],
+) -> Result<Inherited<MethodKey<'a>>, NoMemory>
+    requires { bases.now ≡ base_numbers classes.now.tree.now }
+    ensures { IfOk result (λ t. IsMethodTable classes.now.tree.now t.keys t.inheritance.forest) }
+{
+    let rows = method_rows(alloc, classes.all())?;
     let table = Inherited::new(alloc, bases, rows.as_slice(), classes.longest_chain())?;
     Ok(table)
 }
 
 /// The methods of all classes by name, signature and staticness. Fails for want of memory alone.
-pub(crate) fn all_calls<'a>(
+pub(crate) fn all_calls(
     alloc: Global,
-    classes: &ClassTables<'a>,
-) -> Result<Inherited<CallKey<'a>>, NoMemory>
-    ensures { IfOk result (λ t. IsMemberTable classes.now.tree.now t.inheritance.forest (call_key_number t.keys) (call_place classes.now.tree.now)) }
+    classes: &ClassTables,
+    bases: &[Option<usize>],
+    methods: &Inherited<MethodKey>,
+) -> Result<Inherited<CallNumber>, NoMemory>
+    requires bases { bases.now ≡ base_numbers classes.now.tree.now }
+    requires methods { IsMethodTable classes.now.tree.now methods.now.keys methods.now.inheritance.forest }
+    ensures { IfOk result (λ t. IsMemberTable classes.now.tree.now t.inheritance.forest (call_number methods.now.keys t.keys) (call_place classes.now.tree.now)) }
 {
-    let bases = base_numbers(alloc, classes)?;
-    let rows = call_rows(alloc, classes.all())?;
+    let numbers = methods.inheritance.forest.declared.as_slice();
+    let keys = call_rows(alloc, classes.all(), numbers)?;
+    let rows = slices(alloc, keys.as_slice())?;
     let table = Inherited::new(alloc, bases, rows.as_slice(), classes.longest_chain())?;
     Ok(table)
 }

@@ -8,17 +8,14 @@ ghost use Rattle.inheritance.specs.Marked.{is_marked};
 ghost use Rattle.name_tables.specs.Entries.{declaration_in};
 ghost use Rattle.name_tables.specs.Keys.{method_of_key};
 ghost use Rattle.name_tables.specs.Members.{base_numbers, EndsIn, IsMemberTable};
-ghost use Rattle.name_tables.specs.Methods.{method_key_number, method_place, virtual_place, has_virtual, virtuals_of, line_of, methods_at, AreNumbers};
+ghost use Rattle.name_tables.specs.Methods.{method_place, virtual_place, virtual_number, virtuals_of, line_of, methods_at, AreNumbers};
 ghost use Rattle.name_tables.specs.Numbers.{nearest_number};
 ghost use Rattle.name_tables.specs.Sameness.{MethodIdentity, identity_of};
 
 use crate::class_tables::ClassTable;
-use crate::inherited::{Inherited, numbers};
+use crate::inherited::{Inherited, number_of, numbers, slices};
 use crate::keys::MethodKey;
-use crate::kinds::is_virtual;
 use crate::lookups::{MemberNumber, NameTables, member_number};
-use crate::members::base_numbers;
-use crate::tables::ClassTables;
 use cil_model::memory::NoMemory;
 use inheritance::Endless;
 use std::alloc::Global;
@@ -27,130 +24,86 @@ use std::alloc::Global;
 #[derive(Drop)]
 pub struct MethodTables<'t, 'a> {
     pub names: &'t NameTables<'a>,
-    all: Inherited<MethodKey<'a>>,
-    overridable: Inherited<MethodKey<'a>>,
+    overridable: Inherited<usize>,
     declared: Vec<Vec<usize>>,
-    ghost all_are: { IsMemberTable names.now.classes.tree.now all.inheritance.forest (method_key_number all.keys) (λ key. method_place names.now.classes.tree.now (method_of_key key)) },
-    ghost declared_are: { AreNumbers names.now.classes.tree.now overridable.keys (map (λ r. r.items) declared.items) },
-    ghost overridable_are: { IsMemberTable names.now.classes.tree.now overridable.inheritance.forest (method_key_number overridable.keys) (λ key. virtual_place names.now.classes.tree.now (method_of_key key)) },
+    ghost declared_are: { AreNumbers names.now.classes.tree.now (virtual_number names.now.methods.keys overridable.keys) (map (λ r. r.items) declared.items) },
+    ghost overridable_are: { IsMemberTable names.now.classes.tree.now overridable.inheritance.forest (virtual_number names.now.methods.keys overridable.keys) (virtual_place names.now.classes.tree.now) },
 }
 
-fn has_virtual<'a>(table: &ClassTable<'a>, key: MethodKey<'a>) -> bool
-    ensures { result ≡ has_virtual (declaration_in table.now.class) (method_of_key key.entry) }
+/// Of the numbers of a class's methods those of the virtual ones.
+fn virtual_numbers(
+    alloc: Global,
+    table: &ClassTable,
+    numbers: &[usize],
+) -> Result<Vec<usize>, NoMemory>
+    requires { length numbers.now ≡ length (declaration_in table.now.class).methods }
+    ensures { IfOk result (λ v. (number : MethodIdentity → ℕ) → numbers.now ≡ map (λ m. number (identity_of m)) (declaration_in table.now.class).methods → v.items ≡ map number (virtuals_of (declaration_in table.now.class))) }
 {
-    match table.method(key) {
-        None => false,
-        Some(method) => is_virtual(&method.kind),
-    }
-}
-
-/// The virtual methods of a class.
-fn virtual_keys<'a>(alloc: Global, table: &ClassTable<'a>) -> Result<Vec<MethodKey<'a>>, NoMemory>
-    ensures { IfOk result (λ v. map method_of_key v.items ≡ virtuals_of (declaration_in table.now.class)) }
-{
-    let mut keys = Vec::new(alloc);
-    for key in table.method_keys() {
-        if has_virtual(table, *key) {
-            keys.push(*key)?;
+    let mut chosen = Vec::new(alloc);
+    for place in 0..numbers.len() {
+        if table.is_virtual_at(place) {
+            chosen.push(numbers[place])?;
         }
     }
-    Ok(keys)
+    Ok(chosen)
 }
 
-fn virtual_rows<'a>(
+fn virtual_rows(
     alloc: Global,
-    tables: &[ClassTable<'a>],
-) -> Result<Vec<Vec<MethodKey<'a>>>, NoMemory>
-    ensures { IfOk result (λ v. map (λ row. map method_of_key row.items) v.items ≡ map (λ t. virtuals_of (declaration_in t.class)) tables.now) }
+    tables: &[ClassTable],
+    numbers: &[Vec<usize>],
+) -> Result<Vec<Vec<usize>>, NoMemory>
+    requires { map (λ r. length r.items) numbers.now ≡ map (λ t. length (declaration_in t.class).methods) tables.now }
+    ensures { IfOk result (λ v. (number : MethodIdentity → ℕ) → map (λ r. r.items) numbers.now ≡ map (λ t. map (λ m. number (identity_of m)) (declaration_in t.class).methods) tables.now → map (λ r. r.items) v.items ≡ map (λ t. map number (virtuals_of (declaration_in t.class))) tables.now) }
 {
-    let mut rows = Vec::new(alloc);
-    for table in tables {
-        rows.push(virtual_keys(alloc, table)?)?;
+    let mut rows = Vec::with_capacity(alloc, tables.len())?;
+    for place in 0..tables.len() {
+        let own = numbers[place].as_slice();
+        rows.push(virtual_numbers(alloc, &tables[place], own)?)?;
     }
     Ok(rows)
 }
 
-fn slices<'t, 'a>(
-    alloc: Global,
-    rows: &'t [Vec<MethodKey<'a>>],
-) -> Result<Vec<&'t [MethodKey<'a>]>, NoMemory>
-    ensures { IfOk result (λ v. map (λ row. row.now) v.items ≡ map (λ row. row.items) rows.now) }
+/// The virtual methods of all classes by the numbers of their names and signatures.
+fn all_virtual(alloc: Global, names: &NameTables) -> Result<Inherited<usize>, NoMemory>
+    ensures { IfOk result (λ t. IsMemberTable names.now.classes.tree.now t.inheritance.forest (virtual_number names.now.methods.keys t.keys) (virtual_place names.now.classes.tree.now)) }
 {
-    let mut slices = Vec::new(alloc);
-    for row in rows {
-        slices.push(row.as_slice())?;
-    }
-    Ok(slices)
-}
-
-fn method_rows<'t, 'a>(
-    alloc: Global,
-    tables: &'t [ClassTable<'a>],
-) -> Result<Vec<&'t [MethodKey<'a>]>, NoMemory>
-    ensures { IfOk result (λ v. map (λ row. map method_of_key row.now) v.items ≡ map (λ t. map identity_of (declaration_in t.class).methods) tables.now) }
-{
-    let mut rows = Vec::new(alloc);
-    for table in tables {
-        rows.push(table.method_keys())?;
-    }
-    Ok(rows)
-}
-
-/// The methods of all classes.
-fn all_methods<'a>(
-    alloc: Global,
-    classes: &ClassTables<'a>,
-) -> Result<Inherited<MethodKey<'a>>, NoMemory>
-    ensures { IfOk result (λ t. IsMemberTable classes.now.tree.now t.inheritance.forest (method_key_number t.keys) (λ key. method_place classes.now.tree.now (method_of_key key))) }
-{
-    let bases = base_numbers(alloc, classes)?;
-    let rows = method_rows(alloc, classes.all())?;
-    let table = Inherited::new(alloc, bases, rows.as_slice(), classes.longest_chain())?;
-    Ok(table)
-}
-
-/// The virtual methods of all classes.
-fn all_virtual<'a>(
-    alloc: Global,
-    classes: &ClassTables<'a>,
-) -> Result<Inherited<MethodKey<'a>>, NoMemory>
-    ensures { IfOk result (λ t. IsMemberTable classes.now.tree.now t.inheritance.forest (method_key_number t.keys) (λ key. virtual_place classes.now.tree.now (method_of_key key))) }
-{
-    let bases = base_numbers(alloc, classes)?;
-    let keys = virtual_rows(alloc, classes.all())?;
+    let numbers = names.methods.inheritance.forest.declared.as_slice();
+    let keys = virtual_rows(alloc, names.classes.all(), numbers)?;
     let rows = slices(alloc, keys.as_slice())?;
-    let table = Inherited::new(alloc, bases, rows.as_slice(), classes.longest_chain())?;
+    let most = names.classes.longest_chain();
+    let table = Inherited::new(alloc, names.bases(), rows.as_slice(), most)?;
     Ok(table)
 }
 
 /// The numbers of the methods of all classes among the virtual ones.
-fn all_numbers<'a>(
+fn all_numbers(
     alloc: Global,
-    classes: &ClassTables<'a>,
-    overridable: &Inherited<MethodKey<'a>>,
+    names: &NameTables,
+    overridable: &Inherited<usize>,
 ) -> Result<Vec<Vec<usize>>, NoMemory>
-    ensures { IfOk result (λ v. AreNumbers classes.now.tree.now overridable.now.keys (map (λ r. r.items) v.items)) }
+    ensures { IfOk result (λ v. AreNumbers names.now.classes.tree.now (virtual_number names.now.methods.keys overridable.now.keys) (map (λ r. r.items) v.items)) }
 {
-    let rows = method_rows(alloc, classes.all())?;
+    let rows = slices(alloc, names.methods.inheritance.forest.declared.as_slice())?;
     let declared = numbers(alloc, &overridable.keys, rows.as_slice())?;
     Ok(declared)
 }
 
 /// The virtual methods of all classes, and the numbers of the methods of all classes among them.
-fn numbered_virtual<'a>(
+fn numbered_virtual(
     alloc: Global,
-    classes: &ClassTables<'a>,
-) -> Result<(Inherited<MethodKey<'a>>, Vec<Vec<usize>>), NoMemory>
-    ensures overridable { IfOk result (λ r. IsMemberTable classes.now.tree.now r.0.inheritance.forest (method_key_number r.0.keys) (λ key. virtual_place classes.now.tree.now (method_of_key key))) }
-    ensures declared { IfOk result (λ r. AreNumbers classes.now.tree.now r.0.keys (map (λ row. row.items) r.1.items)) }
+    names: &NameTables,
+) -> Result<(Inherited<usize>, Vec<Vec<usize>>), NoMemory>
+    ensures overridable { IfOk result (λ r. IsMemberTable names.now.classes.tree.now r.0.inheritance.forest (virtual_number names.now.methods.keys r.0.keys) (virtual_place names.now.classes.tree.now)) }
+    ensures declared { IfOk result (λ r. AreNumbers names.now.classes.tree.now (virtual_number names.now.methods.keys r.0.keys) (map (λ row. row.items) r.1.items)) }
 {
-    let overridable = all_virtual(alloc, classes)?;
-    let declared = all_numbers(alloc, classes, &overridable)?;
+    let overridable = all_virtual(alloc, names)?;
+    let declared = all_numbers(alloc, names, &overridable)?;
     Ok((overridable, declared))
 }
 
 /// Whether a class from one on declares a virtual method of this number. An error exactly where its bases do not end.
-fn finds(overridable: &Inherited<MethodKey>, class: usize, number: usize) -> Result<bool, Endless>
+fn finds(overridable: &Inherited<usize>, class: usize, number: usize) -> Result<bool, Endless>
     requires { number < overridable.now.inheritance.forest.keys }
     ensures found { IfOk result (λ found. found ≡ is_some (nearest_from overridable.now.inheritance.forest number overridable.now.inheritance.forest.most (Some class))) }
     ensures ended { OnOk result (Ends overridable.now.inheritance.forest.bases.items overridable.now.inheritance.forest.most class) }
@@ -165,7 +118,7 @@ fn finds(overridable: &Inherited<MethodKey>, class: usize, number: usize) -> Res
 /// The first of these numbers of which no class from one on declares a virtual method. An error exactly where its bases do not end and
 /// there is such a number.
 fn first_missing(
-    overridable: &Inherited<MethodKey>,
+    overridable: &Inherited<usize>,
     class: usize,
     numbers: &[usize],
 ) -> Result<Option<usize>, Endless>
@@ -187,11 +140,9 @@ impl<'t, 'a> MethodTables<'t, 'a> {
     pub fn new(alloc: Global, names: &'t NameTables<'a>) -> Result<Self, NoMemory>
         ensures { IfOk result (λ t. t.names.now.classes.tree.now ≡ names.now.classes.tree.now) }
     {
-        let all = all_methods(alloc, &names.classes)?;
-        let (overridable, declared) = numbered_virtual(alloc, &names.classes)?;
+        let (overridable, declared) = numbered_virtual(alloc, names)?;
         Ok(MethodTables {
             names,
-            all,
             overridable,
             declared,
         })
@@ -203,7 +154,7 @@ impl<'t, 'a> MethodTables<'t, 'a> {
         ensures ended { OnOk result (EndsIn self.now.names.now.classes.tree.now class) }
         ensures endless { OnErr result (¬ EndsIn self.now.names.now.classes.tree.now class) }
     {
-        match self.all.nearest(class, key) {
+        match self.names.methods.nearest(class, key) {
             Ok(found) => Ok(member_number(found)),
             Err(Endless) => Err(Endless),
         }
@@ -216,7 +167,10 @@ impl<'t, 'a> MethodTables<'t, 'a> {
         ensures ended { OnOk result (EndsIn self.now.names.now.classes.tree.now class) }
         ensures endless { OnErr result (¬ EndsIn self.now.names.now.classes.tree.now class) }
     {
-        match self.overridable.nearest(class, key) {
+        match self
+            .overridable
+            .nearest(class, number_of(&self.names.methods.keys, key))
+        {
             Ok(found) => Ok(member_number(found).is_some()),
             Err(Endless) => Err(Endless),
         }
@@ -267,7 +221,7 @@ impl<'t, 'a> MethodTables<'t, 'a> {
         ensures unmarked { IfOk result (λ found. (class : ℕ) (k : MethodIdentity) → slice_get found.items class ≡ Some false → is_marked (map (λ v. v.items) marks.now) (nearest_number (method_place self.now.names.now.classes.tree.now k) (line_of self.now.names.now.classes.tree.now (Some class))) ≡ false) }
         ensures ended { IfOk result (λ found. (class : ℕ) → slice_get found.items class ≡ Some false → EndsIn self.now.names.now.classes.tree.now class) }
     {
-        let found = self.all.inheritance.finds_marked(alloc, marks)?;
+        let found = self.names.methods.inheritance.finds_marked(alloc, marks)?;
         Ok(found)
     }
 }

@@ -1,8 +1,9 @@
 // A list of keys, with the first place of each found by hash.
 
-ghost use Rattle.std.specs.Prelude.{◌≡◌, IfOk, is_some};
+ghost use Rattle.std.specs.Prelude.{◌≡◌, IfOk, is_some, map, true};
 ghost use Rattle.std.specs.List.{position_from};
 ghost use Rattle.cil_model.specs.Legality.{has_repeat};
+ghost use Rattle.name_tables.specs.Inherited.{number_in};
 
 use cil_model::memory::NoMemory;
 use indexmap::IndexMap;
@@ -15,21 +16,33 @@ use std::marker::Model;
 #[derive(Drop)]
 pub struct Places<K: Eq + Hash + Copy + Drop> {
     keys: Vec<K>,
+    numbers: Vec<usize>,
     firsts: IndexMap<K, usize>,
     repeated: Option<usize>,
 }
 
 impl<K: Eq + Hash + Copy + Drop> Model for Places<K> {
-    ghost use Rattle.std.specs.Prelude.{◌≡◌, List, is_some};
+    ghost use Rattle.std.specs.Prelude.{◌≡◌, List, is_some, map};
     ghost use Rattle.std.specs.List.{position_from};
     ghost use Rattle.indexmap.specs.IndexMap.{get};
     ghost use Rattle.cil_model.specs.Legality.{has_repeat};
+    ghost use Rattle.name_tables.specs.Inherited.{number_in};
 
     ghost Value = { List K };
 
     ghost view = { λ p. p.keys.items };
 
-    ghost invariant = { λ p. ((q : K) → get K.eq p.firsts q ≡ position_from (K.eq q) 0 p.keys.items) × (is_some p.repeated ≡ has_repeat K.eq p.keys.items) };
+    ghost invariant = { λ p. ((q : K) → get K.eq p.firsts q ≡ position_from (K.eq q) 0 p.keys.items) × (is_some p.repeated ≡ has_repeat K.eq p.keys.items) × (p.numbers.items ≡ map (number_in K.eq p.keys.items) p.keys.items) };
+}
+
+/// The lesser of two places.
+fn lesser(known: Option<usize>, place: usize) -> Option<usize>
+    ensures { is_some result ≡ true }
+{
+    match known {
+        Some(known) if known < place => Some(known),
+        _ => Some(place),
+    }
 }
 
 impl<K: Eq + Hash + Copy + Drop> Places<K> {
@@ -37,15 +50,25 @@ impl<K: Eq + Hash + Copy + Drop> Places<K> {
     pub fn new(alloc: Global, keys: Vec<K>) -> Result<Self, NoMemory>
         ensures { IfOk result (λ p. p ≡ keys.items) }
     {
-        let mut firsts = IndexMap::new(alloc);
+        let mut firsts = IndexMap::with_capacity(alloc, keys.len())?;
+        let mut numbers = Vec::with_capacity(alloc, keys.len())?;
         let mut repeated = None;
-        for place in (0..keys.len()).rev() {
-            if firsts.insert(keys[place], place)?.is_some() {
-                repeated = Some(place);
+        for place in 0..keys.len() {
+            let key = keys[place];
+            match firsts.get(&key).copied() {
+                Some(first) => {
+                    repeated = lesser(repeated, first);
+                    numbers.push(first)?;
+                }
+                None => {
+                    firsts.insert(key, place)?;
+                    numbers.push(place)?;
+                }
             }
         }
         Ok(Places {
             keys,
+            numbers,
             firsts,
             repeated,
         })
@@ -70,6 +93,13 @@ impl<K: Eq + Hash + Copy + Drop> Places<K> {
         ensures { is_some result ≡ has_repeat K.eq self.now }
     {
         self.repeated
+    }
+
+    /// Of each key the first place of an equal one.
+    pub fn numbers(&self) -> &[usize]
+        ensures { result.now ≡ map (number_in K.eq self.now) self.now }
+    {
+        self.numbers.as_slice()
     }
 
     /// The keys in their order.

@@ -5,14 +5,13 @@ ghost use Rattle.cil_model.specs.Declarations.{built_ins, declaration_of};
 ghost use Rattle.cil_model.specs.Chains.{longest_chain};
 ghost use Rattle.name_tables.specs.BuiltInTable.{built_in_entry};
 ghost use Rattle.name_tables.specs.Entries.{declaration_in, entry_of};
-ghost use Rattle.name_tables.specs.Keys.{class_of_key, field_of_key, method_of_key, called_of_key};
-ghost use Rattle.name_tables.specs.Numbers.{source_entry, declarations, class_number, place_in, method_found};
-ghost use Rattle.name_tables.specs.Sameness.{same_field, same_called, called_of};
+ghost use Rattle.name_tables.specs.Keys.{class_of_key, method_of_key};
+ghost use Rattle.name_tables.specs.Numbers.{source_entry, declarations, class_number, method_found};
 
 use crate::built_in::BuiltInClass;
 use crate::class_tables::ClassTable;
 use crate::classes::DeclaredClass;
-use crate::keys::{CallKey, ClassKey, FieldKey, MethodKey};
+use crate::keys::{ClassKey, MethodKey};
 use crate::places::Places;
 use cil_model::memory::NoMemory;
 use cil_model::trees::{Class, Method, Tree};
@@ -148,16 +147,6 @@ impl<'a> ClassTables<'a> {
         }
     }
 
-    /// The first field of a class with this name, type and staticness.
-    pub fn field(&self, number: usize, key: FieldKey) -> Option<usize>
-        ensures { result ≡ place_in (λ d. d.fields) (same_field (field_of_key key.entry)) self.now.tree.now number }
-    {
-        match self.classes.get(number) {
-            None => None,
-            Some(table) => table.field(key),
-        }
-    }
-
     /// What the class that a name stands for declares.
     pub fn declared(&self, name: ClassKey) -> Option<&DeclaredClass<'a>>
         ensures { option_map (λ d. declaration_in d.now) result ≡ declaration_of self.now.tree.now (class_of_key name.entry) }
@@ -175,16 +164,6 @@ impl<'a> ClassTables<'a> {
         match self.classes.get(number) {
             None => None,
             Some(table) => table.method(key),
-        }
-    }
-
-    /// The first method of a class with this name, signature and staticness.
-    pub fn call(&self, number: usize, key: CallKey) -> Option<usize>
-        ensures { result ≡ place_in (λ d. d.methods) (λ m. same_called (called_of_key key.entry) (called_of m)) self.now.tree.now number }
-    {
-        match self.classes.get(number) {
-            None => None,
-            Some(table) => table.call(key),
         }
     }
 

@@ -12,12 +12,13 @@ use Rattle.name_tables.proofs.members.all_fields.Goals as goal
 
 pub returns : goal.returns
 returns c =
-    let rows = map (λ row. row.now) c.as_slice.result.now in
+    let rows = map (λ row. row.now) c.as_slice-2.result.now in
     let parts : map (map field_of_key) rows ≡ map (λ (e : ClassName × Declaration). e.1.fields) (declarations c.args.classes.now.tree.now) =
-    map_of_map (λ row. row.now) (map field_of_key) c.as_slice.result.now ∙ ap (map (λ row. map field_of_key row.now)) c.as_slice.ensures.value ∙ c.in_ok-rows.ensures ∙
+    ap (map (map field_of_key)) (ap (map (λ row. row.now)) c.as_slice-2.ensures.value ∙ c.in_ok-rows.ensures ∙ ap (map (λ row. row.items)) c.as_slice.ensures.value) ∙
+    map_of_map (λ row. row.items) (map field_of_key) c.in_ok-keys.keys.items ∙ c.in_ok-keys.ensures ∙
     sym (map_of_map (λ (t : ClassTable). entry_of t.class) (λ (e : ClassName × Declaration). e.1.fields) c.all.result.now) ∙ ap (map (λ (e : ClassName × Declaration). e.1.fields)) c.all.ensures in
     record {
-      bases = c.in_ok-table.ensures.bases ∙ c.in_ok-bases.ensures;
+      bases = c.in_ok-table.ensures.bases ∙ c.requires;
       most = c.in_ok-table.ensures.most ∙ c.longest_chain.ensures;
       places = λ key class. c.in_ok-table.ensures.places key class ∙ place_of_row field_of_key (λ (e : ClassName × Declaration). e.1.fields) (same_field (field_of_key key)) rows (declarations c.args.classes.now.tree.now) parts class;
     }

@@ -1,8 +1,9 @@
-use Rattle.std.proofs.Common.{◌≡◌, map, take}
+use Rattle.std.proofs.Common.{◌≡◌, ℕ, map, take}
 use Rattle.name_tables.specs.Entries.{declaration_in}
-use Rattle.name_tables.specs.Keys.{called_of_key}
-use Rattle.name_tables.specs.Sameness.{called_of}
+use Rattle.name_tables.specs.Methods.{call_of}
+use Rattle.name_tables.specs.Sameness.{MethodIdentity, identity_of, called_of}
 use Rattle.name_tables.proofs.members.call_rows.Given as goal
 
-abbrev pub invariant-loop-table : goal.invariant-loop-table
-invariant-loop-table l = map (λ row. map called_of_key row.now) l.rows.items ≡ map (λ t. map called_of (declaration_in t.class).methods) (take l.table-index l.tables)
+abbrev pub invariant-loop-place : goal.invariant-loop-place
+invariant-loop-place l = (number : MethodIdentity → ℕ) → map (λ r. r.items) l.numbers ≡ map (λ t. map (λ m. number (identity_of m)) (declaration_in t.class).methods) l.tables →
+    map (λ r. r.items) l.rows.items ≡ map (λ t. map (λ m. call_of number (called_of m)) (declaration_in t.class).methods) (take l.place l.tables)

@@ -1,27 +1,36 @@
-use Rattle.std.proofs.Common.{◌≡◌, map, sym, ap, ◌∙◌}
+use Rattle.std.proofs.Common.{Global, Vec, ◌≡◌, ℕ, map, sym, ap, ◌∙◌}
 use Rattle.cil_model.specs.declared.types.ClassName.{ClassName}
+use Rattle.cil_model.specs.declared.trees.Method.{Method}
 use Rattle.cil_model.specs.Declarations.{Declaration}
 use Rattle.name_tables.specs.declared.class_tables.ClassTable.{ClassTable}
-use Rattle.name_tables.specs.Entries.{entry_of}
-use Rattle.name_tables.specs.Keys.{method_of_key}
-use Rattle.name_tables.specs.Methods.{virtuals_of}
+use Rattle.name_tables.specs.Entries.{declaration_in}
+use Rattle.name_tables.specs.Methods.{identity_number, virtuals_of}
 use Rattle.name_tables.specs.Numbers.{declarations}
-use Rattle.name_tables.specs.Sameness.{same_identity}
-use Rattle.name_tables.proofs.Lists.{map_of_map}
-use Rattle.name_tables.proofs.MemberLaws.{place_of_row}
+use Rattle.name_tables.specs.Sameness.{identity_of}
+use Rattle.name_tables.proofs.MethodNumbers.{of_tables, as_many, virtuals_by_numbers}
 use Rattle.name_tables.proofs.methods.all_virtual.Goals as goal
+
+pub virtual_rows-requires : goal.virtual_rows-requires
+virtual_rows-requires c =
+    let names = c.args.names.now in
+    as_many c.all.result.now c.as_slice-numbers.result.now (identity_number names.methods.keys)
+    (ap (map (λ (r : Vec ℕ Global). r.items)) c.as_slice-numbers.ensures.value ∙ names.methods_are.numbers ∙ of_tables c.all.result.now names.classes.tree.now (λ (e : ClassName × Declaration). map (λ (m : Method). identity_number names.methods.keys (identity_of m)) e.1.methods) c.all.ensures)
 
 pub returns : goal.returns
 returns c =
+    let names = c.args.names.now in
+    let t = names.classes.tree.now in
+    let number = identity_number names.methods.keys in
+    let tables = c.all.result.now in
+    let numbers : map (λ (r : Vec ℕ Global). r.items) c.as_slice-numbers.result.now ≡ map (λ (t : ClassTable). map (λ (m : Method). number (identity_of m)) (declaration_in t.class).methods) tables =
+    ap (map (λ (r : Vec ℕ Global). r.items)) c.as_slice-numbers.ensures.value ∙ names.methods_are.numbers ∙ of_tables tables t (λ (e : ClassName × Declaration). map (λ (m : Method). number (identity_of m)) e.1.methods) c.all.ensures in
     let rows = map (λ row. row.now) c.as_slice-2.result.now in
-    let parts : map (map method_of_key) rows ≡ map (λ (e : ClassName × Declaration). virtuals_of e.1) (declarations c.args.classes.now.tree.now) =
-    ap (map (map method_of_key)) (ap (map (λ row. row.now)) c.as_slice-2.ensures.value ∙ c.in_ok-rows.ensures ∙ ap (map (λ row. row.items)) c.as_slice.ensures.value) ∙
-    map_of_map (λ row. row.items) (map method_of_key) c.in_ok-keys.keys.items ∙ c.in_ok-keys.ensures ∙
-    sym (map_of_map (λ (t : ClassTable). entry_of t.class) (λ (e : ClassName × Declaration). virtuals_of e.1) c.all.result.now) ∙ ap (map (λ (e : ClassName × Declaration). virtuals_of e.1)) c.all.ensures in
+    let are : rows ≡ map (λ (e : ClassName × Declaration). map number (virtuals_of e.1)) (declarations t) =
+    ap (map (λ row. row.now)) c.as_slice-2.ensures.value ∙ c.in_ok-rows.ensures ∙ ap (map (λ (r : Vec ℕ Global). r.items)) c.as_slice.ensures.value ∙ c.in_ok-keys.ensures number numbers ∙
+    sym (of_tables tables t (λ (e : ClassName × Declaration). map number (virtuals_of e.1)) c.all.ensures) in
+    let made = c.in_ok-table.ensures in
     record {
-      bases = c.in_ok-table.ensures.bases ∙ c.in_ok-bases.ensures;
-      most = c.in_ok-table.ensures.most ∙ c.longest_chain.ensures;
-      places = λ key class.
-          c.in_ok-table.ensures.places key class ∙
-          place_of_row method_of_key (λ (e : ClassName × Declaration). virtuals_of e.1) (same_identity (method_of_key key)) rows (declarations c.args.classes.now.tree.now) parts class;
+      bases = made.bases ∙ c.bases.ensures;
+      most = made.most ∙ c.longest_chain-most.ensures;
+      places = λ k class. made.places (number k) class ∙ virtuals_by_numbers t names.methods.keys names.methods_are.known rows are k class;
     }

@@ -1,8 +1,9 @@
-use Rattle.std.proofs.Common.{◌≡◌, map, take}
+use Rattle.std.proofs.Common.{◌≡◌, ℕ, map, take}
 use Rattle.name_tables.specs.Entries.{declaration_in}
-use Rattle.name_tables.specs.Keys.{method_of_key}
 use Rattle.name_tables.specs.Methods.{virtuals_of}
+use Rattle.name_tables.specs.Sameness.{MethodIdentity, identity_of}
 use Rattle.name_tables.proofs.methods.virtual_rows.Given as goal
 
-abbrev pub invariant-loop-table : goal.invariant-loop-table
-invariant-loop-table l = map (λ row. map method_of_key row.items) l.rows.items ≡ map (λ t. virtuals_of (declaration_in t.class)) (take l.table-index l.tables)
+abbrev pub invariant-loop-place : goal.invariant-loop-place
+invariant-loop-place l = (number : MethodIdentity → ℕ) → map (λ r. r.items) l.numbers ≡ map (λ t. map (λ m. number (identity_of m)) (declaration_in t.class).methods) l.tables →
+    map (λ r. r.items) l.rows.items ≡ map (λ t. map number (virtuals_of (declaration_in t.class))) (take l.place l.tables)

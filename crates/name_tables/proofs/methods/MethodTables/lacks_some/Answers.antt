@@ -1,13 +1,13 @@
-use Rattle.std.proofs.Common.{◌≡◌, ℕ, Bool, Some, Option, is_some, length, map, nat_lt, not, ap, ◌∙◌}
+use Rattle.std.proofs.Common.{ℕ, ◌==◌, length, arith, ◌≡◌, ℕ, Bool, Some, Option, is_some, length, map, nat_lt, not, ap, ◌∙◌}
 use Rattle.std.specs.List.{list_all}
 use Rattle.cil_model.specs.declared.trees.Method.{Method}
 use Rattle.inheritance.specs.Lines.{Ends}
 use Rattle.inheritance.specs.Ledgers.{nearest_from}
-use Rattle.name_tables.specs.Keys.{method_of_key}
-use Rattle.name_tables.specs.Methods.{method_key_number, virtual_place, line_of, methods_at}
+use Rattle.name_tables.specs.Methods.{identity_number, virtual_number, virtual_place, line_of, methods_at}
 use Rattle.name_tables.specs.Numbers.{nearest_number}
 use Rattle.name_tables.specs.Sameness.{identity_of}
 use Rattle.name_tables.proofs.MemberLaws.{of_tree}
+use Rattle.name_tables.proofs.KeyNumbers.{number_within}
 use Rattle.name_tables.proofs.VirtualNumbers.{are_keys, found_by_numbers, some_none}
 use Rattle.name_tables.proofs.methods.MethodTables.lacks_some.Goals as goal
 
@@ -16,7 +16,8 @@ finds_nothing-requires c =
     let s = c.args.self.now in
     let tables = s.overridable in
     let forest = tables.inheritance.forest in
-    ap (list_all (λ n. nat_lt n forest.keys)) c.numbers_at-numbers.ensures ∙ are_keys s.names.now.classes.tree.now tables.keys forest (map (λ r. r.items) s.declared.items) s.declared_are tables.within c.args.interface
+    ap (list_all (λ n. nat_lt n forest.keys)) c.numbers_at-numbers.ensures ∙ are_keys s.names.now.classes.tree.now (virtual_number s.names.now.methods.keys tables.keys) (map (λ r. r.items) s.declared.items) s.declared_are forest
+    (λ k. let low = number_within (λ (a b : ℕ). a == b) tables.keys (identity_number s.names.now.methods.keys k) in omega (arith, low, tables.within)) c.args.interface
 
 pub returns-clause-width : goal.returns-clause-width
 returns-clause-width c = c.in_ok-lacking.ensures.width ∙ ap length c.args.self.now.overridable_are.bases
@@ -25,7 +26,7 @@ pub returns-clause-ended : goal.returns-clause-ended
 returns-clause-ended c = λ class e.
     let t = c.args.self.now.names.now.classes.tree.now in
     let tables = c.args.self.now.overridable in
-    of_tree t tables.inheritance.forest (method_key_number tables.keys) (λ key. virtual_place t (method_of_key key)) c.args.self.now.overridable_are (λ bases most. Ends bases most class) (c.in_ok-lacking.ensures.ended class e)
+    of_tree t tables.inheritance.forest (virtual_number c.args.self.now.names.now.methods.keys tables.keys) (virtual_place t) c.args.self.now.overridable_are (λ bases most. Ends bases most class) (c.in_ok-lacking.ensures.ended class e)
 
 pub returns-clause-told : goal.returns-clause-told
 returns-clause-told c = λ class b e.
@@ -37,5 +38,5 @@ returns-clause-told c = λ class b e.
     let all : Bool = list_all (λ (m : Method). is_some (nearest_number (virtual_place t (identity_of m)) (line_of t (Some class)))) (methods_at t c.args.interface) in
     let of_forest : Ends forest.bases.items forest.most class → b ≡ not all = λ ends.
     c.in_ok-lacking.ensures.told class b e ends ∙ some_none found c.numbers_at-numbers.result.now ∙
-    ap not (ap (list_all (λ n. is_some (found n))) c.numbers_at-numbers.ensures ∙ found_by_numbers t tables.keys forest (map (λ r. r.items) s.declared.items) s.declared_are s.overridable_are c.args.interface class) in
-    of_tree t forest (method_key_number tables.keys) (λ key. virtual_place t (method_of_key key)) s.overridable_are (λ bases most. Ends bases most class → b ≡ not all) of_forest
+    ap not (ap (list_all (λ n. is_some (found n))) c.numbers_at-numbers.ensures ∙ found_by_numbers t (virtual_number s.names.now.methods.keys tables.keys) (map (λ r. r.items) s.declared.items) s.declared_are forest s.overridable_are c.args.interface class) in
+    of_tree t forest (virtual_number c.args.self.now.names.now.methods.keys tables.keys) (virtual_place t) s.overridable_are (λ bases most. Ends bases most class → b ≡ not all) of_forest

@@ -1,0 +1,29 @@
+use Rattle.std.proofs.Common.{◌≡◌, Bor, length, map, sym, ap, ◌∙◌, arith}
+use Rattle.std.proofs.lemmas.List.{length-map}
+use Rattle.cil_model.specs.declared.trees.Method.{Method}
+use Rattle.name_tables.specs.declared.class_tables.ClassTable.{ClassTable}
+use Rattle.name_tables.specs.Entries.{declaration_in}
+use Rattle.name_tables.specs.Methods.{call_of}
+use Rattle.name_tables.specs.Sameness.{identity_of, called_of}
+use Rattle.name_tables.proofs.Lists.{alike_at, one_more_row, map_of_map}
+use Rattle.name_tables.proofs.members.call_rows.Goals as goal
+
+pub call_numbers-requires : goal.call_numbers-requires
+call_numbers-requires c =
+    let ms = c.index-tables-place.result.class.methods.items in
+    let here : ms ≡ c.as_slice-methods.result.now = ap (λ t. t.class.methods.items) c.index-tables-place.is ∙ sym c.as_slice-methods.ensures.value in
+    ap length c.as_slice.ensures.value ∙
+    alike_at (λ r. length r.items) (λ (t : ClassTable). length (declaration_in t.class).methods) c.args.numbers.now c.args.tables.now c.loop-place.place c.index-numbers-place.result c.index-tables-place.result c.requires (omega arith) c.index-numbers-place.is c.index-tables-place.is ∙
+    length-map ms (λ (m : Bor Method). m.now) ∙ ap length here
+
+pub loop-place-preserved : goal.loop-place-preserved
+loop-place-preserved c = λ number e.
+    let ms = c.index-tables-place.result.class.methods.items in
+    let here : ms ≡ c.as_slice-methods.result.now = ap (λ t. t.class.methods.items) c.index-tables-place.is ∙ sym c.as_slice-methods.ensures.value in
+    let own =
+    c.as_slice.ensures.value ∙
+    alike_at (λ r. r.items) (λ (t : ClassTable). map (λ m. number (identity_of m)) (declaration_in t.class).methods) c.args.numbers.now c.args.tables.now c.loop-place.place c.index-numbers-place.result c.index-tables-place.result e (omega arith) c.index-numbers-place.is c.index-tables-place.is ∙
+    map_of_map (λ (m : Bor Method). m.now) (λ m. number (identity_of m)) ms ∙ ap (map (λ m. number (identity_of m.now))) here in
+    let calls = c.in_ok-call_numbers.ensures number own ∙ sym (ap (map (λ m. call_of number (called_of m.now))) here) ∙ sym (map_of_map (λ (m : Bor Method). m.now) (λ m. call_of number (called_of m)) ms) in
+    one_more_row (λ r. r.items) (λ (t : ClassTable). map (λ m. call_of number (called_of m)) (declaration_in t.class).methods) c.loop-place.rows.items c.push.new.self.items c.args.tables.now c.loop-place.place c.in_ok-call_numbers.field-0 c.index-tables-place.result
+    (omega arith) c.index-tables-place.is (c.loop-place.invariant number e) c.in_ok-push.ensures.items calls

@@ -1,0 +1,27 @@
+use Rattle.std.proofs.Common.{◌≡◌, ◌+◌, ◌++◌, ◌∷◌, [], Bool, true, false, cond, Some, map, take, get_or, option_map, slice_get, sym, ap, ◌∙◌}
+use Rattle.std.specs.List.{filter}
+use Rattle.std.proofs.lemmas.Option.{slice_get-map}
+use Rattle.std.proofs.lemmas.List.{append-nil}
+use Rattle.name_tables.specs.Entries.{declaration_in}
+use Rattle.name_tables.specs.Methods.{has_virtual}
+use Rattle.name_tables.specs.Sameness.{identity_of}
+use Rattle.name_tables.proofs.Lists.{map-filter-take_more, map_of_map, option_map_of_map}
+use Rattle.name_tables.proofs.methods.virtual_numbers.Goals.{then-is_virtual_at+in_ok-push, else-is_virtual_at}
+use Rattle.name_tables.proofs.methods.virtual_numbers.Goals as goal
+
+pub loop-place-preserved : goal.loop-place-preserved
+loop-place-preserved c = λ number e.
+    let d = declaration_in c.args.table.now.class in
+    let test = has_virtual d in
+    let place = c.loop-place.place in
+    let own = get_or c.args.numbers.now place 0 in
+    let numbered : get_or (map number (map identity_of d.methods)) place 0 ≡ own = ap (λ ns. get_or ns place 0) (map_of_map identity_of number d.methods ∙ sym e) in
+    let tested : option_map test (slice_get (map identity_of d.methods) place) ≡ Some c.is_virtual_at.result =
+    ap (option_map test) (slice_get-map identity_of d.methods place) ∙ option_map_of_map identity_of test (slice_get d.methods place) ∙ c.is_virtual_at.ensures in
+    let before = map number (filter test (take place (map identity_of d.methods))) in
+    let more : (b : Bool) → c.is_virtual_at.result ≡ b → map number (filter test (take (place + 1) (map identity_of d.methods))) ≡ before ++ cond b (own ∷ []) [] =
+    λ b h. map-filter-take_more number test (map identity_of d.methods) place b own 0 (tested ∙ ap Some h) numbered in
+    elim c.if-is_virtual_at.branch [
+      | then-is_virtual_at+in_ok-push w ↦ ap (λ v. v.items) w.chosen-is ∙ w.in_ok-push.ensures.items ∙ ap (λ ns. ns ++ own ∷ []) (c.loop-place.invariant number e) ∙ sym (more true w.if-is_virtual_at.true)
+      | else-is_virtual_at w ↦ ap (λ v. v.items) w.chosen-is ∙ c.loop-place.invariant number e ∙ sym (append-nil before) ∙ sym (more false w.if-is_virtual_at.false)
+    ]
