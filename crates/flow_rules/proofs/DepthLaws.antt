@@ -36,7 +36,7 @@ module _ (tree : Tree) where
           (n - i, omega (arith, l), (t, sym k.2 ∙ ap (λ m. ancestor tree m a) same ∙ f, g))
 
   -- how far up a common ancestor is
-  common_height : (m n i j : ℕ) (a b v : DeclaredType) → IsDepth tree a m → IsDepth tree b n → ancestor tree i a ≡ Some v → ancestor tree j b ≡ Some v → m + j ≡ n + i
+  pub common_height : (m n i j : ℕ) (a b v : DeclaredType) → IsDepth tree a m → IsDepth tree b n → ancestor tree i a ≡ Some v → ancestor tree j b ≡ Some v → m + j ≡ n + i
   common_height m n i j a b v d e f g =
       let one : (r : ℕ) × (r + i ≡ m) × IsDepth tree v r = depth_above i m a v f d in
       let other : (r : ℕ) × (r + j ≡ n) × IsDepth tree v r = depth_above j n b v g e in

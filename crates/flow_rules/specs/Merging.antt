@@ -36,13 +36,13 @@ IsDepth tree t n = (top : DeclaredType) × (ancestor tree n t ≡ Some top) × (
 abbrev pub AreLevel : Tree → DeclaredType → DeclaredType → Type 0
 AreLevel tree a b = (n : ℕ) × IsDepth tree a n × IsDepth tree b n
 
--- the element is so many parents above the one of a class, whatever brackets stand after both
-abbrev pub IsUp : Tree → ℕ → ℕ → NumberedElement → Type 0
-IsUp tree class n above = (brackets : ℕ) → ancestor tree n (record { element = element_named tree (Class class); brackets = brackets }) ≡ Some (record { element = element_named tree above; brackets = brackets })
+-- an element is so many parents above another, whatever brackets stand after both
+abbrev pub IsUp : Tree → NumberedElement → ℕ → NumberedElement → Type 0
+IsUp tree below n above = (brackets : ℕ) → ancestor tree n (record { element = element_named tree below; brackets = brackets }) ≡ Some (record { element = element_named tree above; brackets = brackets })
 
 -- each element stands as many parents above the one of a class as its place says
 abbrev pub IsLine : Tree → ℕ → List NumberedElement → Type 0
-IsLine tree class line = (n : ℕ) (above : NumberedElement) → slice_get line n ≡ Some above → IsUp tree class n above
+IsLine tree class line = (n : ℕ) (above : NumberedElement) → slice_get line n ≡ Some above → IsUp tree (Class class) n above
 
 -- the same of each class
 abbrev pub AreLines : Tree → List (List NumberedElement) → Type 0

@@ -1,8 +1,10 @@
 // The lines of elements above the classes, by which it is seen at once that a type is above another.
 
-ghost use Rattle.std.specs.Prelude.{◌≡◌, ℕ, true, [], map, Some, slice_get, slice_index_or};
+ghost use Rattle.std.specs.Prelude.{◌≡◌, ℕ, true, [], map, Some, IfSome, slice_get, slice_index_or};
+ghost use Rattle.cil_model.specs.declared.trees.Tree.{Tree};
 ghost use Rattle.cil_model.specs.TypeTree.{IsBelow};
 ghost use Rattle.cil_model.specs.TypeTree as OnStack;
+ghost use Rattle.resolved_code.specs.declared.types.NumberedElement.TheVariants.{Class, String};
 ghost use Rattle.flow_rules.specs.Named.{type_named};
 ghost use Rattle.flow_rules.specs.Merging.{IsUp, AreLines};
 
@@ -24,13 +26,14 @@ fn is_same_element(one: NumberedElement, other: NumberedElement) -> bool
     one == other
 }
 
-/// Whether an element stands at a place of a line.
-fn stands_at(line: &[NumberedElement], place: usize, wanted: NumberedElement) -> bool
-    ensures { result ≡ true → slice_get line.now place ≡ Some wanted }
+/// The element at a place of the line of `string`, which has `object` above it.
+fn up_from_string(place: usize) -> Option<NumberedElement>
+    ensures { (tree : Tree) → IfSome result (λ above. IsUp tree String place above) }
 {
-    match line.get(place) {
-        None => false,
-        Some(element) => is_same_element(*element, wanted),
+    match place {
+        0 => Some(NumberedElement::String),
+        1 => Some(NumberedElement::Object),
+        _ => None,
     }
 }
 
@@ -64,23 +67,55 @@ impl<'a> Lines<'a> {
     }
 
     /// How long the line of an element is, with the element itself. Its contract says nothing: the place that it leads to is tried.
-    fn length_from(&self, element: NumberedElement) -> usize {
+    pub fn length_from(&self, element: NumberedElement) -> usize {
         match element {
             NumberedElement::Class(class) => self.line(class).len(),
-            _ => 1,
+            NumberedElement::String => 2,
+            NumberedElement::Object | NumberedElement::Int32 | NumberedElement::Int64 => 1,
+        }
+    }
+
+    /// How many types there are from one on to its top. Its contract says nothing: where it leads to is tried.
+    pub fn height(&self, t: NumberedType) -> usize {
+        (t.brackets as usize).saturating_add(self.length_from(t.element))
+    }
+
+    /// The element at a place of the line of a class.
+    fn up_from_class(&self, class: usize, place: usize) -> Option<NumberedElement>
+        ensures { IfSome result (λ above. IsUp self.now.tree.now (Class class) place above) }
+    {
+        match self.line(class).get(place) {
+            None => None,
+            Some(above) => Some(*above),
+        }
+    }
+
+    /// The element at a place of the line of another.
+    pub fn up(&self, element: NumberedElement, place: usize) -> Option<NumberedElement>
+        ensures { IfSome result (λ above. IsUp self.now.tree.now element place above) }
+    {
+        match element {
+            NumberedElement::Class(class) => self.up_from_class(class, place),
+            NumberedElement::String => up_from_string(place),
+            NumberedElement::Object | NumberedElement::Int32 | NumberedElement::Int64 => {
+                if place == 0 { Some(element) } else { None }
+            }
         }
     }
 
     /// Whether an element stands at a place of the line of a class.
     fn is_up(&self, class: usize, place: usize, wanted: NumberedElement) -> bool
-        ensures { result ≡ true → IsUp self.now.tree.now class place wanted }
+        ensures { result ≡ true → IsUp self.now.tree.now (Class class) place wanted }
     {
-        stands_at(self.line(class), place, wanted)
+        match self.up_from_class(class, place) {
+            None => false,
+            Some(above) => is_same_element(above, wanted),
+        }
     }
 
     /// Whether an element stands in the line of a class.
     fn is_element_above(&self, above: NumberedElement, class: usize) -> bool
-        ensures { result ≡ true → (place : ℕ) × IsUp self.now.tree.now class place above }
+        ensures { result ≡ true → (place : ℕ) × IsUp self.now.tree.now (Class class) place above }
     {
         let own = self.line(class).len();
         self.is_up(class, own.saturating_sub(self.length_from(above)), above)

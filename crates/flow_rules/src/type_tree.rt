@@ -3,6 +3,7 @@
 ghost use Rattle.std.specs.Prelude.{◌≡◌, ◌≤◌, ◌+◌, ◌-◌, ◌==◌, ◌||◌, if◌then◌else◌, ℕ, true, false, Some, None, option_map, map, slice_get, IfOk, IfSome};
 ghost use Rattle.cil_model.specs.declared.trees.Tree.{Tree};
 ghost use Rattle.cil_model.specs.declared.types.ClassName.{ClassName};
+ghost use Rattle.cil_model.specs.declared.types.Element.TheVariants as Named;
 ghost use Rattle.cil_model.specs.Assignable.{element_of_class, type_of_class, is_class_assignable, is_assignable};
 ghost use Rattle.std.specs.List.{list_any};
 ghost use Rattle.cil_model.specs.Chains.{base_of, longest_chain};
@@ -227,8 +228,84 @@ impl<'a> TypeTree<'a> {
         None
     }
 
-    /// The closest type above two others. Mostly they are one, or one of them is above the other. Else the deeper one is brought to the
-    /// depth of the other first.
+    /// The type that is so many parents up, where it is seen at once: in the line of its element, or behind it `object` with fewer
+    /// brackets.
+    fn up(&self, t: NumberedType, steps: usize) -> Option<NumberedType>
+        ensures { IfSome result (λ above. ancestor self.now steps (type_named self.now t) ≡ Some (type_named self.now above)) }
+    {
+        match self.lines.up(t.element, steps) {
+            Some(element) => Some(NumberedType {
+                element,
+                brackets: t.brackets,
+            }),
+            None => self.object_up(t, steps),
+        }
+    }
+
+    /// The `object` that is so many parents up, behind the line of a type's element.
+    fn object_up(&self, t: NumberedType, steps: usize) -> Option<NumberedType>
+        ensures { IfSome result (λ above. ancestor self.now steps (type_named self.now t) ≡ Some (type_named self.now above)) }
+    {
+        let last = self.lines.length_from(t.element).checked_sub(1)?;
+        let top = self.lines.up(t.element, last)?;
+        let fewer = steps.checked_sub(last)?;
+        if fewer == 0 || has_element_above(top) {
+            return None;
+        }
+        let above = fewer_brackets(t.brackets, fewer)?;
+        Some(above)
+    }
+
+    /// Whether two types have the same type above them at a height, counted from their tops. Its contract says nothing.
+    fn is_shared(&self, first: NumberedType, second: NumberedType, height: usize) -> bool {
+        let one = self.up(first, self.lines.height(first).saturating_sub(height));
+        let other = self.up(second, self.lines.height(second).saturating_sub(height));
+        one == other
+    }
+
+    /// How many types two others share, counted from their tops, by halves. Its contract says nothing: where it leads to is tried.
+    fn shared(&self, first: NumberedType, second: NumberedType) -> usize {
+        let mut least = 0;
+        let mut most = self.lines.height(first).min(self.lines.height(second));
+        while least < most {
+            let middle = most - (most - least) / 2;
+            if self.is_shared(first, second, middle) {
+                least = middle;
+            } else {
+                most = middle - 1;
+            }
+        }
+        least
+    }
+
+    /// The type in which the ways up from two others meet, where it is seen: it is above both, and the types below it on the two ways
+    /// differ.
+    fn met(&self, first: NumberedType, second: NumberedType) -> Option<NumberedType>
+        ensures { IfSome result (λ above. IsMerged self.now (Declared first) (Declared second) (Some (Declared above))) }
+    {
+        let shared = self.shared(first, second);
+        let steps = self
+            .lines
+            .height(first)
+            .checked_sub(shared)?
+            .checked_sub(1)?;
+        let other_steps = self
+            .lines
+            .height(second)
+            .checked_sub(shared)?
+            .checked_sub(1)?;
+        let below = self.known(self.up(first, steps)?);
+        let other_below = self.known(self.up(second, other_steps)?);
+        let above = self.up(first, steps + 1)?;
+        let other_above = self.up(second, other_steps + 1)?;
+        if !is_same(above, other_above) || is_same(below, other_below) {
+            return None;
+        }
+        Some(above)
+    }
+
+    /// The closest type above two others. Mostly they are one, or one of them is above the other, or it is seen where they meet. Else
+    /// the deeper one is brought to the depth of the other, and both chains are climbed.
     fn merged_types(&self, first: NumberedType, second: NumberedType) -> Option<NumberedType>
         requires first { is_known self.now first.element ≡ true }
         requires second { is_known self.now second.element ≡ true }
@@ -242,6 +319,9 @@ impl<'a> TypeTree<'a> {
         }
         if self.is_above(second, first) {
             return Some(second);
+        }
+        if let Some(met) = self.met(first, second) {
+            return Some(met);
         }
         let one_depth = self.depth(first);
         let other_depth = self.depth(second);
@@ -342,6 +422,25 @@ fn is_same(one: NumberedType, other: NumberedType) -> bool
     ensures apart { result ≡ false → one ≡ other → ⊥ }
 {
     one == other
+}
+
+/// Whether an element has another above it, whatever brackets stand after both.
+fn has_element_above(element: NumberedElement) -> bool
+    ensures { result ≡ false → (tree : Tree) (brackets : ℕ) → parent tree (record { element = element_named tree element; brackets = brackets + 1 }) ≡ Some (record { element = Named.Object; brackets = brackets }) }
+{
+    match element {
+        NumberedElement::Class(_) | NumberedElement::String => true,
+        NumberedElement::Object | NumberedElement::Int32 | NumberedElement::Int64 => false,
+    }
+}
+
+/// `object` with so many brackets less.
+fn fewer_brackets(brackets: u32, fewer: usize) -> Option<NumberedType>
+    ensures element { IfSome result (λ t. t.element ≡ Object) }
+    ensures brackets { IfSome result (λ t. t.brackets + fewer ≡ brackets) }
+{
+    let fewer = u32::try_from(fewer).ok()?;
+    Some(objects(brackets.checked_sub(fewer)?))
 }
 
 /// `object` with these brackets.
