@@ -1,6 +1,8 @@
 //! The calls, each with what is expected of it.
 
-ghost use Rattle.std.specs.Prelude.{◌≡◌};
+ghost use Rattle.std.specs.Prelude.{◌≡◌, map};
+ghost use Rattle.cil_model.specs.Declarations.{built_ins};
+ghost use Rattle.name_tables.specs.BuiltInTable.{built_in_entry};
 
 use crate::epochs::{counts_in_turn, threads_see_every_epoch};
 use cil_model::events::Event;
@@ -8,6 +10,7 @@ use cil_model::limits::Limits;
 use cil_model::memory::NoMemory;
 use cil_model::reports::{End, Report};
 use cil_model::texts::Text;
+use cil_model::trees::Tree;
 use cil_model::types::ClassName;
 use cil_plain::{PlainMachine, PlainNames};
 use ilasm_reader::{ReadError, read};
@@ -161,9 +164,19 @@ fn is_loaded_by_another(alloc: Global) -> Result<bool, NoMemory> {
 /// Whether the plain machine runs the sum, and shows where it stands. None where the sum has no tree or memory is wanted.
 fn runs_plainly(alloc: Global) -> Option<bool> {
     let tree = read(alloc, SUM.as_bytes()).ok()?;
-    let built_ins = BuiltInClass::all(alloc).ok()?;
-    let names = NameTables::new(alloc, &tree, built_ins.as_slice()).ok()?;
-    is_run_plainly(alloc, &names).ok()
+    is_tree_run(alloc, &tree).ok()
+}
+
+fn is_tree_run(alloc: Global, tree: &Tree) -> Result<bool, NoMemory> {
+    let built_ins = BuiltInClass::all(alloc)?;
+    is_run_with(alloc, tree, built_ins.as_slice())
+}
+
+fn is_run_with(alloc: Global, tree: &Tree, classes: &[BuiltInClass]) -> Result<bool, NoMemory>
+    requires { map built_in_entry classes.now ≡ built_ins }
+{
+    let names = NameTables::new(alloc, tree, classes)?;
+    is_run_plainly(alloc, &names)
 }
 
 fn is_run_plainly(alloc: Global, names: &NameTables) -> Result<bool, NoMemory> {

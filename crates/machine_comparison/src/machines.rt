@@ -1,9 +1,14 @@
 //! One run on both machines, compared after each event.
 
+ghost use Rattle.std.specs.Prelude.{◌≡◌, map};
+ghost use Rattle.cil_model.specs.Declarations.{built_ins};
+ghost use Rattle.name_tables.specs.BuiltInTable.{built_in_entry};
+
 use cil_model::events::Event;
 use cil_model::limits::{Limits, MOST_THREADS};
 use cil_model::memory::NoMemory;
 use cil_model::reports::{End, Fault, Report};
+use cil_model::trees::Tree;
 use cil_plain::{PlainMachine, PlainNames};
 use ilasm_reader::read;
 use name_tables::built_in::BuiltInClass;
@@ -58,10 +63,46 @@ pub fn compare(
     items: &[Item],
 ) -> Result<Trial, Failure> {
     let mut machine = Machine::new(alloc, accept(alloc, source)?, limits)?;
+    compare_source(alloc, &mut machine, source, limits, items)
+}
+
+/// The same of a machine, and the source that it runs.
+fn compare_source(
+    alloc: Global,
+    machine: &mut Machine,
+    source: &[u8],
+    limits: Limits,
+    items: &[Item],
+) -> Result<Trial, Failure> {
     let tree = read(alloc, source)?;
+    compare_tree(alloc, machine, &tree, limits, items)
+}
+
+/// The same of a machine, and the tree that it runs.
+fn compare_tree(
+    alloc: Global,
+    machine: &mut Machine,
+    tree: &Tree,
+    limits: Limits,
+    items: &[Item],
+) -> Result<Trial, Failure> {
     let built_ins = BuiltInClass::all(alloc)?;
-    let names = NameTables::new(alloc, &tree, built_ins.as_slice())?;
-    compare_with(alloc, &mut machine, &names, limits, items)
+    compare_classes(alloc, machine, tree, built_ins.as_slice(), limits, items)
+}
+
+/// The same of a machine, and the tree that it runs with the built-in classes.
+fn compare_classes(
+    alloc: Global,
+    machine: &mut Machine,
+    tree: &Tree,
+    classes: &[BuiltInClass],
+    limits: Limits,
+    items: &[Item],
+) -> Result<Trial, Failure>
+    requires { map built_in_entry classes.now ≡ built_ins }
+{
+    let names = NameTables::new(alloc, tree, classes)?;
+    compare_with(alloc, machine, &names, limits, items)
 }
 
 /// The same of a machine, and of the names of the tree that it runs.

@@ -6,3 +6,4 @@ pub mod ImplementLaws
 pub mod CountLaws
 pub mod MethodLaws
 pub mod OpenLaws
+mod RuleLaws

@@ -1,5 +1,7 @@
 -- The numbers of the rules of legality (this profile).
-use Rattle.std.specs.Prelude.{ℕ}
+use Rattle.std.specs.Prelude.{ℕ, Bool, List, [], ◌∷◌}
+use Rattle.cil_model.specs.declared.trees.Tree.{Tree}
+use Rattle.cil_model.specs.Legality.{doubles_name, lacks_name, has_cycle, lacks_implementation, misfits_kind, lacks_entry, passes_limit}
 use Rattle.metadata.specs.declared.program.MetaError.{MetaError}
 use Rattle.metadata.specs.declared.program.MetaError.TheVariants.{Broken, OutOfMemory}
 use Rattle.metadata.specs.declared.violations.Violation.{Violation}
@@ -35,3 +37,10 @@ violation_number v = rule_number (rule_of v)
 abbrev pub number_of : MetaError → ℕ
 number_of (Broken violation) = violation_number violation
 number_of OutOfMemory = 208
+
+-- the rules on names and bases, and the others: all of them are those of `least_broken`
+abbrev pub rules_of_names : Tree → List (ℕ × Bool)
+rules_of_names tree = (201, doubles_name tree) ∷ (202, lacks_name tree) ∷ (203, has_cycle tree) ∷ []
+
+abbrev pub rules_of_methods : Tree → List (ℕ × Bool)
+rules_of_methods tree = (204, lacks_implementation tree) ∷ (205, misfits_kind tree) ∷ (206, lacks_entry tree) ∷ (207, passes_limit tree) ∷ []

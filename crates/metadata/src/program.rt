@@ -1,6 +1,8 @@
 // The program of a legal tree, and why a tree is none.
 
-ghost use Rattle.std.specs.Prelude.{◌≡◌, ◌≢◌, Some, IfOk, IfErr};
+ghost use Rattle.std.specs.Prelude.{◌≡◌, ◌≢◌, Some, IfOk, IfErr, map};
+ghost use Rattle.cil_model.specs.Declarations.{built_ins};
+ghost use Rattle.name_tables.specs.BuiltInTable.{built_in_entry};
 ghost use Rattle.cil_model.specs.Legality.{IsLegal, least_broken};
 ghost use Rattle.programs.specs.Contents.{IsContents};
 ghost use Rattle.metadata.specs.RuleNumbers.{number_of};
@@ -47,16 +49,33 @@ impl From<NoMemory> for MetaError {
 }
 
 /// What a legal tree is by numbers; of another what breaks a rule first.
-fn checked(alloc: Global, tree: &Tree) -> Result<Contents, MetaError>
+fn contents_of(alloc: Global, names: &NameTables) -> Result<Contents, MetaError>
+    ensures legal { IfOk result (λ c. IsLegal names.now.classes.tree.now × IsContents names.now.classes.tree.now c) }
+    ensures broken { IfErr result (λ e. e ≢ OutOfMemory → least_broken names.now.classes.tree.now ≡ Some (number_of e)) }
+{
+    match least_broken(alloc, names)? {
+        None => Ok(Contents::of_legal(alloc, names)?),
+        Some(violation) => Err(MetaError::Broken { violation }),
+    }
+}
+
+/// The same of a tree, with the built-in classes.
+fn checked(alloc: Global, tree: &Tree, table: &[BuiltInClass]) -> Result<Contents, MetaError>
+    requires { map built_in_entry table.now ≡ built_ins }
+    ensures legal { IfOk result (λ c. IsLegal tree.now × IsContents tree.now c) }
+    ensures broken { IfErr result (λ e. e ≢ OutOfMemory → least_broken tree.now ≡ Some (number_of e)) }
+{
+    let names = NameTables::new(alloc, tree, table)?;
+    contents_of(alloc, &names)
+}
+
+/// The same of a tree alone.
+fn contents(alloc: Global, tree: &Tree) -> Result<Contents, MetaError>
     ensures legal { IfOk result (λ c. IsLegal tree.now × IsContents tree.now c) }
     ensures broken { IfErr result (λ e. e ≢ OutOfMemory → least_broken tree.now ≡ Some (number_of e)) }
 {
     let table = BuiltInClass::all(alloc)?;
-    let names = NameTables::new(alloc, tree, table.as_slice())?;
-    match least_broken(alloc, &names)? {
-        None => Ok(Contents::of_legal(alloc, &names)?),
-        Some(violation) => Err(MetaError::Broken { violation }),
-    }
+    checked(alloc, tree, table.as_slice())
 }
 
 /// The program of a legal tree. Another tree is dropped, and the error has the least number of a rule that it breaks. Want of
@@ -65,6 +84,6 @@ pub fn resolve(alloc: Global, tree: Tree) -> Result<Program, MetaError>
     ensures legal { IfOk result (λ p. (p ≡ tree) × IsLegal tree) }
     ensures broken { IfErr result (λ e. e ≢ OutOfMemory → least_broken tree ≡ Some (number_of e)) }
 {
-    let contents = checked(alloc, &tree)?;
+    let contents = contents(alloc, &tree)?;
     Ok(Program::new(tree, contents))
 }

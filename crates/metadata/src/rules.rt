@@ -1,8 +1,8 @@
 // The rules of legality, in the order of their numbers.
 
 ghost use Rattle.std.specs.Prelude.{◌≡◌, IfOk, option_map};
-ghost use Rattle.cil_model.specs.Legality.{least_broken};
-ghost use Rattle.metadata.specs.RuleNumbers.{rule_number, violation_number};
+ghost use Rattle.cil_model.specs.Legality.{first_broken, least_broken};
+ghost use Rattle.metadata.specs.RuleNumbers.{rule_number, violation_number, rules_of_names, rules_of_methods};
 
 use crate::cycles::own_base;
 use crate::doubled::doubled_name;
@@ -71,9 +71,9 @@ impl fmt::Display for Rule {
     }
 }
 
-/// What breaks the rule with the least number that the tree breaks; none where the tree is legal. Fails for want of memory alone.
-pub fn least_broken(alloc: Global, names: &NameTables) -> Result<Option<Violation>, NoMemory>
-    ensures { IfOk result (λ v. option_map violation_number v ≡ least_broken names.now.classes.tree.now) }
+/// What breaks one of the rules on names and bases, 201 to 203, the least of them first.
+fn broken_by_names(alloc: Global, names: &NameTables) -> Result<Option<Violation>, NoMemory>
+    ensures { IfOk result (λ v. option_map violation_number v ≡ first_broken (rules_of_names names.now.classes.tree.now)) }
 {
     if let Some(doubled) = doubled_name(alloc, names.classes.tree)? {
         return Ok(Some(Violation::Doubled(doubled)));
@@ -84,13 +84,20 @@ pub fn least_broken(alloc: Global, names: &NameTables) -> Result<Option<Violatio
     if let Some(class) = own_base(alloc, names)? {
         return Ok(Some(Violation::OwnBase { class }));
     }
-    let methods = MethodTables::new(alloc, names)?;
-    if let Some(absent) = not_implemented(alloc, &methods)? {
+    Ok(None)
+}
+
+/// What breaks one of the other rules, 204 to 207, the least of them first.
+fn broken_by_methods(alloc: Global, methods: &MethodTables) -> Result<Option<Violation>, NoMemory>
+    ensures { IfOk result (λ v. option_map violation_number v ≡ first_broken (rules_of_methods methods.now.names.now.classes.tree.now)) }
+{
+    if let Some(absent) = not_implemented(alloc, methods)? {
         return Ok(Some(Violation::NotImplemented(absent)));
     }
-    if let Some(misfit) = misfit(alloc, &methods)? {
+    if let Some(misfit) = misfit(alloc, methods)? {
         return Ok(Some(Violation::Misfit(misfit)));
     }
+    let names = methods.names;
     if let Some(entry) = bad_entry(alloc, names.classes.tree)? {
         return Ok(Some(Violation::BadEntry(entry)));
     }
@@ -98,4 +105,22 @@ pub fn least_broken(alloc: Global, names: &NameTables) -> Result<Option<Violatio
         return Ok(Some(Violation::Passed(passed)));
     }
     Ok(None)
+}
+
+/// The same, from the tables of names.
+fn broken_further(alloc: Global, names: &NameTables) -> Result<Option<Violation>, NoMemory>
+    ensures { IfOk result (λ v. option_map violation_number v ≡ first_broken (rules_of_methods names.now.classes.tree.now)) }
+{
+    let methods = MethodTables::new(alloc, names)?;
+    broken_by_methods(alloc, &methods)
+}
+
+/// What breaks the rule with the least number that the tree breaks; none where the tree is legal. Fails for want of memory alone.
+pub fn least_broken(alloc: Global, names: &NameTables) -> Result<Option<Violation>, NoMemory>
+    ensures { IfOk result (λ v. option_map violation_number v ≡ least_broken names.now.classes.tree.now) }
+{
+    match broken_by_names(alloc, names)? {
+        None => Ok(broken_further(alloc, names)?),
+        Some(violation) => Ok(Some(violation)),
+    }
 }

@@ -1,31 +1,14 @@
-use Rattle.std.proofs.Common.{◌≡◌, ◌≢◌, Some, Result, Ok, Err, sym, ap, subst, ◌∙◌, option_map}
-use Rattle.std.specs.Prelude.{IfErr, IsErrAnd}
+use Rattle.std.proofs.Common.{◌≡◌, ◌≢◌, Some, subst}
+use Rattle.std.specs.Prelude.{IfOk, IfErr}
 use Rattle.cil_model.specs.declared.trees.Tree.{Tree}
 use Rattle.cil_model.specs.Legality.{IsLegal, least_broken}
 use Rattle.programs.specs.Contents.{IsContents}
-use Rattle.metadata.specs.RuleNumbers.{violation_number, number_of}
-use Rattle.metadata.specs.declared.program.MetaError.{MetaError}
+use Rattle.metadata.specs.RuleNumbers.{number_of}
 use Rattle.metadata.specs.declared.program.MetaError.TheVariants.{OutOfMemory}
 use Rattle.metadata.proofs.program.checked.Goals as goal
 
--- want of memory breaks no rule
-of_memory : {T : Type 0} (tree : Tree) (r : Result T MetaError) → IsErrAnd r (λ e. e ≡ OutOfMemory) → IfErr r (λ e. e ≢ OutOfMemory → least_broken tree ≡ Some (number_of e))
-of_memory tree (Ok x) h = tt
-of_memory tree (Err e) h = λ other. absurd (other h)
-
-pub of_legal-requires : goal.of_legal-requires
-of_legal-requires c = sym c.in_ok-least_broken.ensures ∙ ap (option_map violation_number) c.in-None.is
-
-pub returns-in-None-clause-legal : goal.returns-in-None-clause-legal
-returns-in-None-clause-legal c =
-    let legal : IsLegal c.in_ok-names.names.classes.tree.now = sym c.in_ok-least_broken.ensures ∙ ap (option_map violation_number) c.in-None.is in
-    subst (λ t. IsLegal t × IsContents t c.in_ok-of_legal-in-None.field-0) c.in_ok-names.ensures (legal, c.in_ok-of_legal-in-None.ensures)
+pub returns-clause-legal : goal.returns-clause-legal
+returns-clause-legal c = subst (λ (t : Tree). IfOk c.contents_of.result (λ x. IsLegal t × IsContents t x)) c.in_ok-names.ensures c.contents_of.ensures.legal
 
 pub returns-clause-broken : goal.returns-clause-broken
-returns-clause-broken c = λ _. sym (ap least_broken c.in_ok-names.ensures) ∙ sym c.in_ok-least_broken.ensures ∙ ap (option_map violation_number) c.in-Some.is
-
-pub returns-in_err-least_broken-clause-broken : goal.returns-in_err-least_broken-clause-broken
-returns-in_err-least_broken-clause-broken c = of_memory c.args.tree.now c.from_residual-in_err-least_broken.result c.from_residual-in_err-least_broken.ensures.1
-
-pub returns-in_err-of_legal-in-None-clause-broken : goal.returns-in_err-of_legal-in-None-clause-broken
-returns-in_err-of_legal-in-None-clause-broken c = of_memory c.args.tree.now c.from_residual-in_err-of_legal-in-None.result c.from_residual-in_err-of_legal-in-None.ensures.1
+returns-clause-broken c = subst (λ (t : Tree). IfErr c.contents_of.result (λ e. e ≢ OutOfMemory → least_broken t ≡ Some (number_of e))) c.in_ok-names.ensures c.contents_of.ensures.broken
