@@ -78,7 +78,7 @@ pub struct MethodReference {
 }
 
 /// An instruction. The text's name of each stands beside it.
-#[derive(Debug, Drop)]
+#[derive(Debug)]
 pub enum Instruction {
     /// `nop`
     NoOperation,
@@ -167,4 +167,58 @@ pub enum Instruction {
     NewObject(ClassName, Sequence<DeclaredType>),
     /// `ret`
     Return,
+}
+
+/// Each operand gives back its own.
+impl Drop for Instruction {
+    fn drop(self) {
+        match self {
+            Instruction::LoadString(_text) => (),
+            Instruction::Branch(_label)
+            | Instruction::BranchTrue(_label)
+            | Instruction::BranchFalse(_label)
+            | Instruction::BranchCompare(_, _label) => (),
+            Instruction::Switch(_labels) => (),
+            Instruction::LoadField(_field)
+            | Instruction::StoreField(_field)
+            | Instruction::LoadStaticField(_field)
+            | Instruction::StoreStaticField(_field) => (),
+            Instruction::NewArray(_element) => (),
+            Instruction::CastClass(_to) | Instruction::IsInstance(_to) => (),
+            Instruction::Call {
+                is_instance: _,
+                method: _method,
+            } => (),
+            Instruction::CallVirtual {
+                owner: _owner,
+                name: _name,
+                signature: _signature,
+            } => (),
+            Instruction::NewObject(_class, _parameters) => (),
+            Instruction::NoOperation
+            | Instruction::LoadInt32(_)
+            | Instruction::LoadInt64(_)
+            | Instruction::LoadNull
+            | Instruction::LoadArgument(_)
+            | Instruction::StoreArgument(_)
+            | Instruction::LoadLocal(_)
+            | Instruction::StoreLocal(_)
+            | Instruction::Duplicate
+            | Instruction::Pop
+            | Instruction::Binary(_)
+            | Instruction::Unary(_)
+            | Instruction::Shift(_)
+            | Instruction::Compare(_)
+            | Instruction::ConvertInt32
+            | Instruction::ConvertInt64
+            | Instruction::LoadLength
+            | Instruction::LoadElementInt32
+            | Instruction::LoadElementInt64
+            | Instruction::LoadElementReference
+            | Instruction::StoreElementInt32
+            | Instruction::StoreElementInt64
+            | Instruction::StoreElementReference
+            | Instruction::Return => (),
+        }
+    }
 }

@@ -6,19 +6,41 @@ use crate::texts::Text;
 use crate::types::{ClassName, DeclaredType, Signature};
 
 /// A whole source.
-#[derive(Debug, Drop)]
+#[derive(Debug)]
 pub struct Tree {
     pub externs: Sequence<Text>,
     pub assembly: Option<Text>,
     pub classes: Sequence<Class>,
 }
 
+/// Each part gives back its own.
+impl Drop for Tree {
+    fn drop(self) {
+        let Tree {
+            externs: _externs,
+            assembly: _assembly,
+            classes: _classes,
+        } = self;
+    }
+}
+
 /// A class or an interface (ECMA-335 II.10).
-#[derive(Debug, Drop)]
+#[derive(Debug)]
 pub struct Class {
     pub name: Text,
     pub kind: ClassKind,
     pub members: Sequence<Member>,
+}
+
+/// Each part gives back its own.
+impl Drop for Class {
+    fn drop(self) {
+        let Class {
+            name: _name,
+            kind: _kind,
+            members: _members,
+        } = self;
+    }
 }
 
 /// Whether it is an interface; else the base and the listed interfaces (ECMA-335 II.10.1).
@@ -48,11 +70,22 @@ pub struct Field {
 }
 
 /// A method (ECMA-335 II.15). A constructor has the kind `Instance`.
-#[derive(Debug, Drop)]
+#[derive(Debug)]
 pub struct Method {
     pub name: MethodName,
     pub signature: Signature,
     pub kind: MethodKind,
+}
+
+/// Each part gives back its own.
+impl Drop for Method {
+    fn drop(self) {
+        let Method {
+            name: _name,
+            signature: _signature,
+            kind: _kind,
+        } = self;
+    }
 }
 
 /// What a method is, with its code where it has some (ECMA-335 II.15.2 and II.15.4.2).

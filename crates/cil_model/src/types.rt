@@ -6,10 +6,20 @@ use crate::sequences::Sequence;
 use crate::texts::Text;
 
 /// A class by its name, and the assembly that stands before it in brackets (ECMA-335 II.7.3).
-#[derive(Debug, PartialEq, Eq, Hash, Drop)]
+#[derive(Debug, PartialEq, Eq, Hash)]
 pub struct ClassName {
     pub assembly: Option<Text>,
     pub name: Text,
+}
+
+/// Each part gives back its own.
+impl Drop for ClassName {
+    fn drop(self) {
+        let ClassName {
+            assembly: _assembly,
+            name: _name,
+        } = self;
+    }
 }
 
 impl ClassName {
@@ -57,10 +67,20 @@ impl Element {
 }
 
 /// A type: the element, and how many pairs of brackets stand after it. `Dog[][]` has two.
-#[derive(Debug, PartialEq, Eq, Hash, Drop)]
+#[derive(Debug, PartialEq, Eq, Hash)]
 pub struct DeclaredType {
     pub element: Element,
     pub brackets: u32,
+}
+
+/// Each part gives back its own.
+impl Drop for DeclaredType {
+    fn drop(self) {
+        let DeclaredType {
+            element: _element,
+            brackets: _brackets,
+        } = self;
+    }
 }
 
 impl DeclaredType {

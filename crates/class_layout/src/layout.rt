@@ -28,12 +28,24 @@ use std::alloc::Global;
 
 /// Where the fields of a program lie, which methods its virtual calls run, and which types stand for others. Contracts say whose
 /// layout it is by `IsLayout`.
-#[derive(Debug, Drop)]
+#[derive(Debug)]
 pub struct Layout {
     ancestry: Ancestry,
     kinds: Vec<Vec<SlotKind>>,
     fields: Vec<Vec<usize>>,
     targets: Vec<Vec<Targets>>,
+}
+
+/// Each part gives back its own.
+impl Drop for Layout {
+    fn drop(self) {
+        let Layout {
+            ancestry: _ancestry,
+            kinds: _kinds,
+            fields: _fields,
+            targets: _targets,
+        } = self;
+    }
 }
 
 impl Layout {

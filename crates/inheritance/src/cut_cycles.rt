@@ -19,11 +19,20 @@ pub(crate) struct Part {
 
 /// The same classes, but that each cycle of bases is cut: one class of it has no base. A line that goes round is made of two parts
 /// without a cycle, that of its first class and that of the base at which it goes on.
-#[derive(Drop)]
 pub struct CutCycles {
     pub cut: Inheritance,
     pub(crate) parts: Vec<Option<Part>>,
     ghost parted: { AreParts cut.forest.bases.items parts.items },
+}
+
+/// Each part gives back its own.
+impl Drop for CutCycles {
+    fn drop(self) {
+        let CutCycles {
+            cut: _cut,
+            parts: _parts,
+        } = self;
+    }
 }
 
 /// Bases without those of some classes. Fails for want of memory alone.

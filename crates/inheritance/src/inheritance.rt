@@ -19,7 +19,6 @@ use std::alloc::Global;
 pub struct Endless;
 
 /// What each key finds from each class on: the class itself where it declares the key, else its base, and so on.
-#[derive(Drop)]
 pub struct Inheritance {
     pub forest: Forest,
     pub(crate) ledger: Ledger,
@@ -30,6 +29,17 @@ pub struct Inheritance {
     ghost ended: { (class : ℕ) (entry : Entry) → entry_in ledger.entries.items class ≡ Some entry → Ends forest.bases.items forest.most class },
     ghost endless: { IsTrue is_complete → (class : ℕ) → IsLeftOut forest.bases.items ledger.entries.items class → ¬ Ends forest.bases.items forest.most class },
     ghost right: { (class : ℕ) (entry : Entry) → entry_in ledger.entries.items class ≡ Some entry → (key : ℕ) → key < forest.keys → pair_of (known_of (map (λ v. v.items) ledger.changes.items) key entry.time) ≡ nearest_from forest key forest.most (Some class) },
+}
+
+/// Each part gives back its own.
+impl Drop for Inheritance {
+    fn drop(self) {
+        let Inheritance {
+            forest: _forest,
+            ledger: _ledger,
+            is_complete: _is_complete,
+        } = self;
+    }
 }
 
 /// Goes through all classes whose bases end. Fails for want of memory alone.

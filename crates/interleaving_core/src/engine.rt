@@ -39,7 +39,6 @@ use step_simulation::interpreter_code::stores::Store;
 use threads_monitors::{Effect, Mutator, Standing, Thread, join, start, start_fault};
 
 /// A program, and all that changes while it runs: its threads, what a collector has posted and how far it is, and what instructions work on.
-#[derive(Drop)]
 pub struct Engine {
     pub program: LoadedProgram,
     pub limits: Limits,
@@ -47,6 +46,20 @@ pub struct Engine {
     pub posts: Posts,
     pub progress: Progress,
     pub store: Store,
+}
+
+/// Each part gives back its own.
+impl Drop for Engine {
+    fn drop(self) {
+        let Engine {
+            program: _program,
+            limits: _limits,
+            threads: _threads,
+            posts: _posts,
+            progress: _progress,
+            store: _store,
+        } = self;
+    }
 }
 
 impl Engine {

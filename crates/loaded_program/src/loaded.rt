@@ -24,12 +24,24 @@ use std::alloc::Global;
 use std::marker::Model;
 
 /// A legal program with its layout and its methods by flat numbers, whose instructions are linked: a step looks nothing up.
-#[derive(Debug, Drop)]
+#[derive(Debug)]
 pub struct LoadedProgram {
     program: Program,
     layout: Layout,
     table: MethodTable,
     methods: Vec<LinkedMethod>,
+}
+
+/// Each part gives back its own.
+impl Drop for LoadedProgram {
+    fn drop(self) {
+        let LoadedProgram {
+            program: _program,
+            layout: _layout,
+            table: _table,
+            methods: _methods,
+        } = self;
+    }
 }
 
 /// Contracts see the tree of the program.

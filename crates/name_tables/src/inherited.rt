@@ -17,7 +17,6 @@ use std::hash::Hash;
 
 /// The nearest declaration of each key along the bases of each class. A key's number is the place of the first equal one among all
 /// that are declared; another key's number is that behind them.
-#[derive(Drop)]
 pub(crate) struct Inherited<K: Eq + Hash + Copy + Drop> {
     pub keys: Places<K>,
     pub inheritance: Inheritance,
@@ -25,6 +24,17 @@ pub(crate) struct Inherited<K: Eq + Hash + Copy + Drop> {
     ghost cut: { ForSome cycles (λ c. IsCut inheritance.forest c.cut.forest) },
     ghost within: { inheritance.forest.keys ≡ length keys + 1 },
     ghost numbered: { AreNumbered K.eq keys (map (λ r. r.items) inheritance.forest.declared.items) },
+}
+
+/// Each part gives back its own.
+impl<K: Eq + Hash + Copy + Drop> Drop for Inherited<K> {
+    fn drop(self) {
+        let Inherited {
+            keys: _keys,
+            inheritance: _inheritance,
+            cycles: _cycles,
+        } = self;
+    }
 }
 
 /// The keys of all rows, with where each stands first.

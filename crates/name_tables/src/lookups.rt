@@ -35,7 +35,6 @@ pub struct MemberNumber {
 }
 
 /// The tables of a tree, with what each class inherits.
-#[derive(Drop)]
 pub struct NameTables<'a> {
     pub classes: ClassTables<'a>,
     fields: Inherited<FieldKey<'a>>,
@@ -44,6 +43,18 @@ pub struct NameTables<'a> {
     ghost fields_are: { IsMemberTable classes.tree.now fields.inheritance.forest (field_key_number fields.keys) (field_place classes.tree.now) },
     ghost methods_are: { IsMethodTable classes.tree.now methods.keys methods.inheritance.forest },
     ghost calls_are: { IsMemberTable classes.tree.now calls.inheritance.forest (call_number methods.keys calls.keys) (call_place classes.tree.now) },
+}
+
+/// Each part gives back its own.
+impl Drop for NameTables<'_> {
+    fn drop(self) {
+        let NameTables {
+            classes: _classes,
+            fields: _fields,
+            methods: _methods,
+            calls: _calls,
+        } = self;
+    }
 }
 
 /// A declaration as a member.

@@ -13,12 +13,23 @@ use std::hash::Hash;
 use std::marker::Model;
 
 /// A list of keys that contracts see as such. Where a key stands first is found by its hash.
-#[derive(Drop)]
 pub struct Places<K: Eq + Hash + Copy + Drop> {
     keys: Vec<K>,
     numbers: Vec<usize>,
     firsts: IndexMap<K, usize>,
     repeated: Option<usize>,
+}
+
+/// Each part gives back its own.
+impl<K: Eq + Hash + Copy + Drop> Drop for Places<K> {
+    fn drop(self) {
+        let Places {
+            keys: _keys,
+            numbers: _numbers,
+            firsts: _firsts,
+            repeated: _repeated,
+        } = self;
+    }
 }
 
 impl<K: Eq + Hash + Copy + Drop> Model for Places<K> {

@@ -19,13 +19,23 @@ use std::alloc::Global;
 
 /// Every class that a name may stand for: the built-in ones, then those of the source, in order. A class's number is its
 /// place here.
-#[derive(Drop)]
 pub struct ClassTables<'a> {
     pub tree: &'a Tree,
     classes: Vec<ClassTable<'a>>,
     names: Places<ClassKey<'a>>,
     ghost classes_are: { map (λ t. entry_of t.class) classes.items ≡ declarations tree.now },
     ghost names_are: { map class_of_key names ≡ map (λ e. e.0) (declarations tree.now) },
+}
+
+/// Each part gives back its own.
+impl Drop for ClassTables<'_> {
+    fn drop(self) {
+        let ClassTables {
+            tree: _tree,
+            classes: _classes,
+            names: _names,
+        } = self;
+    }
 }
 
 fn add_built_in<'a>(

@@ -27,11 +27,21 @@ struct Cycle {
 
 /// The objects of one block, or of two while a cycle is open, and the monitors of the program's literals, which lie in no
 /// block. Contracts see cells and a list of monitors.
-#[derive(Drop)]
 pub struct Heap {
     from: Space,
     cycle: Option<Cycle>,
     literals: Vec<Monitor>,
+}
+
+/// Each part gives back its own.
+impl Drop for Heap {
+    fn drop(self) {
+        let Heap {
+            from: _from,
+            cycle: _cycle,
+            literals: _literals,
+        } = self;
+    }
 }
 
 impl Model for Heap {

@@ -15,10 +15,20 @@ use std::marker::Model;
 
 /// A legal program: the tree, with its classes, literals and entry point by numbers. Classes 0 to 4 are the built-in ones, and
 /// those of the source follow in order.
-#[derive(Debug, Drop)]
+#[derive(Debug)]
 pub struct Program {
     tree: Tree,
     contents: Contents,
+}
+
+/// Each part gives back its own.
+impl Drop for Program {
+    fn drop(self) {
+        let Program {
+            tree: _tree,
+            contents: _contents,
+        } = self;
+    }
 }
 
 /// Contracts see the tree, which is legal.
@@ -93,7 +103,10 @@ impl Program {
     pub fn into_tree(self) -> Tree
         ensures { result ≡ self }
     {
-        let Program { tree, .. } = self;
+        let Program {
+            tree,
+            contents: _contents,
+        } = self;
         tree
     }
 }

@@ -40,12 +40,23 @@ impl Opening for Brand {
 /// Whenever the lock is free, the machine is at what its turns over the history's events make of the opening content, with the history's
 /// reports, each entry is of one of the workers, and each worker's count is that of its entries. Nothing outside this crate can change a
 /// part of it alone.
-#[derive(Drop)]
 pub struct World<M: Opening> {
     core: Machine,
     history: History,
     book: Book<M>,
     stopped: bool,
+}
+
+/// Each part gives back its own.
+impl<M: Opening> Drop for World<M> {
+    fn drop(self) {
+        let World {
+            core: _core,
+            history: _history,
+            book: _book,
+            stopped: _stopped,
+        } = self;
+    }
 }
 
 impl<M: Opening> Model for World<M> {

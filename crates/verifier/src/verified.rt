@@ -19,11 +19,22 @@ use std::alloc::Global;
 use std::marker::Model;
 
 /// An accepted program with its layout and a typing of each method.
-#[derive(Debug, Drop)]
+#[derive(Debug)]
 pub struct Verified {
     program: Program,
     layout: Layout,
     typings: Sequence<Typing>,
+}
+
+/// Each part gives back its own.
+impl Drop for Verified {
+    fn drop(self) {
+        let Verified {
+            program: _program,
+            layout: _layout,
+            typings: _typings,
+        } = self;
+    }
 }
 
 /// Contracts see the tree, which is accepted: at each place that is reached the operands of the instruction are there with their
@@ -65,7 +76,7 @@ impl Verified {
         let Verified {
             program,
             layout,
-            ..
+            typings: _typings,
         } = self;
         (program, layout)
     }
