@@ -22,6 +22,8 @@ use Rattle.cil_model.specs.declared.instructions.Comparison.{Comparison}
 use Rattle.cil_model.specs.declared.instructions.Comparison.TheVariants as comparison
 use Rattle.cil_model.specs.declared.instructions.BranchComparison.{BranchComparison}
 use Rattle.cil_model.specs.declared.instructions.BranchComparison.TheVariants as branch
+use Rattle.cil_model.specs.declared.instructions.MethodName.{MethodName}
+use Rattle.cil_model.specs.declared.instructions.MethodReference.{MethodReference}
 use Rattle.cil_model.specs.declared.instructions.MethodName.TheVariants.{Constructor as ConstructorName, Named}
 use Rattle.cil_model.specs.declared.instructions.Instruction.{Instruction}
 use Rattle.cil_model.specs.declared.instructions.Instruction.TheVariants as instructions
@@ -40,7 +42,7 @@ use Rattle.ilasm_tokens.specs.declared.words.TypeTest.TheVariants as tests
 use Rattle.ilasm_tokens.specs.Steps.{bind, choice, with_front, bind_at, choice_at, choice_past, Sound}
 use Rattle.ilasm_tokens.specs.Vocabulary.{use_of}
 use Rattle.ilasm_tokens.proofs.Many.{CompleteBefore, Complete, ends, many_complete}
-use Rattle.ilasm_reader.specs.Parsing.{Parser, word_at, number_of, sign_at, any_word_at, name_at, integer_at, quoted_at, flag_at, starts_comma, after_comma, commas_at, parentheses_at, in_block, class_name_at, element_at, brackets_at, type_at, parameter_at, return_type_at, field_reference_at, method_name_at, method_reference_at, bare, virtual_call, creation, has_32_bits, operands_at, form_of, instruction_at}
+use Rattle.ilasm_reader.specs.Parsing.{Parser, word_at, number_of, sign_at, any_word_at, name_at, integer_at, quoted_at, flag_at, starts_comma, after_comma, commas_at, closed_commas_at, parentheses_at, empty_block_at, before_sign_at, pair_at, in_block, assembly_name_at, class_of_assembly_at, class_name_at, element_at, brackets_at, type_at, parameter_at, return_type_at, field_of_owner_at, field_reference_at, method_name_at, method_of_owner_at, method_reference_at, instance_method_at, bare, virtual_call, creation, has_32_bits, operands_at, form_of, instruction_at}
 use Rattle.ilasm_reader.specs.Forms.{operands}
 use Rattle.ilasm_reader.specs.Sound.{name_sound, after_comma_sound, type_sound}
 
@@ -189,12 +191,25 @@ module _ {A : Type 0} (parses : Parser A) (R : A → Span) (sound : Sound parses
       let others = many_complete starts_comma (after_comma parses) (λ y. sign Comma ▸ R y) EndsItem (after_comma_sound parses R sound) after_comma_complete comma_first xs mid rest e s q in
       bind_at _ (complete x ts mid behind p) (rw others refl)
 
+  pub closed_commas_complete : (xs : List A) (ts mid rest : List Token) → commas R xs ts mid → sign CloseParenthesis mid rest → closed_commas_at parses ts ≡ Some (xs, rest)
+  unfolding closed_commas_at before_sign_at
+  closed_commas_complete xs ts mid rest p q =
+      bind_at _ (commas_complete xs ts mid (sign_ends CloseParenthesis refl q) (sign_no_comma CloseParenthesis refl q) p) (bind_at _ (sign_complete CloseParenthesis q) refl)
+
   pub parentheses_complete : ((x : A) (ts rest : List Token) → R x ts rest → sign_at CloseParenthesis ts ≡ None) → Complete (parentheses_at parses) (parentheses R)
   unfolding parentheses_at
   parentheses_complete unclosed [] ts rest (a, p, (b, q, r)) = bind_at _ (sign_complete OpenParenthesis p) (choice_at _ _ (sign_complete CloseParenthesis (q ∙ r)) refl)
   parentheses_complete unclosed (x ∷ xs) ts rest (a, p, (b, q, r)) =
-      bind_at _ (sign_complete OpenParenthesis p) (choice_past _ (unclosed x a q.0 q.1)
-      (bind_at _ (commas_complete (x ∷ xs) a b (sign_ends CloseParenthesis refl r) (sign_no_comma CloseParenthesis refl r) q) (bind_at _ (sign_complete CloseParenthesis r) refl)))
+      bind_at _ (sign_complete OpenParenthesis p) (choice_past _ (unclosed x a q.0 q.1) (closed_commas_complete (x ∷ xs) a b rest q r))
+
+pub empty_block_complete : {ts mid rest : List Token} → sign OpenBrace ts mid → sign CloseBrace mid rest → empty_block_at ts ≡ Some rest
+unfolding empty_block_at
+empty_block_complete p q = bind_at _ (sign_complete OpenBrace p) (sign_complete CloseBrace q)
+
+-- one part behind another
+pub pair_given : {A B : Type 0} (first : Parser A) (second : Parser B) {x : A} {y : B} {ts mid rest : List Token} → first ts ≡ Some (x, mid) → second mid ≡ Some (y, rest) → pair_at first second ts ≡ Some ((x, y), rest)
+unfolding pair_at
+pair_given first second p q = bind_at _ p (bind_at _ q refl)
 
 pub end_closes : {ts rest : List Token} → sign CloseBrace ts rest → in_block ts ≡ false
 unfolding in_block sign_at choice
@@ -206,14 +221,18 @@ nothing_left = refl
 
 -- ---- names and types
 
+assembly_name_complete : (n : List ℕ) {ts mid rest : List Token} → name n ts mid → sign CloseBracket mid rest → assembly_name_at ts ≡ Some (n, rest)
+unfolding assembly_name_at before_sign_at
+assembly_name_complete n p q = bind_at _ (name_complete n p) (bind_at _ (sign_complete CloseBracket q) refl)
+
 pub class_name_complete : Complete class_name_at ref
-unfolding class_name_at
+unfolding class_name_at class_of_assembly_at
 class_name_complete x ts rest p = class_name_by x.assembly x.name ts rest p
   where
     class_name_by : (o : Option (List ℕ)) (n : List ℕ) (ts rest : List Token) → (in_assembly o ▸ name n) ts rest → class_name_at ts ≡ Some (record { assembly = o; name = n }, rest)
     class_name_by None n ts rest (a, p, q) = let here : name n ts rest = p ∙ q in choice_past _ (name_no_sign OpenBracket n here) (bind_at _ (name_complete n here) refl)
     class_name_by (Some l) n ts rest (a, (b, p, (c, q, r)), s) =
-        choice_at _ _ (sign_complete OpenBracket p) (bind_at _ (name_complete l q) (bind_at _ (sign_complete CloseBracket r) (bind_at _ (name_complete n s) refl)))
+        choice_at _ _ (sign_complete OpenBracket p) (bind_at _ (pair_given _ _ (assembly_name_complete l q r) (name_complete n s)) refl)
 
 element_complete : Complete element_at elem
 unfolding element_at
@@ -298,22 +317,33 @@ class_name_ends x ts rest p = by x.assembly x.name ts rest p
     by None n ts rest (a, p, q) = no_brackets ts (name_no_sign OpenBracket n (p ∙ q))
     by (Some l) n ts rest (a, (b, p, (c, q, r)), s) = bind_at _ (sign_complete OpenBracket p) (name_no_sign CloseBracket l q)
 
+field_of_owner_complete : (n : List ℕ) {ts mid rest : List Token} → sign DoubleColon ts mid → name n mid rest → field_of_owner_at ts ≡ Some (n, rest)
+unfolding field_of_owner_at
+field_of_owner_complete n p q = bind_at _ (sign_complete DoubleColon p) (name_complete n q)
+
 field_reference_complete : Complete field_reference_at field_reference
 unfolding field_reference_at
 field_reference_complete x ts rest (a, p, (b, q, (c, r, s))) =
-    bind_at _ (type_complete x.field_type ts a (class_name_ends x.owner a b q) p) (bind_at _ (class_name_complete x.owner a b q) (bind_at _ (sign_complete DoubleColon r) (bind_at _ (name_complete x.name s) refl)))
+    bind_at _ (pair_given _ _ (type_complete x.field_type ts a (class_name_ends x.owner a b q) p) (pair_given _ _ (class_name_complete x.owner a b q) (field_of_owner_complete x.name r s))) refl
 
 method_name_complete : Complete method_name_at method_name
 unfolding method_name_at
 method_name_complete ConstructorName ts rest p = choice_at _ _ (word_complete (codes ".ctor") p) refl
 method_name_complete (Named n) ts rest p = choice_past _ (name_no_word (codes ".ctor") n p) (bind_at _ (name_complete n p) refl)
 
+method_of_owner_complete : (n : MethodName) (ts mid rest : List Token) → sign DoubleColon ts mid → method_name n mid rest → method_of_owner_at ts ≡ Some (n, rest)
+unfolding method_of_owner_at
+method_of_owner_complete n ts mid rest p q = bind_at _ (sign_complete DoubleColon p) (method_name_complete n mid rest q)
+
 method_reference_complete : Complete method_reference_at method_reference
 unfolding method_reference_at
 method_reference_complete x ts rest (a, p, (b, q, (c, r, (d, s, t)))) =
-    bind_at _ (return_type_complete x.signature.return_type ts a (class_name_ends x.owner a b q) p) (bind_at _ (class_name_complete x.owner a b q)
-    (bind_at _ (sign_complete DoubleColon r) (bind_at _ (method_name_complete x.name c d s)
-    (bind_at _ (parentheses_complete type_at type_of type_sound type_before type_open x.signature.parameters d rest t) refl))))
+    bind_at _ (return_type_complete x.signature.return_type ts a (class_name_ends x.owner a b q) p)
+    (bind_at _ (pair_given _ _ (class_name_complete x.owner a b q) (pair_given _ _ (method_of_owner_complete x.name b c d r s) (parentheses_complete type_at type_of type_sound type_before type_open x.signature.parameters d rest t))) refl)
+
+instance_method_complete : (x : MethodReference) (ts mid rest : List Token) → word (codes "instance") ts mid → method_reference x mid rest → instance_method_at ts ≡ Some (x, rest)
+unfolding instance_method_at
+instance_method_complete x ts mid rest p q = bind_at _ (word_complete (codes "instance") p) (method_reference_complete x mid rest q)
 
 return_no_instance : (t : Option DeclaredType) (ts rest : List Token) → ret t ts rest → word_at (codes "instance") ts ≡ None
 return_no_instance None ts rest p = word_no_word (codes "instance") (codes "void") refl p
@@ -343,9 +373,9 @@ operands_complete forms.Call x ts rest e (b, r, i, (a, p, q)) =
     let flag = flag_complete (codes "instance") b ts a (return_no_instance r.signature.return_type a q.0 q.1) p in
     rw (flag, i) (bind_at _ (method_reference_complete r a rest q) refl)
 operands_complete forms.CallVirtual x ts rest e (c, n, s, i, (a, p, q)) =
-    bind_at _ (word_complete (codes "instance") p) (bind_at _ (method_reference_complete (virtual_reference c n s) a rest q) (rw i (bind_at _ refl refl)))
+    bind_at _ (instance_method_complete (virtual_reference c n s) ts a rest p q) (rw i (bind_at _ refl refl))
 operands_complete forms.NewObject x ts rest e (c, ps, i, (a, p, q)) =
-    bind_at _ (word_complete (codes "instance") p) (bind_at _ (method_reference_complete (constructor_reference c ps) a rest q) (rw i (bind_at _ refl refl)))
+    bind_at _ (instance_method_complete (constructor_reference c ps) ts a rest p q) (rw i (bind_at _ refl refl))
 
 -- the name of an instruction, and what stands behind it
 pub record Spelled (i : Instruction) (ts rest : List Token) : Type 0 where

@@ -24,14 +24,14 @@ use Rattle.ilasm_tokens.specs.Steps.{choice, bind_at, choice_at, choice_past, So
 use Rattle.ilasm_tokens.proofs.Many.{CompleteBefore, Complete, ends, many_complete}
 use Rattle.ilasm_reader.specs.declared.methods.Beginning.{Beginning}
 use Rattle.ilasm_reader.specs.declared.methods.Beginning.TheVariants.{Static, Instance, Virtual, Abstract, Constructor}
-use Rattle.ilasm_reader.specs.Parsing.{Parser, word_at, sign_at, name_at, in_block, class_name_at, parameter_at, label_at, starts_label, line_at, locals_at, max_stack_at, code_at, virtual_words_at, constructor_words_at, first_words_at, named_head_at, head_at, code_body_at, body_at, method_at, field_at, interface_member_at, member_at, block_at, implements_at, interface_at, plain_class_at, class_at, starts_extern, extern_at, assembly_at, tree_at}
-use Rattle.ilasm_reader.specs.Sound.{parameter_sound, class_name_sound, label_sound, line_sound, beginning, block, interface_member_sound, member_sound, class_sound, extern_sound, tree_sound}
-use Rattle.ilasm_reader.proofs.Complete.{word_complete, sign_complete, name_complete, integer_complete, name_no_sign, word_no_sign, sign_no_sign, name_no_word, sign_no_word, word_no_word, end_no_word, no_brackets, flag_complete, skip_complete, EndsItem, EndsType, sign_ends, sign_no_comma, commas_complete, parentheses_complete, end_closes, nothing_left, class_name_complete, type_complete, parameter_complete, element_no_word, parameter_open, return_type_complete, spelled, instruction_complete, form_apart, no_form}
+use Rattle.ilasm_reader.specs.Parsing.{Parser, word_at, sign_at, name_at, before_sign_at, in_block, class_name_at, parameter_at, label_at, starts_label, line_at, some_locals_at, locals_at, max_stack_at, code_start_at, lines_at, code_at, virtual_words_at, constructor_words_at, first_words_at, named_head_at, constructor_head_at, head_at, signature_at, code_body_at, body_at, managed_body_at, method_words_at, method_at, field_words_at, field_at, interface_member_at, member_at, block_at, implements_at, interface_words_at, interface_at, class_words_at, base_at, class_body_at, plain_class_at, class_at, named_assembly_at, starts_extern, extern_at, assembly_at, tree_at}
+use Rattle.ilasm_reader.specs.Sound.{parameter_sound, class_name_sound, label_sound, line_sound, code_start, beginning, block, interface_member_sound, member_sound, class_sound, extern_sound, tree_sound}
+use Rattle.ilasm_reader.proofs.Complete.{word_complete, sign_complete, name_complete, integer_complete, name_no_sign, word_no_sign, sign_no_sign, name_no_word, sign_no_word, word_no_word, end_no_word, no_brackets, flag_complete, skip_complete, EndsItem, EndsType, sign_ends, sign_no_comma, commas_complete, closed_commas_complete, parentheses_complete, empty_block_complete, pair_given, end_closes, nothing_left, class_name_complete, type_complete, parameter_complete, element_no_word, parameter_open, return_type_complete, spelled, instruction_complete, form_apart, no_form}
 
 -- ---- code
 
 label_complete : Complete label_at (λ l. name l ▸ sign Colon)
-unfolding label_at
+unfolding label_at before_sign_at
 label_complete x ts rest (a, p, q) = bind_at _ (name_complete x p) (bind_at _ (sign_complete Colon q) refl)
 
 instruction_no_label : (x : Instruction) (ts rest : List Token) → instr x ts rest → starts_label ts ≡ false
@@ -70,26 +70,33 @@ brace_ends : {ts rest : List Token} → sign CloseBrace ts rest → EndsLine ts
 brace_ends e = (sign_no_word (codes ".locals") CloseBrace e, no_brackets _ (sign_no_sign OpenBracket CloseBrace refl e))
 
 locals_complete : CompleteBefore (λ rest. word_at (codes ".locals") rest ≡ None) locals_at locals
-unfolding locals_at
+unfolding locals_at some_locals_at
 locals_complete [] ts rest e p = choice_past _ (rw p e) (rw p refl)
 locals_complete (x ∷ xs) ts rest e (a, p, (b, q, (c, r, (d, s, t)))) =
     choice_at _ _ (word_complete (codes ".locals") p) (bind_at _ (word_complete (codes "init") q) (bind_at _ (sign_complete OpenParenthesis r)
-    (bind_at _ (commas_complete parameter_at parameter parameter_sound parameter_complete (x ∷ xs) c d (sign_ends CloseParenthesis refl t) (sign_no_comma CloseParenthesis refl t) s) (bind_at _ (sign_complete CloseParenthesis t) refl))))
+    (closed_commas_complete parameter_at parameter parameter_sound parameter_complete (x ∷ xs) c d rest s t)))
 
 max_stack_complete : (z : ℤ) {ts mid rest : List Token} → word (codes ".maxstack") ts mid → item (Integer z) mid rest → max_stack_at ts ≡ Some (z, rest)
 unfolding max_stack_at
 max_stack_complete z p q = bind_at _ (word_complete (codes ".maxstack") p) (integer_complete z q)
 
+code_start_complete : (is_entry_point : Bool) (n : ℤ) (ts rest : List Token) → code_start (is_entry_point, n) ts rest → code_start_at ts ≡ Some ((is_entry_point, n), rest)
+unfolding code_start_at
+code_start_complete is_entry_point n ts rest (a, p, (b, q, (c, r, s))) =
+    let flag = flag_complete (codes ".entrypoint") is_entry_point a b (word_no_word (codes ".entrypoint") (codes ".maxstack") refl r) q in
+    bind_at _ (sign_complete OpenBrace p) (rw flag (bind_at _ (max_stack_complete n r s) refl))
+
+lines_complete : (xs : List Line) (ts mid rest : List Token) → each line xs ts mid → sign CloseBrace mid rest → lines_at ts ≡ Some (xs, rest)
+unfolding lines_at before_sign_at
+lines_complete xs ts mid rest p q =
+    bind_at _ (many_complete in_block line_at line EndsLine line_sound line_before line_first xs ts mid (brace_ends q) (end_closes q) p) (bind_at _ (sign_complete CloseBrace q) refl)
+
 code_complete : Complete code_at code
 unfolding code_at
 code_complete x ts rest (a, p, (b, q, (c, r, (d, s, (e, t, (f, u, v)))))) =
-    let flag = flag_complete (codes ".entrypoint") x.is_entry_point a b (word_no_word (codes ".entrypoint") (codes ".maxstack") refl r) q in
     let behind = ends in_block line_at line EndsLine line_sound line_before line_first x.lines e f (brace_ends v) u in
-    bind_at _ (sign_complete OpenBrace p) (rw flag
-    (bind_at _ (max_stack_complete x.max_stack r s)
-    (bind_at _ (locals_complete x.locals d e behind.0 t)
-    (bind_at _ (many_complete in_block line_at line EndsLine line_sound line_before line_first x.lines e f (brace_ends v) (end_closes v) u)
-    (bind_at _ (sign_complete CloseBrace v) refl)))))
+    bind_at _ (code_start_complete x.is_entry_point x.max_stack ts d (a, p, (b, q, (c, r, s))))
+    (bind_at _ (locals_complete x.locals d e behind.0 t) (bind_at _ (lines_complete x.lines e f rest u v) refl))
 
 -- ---- methods
 
@@ -105,7 +112,7 @@ unfolding named_head_at
 named_head_complete t n ts rest (a, p, q) = bind_at _ (return_type_complete t ts a (no_brackets _ (name_no_sign OpenBracket n q)) p) (bind_at _ (name_complete n q) refl)
 
 begun_by : (n : MethodName) (t : Option DeclaredType) (k : MethodKind) (ts rest : List Token) → words_before n t k ts rest → Begun n t k ts rest
-unfolding head_at body_at code_body_at
+unfolding head_at constructor_head_at body_at code_body_at
 begun_by (Named n) t (kinds.Static c) ts rest p =
     record { begun = Static; words = p; head_read = λ us vs e q. named_head_complete t n us vs q; body_read = λ us vs q. bind_at _ (code_complete c us vs q) refl }
 begun_by (Named n) t (kinds.Instance c) ts rest p =
@@ -113,7 +120,7 @@ begun_by (Named n) t (kinds.Instance c) ts rest p =
 begun_by (Named n) t (kinds.Virtual is_new_slot c) ts rest p =
     record { begun = Virtual is_new_slot; words = p; head_read = λ us vs e q. named_head_complete t n us vs q; body_read = λ us vs q. bind_at _ (code_complete c us vs q) refl }
 begun_by (Named n) t (kinds.Abstract is_new_slot) ts rest p =
-    record { begun = Abstract is_new_slot; words = p; head_read = λ us vs e q. named_head_complete t n us vs q; body_read = λ us vs (a, q, r). bind_at _ (sign_complete OpenBrace q) (bind_at _ (sign_complete CloseBrace r) refl) }
+    record { begun = Abstract is_new_slot; words = p; head_read = λ us vs e q. named_head_complete t n us vs q; body_read = λ us vs (a, q, r). bind_at _ (empty_block_complete q r) refl }
 begun_by ConstructorName None (kinds.Instance c) ts rest p =
     record {
       begun = Constructor;
@@ -173,27 +180,27 @@ no_hidebysig (Virtual n) ts rest (a, p, (b, q, r)) = first_virtual n false ts a 
 no_hidebysig (Abstract n) ts rest (a, p, (b, q, (c, r, s))) = first_virtual n true ts a b c p q r (codes "hidebysig") refl refl refl
 
 method_complete : Complete method_at method
-unfolding method_at
+unfolding method_at method_words_at signature_at managed_body_at
 method_complete x ts rest (a, p, (b, q, (c, r, (d, s, (e, t, (f, u, (g, v, (h, w, (i, y, z))))))))) =
     let begun = begun_by x.name x.signature.return_type x.kind c d s in
     let skip = skip_complete (codes "hidebysig") b c (no_hidebysig begun.begun c d begun.words) r in
-    bind_at _ (word_complete (codes ".method") p)
-    (bind_at _ (word_complete (codes "public") q) (rw skip
-    (bind_at _ (first_words_complete begun.begun c d begun.words)
-    (bind_at _ (begun.head_read d f (sign_ends OpenParenthesis refl v.1) (e, t, u))
-    (bind_at _ (parentheses_complete parameter_at parameter parameter_sound parameter_complete parameter_open x.signature.parameters f g v)
-    (bind_at _ (word_complete (codes "cil") w)
-    (bind_at _ (word_complete (codes "managed") y)
-    (bind_at _ (begun.body_read i rest z) refl))))))))
+    let words : method_words_at ts ≡ Some (begun.begun, d) =
+    bind_at _ (word_complete (codes ".method") p) (bind_at _ (word_complete (codes "public") q) (rw skip (first_words_complete begun.begun c d begun.words))) in
+    let signature : signature_at begun.begun d ≡ Some ((x.name, x.signature), g) =
+    bind_at _ (begun.head_read d f (sign_ends OpenParenthesis refl v.1) (e, t, u))
+    (bind_at _ (parentheses_complete parameter_at parameter parameter_sound parameter_complete parameter_open x.signature.parameters f g v) refl) in
+    let kind : managed_body_at begun.begun g ≡ Some (x.kind, rest) =
+    bind_at _ (word_complete (codes "cil") w) (bind_at _ (word_complete (codes "managed") y) (begun.body_read i rest z)) in
+    bind_at _ words (bind_at _ signature (bind_at _ kind refl))
 
 -- ---- members and classes
 
 field_complete : Complete field_at field
-unfolding field_at
+unfolding field_at field_words_at
 field_complete x ts rest (a, p, (b, q, (c, r, (d, s, t)))) =
     let flag = flag_complete (codes "static") x.is_static b c (element_no_word (codes "static") refl refl refl refl refl x.field_type.element c s.0 s.1) r in
-    bind_at _ (word_complete (codes ".field") p) (bind_at _ (word_complete (codes "public") q) (rw flag
-    (bind_at _ (type_complete x.field_type c d (no_brackets _ (name_no_sign OpenBracket x.name t)) s) (bind_at _ (name_complete x.name t) refl))))
+    let words : field_words_at ts ≡ Some (x.is_static, c) = bind_at _ (word_complete (codes ".field") p) (bind_at _ (word_complete (codes "public") q) (rw flag refl)) in
+    bind_at _ words (bind_at _ (pair_given _ _ (type_complete x.field_type c d (no_brackets _ (name_no_sign OpenBracket x.name t)) s) (name_complete x.name t)) refl)
 
 interface_member_complete : Complete interface_member_at interface_member
 unfolding interface_member_at
@@ -216,7 +223,7 @@ member_first (FieldMember f) ts rest (a, p, q) = (rw p refl, tt)
 member_first (MethodMember m) ts rest (a, p, q) = (rw p refl, tt)
 
 block_complete : {A : Type 0} (parses : Parser A) (R : A → Span) → Sound parses R → Complete parses R → ((x : A) (ts rest : List Token) → R x ts rest → (in_block ts ≡ true) × Unit {0}) → Complete (block_at in_block parses) (block R)
-unfolding block_at
+unfolding block_at before_sign_at
 block_complete parses R sound complete first xs ts rest (a, p, (b, q, r)) =
     bind_at _ (sign_complete OpenBrace p)
     (bind_at _ (many_complete in_block parses R (λ _. Unit {0}) sound (λ y us vs _ k. complete y us vs k) first xs a b tt (end_closes r) q)
@@ -232,21 +239,24 @@ implements_complete (x ∷ xs) ts mid rest e (a, p, q) =
     choice_at _ _ (word_complete (codes "implements") p) (commas_complete class_name_at ref class_name_sound class_name_before (x ∷ xs) a mid (sign_ends OpenBrace refl e) (sign_no_comma OpenBrace refl e) q)
 
 interface_complete : (n : List ℕ) (members : List Member) (ts rest : List Token) → class_of_kind n members Interface ts rest → interface_at ts ≡ Some (record { name = n; kind = Interface; members = members }, rest)
-unfolding interface_at
+unfolding interface_at interface_words_at
 interface_complete n members ts rest (a, p, (b, q, (c, r, (d, s, (e, t, (f, u, v)))))) =
+    let words : interface_words_at ts ≡ Some e =
     bind_at _ (word_complete (codes "interface") p) (bind_at _ (word_complete (codes "public") q) (bind_at _ (word_complete (codes "abstract") r)
-    (bind_at _ (word_complete (codes "auto") s) (bind_at _ (word_complete (codes "ansi") t) (bind_at _ (name_complete n u)
-    (bind_at _ (block_complete interface_member_at interface_member interface_member_sound interface_member_complete interface_member_first members f rest v) refl))))))
+    (bind_at _ (word_complete (codes "auto") s) (word_complete (codes "ansi") t)))) in
+    bind_at _ words (bind_at _ (pair_given _ _ (name_complete n u) (block_complete interface_member_at interface_member interface_member_sound interface_member_complete interface_member_first members f rest v)) refl)
 
 plain_class_complete : (n : List ℕ) (members : List Member) (is_abstract : Bool) (base : ClassName) (interfaces : List ClassName) (ts rest : List Token) → class_of_kind n members (PlainClass is_abstract base interfaces) ts rest
     → plain_class_at ts ≡ Some (record { name = n; kind = PlainClass is_abstract base interfaces; members = members }, rest)
-unfolding plain_class_at
+unfolding plain_class_at class_words_at base_at class_body_at
 plain_class_complete n members is_abstract base interfaces ts rest (a, p, (b, q, (c, r, (d, s, (e, t, (f, u, (g, v, (h, w, z)))))))) =
     let flag = flag_complete (codes "abstract") is_abstract a b (word_no_word (codes "abstract") (codes "auto") refl r) q in
-    bind_at _ (word_complete (codes "public") p) (rw flag (bind_at _ (word_complete (codes "auto") r) (bind_at _ (word_complete (codes "ansi") s)
-    (bind_at _ (name_complete n t) (bind_at _ (word_complete (codes "extends") u) (bind_at _ (class_name_complete base f g v)
-    (bind_at _ (implements_complete interfaces g h z.0 z.1 w)
-    (bind_at _ (block_complete member_at member member_sound member_complete member_first members h rest z) refl))))))))
+    let words : class_words_at ts ≡ Some (is_abstract, d) =
+    bind_at _ (word_complete (codes "public") p) (rw flag (bind_at _ (word_complete (codes "auto") r) (bind_at _ (word_complete (codes "ansi") s) refl))) in
+    let extends : base_at e ≡ Some (base, g) = bind_at _ (word_complete (codes "extends") u) (class_name_complete base f g v) in
+    let behind : class_body_at g ≡ Some ((interfaces, members), rest) =
+    bind_at _ (implements_complete interfaces g h z.0 z.1 w) (bind_at _ (block_complete member_at member member_sound member_complete member_first members h rest z) refl) in
+    bind_at _ words (bind_at _ (pair_given _ _ (name_complete n t) (pair_given _ _ extends behind)) refl)
 
 class_by : (n : List ℕ) (members : List Member) (k : ClassKind) (ts rest : List Token) → class_of_kind n members k ts rest
     → choice (word_at (codes "interface") ts) (λ _. interface_at ts) (plain_class_at ts) ≡ Some (record { name = n; kind = k; members = members }, rest)
@@ -263,14 +273,14 @@ class_first x ts rest (a, p, q) = (rw p refl, tt)
 
 -- ---- a whole source
 
+named_assembly_complete : (n : List ℕ) {ts a b rest : List Token} → name n ts a → sign OpenBrace a b → sign CloseBrace b rest → named_assembly_at ts ≡ Some (n, rest)
+unfolding named_assembly_at
+named_assembly_complete n p q r = bind_at _ (name_complete n p) (bind_at _ (empty_block_complete q r) refl)
+
 extern_complete : Complete extern_at extern
 unfolding extern_at
 extern_complete x ts rest (a, p, (b, q, (c, r, (d, s, t)))) =
-    bind_at _ (word_complete (codes ".assembly") p)
-    (bind_at _ (word_complete (codes "extern") q)
-    (bind_at _ (name_complete x r)
-    (bind_at _ (sign_complete OpenBrace s)
-    (bind_at _ (sign_complete CloseBrace t) refl))))
+    bind_at _ (word_complete (codes ".assembly") p) (bind_at _ (word_complete (codes "extern") q) (named_assembly_complete x r s t))
 
 extern_first : (x : List ℕ) (ts rest : List Token) → extern x ts rest → (starts_extern ts ≡ true) × Unit {0}
 unfolding starts_extern
@@ -285,7 +295,7 @@ assembly_complete : CompleteBefore (λ rest. word_at (codes ".assembly") rest �
 unfolding assembly_at
 assembly_complete None ts rest e p = choice_past _ (rw p e) (rw p refl)
 assembly_complete (Some n) ts rest e (a, p, (b, q, (c, r, s))) =
-    choice_at _ _ (word_complete (codes ".assembly") p) (bind_at _ (name_complete n q) (bind_at _ (sign_complete OpenBrace r) (bind_at _ (sign_complete CloseBrace s) refl)))
+    choice_at _ _ (word_complete (codes ".assembly") p) (bind_at _ (named_assembly_complete n q r s) refl)
 
 -- the source's own assembly is no extern
 no_extern : (o : Option (List ℕ)) (ts rest : List Token) → word_at (codes ".assembly") rest ≡ None → assembly o ts rest → starts_extern ts ≡ false

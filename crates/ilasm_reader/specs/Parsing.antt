@@ -1,5 +1,6 @@
 -- Reading the parts of a source from its tokens, from left to right.
-use Rattle.std.specs.Prelude.{◌==◌, ℕ, ℤ, List, [], ◌∷◌, length, Option, Some, None, Bool, true, false, is_some, is_none, if◌then◌else◌, codes, bytes_eq, unwrap_or, nat_le, pos, negsuc}
+use Rattle.std.specs.Borrow.{Bor}
+use Rattle.std.specs.Prelude.{◌≡◌, ◌==◌, ℕ, ℤ, List, [], ◌∷◌, length, Option, Some, None, Result, Ok, Err, Bool, true, false, is_some, is_none, if◌then◌else◌, codes, bytes_eq, unwrap_or, nat_le, pos, negsuc}
 use Rattle.cil_model.specs.declared.tokens.Symbol as symbols
 use Rattle.cil_model.specs.declared.tokens.Symbol.TheVariants.{OpenBrace, CloseBrace, OpenParenthesis, CloseParenthesis, OpenBracket, CloseBracket, Comma, Colon, DoubleColon}
 use Rattle.cil_model.specs.declared.tokens.Token.{Token}
@@ -39,7 +40,8 @@ use Rattle.ilasm_tokens.specs.declared.words.FieldAccess.{FieldAccess}
 use Rattle.ilasm_tokens.specs.declared.words.FieldAccess.TheVariants as accesses
 use Rattle.ilasm_tokens.specs.declared.words.TypeTest.{TypeTest}
 use Rattle.ilasm_tokens.specs.declared.words.TypeTest.TheVariants as tests
-use Rattle.ilasm_tokens.specs.Steps.{◌>>=◌, choice, ParserOf, with_front, many}
+use Rattle.ilasm_tokens.specs.declared.failure.Failure.{Failure}
+use Rattle.ilasm_tokens.specs.Steps.{◌>>=◌, Fails, choice, ParserOf, with_front, many}
 use Rattle.ilasm_tokens.specs.Vocabulary.{use_of}
 use Rattle.ilasm_tokens.specs.Parts.{reserved_in, name_in, integer_in, quoted_in, symbol_in}
 use Rattle.ilasm_reader.specs.declared.methods.Beginning.{Beginning}
@@ -89,6 +91,25 @@ quoted_at (t ∷ rest) = choice (quoted_in t) (λ found. Some (found, rest)) Non
 unfoldable pub flag_at : List ℕ → List Token → Bool × List Token
 flag_at w ts = choice (word_at w ts) (λ rest. (true, rest)) (false, ts)
 
+-- ---- one part behind another
+
+-- what was read, if a symbol stands behind it
+unfoldable pub before_sign_at : {A : Type 0} → A → symbols.Symbol → Parser A
+before_sign_at x s ts = do
+  rest ← sign_at s ts
+  Some (x, rest)
+
+unfoldable pub pair_at : {A B : Type 0} → Parser A → Parser B → Parser (A × B)
+pair_at first_at second_at ts = do
+  first ← first_at ts
+  second ← second_at first.1
+  Some ((first.0, second.0), second.1)
+
+-- what was read before is beside what is parsed, or nothing is parsed
+abbrev pub IsBeside : {A B : Type 0} → A → Result ((A × B) × Bor (List Token)) Failure → Option (B × List Token) → Type 0
+IsBeside before (Ok x) parsed = (x.0.0 ≡ before) × (parsed ≡ Some (x.0.1, x.1.now))
+IsBeside before (Err e) parsed = Fails e parsed
+
 -- ---- lists
 
 unfoldable pub starts_comma : List Token → Bool
@@ -104,13 +125,22 @@ commas_at parses ts = do
   first ← parses ts
   with_front (first.0 ∷ []) (many starts_comma (after_comma parses) first.1)
 
+-- behind an opening parenthesis
+unfoldable pub closed_commas_at : {A : Type 0} → Parser A → Parser (List A)
+closed_commas_at parses ts = do
+  items ← commas_at parses ts
+  before_sign_at items.0 CloseParenthesis items.1
+
 unfoldable pub parentheses_at : {A : Type 0} → Parser A → Parser (List A)
 parentheses_at parses ts = do
   inside ← sign_at OpenParenthesis ts
-  choice (sign_at CloseParenthesis inside) (λ rest. Some ([], rest)) (do
-    items ← commas_at parses inside
-    rest ← sign_at CloseParenthesis items.1
-    Some (items.0, rest))
+  choice (sign_at CloseParenthesis inside) (λ rest. Some ([], rest)) (closed_commas_at parses inside)
+
+-- a block with nothing in it
+unfoldable pub empty_block_at : List Token → Option (List Token)
+empty_block_at ts = do
+  inside ← sign_at OpenBrace ts
+  sign_at CloseBrace inside
 
 -- whether a block goes on
 unfoldable pub in_block : List Token → Bool
@@ -119,14 +149,22 @@ in_block (t ∷ rest) = is_none (sign_at CloseBrace (t ∷ rest))
 
 -- ---- names and types
 
+-- the name of an assembly, behind an opening bracket
+unfoldable pub assembly_name_at : Parser (List ℕ)
+assembly_name_at ts = do
+  name ← name_at ts
+  before_sign_at name.0 CloseBracket name.1
+
+-- behind an opening bracket
+unfoldable pub class_of_assembly_at : Parser ClassName
+class_of_assembly_at ts = do
+  names ← pair_at assembly_name_at name_at ts
+  Some (record { assembly = Some names.0.0; name = names.0.1 }, names.1)
+
 unfoldable pub class_name_at : Parser ClassName
-class_name_at ts = choice (sign_at OpenBracket ts) (λ inside. do
-  assembly ← name_at inside
-  rest ← sign_at CloseBracket assembly.1
-  name ← name_at rest
-  Some (record { assembly = Some assembly.0; name = name.0 }, name.1)) (do
-    name ← name_at ts
-    Some (record { assembly = None; name = name.0 }, name.1))
+class_name_at ts = choice (sign_at OpenBracket ts) (λ inside. class_of_assembly_at inside) (do
+  name ← name_at ts
+  Some (record { assembly = None; name = name.0 }, name.1))
 
 unfoldable pub element_at : Parser Element
 element_at ts = choice (word_at (codes "int32") ts) (λ rest. Some (Int32, rest))
@@ -159,27 +197,39 @@ return_type_at ts = choice (word_at (codes "void") ts) (λ rest. Some (None, res
 
 -- ---- what instructions name
 
+-- the name of a field, behind `::`
+unfoldable pub field_of_owner_at : Parser (List ℕ)
+field_of_owner_at ts = do
+  rest ← sign_at DoubleColon ts
+  name_at rest
+
 unfoldable pub field_reference_at : Parser FieldReference
 field_reference_at ts = do
-  type ← type_at ts
-  owner ← class_name_at type.1
-  rest ← sign_at DoubleColon owner.1
-  name ← name_at rest
-  Some (record { field_type = type.0; owner = owner.0; name = name.0 }, name.1)
+  parts ← pair_at type_at (pair_at class_name_at field_of_owner_at) ts
+  Some (record { field_type = parts.0.0; owner = parts.0.1.0; name = parts.0.1.1 }, parts.1)
 
 unfoldable pub method_name_at : Parser MethodName
 method_name_at ts = choice (word_at (codes ".ctor") ts) (λ rest. Some (ConstructorName, rest)) (do
   name ← name_at ts
   Some (Named name.0, name.1))
 
+-- the name of a method, behind `::`
+unfoldable pub method_of_owner_at : Parser MethodName
+method_of_owner_at ts = do
+  rest ← sign_at DoubleColon ts
+  method_name_at rest
+
 unfoldable pub method_reference_at : Parser MethodReference
 method_reference_at ts = do
   return_type ← return_type_at ts
-  owner ← class_name_at return_type.1
-  rest ← sign_at DoubleColon owner.1
-  name ← method_name_at rest
-  parameters ← parentheses_at type_at name.1
-  Some (record { owner = owner.0; name = name.0; signature = record { parameters = parameters.0; return_type = return_type.0 } }, parameters.1)
+  parts ← pair_at class_name_at (pair_at method_of_owner_at (parentheses_at type_at)) return_type.1
+  Some (record { owner = parts.0.0; name = parts.0.1.0; signature = record { parameters = parts.0.1.1; return_type = return_type.0 } }, parts.1)
+
+-- behind `instance`
+unfoldable pub instance_method_at : Parser MethodReference
+instance_method_at ts = do
+  rest ← word_at (codes "instance") ts
+  method_reference_at rest
 
 -- ---- instructions
 
@@ -275,13 +325,11 @@ operands_at forms.Call ts = do
   method ← method_reference_at (flag_at (codes "instance") ts).1
   Some (instructions.Call (flag_at (codes "instance") ts).0 method.0, method.1)
 operands_at forms.CallVirtual ts = do
-  rest ← word_at (codes "instance") ts
-  method ← method_reference_at rest
+  method ← instance_method_at ts
   call ← virtual_call method.0.owner method.0.signature method.0.name
   Some (call, method.1)
 operands_at forms.NewObject ts = do
-  rest ← word_at (codes "instance") ts
-  method ← method_reference_at rest
+  method ← instance_method_at ts
   created ← creation method.0.owner method.0.signature.parameters method.0.name method.0.signature.return_type
   Some (created, method.1)
 
@@ -301,8 +349,7 @@ instruction_at ts = do
 unfoldable pub label_at : Parser (List ℕ)
 label_at ts = do
   name ← name_at ts
-  rest ← sign_at Colon name.1
-  Some (name.0, rest)
+  before_sign_at name.0 Colon name.1
 
 unfoldable pub starts_label : List Token → Bool
 starts_label ts = is_some (name_at ts)
@@ -313,27 +360,40 @@ line_at ts = do
   instruction ← instruction_at labels.1
   Some (record { labels = labels.0; instruction = instruction.0 }, instruction.1)
 
-unfoldable pub locals_at : Parser (List DeclaredType)
-locals_at ts = choice (word_at (codes ".locals") ts) (λ directive. do
-  behind ← word_at (codes "init") directive
+-- behind `.locals`
+unfoldable pub some_locals_at : Parser (List DeclaredType)
+some_locals_at ts = do
+  behind ← word_at (codes "init") ts
   inside ← sign_at OpenParenthesis behind
-  items ← commas_at parameter_at inside
-  rest ← sign_at CloseParenthesis items.1
-  Some (items.0, rest)) (Some ([], ts))
+  closed_commas_at parameter_at inside
+
+unfoldable pub locals_at : Parser (List DeclaredType)
+locals_at ts = choice (word_at (codes ".locals") ts) (λ rest. some_locals_at rest) (Some ([], ts))
 
 unfoldable pub max_stack_at : Parser ℤ
 max_stack_at ts = do
   rest ← word_at (codes ".maxstack") ts
   integer_at rest
 
-unfoldable pub code_at : Parser Code
-code_at ts = do
+-- the opening brace, whether the method is the entry point, and how high the stack may be
+unfoldable pub code_start_at : Parser (Bool × ℤ)
+code_start_at ts = do
   block ← sign_at OpenBrace ts
   max_stack ← max_stack_at (flag_at (codes ".entrypoint") block).1
-  locals ← locals_at max_stack.1
-  lines ← many in_block line_at locals.1
-  rest ← sign_at CloseBrace lines.1
-  Some (record { is_entry_point = (flag_at (codes ".entrypoint") block).0; max_stack = max_stack.0; locals = locals.0; lines = lines.0 }, rest)
+  Some (((flag_at (codes ".entrypoint") block).0, max_stack.0), max_stack.1)
+
+-- the lines to the closing brace
+unfoldable pub lines_at : Parser (List Line)
+lines_at ts = do
+  lines ← many in_block line_at ts
+  before_sign_at lines.0 CloseBrace lines.1
+
+unfoldable pub code_at : Parser Code
+code_at ts = do
+  start ← code_start_at ts
+  locals ← locals_at start.1
+  lines ← lines_at locals.1
+  Some (record { is_entry_point = start.0.0; max_stack = start.0.1; locals = locals.0; lines = lines.0 }, lines.1)
 
 -- ---- methods
 
@@ -362,12 +422,22 @@ named_head_at ts = do
   name ← name_at type.1
   Some ((type.0, Named name.0), name.1)
 
-unfoldable pub head_at : Beginning → Parser (Option DeclaredType × MethodName)
-head_at Constructor ts = do
+unfoldable pub constructor_head_at : Parser (Option DeclaredType × MethodName)
+constructor_head_at ts = do
   behind ← word_at (codes "void") ts
   rest ← word_at (codes ".ctor") behind
   Some ((None, ConstructorName), rest)
+
+unfoldable pub head_at : Beginning → Parser (Option DeclaredType × MethodName)
+head_at Constructor ts = constructor_head_at ts
 head_at _ ts = named_head_at ts
+
+-- the name, the return type and the parameters
+unfoldable pub signature_at : Beginning → Parser (MethodName × Signature)
+signature_at beginning ts = do
+  head ← head_at beginning ts
+  parameters ← parentheses_at parameter_at head.1
+  Some ((head.0.1, record { parameters = parameters.0; return_type = head.0.0 }), parameters.1)
 
 -- the kind of a method that has code
 abbrev pub kind_with : Beginning → Code → MethodKind
@@ -384,32 +454,45 @@ code_body_at beginning ts = do
 
 unfoldable pub body_at : Beginning → Parser MethodKind
 body_at (Abstract is_new_slot) ts = do
-  behind ← sign_at OpenBrace ts
-  rest ← sign_at CloseBrace behind
+  rest ← empty_block_at ts
   Some (kinds.Abstract is_new_slot, rest)
 body_at beginning ts = code_body_at beginning ts
 
-unfoldable pub method_at : Parser Method
-method_at ts = do
+-- the body behind `cil managed`
+unfoldable pub managed_body_at : Beginning → Parser MethodKind
+managed_body_at beginning ts = do
+  managed ← word_at (codes "cil") ts
+  block ← word_at (codes "managed") managed
+  body_at beginning block
+
+-- all words before a method's return type
+unfoldable pub method_words_at : Parser Beginning
+method_words_at ts = do
   public ← word_at (codes ".method") ts
   behind ← word_at (codes "public") public
-  beginning ← first_words_at (unwrap_or (word_at (codes "hidebysig") behind) behind)
-  head ← head_at beginning.0 beginning.1
-  parameters ← parentheses_at parameter_at head.1
-  managed ← word_at (codes "cil") parameters.1
-  block ← word_at (codes "managed") managed
-  kind ← body_at beginning.0 block
-  Some (record { name = head.0.1; signature = record { parameters = parameters.0; return_type = head.0.0 }; kind = kind.0 }, kind.1)
+  first_words_at (unwrap_or (word_at (codes "hidebysig") behind) behind)
+
+unfoldable pub method_at : Parser Method
+method_at ts = do
+  beginning ← method_words_at ts
+  signature ← signature_at beginning.0 beginning.1
+  kind ← managed_body_at beginning.0 signature.1
+  Some (record { name = signature.0.0; signature = signature.0.1; kind = kind.0 }, kind.1)
 
 -- ---- members and classes
 
-unfoldable pub field_at : Parser Field
-field_at ts = do
+-- the words before a field's type, and whether it is static
+unfoldable pub field_words_at : Parser Bool
+field_words_at ts = do
   public ← word_at (codes ".field") ts
   behind ← word_at (codes "public") public
-  type ← type_at (flag_at (codes "static") behind).1
-  name ← name_at type.1
-  Some (record { is_static = (flag_at (codes "static") behind).0; field_type = type.0; name = name.0 }, name.1)
+  Some (flag_at (codes "static") behind)
+
+unfoldable pub field_at : Parser Field
+field_at ts = do
+  words ← field_words_at ts
+  parts ← pair_at type_at name_at words.1
+  Some (record { is_static = words.0; field_type = parts.0.0; name = parts.0.1 }, parts.1)
 
 unfoldable pub interface_member_at : Parser Member
 interface_member_at ts = do
@@ -426,34 +509,51 @@ unfoldable pub block_at : {A : Type 0} → (List Token → Bool) → Parser A �
 block_at starts parses ts = do
   inside ← sign_at OpenBrace ts
   members ← many starts parses inside
-  rest ← sign_at CloseBrace members.1
-  Some (members.0, rest)
+  before_sign_at members.0 CloseBrace members.1
 
 unfoldable pub implements_at : Parser (List ClassName)
 implements_at ts = choice (word_at (codes "implements") ts) (λ rest. commas_at class_name_at rest) (Some ([], ts))
 
-unfoldable pub interface_at : Parser Class
-interface_at ts = do
+-- the words before an interface's name
+unfoldable pub interface_words_at : List Token → Option (List Token)
+interface_words_at ts = do
   public ← word_at (codes "interface") ts
   abstract ← word_at (codes "public") public
   auto ← word_at (codes "abstract") abstract
   ansi ← word_at (codes "auto") auto
-  behind ← word_at (codes "ansi") ansi
-  name ← name_at behind
-  members ← block_at in_block interface_member_at name.1
-  Some (record { name = name.0; kind = Interface; members = members.0 }, members.1)
+  word_at (codes "ansi") ansi
 
-unfoldable pub plain_class_at : Parser Class
-plain_class_at ts = do
+unfoldable pub interface_at : Parser Class
+interface_at ts = do
+  behind ← interface_words_at ts
+  parts ← pair_at name_at (block_at in_block interface_member_at) behind
+  Some (record { name = parts.0.0; kind = Interface; members = parts.0.1 }, parts.1)
+
+-- the words before the name of a class that is no interface, and whether it is abstract
+unfoldable pub class_words_at : Parser Bool
+class_words_at ts = do
   abstract ← word_at (codes "public") ts
   ansi ← word_at (codes "auto") (flag_at (codes "abstract") abstract).1
   behind ← word_at (codes "ansi") ansi
-  name ← name_at behind
-  extends ← word_at (codes "extends") name.1
-  base ← class_name_at extends
-  interfaces ← implements_at base.1
+  Some ((flag_at (codes "abstract") abstract).0, behind)
+
+unfoldable pub base_at : Parser ClassName
+base_at ts = do
+  rest ← word_at (codes "extends") ts
+  class_name_at rest
+
+-- the interfaces that a class lists, and its members
+unfoldable pub class_body_at : Parser (List ClassName × List Member)
+class_body_at ts = do
+  interfaces ← implements_at ts
   members ← block_at in_block member_at interfaces.1
-  Some (record { name = name.0; kind = PlainClass (flag_at (codes "abstract") abstract).0 base.0 interfaces.0; members = members.0 }, members.1)
+  Some ((interfaces.0, members.0), members.1)
+
+unfoldable pub plain_class_at : Parser Class
+plain_class_at ts = do
+  words ← class_words_at ts
+  parts ← pair_at name_at (pair_at base_at class_body_at) words.1
+  Some (record { name = parts.0.0; kind = PlainClass words.0 parts.0.1.0 parts.0.1.1.0; members = parts.0.1.1.1 }, parts.1)
 
 unfoldable pub class_at : Parser Class
 class_at ts = do
@@ -465,21 +565,23 @@ class_at ts = do
 unfoldable pub starts_extern : List Token → Bool
 starts_extern ts = choice (word_at (codes ".assembly") ts) (λ rest. is_some (word_at (codes "extern") rest)) false
 
+-- the name of an assembly, and an empty block
+unfoldable pub named_assembly_at : Parser (List ℕ)
+named_assembly_at ts = do
+  name ← name_at ts
+  rest ← empty_block_at name.1
+  Some (name.0, rest)
+
 unfoldable pub extern_at : Parser (List ℕ)
 extern_at ts = do
   start ← word_at (codes ".assembly") ts
   behind ← word_at (codes "extern") start
-  name ← name_at behind
-  inside ← sign_at OpenBrace name.1
-  rest ← sign_at CloseBrace inside
-  Some (name.0, rest)
+  named_assembly_at behind
 
 unfoldable pub assembly_at : Parser (Option (List ℕ))
 assembly_at ts = choice (word_at (codes ".assembly") ts) (λ behind. do
-  name ← name_at behind
-  inside ← sign_at OpenBrace name.1
-  rest ← sign_at CloseBrace inside
-  Some (Some name.0, rest)) (Some (None, ts))
+  name ← named_assembly_at behind
+  Some (Some name.0, name.1)) (Some (None, ts))
 
 -- all of the tokens
 unfoldable pub tree_at : List Token → Option Tree

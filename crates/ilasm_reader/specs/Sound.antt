@@ -24,11 +24,11 @@ use Rattle.cil_model.specs.Spans.{◌▸◌, item, maybe, present, each}
 use Rattle.cil_model.specs.Grammar.{Span, word, sign, name, commas, any_commas, parentheses, ref, elem, brackets, type_of, ret, parameter, method_name, field_reference, method_reference, instr, line, locals, code, words_before, body, method, field, member, interface_member, implements, class_of_kind, class_of, extern, assembly, IsUnit}
 use Rattle.ilasm_tokens.specs.declared.words.Form.{Form}
 use Rattle.ilasm_tokens.specs.declared.words.Form.TheVariants as forms
-use Rattle.ilasm_tokens.specs.Steps.{choice, with_front, Yields, yields_some, yields_none, yields_bind, yields_choice, yields_if, Sound, SoundOrNone, stays, many_sound}
+use Rattle.ilasm_tokens.specs.Steps.{Consumes, choice, with_front, Yields, yields_some, yields_none, yields_bind, yields_choice, yields_if, Sound, SoundOrNone, stays, many_sound}
 use Rattle.ilasm_tokens.specs.Vocabulary.{use_of}
 use Rattle.ilasm_reader.specs.declared.methods.Beginning.{Beginning}
 use Rattle.ilasm_reader.specs.declared.methods.Beginning.TheVariants.{Static, Instance, Virtual, Abstract, Constructor}
-use Rattle.ilasm_reader.specs.Parsing.{Parser, word_at, number_of, sign_at, any_word_at, name_at, integer_at, quoted_at, flag_at, starts_comma, after_comma, commas_at, parentheses_at, in_block, class_name_at, element_at, brackets_at, type_at, parameter_at, return_type_at, field_reference_at, method_name_at, method_reference_at, bare, virtual_call, creation, has_32_bits, operands_at, form_of, instruction_at, label_at, starts_label, line_at, locals_at, max_stack_at, code_at, virtual_words_at, constructor_words_at, first_words_at, named_head_at, head_at, kind_with, code_body_at, body_at, method_at, field_at, interface_member_at, member_at, block_at, implements_at, interface_at, plain_class_at, class_at, starts_extern, extern_at, assembly_at, tree_at}
+use Rattle.ilasm_reader.specs.Parsing.{Parser, word_at, number_of, sign_at, any_word_at, name_at, integer_at, quoted_at, flag_at, before_sign_at, pair_at, starts_comma, after_comma, commas_at, closed_commas_at, parentheses_at, empty_block_at, in_block, assembly_name_at, class_of_assembly_at, class_name_at, element_at, brackets_at, type_at, parameter_at, return_type_at, field_of_owner_at, field_reference_at, method_name_at, method_of_owner_at, method_reference_at, instance_method_at, bare, virtual_call, creation, has_32_bits, operands_at, form_of, instruction_at, label_at, starts_label, line_at, some_locals_at, locals_at, max_stack_at, code_start_at, lines_at, code_at, virtual_words_at, constructor_words_at, first_words_at, named_head_at, constructor_head_at, head_at, signature_at, kind_with, code_body_at, body_at, managed_body_at, method_words_at, method_at, field_words_at, field_at, interface_member_at, member_at, block_at, implements_at, interface_words_at, interface_at, class_words_at, base_at, class_body_at, plain_class_at, class_at, named_assembly_at, starts_extern, extern_at, assembly_at, tree_at}
 use Rattle.ilasm_reader.specs.Forms.{operands, instr_from, has_form}
 
 -- ---- single tokens
@@ -104,6 +104,22 @@ skipped : (w : List ℕ) (ts : List Token) (r : Option (List Token)) → Yields 
 skipped w ts (Some rest) y = let p = y.out rest refl in (inl p.0, omega (arith, p.1))
 skipped w ts None y = (inr refl, omega arith)
 
+-- ---- one part behind another
+
+yields_pair : {A B : Type 0} (first : Parser A) (second : Parser B) {ts : List Token} {P : A × List Token → Type 0} {Q : List Token → B × List Token → Type 0}
+    → Yields (first ts) P → ((mid : List Token) → Yields (second mid) (Q mid)) → Yields (pair_at first second ts) (λ y. (mid : List Token) × P (y.0.0, mid) × Q mid (y.0.1, y.1))
+unfolding pair_at
+yields_pair first second p q = yields_bind p (λ a r. yields_bind (q a.1) (λ b s. yields_some (a.1, r, s)))
+
+-- what each value that a parser gives leaves is less
+leaves : {A : Type 0} {parses : Parser A} → Consumes parses → (ts : List Token) → Yields (parses ts) (λ y. length y.1 < length ts)
+leaves consumes ts = record { out = λ y e. consumes ts y.0 y.1 e }
+
+pub pair_consumes : {A B : Type 0} {first : Parser A} {second : Parser B} → Consumes first → Consumes second → Consumes (pair_at first second)
+pair_consumes {A} {B} {first} {second} less below ts x rest e =
+    let p = (yields_pair first second (leaves less ts) (leaves below)).out (x, rest) e in
+    omega (arith, p.1, p.2)
+
 -- ---- lists
 
 module _ {A : Type 0} (parses : Parser A) (R : A → Span) (sound : Sound parses R) where
@@ -124,21 +140,33 @@ some_commas : {A : Type 0} (R : A → Span) (xs : List A) (ts rest : List Token)
 some_commas R [] ts rest c = absurd c
 some_commas R (x ∷ xs) ts rest c = c
 
+closed_commas_sound : {A : Type 0} (parses : Parser A) (R : A → Span) → Sound parses R → Sound (closed_commas_at parses) (λ xs. commas R xs ▸ sign CloseParenthesis)
+unfolding closed_commas_at before_sign_at
+closed_commas_sound parses R sound ts = yields_bind (commas_sound parses R sound ts) (λ a p. yields_bind (sign_sound CloseParenthesis a.1) (λ b q. yields_some ((a.1, p.0, q.0), omega (arith, p.1, q.1))))
+
 parentheses_sound : {A : Type 0} (parses : Parser A) (R : A → Span) → Sound parses R → Sound (parentheses_at parses) (parentheses R)
 unfolding parentheses_at
 parentheses_sound parses R sound ts =
     yields_bind (sign_sound OpenParenthesis ts) (λ a p.
     yields_choice (sign_sound CloseParenthesis a)
     (λ b q. yields_some ((a, p.0, (a, refl, q.0)), omega (arith, p.1, q.1)))
-    (yields_bind (commas_sound parses R sound a) (λ b q. yields_bind (sign_sound CloseParenthesis b.1) (λ c r. yields_some ((a, p.0, (b.1, some_commas R b.0 a b.1 q.0, r.0)), omega (arith, p.1, q.1, r.1))))))
+    (record { out = λ y e. let q = (closed_commas_sound parses R sound a).out y e in ((a, p.0, (q.0.0, some_commas R y.0 a q.0.0 q.0.1, q.0.2)), omega (arith, p.1, q.1)) }))
+
+empty_block_sound : (ts : List Token) → Yields (empty_block_at ts) (λ rest. (sign OpenBrace ▸ sign CloseBrace) ts rest × (length rest < length ts))
+unfolding empty_block_at
+empty_block_sound ts = yields_bind (sign_sound OpenBrace ts) (λ a p. record { out = λ y e. let q = (sign_sound CloseBrace a).out y e in ((a, p.0, q.0), omega (arith, p.1, q.1)) })
 
 -- ---- names and types
 
+pub assembly_name_sound : Sound assembly_name_at (λ n. name n ▸ sign CloseBracket)
+unfolding assembly_name_at before_sign_at
+assembly_name_sound ts = yields_bind (name_sound ts) (λ a p. yields_bind (sign_sound CloseBracket a.1) (λ b q. yields_some ((a.1, p.0, q.0), omega (arith, p.1, q.1))))
+
 pub class_name_sound : Sound class_name_at ref
-unfolding class_name_at
+unfolding class_name_at class_of_assembly_at
 class_name_sound ts =
     yields_choice (sign_sound OpenBracket ts)
-    (λ a p. yields_bind (name_sound a) (λ b q. yields_bind (sign_sound CloseBracket b.1) (λ c r. yields_bind (name_sound c) (λ d s. yields_some ((c, (a, p.0, (b.1, q.0, r.0)), s.0), omega (arith, p.1, q.1, r.1, s.1))))))
+    (λ a p. yields_bind (yields_pair _ _ (assembly_name_sound a) name_sound) (λ b q. yields_some ((q.0, (a, p.0, q.1.0), q.2.0), omega (arith, p.1, q.1.1, q.2.1))))
     (yields_bind (name_sound ts) (λ a p. yields_some ((ts, refl, p.0), p.1)))
 
 element_sound : Sound element_at elem
@@ -176,11 +204,14 @@ return_type_sound ts =
 
 -- ---- what instructions name
 
+pub field_of_owner_sound : Sound field_of_owner_at (λ n. sign DoubleColon ▸ name n)
+unfolding field_of_owner_at
+field_of_owner_sound ts = yields_bind (sign_sound DoubleColon ts) (λ a p. record { out = λ y e. let q = (name_sound a).out y e in ((a, p.0, q.0), omega (arith, p.1, q.1)) })
+
 field_reference_sound : Sound field_reference_at field_reference
 unfolding field_reference_at
 field_reference_sound ts =
-    yields_bind (type_sound ts) (λ a p. yields_bind (class_name_sound a.1) (λ b q. yields_bind (sign_sound DoubleColon b.1) (λ c r. yields_bind (name_sound c) (λ d s.
-    yields_some ((a.1, p.0, (b.1, q.0, (c, r.0, s.0))), omega (arith, p.1, q.1, r.1, s.1))))))
+    yields_bind (yields_pair _ _ (type_sound ts) (λ a. yields_pair _ _ (class_name_sound a) field_of_owner_sound)) (λ _ (a, p, (b, q, r)). yields_some ((a, p.0, (b, q.0, r.0)), omega (arith, p.1, q.1, r.1)))
 
 method_name_sound : Sound method_name_at method_name
 unfolding method_name_at
@@ -188,12 +219,22 @@ method_name_sound ts =
     yields_choice (word_sound (codes ".ctor") ts) (λ a p. yields_some (p.0, p.1))
     (yields_bind (name_sound ts) (λ a p. yields_some (p.0, p.1)))
 
+pub method_of_owner_sound : Sound method_of_owner_at (λ n. sign DoubleColon ▸ method_name n)
+unfolding method_of_owner_at
+method_of_owner_sound ts = yields_bind (sign_sound DoubleColon ts) (λ a p. record { out = λ y e. let q = (method_name_sound a).out y e in ((a, p.0, q.0), omega (arith, p.1, q.1)) })
+
+pub parameter_types_sound : Sound (parentheses_at type_at) (parentheses type_of)
+parameter_types_sound = parentheses_sound type_at type_of type_sound
+
 method_reference_sound : Sound method_reference_at method_reference
 unfolding method_reference_at
 method_reference_sound ts =
-    yields_bind (return_type_sound ts) (λ a p. yields_bind (class_name_sound a.1) (λ b q. yields_bind (sign_sound DoubleColon b.1) (λ c r.
-    yields_bind (method_name_sound c) (λ d s. yields_bind (parentheses_sound type_at type_of type_sound d.1) (λ e t.
-    yields_some ((a.1, p.0, (b.1, q.0, (c, r.0, (d.1, s.0, t.0)))), omega (arith, p.1, q.1, r.1, s.1, t.1)))))))
+    yields_bind (return_type_sound ts) (λ a p. yields_bind (yields_pair _ _ (class_name_sound a.1) (λ b. yields_pair _ _ (method_of_owner_sound b) parameter_types_sound)) (λ _ (b, q, (c, r, s)).
+    yields_some ((a.1, p.0, (b, q.0, (r.0.0, r.0.1, (c, r.0.2, s.0)))), omega (arith, p.1, q.1, r.1, s.1))))
+
+instance_method_sound : Sound instance_method_at (λ m. word (codes "instance") ▸ method_reference m)
+unfolding instance_method_at
+instance_method_sound ts = yields_bind (word_sound (codes "instance") ts) (λ a p. record { out = λ y e. let q = (method_reference_sound a).out y e in ((a, p.0, q.0), omega (arith, p.1, q.1)) })
 
 -- ---- instructions
 
@@ -237,11 +278,11 @@ operands_sound forms.Call ts =
     yields_bind (method_reference_sound (flag_at (codes "instance") ts).1) (λ a p.
     yields_some (((flag_at (codes "instance") ts).0, a.0, refl, ((flag_at (codes "instance") ts).1, flag.0, p.0)), omega (arith, flag.1, p.1)))
 operands_sound forms.CallVirtual ts =
-    yields_bind (word_sound (codes "instance") ts) (λ a p. yields_bind (method_reference_sound a) (λ b q. yields_bind (call_from b.0.owner b.0.signature b.0.name) (λ i v.
-    yields_some ((b.0.owner, v.0, b.0.signature, v.2, (a, p.0, as_virtual b.0 v.0 a b.1 v.1 q.0)), omega (arith, p.1, q.1)))))
+    yields_bind (instance_method_sound ts) (λ a p. yields_bind (call_from a.0.owner a.0.signature a.0.name) (λ i v.
+    yields_some ((a.0.owner, v.0, a.0.signature, v.2, (p.0.0, p.0.1, as_virtual a.0 v.0 p.0.0 a.1 v.1 p.0.2)), omega (arith, p.1))))
 operands_sound forms.NewObject ts =
-    yields_bind (word_sound (codes "instance") ts) (λ a p. yields_bind (method_reference_sound a) (λ b q. yields_bind (creation_from b.0.owner b.0.signature.parameters b.0.name b.0.signature.return_type) (λ i v.
-    yields_some ((b.0.owner, b.0.signature.parameters, v.2, (a, p.0, as_constructor b.0 a b.1 v.0 v.1 q.0)), omega (arith, p.1, q.1)))))
+    yields_bind (instance_method_sound ts) (λ a p. yields_bind (creation_from a.0.owner a.0.signature.parameters a.0.name a.0.signature.return_type) (λ i v.
+    yields_some ((a.0.owner, a.0.signature.parameters, v.2, (p.0.0, p.0.1, as_constructor a.0 p.0.0 a.1 v.0 v.1 p.0.2)), omega (arith, p.1))))
 
 found : {A : Type 0} (r : Option A) → Yields r (λ x. r ≡ Some x)
 found r = record { out = λ y e. e }
@@ -258,7 +299,7 @@ instruction_sound ts =
 -- ---- code
 
 pub label_sound : Sound label_at (λ l. name l ▸ sign Colon)
-unfolding label_at
+unfolding label_at before_sign_at
 label_sound ts = yields_bind (name_sound ts) (λ a p. yields_bind (sign_sound Colon a.1) (λ b q. yields_some ((a.1, p.0, q.0), omega (arith, p.1, q.1))))
 
 pub line_sound : Sound line_at line
@@ -272,28 +313,38 @@ some_locals [] ts a b c d e p q r s t = absurd s
 some_locals (x ∷ xs) ts a b c d e p q r s t = (a, p, (b, q, (c, r, (d, s, t))))
 
 locals_sound : SoundOrNone locals_at locals
-unfolding locals_at
+unfolding locals_at some_locals_at
 locals_sound ts =
     yields_choice (word_sound (codes ".locals") ts)
-    (λ a p. yields_bind (word_sound (codes "init") a) (λ b q. yields_bind (sign_sound OpenParenthesis b) (λ c r. yields_bind (commas_sound parameter_at parameter parameter_sound c) (λ d s.
-    yields_bind (sign_sound CloseParenthesis d.1) (λ e t.
-    yields_some (some_locals d.0 ts a b c d.1 e p.0 q.0 r.0 s.0 t.0, omega (arith, p.1, q.1, r.1, s.1, t.1)))))))
+    (λ a p. yields_bind (word_sound (codes "init") a) (λ b q. yields_bind (sign_sound OpenParenthesis b) (λ c r. record {
+      out = λ y e. let s = (closed_commas_sound parameter_at parameter parameter_sound c).out y e in (some_locals y.0 ts a b c s.0.0 y.1 p.0 q.0 r.0 s.0.1 s.0.2, omega (arith, p.1, q.1, r.1, s.1));
+    })))
     (stays [] ts locals refl)
 
 max_stack_sound : Sound max_stack_at (λ n. word (codes ".maxstack") ▸ item (Integer n))
 unfolding max_stack_at
 max_stack_sound ts = yields_bind (word_sound (codes ".maxstack") ts) (λ a p. record { out = λ y e. let q = (integer_sound a).out y e in ((a, p.0, q.0), omega (arith, p.1, q.1)) })
 
+abbrev pub code_start : Bool × ℤ → Span
+code_start x = sign OpenBrace ▸ present x.0 (word (codes ".entrypoint")) ▸ word (codes ".maxstack") ▸ item (Integer x.1)
+
+code_start_sound : Sound code_start_at code_start
+unfolding code_start_at
+code_start_sound ts =
+    yields_bind (sign_sound OpenBrace ts) (λ a p.
+    let flag = flag_sound (codes ".entrypoint") a in
+    yields_bind (max_stack_sound (flag_at (codes ".entrypoint") a).1) (λ b q.
+    yields_some ((a, p.0, ((flag_at (codes ".entrypoint") a).1, flag.0, q.0)), omega (arith, p.1, flag.1, q.1))))
+
+pub lines_sound : Sound lines_at (λ xs. each line xs ▸ sign CloseBrace)
+unfolding lines_at before_sign_at
+lines_sound ts = yields_bind (many_sound in_block line_at line line_sound ts) (λ a p. yields_bind (sign_sound CloseBrace a.1) (λ b q. yields_some ((a.1, p.0, q.0), omega (arith, p.1, q.1))))
+
 code_sound : Sound code_at code
 unfolding code_at
 code_sound ts =
-    yields_bind (sign_sound OpenBrace ts) (λ a p.
-    let flag = flag_sound (codes ".entrypoint") a in
-    yields_bind (max_stack_sound (flag_at (codes ".entrypoint") a).1) (λ c r.
-    yields_bind (locals_sound c.1) (λ d s.
-    yields_bind (many_sound in_block line_at line line_sound d.1) (λ e t.
-    yields_bind (sign_sound CloseBrace e.1) (λ f u.
-    yields_some ((a, p.0, ((flag_at (codes ".entrypoint") a).1, flag.0, (r.0.0, r.0.1, (c.1, r.0.2, (d.1, s.0, (e.1, t.0, u.0)))))), omega (arith, p.1, flag.1, r.1, s.1, t.1, u.1)))))))
+    yields_bind (code_start_sound ts) (λ a ((b, p, (c, q, (d, r, s))), less). yields_bind (locals_sound a.1) (λ e t. yields_bind (lines_sound e.1) (λ f u.
+    yields_some ((b, p, (c, q, (d, r, (a.1, s, (e.1, t.0, u.0))))), omega (arith, less, t.1, u.1)))))
 
 -- ---- methods
 
@@ -347,12 +398,25 @@ named_head : (b : Beginning) → ((h : Option DeclaredType × MethodName) → ((
 named_head b is ts = record { out = λ y e. let p = (named_head_sound ts).out y e in ((is y.0 p.0, p.1), p.2) }
 
 head_sound : (b : Beginning) → Sound (head_at b) (head b)
-unfolding head_at
+unfolding head_at constructor_head_at
 head_sound Constructor ts = yields_bind (word_sound (codes "void") ts) (λ a p. yields_bind (word_sound (codes ".ctor") a) (λ b q. yields_some ((refl, (a, p.0, q.0)), omega (arith, p.1, q.1))))
 head_sound Static ts = named_head Static (λ h n. n) ts
 head_sound Instance ts = named_head Instance (λ h n. n) ts
 head_sound (Virtual is_new_slot) ts = named_head (Virtual is_new_slot) (λ h n. n) ts
 head_sound (Abstract is_new_slot) ts = named_head (Abstract is_new_slot) (λ h n. n) ts
+
+pub parameters_sound : Sound (parentheses_at parameter_at) (parentheses parameter)
+parameters_sound = parentheses_sound parameter_at parameter parameter_sound
+
+-- a name and a signature behind a beginning
+abbrev signature_behind : Beginning → MethodName × Signature → Span
+signature_behind b x ts rest = IsHead b (x.1.return_type, x.0) × (ret x.1.return_type ▸ method_name x.0 ▸ parentheses parameter x.1.parameters) ts rest
+
+signature_sound : (b : Beginning) → Sound (signature_at b) (signature_behind b)
+unfolding signature_at
+signature_sound b ts =
+    yields_bind (head_sound b ts) (λ a p. yields_bind (parameters_sound a.1) (λ c q.
+    yields_some ((p.0.0, (p.0.1.0, p.0.1.1, (a.1, p.0.1.2, q.0))), omega (arith, p.1, q.1))))
 
 -- which kinds a beginning may have
 abbrev pub IsKind : Beginning → MethodKind → Type 0
@@ -367,8 +431,15 @@ unfolding body_at code_body_at
 body_sound Static ts = yields_bind (code_sound ts) (λ a p. yields_some (((a.0, refl), p.0), p.1))
 body_sound Instance ts = yields_bind (code_sound ts) (λ a p. yields_some (((a.0, refl), p.0), p.1))
 body_sound (Virtual is_new_slot) ts = yields_bind (code_sound ts) (λ a p. yields_some (((a.0, refl), p.0), p.1))
-body_sound (Abstract is_new_slot) ts = yields_bind (sign_sound OpenBrace ts) (λ a p. yields_bind (sign_sound CloseBrace a) (λ b q. yields_some ((refl, (a, p.0, q.0)), omega (arith, p.1, q.1))))
+body_sound (Abstract is_new_slot) ts = yields_bind (empty_block_sound ts) (λ a p. yields_some ((refl, p.0), p.1))
 body_sound Constructor ts = yields_bind (code_sound ts) (λ a p. yields_some (((a.0, refl), p.0), p.1))
+
+managed_body_sound : (b : Beginning) → Sound (managed_body_at b) (λ k ts rest. IsKind b k × (word (codes "cil") ▸ word (codes "managed") ▸ body k) ts rest)
+unfolding managed_body_at
+managed_body_sound b ts =
+    yields_bind (word_sound (codes "cil") ts) (λ a p. yields_bind (word_sound (codes "managed") a) (λ c q. record {
+      out = λ y e. let r = (body_sound b c).out y e in ((r.0.0, (a, p.0, (c, q.0, r.0.1))), omega (arith, p.1, q.1, r.1));
+    }))
 
 -- the words before a method of this head and kind
 words_from : (b : Beginning) (h : Option DeclaredType × MethodName) (k : MethodKind) (ts rest : List Token) → IsHead b h → IsKind b k → beginning b ts rest → words_before h.1 h.0 k ts rest
@@ -378,29 +449,39 @@ words_from (Virtual is_new_slot) h k ts rest (n, e) (c, f) p = rw (e, f) p
 words_from (Abstract is_new_slot) h k ts rest (n, e) f p = rw (e, f) p
 words_from Constructor h k ts rest e (c, f) p = rw (e, f) p
 
+abbrev method_words : Beginning → Span
+method_words b = word (codes ".method") ▸ word (codes "public") ▸ maybe (word (codes "hidebysig")) ▸ beginning b
+
+method_words_sound : Sound method_words_at method_words
+unfolding method_words_at
+method_words_sound ts =
+    yields_bind (word_sound (codes ".method") ts) (λ a p. yields_bind (word_sound (codes "public") a) (λ b q. record {
+      out = λ y e.
+          let k = skipped (codes "hidebysig") b (word_at (codes "hidebysig") b) (word_sound (codes "hidebysig") b) in
+          let r = (first_words_sound (unwrap_or (word_at (codes "hidebysig") b) b)).out y e in
+          ((a, p.0, (b, q.0, (_, k.0, r.0))), omega (arith, p.1, q.1, k.1, r.1));
+    }))
+
 method_sound : Sound method_at method
 unfolding method_at
 method_sound ts =
-    yields_bind (word_sound (codes ".method") ts) (λ a p.
-    yields_bind (word_sound (codes "public") a) (λ b q.
-    let k = skipped (codes "hidebysig") b (word_at (codes "hidebysig") b) (word_sound (codes "hidebysig") b) in
-    yields_bind (first_words_sound (unwrap_or (word_at (codes "hidebysig") b) b)) (λ c r.
-    yields_bind (head_sound c.0 c.1) (λ d s.
-    yields_bind (parentheses_sound parameter_at parameter parameter_sound d.1) (λ e t.
-    yields_bind (word_sound (codes "cil") e.1) (λ f u.
-    yields_bind (word_sound (codes "managed") f) (λ g v.
-    yields_bind (body_sound c.0 g) (λ h w.
-    yields_some ((a, p.0, (b, q.0, (_, k.0, (c.1, words_from c.0 d.0 h.0 _ c.1 s.0.0 w.0.0 r.0, (s.0.1.0, s.0.1.1, (d.1, s.0.1.2, (e.1, t.0, (f, u.0, (g, v.0, w.0.1))))))))), omega (arith, p.1, q.1, k.1, r.1, s.1, t.1, u.1, v.1, w.1))))))))))
+    yields_bind (method_words_sound ts) (λ a ((b, p, (c, q, (d, k, r))), less). yields_bind (signature_sound a.0 a.1) (λ e ((is_head, (f, s, (g, t, u))), below). yields_bind (managed_body_sound a.0 e.1) (λ h ((is_kind, v), under).
+    yields_some ((b, p, (c, q, (d, k, (a.1, words_from a.0 (e.0.1.return_type, e.0.0) h.0 d a.1 is_head is_kind r, (f, s, (g, t, (e.1, u, v))))))), omega (arith, less, below, under)))))
 
 -- ---- members and classes
+
+field_words_sound : Sound field_words_at (λ is_static. word (codes ".field") ▸ word (codes "public") ▸ present is_static (word (codes "static")))
+unfolding field_words_at
+field_words_sound ts =
+    yields_bind (word_sound (codes ".field") ts) (λ a p. yields_bind (word_sound (codes "public") a) (λ b q.
+    let flag = flag_sound (codes "static") b in
+    yields_some ((a, p.0, (b, q.0, flag.0)), omega (arith, p.1, q.1, flag.1))))
 
 field_sound : Sound field_at field
 unfolding field_at
 field_sound ts =
-    yields_bind (word_sound (codes ".field") ts) (λ a p. yields_bind (word_sound (codes "public") a) (λ b q.
-    let flag = flag_sound (codes "static") b in
-    yields_bind (type_sound (flag_at (codes "static") b).1) (λ c r. yields_bind (name_sound c.1) (λ d s.
-    yields_some ((a, p.0, (b, q.0, ((flag_at (codes "static") b).1, flag.0, (c.1, r.0, s.0)))), omega (arith, p.1, q.1, flag.1, r.1, s.1))))))
+    yields_bind (field_words_sound ts) (λ a ((b, p, (c, q, r)), less). yields_bind (yields_pair _ _ (type_sound a.1) name_sound) (λ _ (d, s, t).
+    yields_some ((b, p, (c, q, (a.1, r, (d, s.0, t.0)))), omega (arith, less, s.1, t.1))))
 
 pub interface_member_sound : Sound interface_member_at interface_member
 unfolding interface_member_at
@@ -417,7 +498,7 @@ abbrev pub block : {A : Type 0} → (A → Span) → List A → Span
 block R members = sign OpenBrace ▸ each R members ▸ sign CloseBrace
 
 block_sound : {A : Type 0} (parses : Parser A) (R : A → Span) → Sound parses R → Sound (block_at in_block parses) (block R)
-unfolding block_at
+unfolding block_at before_sign_at
 block_sound parses R sound ts =
     yields_bind (sign_sound OpenBrace ts) (λ a p. yields_bind (many_sound in_block parses R sound a) (λ b q. yields_bind (sign_sound CloseBrace b.1) (λ c r.
     yields_some ((a, p.0, (b.1, q.0, r.0)), omega (arith, p.1, q.1, r.1)))))
@@ -433,22 +514,44 @@ implements_sound ts =
     (λ a p. record { out = λ y e. let q = (commas_sound class_name_at ref class_name_sound a).out y e in (some_implements y.0 ts a y.1 p.0 q.0, omega (arith, p.1, q.1)) })
     (stays [] ts implements refl)
 
+interface_words_sound : (ts : List Token) → Yields (interface_words_at ts) (λ rest. (word (codes "interface") ▸ word (codes "public") ▸ word (codes "abstract") ▸ word (codes "auto") ▸ word (codes "ansi")) ts rest × (length rest < length ts))
+unfolding interface_words_at
+interface_words_sound ts =
+    yields_bind (word_sound (codes "interface") ts) (λ a p. yields_bind (word_sound (codes "public") a) (λ b q. yields_bind (word_sound (codes "abstract") b) (λ c r. yields_bind (word_sound (codes "auto") c) (λ d s. record {
+      out = λ y e. let t = (word_sound (codes "ansi") d).out y e in ((a, p.0, (b, q.0, (c, r.0, (d, s.0, t.0)))), omega (arith, p.1, q.1, r.1, s.1, t.1));
+    }))))
+
+pub interface_members_sound : Sound (block_at in_block interface_member_at) (block interface_member)
+interface_members_sound = block_sound interface_member_at interface_member interface_member_sound
+
 interface_sound : Sound interface_at (λ c. class_of_kind c.name c.members c.kind)
 unfolding interface_at
 interface_sound ts =
-    yields_bind (word_sound (codes "interface") ts) (λ z o. yields_bind (word_sound (codes "public") z) (λ a p. yields_bind (word_sound (codes "abstract") a) (λ b q. yields_bind (word_sound (codes "auto") b) (λ c r.
-    yields_bind (word_sound (codes "ansi") c) (λ d s. yields_bind (name_sound d) (λ e t. yields_bind (block_sound interface_member_at interface_member interface_member_sound e.1) (λ f u.
-    yields_some ((z, o.0, (a, p.0, (b, q.0, (c, r.0, (d, s.0, (e.1, t.0, u.0)))))), omega (arith, o.1, p.1, q.1, r.1, s.1, t.1, u.1)))))))))
+    yields_bind (interface_words_sound ts) (λ e ((a, p, (b, q, (c, r, (d, s, t)))), less). yields_bind (yields_pair _ _ (name_sound e) interface_members_sound) (λ _ (f, u, v).
+    yields_some ((a, p, (b, q, (c, r, (d, s, (e, t, (f, u.0, v.0)))))), omega (arith, less, u.1, v.1))))
+
+class_words_sound : Sound class_words_at (λ is_abstract. word (codes "public") ▸ present is_abstract (word (codes "abstract")) ▸ word (codes "auto") ▸ word (codes "ansi"))
+unfolding class_words_at
+class_words_sound ts =
+    yields_bind (word_sound (codes "public") ts) (λ a p.
+    let flag = flag_sound (codes "abstract") a in
+    yields_bind (word_sound (codes "auto") (flag_at (codes "abstract") a).1) (λ b q. yields_bind (word_sound (codes "ansi") b) (λ c r.
+    yields_some ((a, p.0, ((flag_at (codes "abstract") a).1, flag.0, (b, q.0, r.0))), omega (arith, p.1, flag.1, q.1, r.1)))))
+
+pub base_sound : Sound base_at (λ c. word (codes "extends") ▸ ref c)
+unfolding base_at
+base_sound ts = yields_bind (word_sound (codes "extends") ts) (λ a p. record { out = λ y e. let q = (class_name_sound a).out y e in ((a, p.0, q.0), omega (arith, p.1, q.1)) })
+
+pub class_body_sound : Sound class_body_at (λ x. implements x.0 ▸ block member x.1)
+unfolding class_body_at
+class_body_sound ts =
+    yields_bind (implements_sound ts) (λ a p. yields_bind (block_sound member_at member member_sound a.1) (λ b q. yields_some ((a.1, p.0, q.0), omega (arith, p.1, q.1))))
 
 plain_class_sound : Sound plain_class_at (λ c. class_of_kind c.name c.members c.kind)
 unfolding plain_class_at
 plain_class_sound ts =
-    yields_bind (word_sound (codes "public") ts) (λ a p.
-    let flag = flag_sound (codes "abstract") a in
-    yields_bind (word_sound (codes "auto") (flag_at (codes "abstract") a).1) (λ b q. yields_bind (word_sound (codes "ansi") b) (λ c r.
-    yields_bind (name_sound c) (λ d s. yields_bind (word_sound (codes "extends") d.1) (λ e t. yields_bind (class_name_sound e) (λ f u.
-    yields_bind (implements_sound f.1) (λ g v. yields_bind (block_sound member_at member member_sound g.1) (λ h w.
-    yields_some ((a, p.0, ((flag_at (codes "abstract") a).1, flag.0, (b, q.0, (c, r.0, (d.1, s.0, (e, t.0, (f.1, u.0, (g.1, v.0, w.0)))))))), omega (arith, p.1, flag.1, q.1, r.1, s.1, t.1, u.1, v.1, w.1))))))))))
+    yields_bind (class_words_sound ts) (λ a ((b, p, (c, q, (d, r, s))), less). yields_bind (yields_pair _ _ (name_sound a.1) (λ e. yields_pair _ _ (base_sound e) class_body_sound)) (λ _ (e, t, (f, u, v)).
+    yields_some ((b, p, (c, q, (d, r, (a.1, s, (e, t.0, (u.0.0, u.0.1, (f, u.0.2, v.0))))))), omega (arith, less, t.1, u.1, v.1))))
 
 pub class_sound : Sound class_at class_of
 unfolding class_at
@@ -460,22 +563,22 @@ class_sound ts =
 
 -- ---- a whole source
 
+named_assembly_sound : Sound named_assembly_at (λ n. name n ▸ sign OpenBrace ▸ sign CloseBrace)
+unfolding named_assembly_at
+named_assembly_sound ts = yields_bind (name_sound ts) (λ a p. yields_bind (empty_block_sound a.1) (λ b q. yields_some ((a.1, p.0, q.0), omega (arith, p.1, q.1))))
+
 pub extern_sound : Sound extern_at extern
 unfolding extern_at
 extern_sound ts =
-    yields_bind (word_sound (codes ".assembly") ts) (λ a p.
-    yields_bind (word_sound (codes "extern") a) (λ b q.
-    yields_bind (name_sound b) (λ c r.
-    yields_bind (sign_sound OpenBrace c.1) (λ d s.
-    yields_bind (sign_sound CloseBrace d) (λ e t.
-    yields_some ((a, p.0, (b, q.0, (c.1, r.0, (d, s.0, t.0)))), omega (arith, p.1, q.1, r.1, s.1, t.1)))))))
+    yields_bind (word_sound (codes ".assembly") ts) (λ a p. yields_bind (word_sound (codes "extern") a) (λ b q. record {
+      out = λ y e. let r = (named_assembly_sound b).out y e in ((a, p.0, (b, q.0, r.0)), omega (arith, p.1, q.1, r.1));
+    }))
 
 assembly_sound : SoundOrNone assembly_at assembly
 unfolding assembly_at
 assembly_sound ts =
     yields_choice (word_sound (codes ".assembly") ts)
-    (λ a p. yields_bind (name_sound a) (λ b q. yields_bind (sign_sound OpenBrace b.1) (λ c r. yields_bind (sign_sound CloseBrace c) (λ d s.
-    yields_some ((a, p.0, (b.1, q.0, (c, r.0, s.0))), omega (arith, p.1, q.1, r.1, s.1))))))
+    (λ a p. yields_bind (named_assembly_sound a) (λ b q. yields_some ((a, p.0, q.0), omega (arith, p.1, q.1))))
     (stays None ts assembly refl)
 
 pub tree_sound : (ts : List Token) → Yields (tree_at ts) (IsUnit ts)

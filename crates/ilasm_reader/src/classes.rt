@@ -1,14 +1,14 @@
 //! Assemblies, classes and their members.
 
 ghost use Rattle.ilasm_tokens.specs.Steps.{Gives, many};
-ghost use Rattle.ilasm_reader.specs.Parsing.{assembly_at, block_at, class_at, extern_at, field_at, implements_at, in_block, interface_at, interface_member_at, member_at, plain_class_at, starts_extern, tree_at};
+ghost use Rattle.ilasm_reader.specs.Parsing.{assembly_at, base_at, block_at, class_at, class_body_at, class_words_at, extern_at, field_at, field_words_at, implements_at, in_block, interface_at, interface_member_at, interface_words_at, member_at, named_assembly_at, plain_class_at, starts_extern, tree_at};
 
 use crate::lists::{Parse, Starts, commas, in_block, many};
 use crate::methods::method;
 use crate::single::{
-    after_word, expect_symbol, expect_symbol_of, expect_word, expect_word_of, flag, name,
+    after_word, before_symbol, empty_block, expect_symbol, expect_word, expect_word_of, flag, name,
 };
-use crate::types::{AnyType, ClassReference};
+use crate::types::{AnyType, ClassReference, PlainName};
 use cil_model::sequences::Sequence;
 use cil_model::texts::Text;
 use cil_model::tokens::Symbol;
@@ -22,16 +22,23 @@ use std::alloc::Global;
 /// How many members, classes or assemblies memory is taken for at first.
 const FEW: usize = 4;
 
+/// The words before a field's type, and whether it is static.
+#[tactic(auto, unfolding(crate::specs::Parsing::field_words_at, ilasm_tokens::specs::Steps::bind))]
+fn field_words(tokens: Tokens<'_>) -> Result<(bool, Tokens<'_>), Failure>
+    ensures { Gives (λ x. (x.0, x.1.now)) result (field_words_at tokens.now) }
+{
+    let rest = expect_word(tokens, b".field")?;
+    let rest = expect_word(rest, b"public")?;
+    Ok(flag(rest, b"static"))
+}
+
 /// A field.
 #[tactic(auto, unfolding(crate::specs::Parsing::field_at, ilasm_tokens::specs::Steps::bind))]
 fn field(alloc: Global, tokens: Tokens<'_>) -> Result<(Field, Tokens<'_>), Failure>
     ensures { Gives (λ x. (x.0, x.1.now)) result (field_at tokens.now) }
 {
-    let rest = expect_word(tokens, b".field")?;
-    let rest = expect_word(rest, b"public")?;
-    let (is_static, rest) = flag(rest, b"static");
-    let (field_type, rest) = AnyType::parse(alloc, rest)?;
-    let (name, rest) = name(alloc, rest, Expected::Name)?;
+    let (is_static, rest) = field_words(tokens)?;
+    let ((field_type, name), rest) = <(AnyType, PlainName)>::parse(alloc, rest)?;
     Ok((
         Field {
             is_static,
@@ -110,8 +117,7 @@ fn block<P: Starts>(
     ensures { Gives (λ x. (x.0, x.1.now)) result (block_at P.starts_at P.parsed_at tokens.now) }
 {
     let (members, rest) = many::<P>(alloc, expect_symbol(tokens, Symbol::OpenBrace)?, FEW)?;
-    let rest = expect_symbol_of(rest, Symbol::CloseBrace, expected)?;
-    Ok((members, rest))
+    before_symbol(members, rest, Symbol::CloseBrace, expected)
 }
 
 /// The interfaces that a class lists; none where they are left out.
@@ -128,18 +134,42 @@ fn implements(
     }
 }
 
-/// An interface, behind the word `.class`.
-#[tactic(auto, unfolding(crate::specs::Parsing::interface_at, ilasm_tokens::specs::Steps::bind))]
-fn interface(alloc: Global, tokens: Tokens<'_>) -> Result<(Class, Tokens<'_>), Failure>
-    ensures { Gives (λ x. (x.0, x.1.now)) result (interface_at tokens.now) }
+/// The words before an interface's name, behind `.class`.
+#[tactic(auto, unfolding(crate::specs::Parsing::interface_words_at, ilasm_tokens::specs::Steps::bind))]
+fn interface_words(tokens: Tokens<'_>) -> Result<Tokens<'_>, Failure>
+    ensures { Gives (λ r. r.now) result (interface_words_at tokens.now) }
 {
     let rest = expect_word(tokens, b"interface")?;
     let rest = expect_word(rest, b"public")?;
     let rest = expect_word(rest, b"abstract")?;
     let rest = expect_word(rest, b"auto")?;
-    let rest = expect_word(rest, b"ansi")?;
-    let (name, rest) = name(alloc, rest, Expected::Name)?;
-    let (members, rest) = block::<InterfaceMember>(alloc, rest, Expected::InterfaceMember)?;
+    expect_word(rest, b"ansi")
+}
+
+/// The members of an interface, in braces.
+struct InterfaceMembers;
+
+impl Parse for InterfaceMembers {
+    ghost use Rattle.ilasm_reader.specs.Sound.{interface_members_sound};
+
+    type Tree = Sequence<Member>;
+
+    ghost parsed_at = { block_at in_block interface_member_at };
+
+    fn parse(alloc: Global, tokens: Tokens<'_>) -> Result<(Sequence<Member>, Tokens<'_>), Failure> {
+        block::<InterfaceMember>(alloc, tokens, Expected::InterfaceMember)
+    }
+
+    ghost consumes = { λ ts x rest e. ((interface_members_sound ts).out (x, rest) e).1 };
+}
+
+/// An interface, behind the word `.class`.
+#[tactic(auto, unfolding(crate::specs::Parsing::interface_at, ilasm_tokens::specs::Steps::bind))]
+fn interface(alloc: Global, tokens: Tokens<'_>) -> Result<(Class, Tokens<'_>), Failure>
+    ensures { Gives (λ x. (x.0, x.1.now)) result (interface_at tokens.now) }
+{
+    let rest = interface_words(tokens)?;
+    let ((name, members), rest) = <(PlainName, InterfaceMembers)>::parse(alloc, rest)?;
     let kind = ClassKind::Interface;
     Ok((
         Class {
@@ -160,20 +190,64 @@ fn attributes_behind(is_abstract: bool) -> Expected {
     }
 }
 
-/// A class that is no interface, behind the word `.class`.
-#[tactic(auto, unfolding(crate::specs::Parsing::plain_class_at, ilasm_tokens::specs::Steps::bind))]
-fn plain_class(alloc: Global, tokens: Tokens<'_>) -> Result<(Class, Tokens<'_>), Failure>
-    ensures { Gives (λ x. (x.0, x.1.now)) result (plain_class_at tokens.now) }
+/// The words before the name of a class that is no interface, and whether it is abstract.
+#[tactic(auto, unfolding(crate::specs::Parsing::class_words_at, ilasm_tokens::specs::Steps::bind))]
+fn class_words(tokens: Tokens<'_>) -> Result<(bool, Tokens<'_>), Failure>
+    ensures { Gives (λ x. (x.0, x.1.now)) result (class_words_at tokens.now) }
 {
     let rest = expect_word_of(tokens, b"public", Expected::ClassHead)?;
     let (is_abstract, rest) = flag(rest, b"abstract");
     let rest = expect_word_of(rest, b"auto", attributes_behind(is_abstract))?;
     let rest = expect_word(rest, b"ansi")?;
-    let (name, rest) = name(alloc, rest, Expected::Name)?;
-    let rest = expect_word(rest, b"extends")?;
-    let (base, rest) = ClassReference::parse(alloc, rest)?;
-    let (interfaces, rest) = implements(alloc, rest)?;
-    let (members, rest) = block::<AnyMember>(alloc, rest, Expected::Member)?;
+    Ok((is_abstract, rest))
+}
+
+/// The class that a class extends.
+struct Base;
+
+impl Parse for Base {
+    ghost use Rattle.ilasm_reader.specs.Sound.{base_sound};
+
+    type Tree = ClassName;
+
+    ghost parsed_at = { base_at };
+
+    #[tactic(auto, unfolding(crate::specs::Parsing::base_at, ilasm_tokens::specs::Steps::bind))]
+    fn parse(alloc: Global, tokens: Tokens<'_>) -> Result<(ClassName, Tokens<'_>), Failure> {
+        ClassReference::parse(alloc, expect_word(tokens, b"extends")?)
+    }
+
+    ghost consumes = { λ ts x rest e. ((base_sound ts).out (x, rest) e).1 };
+}
+
+/// The interfaces that a class lists, and its members.
+struct ClassBody;
+
+impl Parse for ClassBody {
+    ghost use Rattle.ilasm_reader.specs.Sound.{class_body_sound};
+
+    type Tree = (Sequence<ClassName>, Sequence<Member>);
+
+    ghost parsed_at = { class_body_at };
+
+    #[tactic(auto, unfolding(crate::specs::Parsing::class_body_at, ilasm_tokens::specs::Steps::bind))]
+    fn parse(alloc: Global, tokens: Tokens<'_>) -> Result<(Self::Tree, Tokens<'_>), Failure> {
+        let (interfaces, rest) = implements(alloc, tokens)?;
+        let (members, rest) = block::<AnyMember>(alloc, rest, Expected::Member)?;
+        Ok(((interfaces, members), rest))
+    }
+
+    ghost consumes = { λ ts x rest e. ((class_body_sound ts).out (x, rest) e).1 };
+}
+
+/// A class that is no interface, behind the word `.class`.
+#[tactic(auto, unfolding(crate::specs::Parsing::plain_class_at, ilasm_tokens::specs::Steps::bind))]
+fn plain_class(alloc: Global, tokens: Tokens<'_>) -> Result<(Class, Tokens<'_>), Failure>
+    ensures { Gives (λ x. (x.0, x.1.now)) result (plain_class_at tokens.now) }
+{
+    let (is_abstract, rest) = class_words(tokens)?;
+    let (parts, rest) = <(PlainName, (Base, ClassBody))>::parse(alloc, rest)?;
+    let (name, (base, (interfaces, members))) = parts;
     let kind = ClassKind::Class {
         is_abstract,
         base,
@@ -220,6 +294,20 @@ impl Starts for AnyClass {
     }
 }
 
+/// The name of an assembly, and an empty block. Where no name stands, the grammar has what is told as expected.
+#[tactic(auto, unfolding(crate::specs::Parsing::named_assembly_at, ilasm_tokens::specs::Steps::bind))]
+fn named_assembly(
+    alloc: Global,
+    tokens: Tokens<'_>,
+    expected: Expected,
+) -> Result<(Text, Tokens<'_>), Failure>
+    ensures { Gives (λ x. (x.0, x.1.now)) result (named_assembly_at tokens.now) }
+{
+    let (name, rest) = name(alloc, tokens, expected)?;
+    let rest = empty_block(rest)?;
+    Ok((name, rest))
+}
+
 /// An assembly that the source uses.
 pub struct Extern;
 
@@ -234,10 +322,7 @@ impl Parse for Extern {
     fn parse(alloc: Global, tokens: Tokens<'_>) -> Result<(Text, Tokens<'_>), Failure> {
         let rest = expect_word(tokens, b".assembly")?;
         let rest = expect_word(rest, b"extern")?;
-        let (name, rest) = name(alloc, rest, Expected::Name)?;
-        let rest = expect_symbol(rest, Symbol::OpenBrace)?;
-        let rest = expect_symbol(rest, Symbol::CloseBrace)?;
-        Ok((name, rest))
+        named_assembly(alloc, rest, Expected::Name)
     }
 
     ghost consumes = { λ ts x rest e. ((extern_sound ts).out (x, rest) e).1 };
@@ -263,9 +348,7 @@ fn assembly(alloc: Global, tokens: Tokens<'_>) -> Result<(Option<Text>, Tokens<'
     let Some(rest) = after_word(tokens, b".assembly") else {
         return Ok((None, tokens));
     };
-    let (name, rest) = name(alloc, rest, Expected::AssemblyName)?;
-    let rest = expect_symbol(rest, Symbol::OpenBrace)?;
-    let rest = expect_symbol(rest, Symbol::CloseBrace)?;
+    let (name, rest) = named_assembly(alloc, rest, Expected::AssemblyName)?;
     Ok((Some(name), rest))
 }
 

@@ -2,12 +2,12 @@
 
 ghost use Rattle.std.specs.Prelude.{◌≤◌, length};
 ghost use Rattle.ilasm_tokens.specs.Steps.{Gives};
-ghost use Rattle.ilasm_reader.specs.Parsing.{code_at, in_block, label_at, line_at, locals_at, max_stack_at, starts_label};
+ghost use Rattle.ilasm_reader.specs.Parsing.{code_at, code_start_at, in_block, label_at, line_at, lines_at, locals_at, max_stack_at, some_locals_at, starts_label};
 
 use crate::instructions::instruction;
-use crate::lists::{Parse, Starts, commas, in_block, many};
+use crate::lists::{Parse, Starts, closed_commas, in_block, many, with};
 use crate::single::{
-    after_name, after_word, expect_symbol, expect_symbol_of, expect_word, expect_word_of, flag,
+    after_name, after_word, before_symbol, expect_symbol, expect_word, expect_word_of, flag,
     integer, name,
 };
 use crate::types::Parameter;
@@ -34,8 +34,7 @@ impl Parse for Label {
     #[tactic(auto, unfolding(crate::specs::Parsing::label_at, ilasm_tokens::specs::Steps::bind))]
     fn parse(alloc: Global, tokens: Tokens<'_>) -> Result<(Text, Tokens<'_>), Failure> {
         let (name, rest) = name(alloc, tokens, Expected::LabelName)?;
-        let rest = expect_symbol_of(rest, Symbol::Colon, Expected::LabelColon)?;
-        Ok((name, rest))
+        before_symbol(name, rest, Symbol::Colon, Expected::LabelColon)
     }
 
     ghost consumes = { λ ts x rest e. ((label_sound ts).out (x, rest) e).1 };
@@ -93,25 +92,31 @@ impl Starts for CodeLine {
     }
 }
 
+/// The types of the locals, behind `.locals`.
+#[tactic(auto, unfolding(crate::specs::Parsing::some_locals_at, ilasm_tokens::specs::Steps::bind))]
+fn some_locals(
+    alloc: Global,
+    tokens: Tokens<'_>,
+) -> Result<(Sequence<DeclaredType>, Tokens<'_>), Failure>
+    ensures { Gives (λ x. (x.0, x.1.now)) result (some_locals_at tokens.now) }
+{
+    let rest = expect_word(tokens, b"init")?;
+    let inside = expect_symbol(rest, Symbol::OpenParenthesis)?;
+    closed_commas::<Parameter>(alloc, inside)
+}
+
 /// The types of the locals; none where they are left out.
-#[tactic(auto, unfolding(crate::specs::Parsing::locals_at, ilasm_tokens::specs::Steps::bind, ilasm_tokens::specs::Steps::choice))]
+#[tactic(auto, unfolding(crate::specs::Parsing::locals_at, ilasm_tokens::specs::Steps::choice))]
 fn locals(
     alloc: Global,
     tokens: Tokens<'_>,
 ) -> Result<(Sequence<DeclaredType>, Tokens<'_>), Failure>
     ensures { Gives (λ x. (x.0, x.1.now)) result (locals_at tokens.now) }
 {
-    let Some(rest) = after_word(tokens, b".locals") else {
-        return Ok((Sequence::new(Vec::new(alloc)), tokens));
-    };
-    let rest = expect_word(rest, b"init")?;
-    let rest = expect_symbol(rest, Symbol::OpenParenthesis)?;
-    let (locals, rest) = commas::<Parameter>(alloc, rest)?;
-    let end = Expected::ListEnd(Symbol::CloseParenthesis);
-    Ok((
-        locals,
-        expect_symbol_of(rest, Symbol::CloseParenthesis, end)?,
-    ))
+    match after_word(tokens, b".locals") {
+        Some(rest) => some_locals(alloc, rest),
+        None => Ok((Sequence::new(Vec::new(alloc)), tokens)),
+    }
 }
 
 /// What stands where the code of a method begins, behind `.entrypoint` or without it.
@@ -145,17 +150,44 @@ fn words_ahead(tokens: Tokens<'_>) -> usize
         .count()
 }
 
+/// The opening brace, whether the method is the entry point, and how high the stack may be.
+#[tactic(auto, unfolding(crate::specs::Parsing::code_start_at, ilasm_tokens::specs::Steps::bind))]
+fn code_start(tokens: Tokens<'_>) -> Result<((bool, i64), Tokens<'_>), Failure>
+    ensures { Gives (λ x. ((x.0.0, x.0.1), x.1.now)) result (code_start_at tokens.now) }
+{
+    let block = expect_symbol(tokens, Symbol::OpenBrace)?;
+    let (is_entry_point, rest) = flag(block, b".entrypoint");
+    let (max_stack, rest) = max_stack(rest, is_entry_point)?;
+    Ok(((is_entry_point, max_stack), rest))
+}
+
+/// The lines of a method, to the closing brace.
+struct Lines;
+
+impl Parse for Lines {
+    ghost use Rattle.ilasm_reader.specs.Sound.{lines_sound};
+
+    type Tree = Sequence<Line>;
+
+    ghost parsed_at = { lines_at };
+
+    #[tactic(auto, unfolding(crate::specs::Parsing::lines_at, ilasm_tokens::specs::Steps::bind))]
+    fn parse(alloc: Global, tokens: Tokens<'_>) -> Result<(Sequence<Line>, Tokens<'_>), Failure> {
+        let (lines, rest) = many::<CodeLine>(alloc, tokens, words_ahead(tokens))?;
+        before_symbol(lines, rest, Symbol::CloseBrace, Expected::Line)
+    }
+
+    ghost consumes = { λ ts x rest e. ((lines_sound ts).out (x, rest) e).1 };
+}
+
 /// The code of a method, in braces.
 #[tactic(auto, unfolding(crate::specs::Parsing::code_at, ilasm_tokens::specs::Steps::bind))]
 pub fn code(alloc: Global, tokens: Tokens<'_>) -> Result<(Code, Tokens<'_>), Failure>
     ensures { Gives (λ x. (x.0, x.1.now)) result (code_at tokens.now) }
 {
-    let block = expect_symbol(tokens, Symbol::OpenBrace)?;
-    let (is_entry_point, rest) = flag(block, b".entrypoint");
-    let (max_stack, rest) = max_stack(rest, is_entry_point)?;
+    let ((is_entry_point, max_stack), rest) = code_start(tokens)?;
     let (locals, rest) = locals(alloc, rest)?;
-    let (lines, rest) = many::<CodeLine>(alloc, rest, words_ahead(rest))?;
-    let rest = expect_symbol_of(rest, Symbol::CloseBrace, Expected::Line)?;
+    let ((locals, lines), rest) = with::<_, Lines>(alloc, locals, rest)?;
     Ok((
         Code {
             is_entry_point,

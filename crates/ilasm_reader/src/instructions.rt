@@ -3,15 +3,15 @@
 ghost use Rattle.std.specs.Prelude.{◌≡◌};
 ghost use Rattle.ilasm_tokens.specs.declared.words.Form.TheVariants.{Int32, Call, CallVirtual, NewObject};
 ghost use Rattle.ilasm_tokens.specs.Steps.{Gives};
-ghost use Rattle.ilasm_reader.specs.Parsing.{bare, with_integer, jump, with_field, with_type, instruction_at, operands_at};
+ghost use Rattle.ilasm_reader.specs.Parsing.{bare, creation, virtual_call, with_integer, jump, with_field, with_type, instruction_at, operands_at};
 
 use crate::lists::{Parse, parentheses};
-use crate::operands::{Target, field_reference, method_reference};
-use crate::single::{after_word, any_word, expect_word, integer, name, quoted};
+use crate::operands::{Target, field_reference, instance_method, method_reference};
+use crate::single::{after_word, any_word, integer, name, quoted};
 use crate::types::{AnyType, element};
 use cil_model::instructions::{FieldReference, Instruction, MethodName, MethodReference};
 use cil_model::texts::Text;
-use cil_model::types::DeclaredType;
+use cil_model::types::{DeclaredType, Signature};
 use ilasm_tokens::expected::Expected;
 use ilasm_tokens::failure::Failure;
 use ilasm_tokens::source_tokens::Tokens;
@@ -132,51 +132,70 @@ fn call(alloc: Global, tokens: Tokens<'_>) -> Result<(Instruction, Tokens<'_>), 
     ))
 }
 
-/// The instruction `callvirt`, behind its name.
-#[tactic(auto, unfolding(crate::specs::Parsing::operands_at, crate::specs::Parsing::virtual_call, ilasm_tokens::specs::Steps::bind))]
-fn call_virtual(alloc: Global, tokens: Tokens<'_>) -> Result<(Instruction, Tokens<'_>), Failure>
-    ensures { Gives (λ x. (x.0, x.1.now)) result (operands_at CallVirtual tokens.now) }
+/// The virtual call of a method, unless it is a constructor.
+#[tactic(auto, unfolding(crate::specs::Parsing::virtual_call))]
+fn virtual_call(method: MethodReference) -> Option<Instruction>
+    ensures { result ≡ virtual_call method.owner method.signature method.name }
 {
-    let rest = expect_word(tokens, b"instance")?;
-    let (method, rest) = method_reference(alloc, rest, Expected::ReturnType)?;
     let MethodReference {
         owner,
         name,
         signature,
     } = method;
     match name {
-        MethodName::Constructor => Err(Failure::Refused {
-            left: tokens.len(),
-            expected: Expected::VirtualMethod,
+        MethodName::Constructor => None,
+        MethodName::Named(name) => Some(Instruction::CallVirtual {
+            owner,
+            name,
+            signature,
         }),
-        MethodName::Named(name) => Ok((
-            Instruction::CallVirtual {
-                owner,
-                name,
-                signature,
-            },
-            rest,
-        )),
     }
 }
 
-/// The instruction `newobj`, behind its name.
-#[tactic(auto, unfolding(crate::specs::Parsing::operands_at, crate::specs::Parsing::creation, ilasm_tokens::specs::Steps::bind))]
-fn new_object(alloc: Global, tokens: Tokens<'_>) -> Result<(Instruction, Tokens<'_>), Failure>
-    ensures { Gives (λ x. (x.0, x.1.now)) result (operands_at NewObject tokens.now) }
+/// The instruction `callvirt`, behind its name.
+#[tactic(auto, unfolding(crate::specs::Parsing::operands_at, ilasm_tokens::specs::Steps::bind))]
+fn call_virtual(alloc: Global, tokens: Tokens<'_>) -> Result<(Instruction, Tokens<'_>), Failure>
+    ensures { Gives (λ x. (x.0, x.1.now)) result (operands_at CallVirtual tokens.now) }
 {
-    let rest = expect_word(tokens, b"instance")?;
-    let (method, rest) = method_reference(alloc, rest, Expected::ReturnType)?;
+    let (method, rest) = instance_method(alloc, tokens)?;
+    match virtual_call(method) {
+        Some(call) => Ok((call, rest)),
+        None => Err(Failure::Refused {
+            left: tokens.len(),
+            expected: Expected::VirtualMethod,
+        }),
+    }
+}
+
+/// The making of an object by a method, if it is a constructor, which returns nothing.
+#[tactic(auto, unfolding(crate::specs::Parsing::creation))]
+fn creation(method: MethodReference) -> Option<Instruction>
+    ensures { result ≡ creation method.owner method.signature.parameters method.name method.signature.return_type }
+{
     let MethodReference {
         owner,
         name,
         signature,
     } = method;
-    match (name, signature.return_type) {
-        (MethodName::Constructor, None) => {
-            Ok((Instruction::NewObject(owner, signature.parameters), rest))
-        }
-        _ => Err(Failure::Refused {
+    let Signature {
+        parameters,
+        return_type,
+    } = signature;
+    match (name, return_type) {
+        (MethodName::Constructor, None) => Some(Instruction::NewObject(owner, parameters)),
+        _ => None,
+    }
+}
+
+/// The instruction `newobj`, behind its name.
+#[tactic(auto, unfolding(crate::specs::Parsing::operands_at, ilasm_tokens::specs::Steps::bind))]
+fn new_object(alloc: Global, tokens: Tokens<'_>) -> Result<(Instruction, Tokens<'_>), Failure>
+    ensures { Gives (λ x. (x.0, x.1.now)) result (operands_at NewObject tokens.now) }
+{
+    let (method, rest) = instance_method(alloc, tokens)?;
+    match creation(method) {
+        Some(created) => Ok((created, rest)),
+        None => Err(Failure::Refused {
             left: tokens.len(),
             expected: Expected::Constructor,
         }),

@@ -2,9 +2,9 @@
 
 ghost use Rattle.std.specs.Prelude.{◌≡◌, ◌≤◌, List, Bool, true, length};
 ghost use Rattle.ilasm_tokens.specs.Steps.{Gives, Consumes, many};
-ghost use Rattle.ilasm_reader.specs.Parsing.{Parser, starts_comma, after_comma, commas_at, parentheses_at, in_block};
+ghost use Rattle.ilasm_reader.specs.Parsing.{Parser, IsBeside, starts_comma, after_comma, commas_at, closed_commas_at, parentheses_at, in_block};
 
-use crate::single::{after_symbol, expect_symbol, expect_symbol_of};
+use crate::single::{after_symbol, before_symbol, expect_symbol};
 use cil_model::sequences::Sequence;
 use cil_model::tokens::Symbol;
 use ilasm_tokens::expected::Expected;
@@ -27,6 +27,37 @@ pub trait Parse {
 
     // Something is taken.
     ghost consumes: { Consumes parsed_at };
+}
+
+/// One part behind another.
+impl<P: Parse, Q: Parse> Parse for (P, Q) {
+    ghost use Rattle.ilasm_reader.specs.Parsing.{pair_at};
+    ghost use Rattle.ilasm_reader.specs.Sound.{pair_consumes};
+
+    type Tree = (P::Tree, Q::Tree);
+
+    ghost parsed_at = { pair_at P.parsed_at Q.parsed_at };
+
+    #[tactic(auto, unfolding(crate::specs::Parsing::pair_at, ilasm_tokens::specs::Steps::bind))]
+    fn parse(alloc: Global, tokens: Tokens<'_>) -> Result<(Self::Tree, Tokens<'_>), Failure> {
+        let (first, rest) = P::parse(alloc, tokens)?;
+        let (second, rest) = Q::parse(alloc, rest)?;
+        Ok(((first, second), rest))
+    }
+
+    ghost consumes = { pair_consumes P.consumes Q.consumes };
+}
+
+/// A part, beside what was read before it.
+pub fn with<T: Drop, P: Parse>(
+    alloc: Global,
+    before: T,
+    tokens: Tokens<'_>,
+) -> Result<((T, P::Tree), Tokens<'_>), Failure>
+    ensures { IsBeside before result (P.parsed_at tokens.now) }
+{
+    let (part, rest) = P::parse(alloc, tokens)?;
+    Ok(((before, part), rest))
 }
 
 /// A part that stands in a list without commas.
@@ -128,6 +159,19 @@ pub fn commas<P: Parse>(
     Ok((Sequence::new(items), rest))
 }
 
+/// One or more behind an opening parenthesis, with commas between, to the closing one.
+#[tactic(auto, unfolding(crate::specs::Parsing::closed_commas_at, ilasm_tokens::specs::Steps::bind))]
+pub fn closed_commas<P: Parse>(
+    alloc: Global,
+    tokens: Tokens<'_>,
+) -> Result<(Sequence<P::Tree>, Tokens<'_>), Failure>
+    ensures { Gives (λ x. (x.0, x.1.now)) result (closed_commas_at P.parsed_at tokens.now) }
+{
+    let (items, rest) = commas::<P>(alloc, tokens)?;
+    let end = Expected::ListEnd(Symbol::CloseParenthesis);
+    before_symbol(items, rest, Symbol::CloseParenthesis, end)
+}
+
 /// Any number in parentheses, with commas between.
 #[tactic(auto, unfolding(crate::specs::Parsing::parentheses_at, ilasm_tokens::specs::Steps::bind, ilasm_tokens::specs::Steps::choice))]
 pub fn parentheses<P: Parse>(
@@ -140,12 +184,7 @@ pub fn parentheses<P: Parse>(
     if let Some(rest) = after_symbol(inside, Symbol::CloseParenthesis) {
         return Ok((Sequence::new(Vec::new(alloc)), rest));
     }
-    let (items, rest) = commas::<P>(alloc, inside)?;
-    let end = Expected::ListEnd(Symbol::CloseParenthesis);
-    Ok((
-        items,
-        expect_symbol_of(rest, Symbol::CloseParenthesis, end)?,
-    ))
+    closed_commas::<P>(alloc, inside)
 }
 
 /// Whether a block goes on: its end is neither here nor missing.

@@ -1,15 +1,16 @@
 //! Methods.
 
+ghost use Rattle.std.specs.Prelude.{◌≡◌};
 ghost use Rattle.ilasm_tokens.specs.Steps.{Gives};
-ghost use Rattle.ilasm_reader.specs.Parsing.{body_at, constructor_words_at, first_words_at, head_at, method_at, virtual_words_at};
+ghost use Rattle.ilasm_reader.specs.Parsing.{body_at, code_body_at, constructor_head_at, constructor_words_at, first_words_at, head_at, kind_with, managed_body_at, method_at, method_words_at, named_head_at, parameter_at, parentheses_at, signature_at, virtual_words_at};
 
 use crate::code::code;
-use crate::lists::parentheses;
-use crate::single::{after_word, expect_symbol, expect_word, expect_word_of, flag, name};
-use crate::types::{Parameter, return_type};
+use crate::lists::{Parse, parentheses, with};
+use crate::single::{after_word, empty_block, expect_word, expect_word_of, flag};
+use crate::types::{Parameter, PlainName, return_type};
 use cil_model::instructions::MethodName;
-use cil_model::tokens::Symbol;
-use cil_model::trees::{Method, MethodKind};
+use cil_model::sequences::Sequence;
+use cil_model::trees::{Code, Method, MethodKind};
 use cil_model::types::{DeclaredType, Signature};
 use ilasm_tokens::expected::Expected;
 use ilasm_tokens::failure::Failure;
@@ -77,8 +78,43 @@ fn first_words(tokens: Tokens<'_>) -> Result<(Beginning, Tokens<'_>), Failure>
     virtual_words(tokens)
 }
 
+/// All words before a method's return type. Where no method begins, the grammar has what is told as expected.
+#[tactic(auto, unfolding(crate::specs::Parsing::method_words_at, ilasm_tokens::specs::Steps::bind))]
+fn method_words(tokens: Tokens<'_>, expected: Expected) -> Result<(Beginning, Tokens<'_>), Failure>
+    ensures { Gives (λ x. (x.0, x.1.now)) result (method_words_at tokens.now) }
+{
+    let rest = expect_word_of(tokens, b".method", expected)?;
+    let rest = expect_word(rest, b"public")?;
+    first_words(after_word(rest, b"hidebysig").unwrap_or(rest))
+}
+
+/// The return type and the name of a constructor.
+#[tactic(auto, unfolding(crate::specs::Parsing::constructor_head_at, ilasm_tokens::specs::Steps::bind))]
+fn constructor_head(
+    tokens: Tokens<'_>,
+) -> Result<((Option<DeclaredType>, MethodName), Tokens<'_>), Failure>
+    ensures { Gives (λ x. (x.0, x.1.now)) result (constructor_head_at tokens.now) }
+{
+    let rest = expect_word(tokens, b"void")?;
+    let rest = expect_word(rest, b".ctor")?;
+    Ok(((None, MethodName::Constructor), rest))
+}
+
+/// The return type and the name of a method that is no constructor.
+#[tactic(auto, unfolding(crate::specs::Parsing::named_head_at, ilasm_tokens::specs::Steps::bind))]
+fn named_head(
+    alloc: Global,
+    tokens: Tokens<'_>,
+) -> Result<((Option<DeclaredType>, MethodName), Tokens<'_>), Failure>
+    ensures { Gives (λ x. (x.0, x.1.now)) result (named_head_at tokens.now) }
+{
+    let (return_type, rest) = return_type(alloc, tokens, Expected::ReturnType)?;
+    let ((return_type, name), rest) = with::<_, PlainName>(alloc, return_type, rest)?;
+    Ok(((return_type, MethodName::Named(name)), rest))
+}
+
 /// The return type and the name.
-#[tactic(auto, unfolding(crate::specs::Parsing::head_at, crate::specs::Parsing::named_head_at, ilasm_tokens::specs::Steps::bind))]
+#[tactic(auto, unfolding(crate::specs::Parsing::head_at))]
 fn head(
     alloc: Global,
     beginning: Beginning,
@@ -86,18 +122,77 @@ fn head(
 ) -> Result<((Option<DeclaredType>, MethodName), Tokens<'_>), Failure>
     ensures { Gives (λ x. (x.0, x.1.now)) result (head_at beginning tokens.now) }
 {
-    if let Beginning::Constructor = beginning {
-        let rest = expect_word(tokens, b"void")?;
-        let rest = expect_word(rest, b".ctor")?;
-        return Ok(((None, MethodName::Constructor), rest));
+    match beginning {
+        Beginning::Constructor => constructor_head(tokens),
+        _ => named_head(alloc, tokens),
     }
-    let (return_type, rest) = return_type(alloc, tokens, Expected::ReturnType)?;
-    let (name, rest) = name(alloc, rest, Expected::Name)?;
-    Ok(((return_type, MethodName::Named(name)), rest))
+}
+
+/// The parameters of a method that is declared, in parentheses.
+struct Parameters;
+
+impl Parse for Parameters {
+    ghost use Rattle.ilasm_reader.specs.Sound.{parameters_sound};
+
+    type Tree = Sequence<DeclaredType>;
+
+    ghost parsed_at = { parentheses_at parameter_at };
+
+    fn parse(
+        alloc: Global,
+        tokens: Tokens<'_>,
+    ) -> Result<(Sequence<DeclaredType>, Tokens<'_>), Failure> {
+        parentheses::<Parameter>(alloc, tokens)
+    }
+
+    ghost consumes = { λ ts x rest e. ((parameters_sound ts).out (x, rest) e).1 };
+}
+
+/// The name, the return type and the parameters.
+#[tactic(auto, unfolding(crate::specs::Parsing::signature_at, ilasm_tokens::specs::Steps::bind))]
+fn signature(
+    alloc: Global,
+    beginning: Beginning,
+    tokens: Tokens<'_>,
+) -> Result<((MethodName, Signature), Tokens<'_>), Failure>
+    ensures { Gives (λ x. (x.0, x.1.now)) result (signature_at beginning tokens.now) }
+{
+    let (head, rest) = head(alloc, beginning, tokens)?;
+    let ((head, parameters), rest) = with::<_, Parameters>(alloc, head, rest)?;
+    let (return_type, name) = head;
+    let signature = Signature {
+        parameters,
+        return_type,
+    };
+    Ok(((name, signature), rest))
+}
+
+/// The kind of a method that has code.
+fn kind_with(beginning: Beginning, code: Code) -> MethodKind
+    ensures { result ≡ kind_with beginning code }
+{
+    match beginning {
+        Beginning::Static => MethodKind::Static(code),
+        Beginning::Virtual { is_new_slot } => MethodKind::Virtual { is_new_slot, code },
+        _ => MethodKind::Instance(code),
+    }
+}
+
+/// The kind of a method that has code, with the code that stands here.
+#[tactic(auto, unfolding(crate::specs::Parsing::code_body_at, ilasm_tokens::specs::Steps::bind))]
+fn code_body(
+    alloc: Global,
+    beginning: Beginning,
+    tokens: Tokens<'_>,
+) -> Result<(MethodKind, Tokens<'_>), Failure>
+    ensures { Gives (λ x. (x.0, x.1.now)) result (code_body_at beginning tokens.now) }
+{
+    let (code, rest) = code(alloc, tokens)?;
+    Ok((kind_with(beginning, code), rest))
 }
 
 /// The kind, with the code that stands here; an abstract method has an empty block.
-#[tactic(auto, unfolding(crate::specs::Parsing::body_at, crate::specs::Parsing::code_body_at, ilasm_tokens::specs::Steps::bind))]
+#[tactic(auto, unfolding(crate::specs::Parsing::body_at, ilasm_tokens::specs::Steps::bind))]
 fn body(
     alloc: Global,
     beginning: Beginning,
@@ -105,18 +200,25 @@ fn body(
 ) -> Result<(MethodKind, Tokens<'_>), Failure>
     ensures { Gives (λ x. (x.0, x.1.now)) result (body_at beginning tokens.now) }
 {
-    if let Beginning::Abstract { is_new_slot } = beginning {
-        let rest = expect_symbol(tokens, Symbol::OpenBrace)?;
-        let rest = expect_symbol(rest, Symbol::CloseBrace)?;
-        return Ok((MethodKind::Abstract { is_new_slot }, rest));
-    }
-    let (code, rest) = code(alloc, tokens)?;
-    let kind = match beginning {
-        Beginning::Static => MethodKind::Static(code),
-        Beginning::Virtual { is_new_slot } => MethodKind::Virtual { is_new_slot, code },
-        _ => MethodKind::Instance(code),
+    let Beginning::Abstract { is_new_slot } = beginning else {
+        return code_body(alloc, beginning, tokens);
     };
-    Ok((kind, rest))
+    let rest = empty_block(tokens)?;
+    Ok((MethodKind::Abstract { is_new_slot }, rest))
+}
+
+/// The kind, behind the words before a body.
+#[tactic(auto, unfolding(crate::specs::Parsing::managed_body_at, ilasm_tokens::specs::Steps::bind))]
+fn managed_body(
+    alloc: Global,
+    beginning: Beginning,
+    tokens: Tokens<'_>,
+) -> Result<(MethodKind, Tokens<'_>), Failure>
+    ensures { Gives (λ x. (x.0, x.1.now)) result (managed_body_at beginning tokens.now) }
+{
+    let rest = expect_word_of(tokens, b"cil", Expected::CilManaged)?;
+    let rest = expect_word(rest, b"managed")?;
+    body(alloc, beginning, rest)
 }
 
 /// A method. Where none begins, the grammar has what is told as expected.
@@ -128,19 +230,9 @@ pub fn method(
 ) -> Result<(Method, Tokens<'_>), Failure>
     ensures { Gives (λ x. (x.0, x.1.now)) result (method_at tokens.now) }
 {
-    let rest = expect_word_of(tokens, b".method", expected)?;
-    let rest = expect_word(rest, b"public")?;
-    let rest = after_word(rest, b"hidebysig").unwrap_or(rest);
-    let (beginning, rest) = first_words(rest)?;
-    let ((return_type, name), rest) = head(alloc, beginning, rest)?;
-    let (parameters, rest) = parentheses::<Parameter>(alloc, rest)?;
-    let rest = expect_word_of(rest, b"cil", Expected::CilManaged)?;
-    let rest = expect_word(rest, b"managed")?;
-    let (kind, rest) = body(alloc, beginning, rest)?;
-    let signature = Signature {
-        parameters,
-        return_type,
-    };
+    let (beginning, rest) = method_words(tokens, expected)?;
+    let ((name, signature), rest) = signature(alloc, beginning, rest)?;
+    let (kind, rest) = managed_body(alloc, beginning, rest)?;
     Ok((
         Method {
             name,

@@ -1,15 +1,16 @@
 //! Fields, methods and labels that instructions name.
 
 ghost use Rattle.ilasm_tokens.specs.Steps.{Gives};
-ghost use Rattle.ilasm_reader.specs.Parsing.{field_reference_at, method_name_at, method_reference_at, name_at};
+ghost use Rattle.ilasm_reader.specs.Parsing.{field_of_owner_at, field_reference_at, instance_method_at, method_name_at, method_of_owner_at, method_reference_at, name_at, parentheses_at, type_at};
 
-use crate::lists::{Parse, parentheses};
+use crate::lists::{Parse, parentheses, with};
 use crate::single::{after_word, expect_symbol, expect_word, name};
 use crate::types::{AnyType, ClassReference, return_type};
 use cil_model::instructions::{FieldReference, MethodName, MethodReference};
+use cil_model::sequences::Sequence;
 use cil_model::texts::Text;
 use cil_model::tokens::Symbol;
-use cil_model::types::Signature;
+use cil_model::types::{DeclaredType, Signature};
 use ilasm_tokens::expected::Expected;
 use ilasm_tokens::failure::Failure;
 use ilasm_tokens::source_tokens::Tokens;
@@ -32,6 +33,25 @@ impl Parse for Target {
     ghost consumes = { λ ts x rest e. ((name_sound ts).out (x, rest) e).1 };
 }
 
+/// The name of a field, behind `::`.
+struct FieldOfOwner;
+
+impl Parse for FieldOfOwner {
+    ghost use Rattle.ilasm_reader.specs.Sound.{field_of_owner_sound};
+
+    type Tree = Text;
+
+    ghost parsed_at = { field_of_owner_at };
+
+    #[tactic(auto, unfolding(crate::specs::Parsing::field_of_owner_at, ilasm_tokens::specs::Steps::bind))]
+    fn parse(alloc: Global, tokens: Tokens<'_>) -> Result<(Text, Tokens<'_>), Failure> {
+        let rest = expect_symbol(tokens, Symbol::DoubleColon)?;
+        name(alloc, rest, Expected::MemberName)
+    }
+
+    ghost consumes = { λ ts x rest e. ((field_of_owner_sound ts).out (x, rest) e).1 };
+}
+
 /// `type owner::name`.
 #[tactic(auto, unfolding(crate::specs::Parsing::field_reference_at, ilasm_tokens::specs::Steps::bind))]
 pub fn field_reference(
@@ -40,10 +60,8 @@ pub fn field_reference(
 ) -> Result<(FieldReference, Tokens<'_>), Failure>
     ensures { Gives (λ x. (x.0, x.1.now)) result (field_reference_at tokens.now) }
 {
-    let (field_type, rest) = AnyType::parse(alloc, tokens)?;
-    let (owner, rest) = ClassReference::parse(alloc, rest)?;
-    let rest = expect_symbol(rest, Symbol::DoubleColon)?;
-    let (name, rest) = name(alloc, rest, Expected::MemberName)?;
+    let (parts, rest) = <(AnyType, (ClassReference, FieldOfOwner))>::parse(alloc, tokens)?;
+    let (field_type, (owner, name)) = parts;
     Ok((
         FieldReference {
             field_type,
@@ -66,6 +84,45 @@ fn method_name(alloc: Global, tokens: Tokens<'_>) -> Result<(MethodName, Tokens<
     Ok((MethodName::Named(name), rest))
 }
 
+/// The name of a method, behind `::`.
+struct MethodOfOwner;
+
+impl Parse for MethodOfOwner {
+    ghost use Rattle.ilasm_reader.specs.Sound.{method_of_owner_sound};
+
+    type Tree = MethodName;
+
+    ghost parsed_at = { method_of_owner_at };
+
+    #[tactic(auto, unfolding(crate::specs::Parsing::method_of_owner_at, ilasm_tokens::specs::Steps::bind))]
+    fn parse(alloc: Global, tokens: Tokens<'_>) -> Result<(MethodName, Tokens<'_>), Failure> {
+        let rest = expect_symbol(tokens, Symbol::DoubleColon)?;
+        method_name(alloc, rest)
+    }
+
+    ghost consumes = { λ ts x rest e. ((method_of_owner_sound ts).out (x, rest) e).1 };
+}
+
+/// The types of the parameters of a method that is named, in parentheses.
+struct ParameterTypes;
+
+impl Parse for ParameterTypes {
+    ghost use Rattle.ilasm_reader.specs.Sound.{parameter_types_sound};
+
+    type Tree = Sequence<DeclaredType>;
+
+    ghost parsed_at = { parentheses_at type_at };
+
+    fn parse(
+        alloc: Global,
+        tokens: Tokens<'_>,
+    ) -> Result<(Sequence<DeclaredType>, Tokens<'_>), Failure> {
+        parentheses::<AnyType>(alloc, tokens)
+    }
+
+    ghost consumes = { λ ts x rest e. ((parameter_types_sound ts).out (x, rest) e).1 };
+}
+
 /// `type owner::name(types)`, with a name or `.ctor`. Where no type stands, the grammar has what is told as expected.
 #[tactic(auto, unfolding(crate::specs::Parsing::method_reference_at, ilasm_tokens::specs::Steps::bind))]
 pub fn method_reference(
@@ -76,10 +133,12 @@ pub fn method_reference(
     ensures { Gives (λ x. (x.0, x.1.now)) result (method_reference_at tokens.now) }
 {
     let (return_type, rest) = return_type(alloc, tokens, expected)?;
-    let (owner, rest) = ClassReference::parse(alloc, rest)?;
-    let rest = expect_symbol(rest, Symbol::DoubleColon)?;
-    let (name, rest) = method_name(alloc, rest)?;
-    let (parameters, rest) = parentheses::<AnyType>(alloc, rest)?;
+    let (parts, rest) = with::<_, (ClassReference, (MethodOfOwner, ParameterTypes))>(
+        alloc,
+        return_type,
+        rest,
+    )?;
+    let (return_type, (owner, (name, parameters))) = parts;
     let signature = Signature {
         parameters,
         return_type,
@@ -92,4 +151,19 @@ pub fn method_reference(
         },
         rest,
     ))
+}
+
+/// A method behind the word `instance`.
+#[tactic(auto, unfolding(crate::specs::Parsing::instance_method_at, ilasm_tokens::specs::Steps::bind))]
+pub fn instance_method(
+    alloc: Global,
+    tokens: Tokens<'_>,
+) -> Result<(MethodReference, Tokens<'_>), Failure>
+    ensures { Gives (λ x. (x.0, x.1.now)) result (instance_method_at tokens.now) }
+{
+    method_reference(
+        alloc,
+        expect_word(tokens, b"instance")?,
+        Expected::ReturnType,
+    )
 }

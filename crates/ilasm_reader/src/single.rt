@@ -2,7 +2,7 @@
 
 ghost use Rattle.std.specs.Prelude.{◌≡◌, option_map};
 ghost use Rattle.ilasm_tokens.specs.Steps.{Gives};
-ghost use Rattle.ilasm_reader.specs.Parsing.{word_at, sign_at, any_word_at, name_at, integer_at, quoted_at, flag_at};
+ghost use Rattle.ilasm_reader.specs.Parsing.{word_at, sign_at, before_sign_at, empty_block_at, any_word_at, name_at, integer_at, quoted_at, flag_at};
 
 use cil_model::texts::Text;
 use cil_model::tokens::Symbol;
@@ -85,6 +85,31 @@ pub fn expect_symbol(tokens: Tokens<'_>, symbol: Symbol) -> Result<Tokens<'_>, F
     ensures { Gives (λ r. r.now) result (sign_at symbol tokens.now) }
 {
     expect_symbol_of(tokens, symbol, Expected::Symbol(symbol))
+}
+
+/// What was read, if a symbol stands behind it. Where it does not, the grammar has what is told as expected.
+#[tactic(auto, unfolding(crate::specs::Parsing::before_sign_at, ilasm_tokens::specs::Steps::bind))]
+pub fn before_symbol<T: Drop>(
+    read: T,
+    tokens: Tokens<'_>,
+    symbol: Symbol,
+    expected: Expected,
+) -> Result<(T, Tokens<'_>), Failure>
+    ensures { Gives (λ x. (x.0, x.1.now)) result (before_sign_at read symbol tokens.now) }
+{
+    let rest = expect_symbol_of(tokens, symbol, expected)?;
+    Ok((read, rest))
+}
+
+/// The tokens behind a pair of braces with nothing between.
+#[tactic(auto, unfolding(crate::specs::Parsing::empty_block_at, ilasm_tokens::specs::Steps::bind))]
+pub fn empty_block(tokens: Tokens<'_>) -> Result<Tokens<'_>, Failure>
+    ensures { Gives (λ r. r.now) result (empty_block_at tokens.now) }
+{
+    expect_symbol(
+        expect_symbol(tokens, Symbol::OpenBrace)?,
+        Symbol::CloseBrace,
+    )
 }
 
 /// A reserved word. Where there is none, the grammar has what is told as expected.

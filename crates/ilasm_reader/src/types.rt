@@ -2,16 +2,81 @@
 
 ghost use Rattle.std.specs.Prelude.{◌≡◌, option_map};
 ghost use Rattle.ilasm_tokens.specs.Steps.{Gives};
-ghost use Rattle.ilasm_reader.specs.Parsing.{brackets_at, class_name_at, element_at, parameter_at, return_type_at, type_at};
+ghost use Rattle.ilasm_reader.specs.Parsing.{assembly_name_at, brackets_at, class_name_at, class_of_assembly_at, element_at, name_at, parameter_at, return_type_at, type_at};
 
 use crate::lists::Parse;
-use crate::single::{after_name, after_symbol, after_word, expect_symbol, expect_word_of, name};
+use crate::single::{after_name, after_symbol, after_word, before_symbol, expect_word_of, name};
+use cil_model::texts::Text;
 use cil_model::tokens::Symbol;
 use cil_model::types::{ClassName, DeclaredType, Element};
 use ilasm_tokens::expected::Expected;
 use ilasm_tokens::failure::Failure;
 use ilasm_tokens::source_tokens::Tokens;
 use std::alloc::Global;
+
+/// The name of an assembly, behind an opening bracket.
+struct AssemblyName;
+
+impl Parse for AssemblyName {
+    ghost use Rattle.ilasm_reader.specs.Sound.{assembly_name_sound};
+
+    type Tree = Text;
+
+    ghost parsed_at = { assembly_name_at };
+
+    #[tactic(auto, unfolding(crate::specs::Parsing::assembly_name_at, ilasm_tokens::specs::Steps::bind))]
+    fn parse(alloc: Global, tokens: Tokens<'_>) -> Result<(Text, Tokens<'_>), Failure> {
+        let (name, rest) = name(alloc, tokens, Expected::Name)?;
+        let end = Symbol::CloseBracket;
+        before_symbol(name, rest, end, Expected::Symbol(end))
+    }
+
+    ghost consumes = { λ ts x rest e. ((assembly_name_sound ts).out (x, rest) e).1 };
+}
+
+/// The name of a class, without its assembly.
+struct OwnName;
+
+impl Parse for OwnName {
+    ghost use Rattle.ilasm_reader.specs.Sound.{name_sound};
+
+    type Tree = Text;
+
+    ghost parsed_at = { name_at };
+
+    fn parse(alloc: Global, tokens: Tokens<'_>) -> Result<(Text, Tokens<'_>), Failure> {
+        name(alloc, tokens, Expected::ClassName)
+    }
+
+    ghost consumes = { λ ts x rest e. ((name_sound ts).out (x, rest) e).1 };
+}
+
+/// The name of what is declared.
+pub struct PlainName;
+
+impl Parse for PlainName {
+    ghost use Rattle.ilasm_reader.specs.Sound.{name_sound};
+
+    type Tree = Text;
+
+    ghost parsed_at = { name_at };
+
+    fn parse(alloc: Global, tokens: Tokens<'_>) -> Result<(Text, Tokens<'_>), Failure> {
+        name(alloc, tokens, Expected::Name)
+    }
+
+    ghost consumes = { λ ts x rest e. ((name_sound ts).out (x, rest) e).1 };
+}
+
+/// A class behind an opening bracket: the name of its assembly, and its own.
+#[tactic(auto, unfolding(crate::specs::Parsing::class_of_assembly_at, ilasm_tokens::specs::Steps::bind))]
+fn class_of_assembly(alloc: Global, tokens: Tokens<'_>) -> Result<(ClassName, Tokens<'_>), Failure>
+    ensures { Gives (λ x. (x.0, x.1.now)) result (class_of_assembly_at tokens.now) }
+{
+    let ((assembly, name), rest) = <(AssemblyName, OwnName)>::parse(alloc, tokens)?;
+    let assembly = Some(assembly);
+    Ok((ClassName { assembly, name }, rest))
+}
 
 /// A class by its name, perhaps behind the name of an assembly in brackets.
 pub struct ClassReference;
@@ -26,11 +91,7 @@ impl Parse for ClassReference {
     #[tactic(auto, unfolding(crate::specs::Parsing::class_name_at, ilasm_tokens::specs::Steps::bind, ilasm_tokens::specs::Steps::choice))]
     fn parse(alloc: Global, tokens: Tokens<'_>) -> Result<(ClassName, Tokens<'_>), Failure> {
         if let Some(inside) = after_symbol(tokens, Symbol::OpenBracket) {
-            let (assembly, rest) = name(alloc, inside, Expected::Name)?;
-            let rest = expect_symbol(rest, Symbol::CloseBracket)?;
-            let (name, rest) = name(alloc, rest, Expected::ClassName)?;
-            let assembly = Some(assembly);
-            return Ok((ClassName { assembly, name }, rest));
+            return class_of_assembly(alloc, inside);
         }
         let (name, rest) = name(alloc, tokens, Expected::ClassName)?;
         let assembly = None;
