@@ -1,12 +1,16 @@
 -- The first place of a key in a list, as the list grows at its end.
-use Rattle.std.proofs.Common.{◌≡◌, ◌+◌, ℕ, zero, suc, Bool, true, false, ◌||◌, cond, List, [], ◌∷◌, ◌++◌, length, take, Option, Some, None, is_some, unwrap_or, refl, sym, ap, ◌∙◌, arith}
+use Rattle.std.proofs.Common.{◌≡◌, ◌<◌, ◌≤◌, ◌+◌, ℕ, zero, suc, Bool, true, false, ◌||◌, ◌&&◌, cond, List, [], ◌∷◌, ◌++◌, length, take, get_or, map, Option, Some, None, is_some, is_none, unwrap_or, refl, sym, ap, subst, ◌∙◌, arith}
 use Rattle.std.specs.List.{list_any, position_from}
 use Rattle.std.specs.Option.{option_map_or}
 use Rattle.std.specs.Cmp.{IsEquivalence}
+use Rattle.std.proofs.Math.Seq.{take_all}
+use Rattle.std.proofs.lemmas.List.{length-take-le}
 use Rattle.std.proofs.lemmas.List.Folds.{list_any-append}
 use Rattle.std.proofs.lemmas.Option.{none-some}
 use Rattle.cil_model.specs.Legality.{has_repeat}
+use Rattle.name_tables.specs.FirstPlaces.{AreFirst, with_first}
 use Rattle.name_tables.specs.Inherited.{number_in}
+use Rattle.name_tables.proofs.Lists.{take_one_more, map-take_more}
 
 -- a place is found exactly where some item passes
 pub is_some-position_from : {K : Type 0} (test : K → Bool) (i : ℕ) (xs : List K) → is_some (position_from test i xs) ≡ list_any test xs
@@ -52,7 +56,7 @@ module _ {K : Type 0} (eq : K → K → Bool) (laws : IsEquivalence eq) where
   same_places q x xs h = position_from-congr (eq q) (eq x) (λ z. laws.congr q x z h) 0 xs
 
   -- a key that was known comes last
-  pub known_last : (places : K → Option ℕ) (x : K) (xs : List K) (p : ℕ) → ((q : K) → places q ≡ position_from (eq q) 0 xs) → places x ≡ Some p → (q : K) → places q ≡ position_from (eq q) 0 (xs ++ x ∷ [])
+  known_last : (places : K → Option ℕ) (x : K) (xs : List K) (p : ℕ) → ((q : K) → places q ≡ position_from (eq q) 0 xs) → places x ≡ Some p → (q : K) → places q ≡ position_from (eq q) 0 (xs ++ x ∷ [])
   known_last places x xs p before known q = before q ∙ by_test (eq q x) refl ∙ sym (more_places (eq q) 0 xs x)
     where
       by_test : (b : Bool) → eq q x ≡ b → position_from (eq q) 0 xs ≡ option_map_or Some (position_from (eq q) 0 xs) (cond (eq q x) (Some (0 + length xs)) None)
@@ -62,7 +66,7 @@ module _ {K : Type 0} (eq : K → K → Bool) (laws : IsEquivalence eq) where
       by_test false h = sym (or_none (position_from (eq q) 0 xs)) ∙ sym (ap (λ b. option_map_or Some (position_from (eq q) 0 xs) (cond b (Some (0 + length xs)) None)) h)
 
   -- a new key comes last
-  pub new_last : (old new : K → Option ℕ) (x : K) (xs : List K) (p : ℕ) → p ≡ length xs → ((q : K) → old q ≡ position_from (eq q) 0 xs) → old x ≡ None → ((q : K) → new q ≡ cond (eq x q) (Some p) (old q)) →
+  new_last : (old new : K → Option ℕ) (x : K) (xs : List K) (p : ℕ) → p ≡ length xs → ((q : K) → old q ≡ position_from (eq q) 0 xs) → old x ≡ None → ((q : K) → new q ≡ cond (eq x q) (Some p) (old q)) →
       (q : K) → new q ≡ position_from (eq q) 0 (xs ++ x ∷ [])
   new_last old new x xs p len before unknown after q = after q ∙ ap (λ b. cond b (Some p) (old q)) (laws.symm x q) ∙ by_test (eq q x) refl ∙ sym (more_places (eq q) 0 xs x)
     where
@@ -75,8 +79,27 @@ module _ {K : Type 0} (eq : K → K → Bool) (laws : IsEquivalence eq) where
           ap (λ b. cond b (Some p) (old q)) h ∙ ap Some (len ∙ zero_more) ∙ sym (ap (λ b. cond b (Some (0 + length xs)) None) h) ∙ sym (ap (λ o. option_map_or Some o (cond (eq q x) (Some (0 + length xs)) None)) e)
       by_test false h = ap (λ b. cond b (Some p) (old q)) h ∙ before q ∙ sym (or_none (position_from (eq q) 0 xs)) ∙ sym (ap (λ b. option_map_or Some (position_from (eq q) 0 xs) (cond b (Some (0 + length xs)) None)) h)
 
+  -- one more key comes last
+  first_more : (old new : K → Option ℕ) (x : K) (xs more : List K) (p : ℕ) → p ≡ length xs → more ≡ xs ++ x ∷ [] → AreFirst eq old xs → ((q : K) → new q ≡ with_first eq old x p q) → AreFirst eq new more
+  first_more old new x xs more p len is before after q = by_old (old x) refl ∙ sym (ap (position_from (eq q) 0) is)
+    where
+      by_old : (o : Option ℕ) → old x ≡ o → new q ≡ position_from (eq q) 0 (xs ++ x ∷ [])
+      by_old None e = new_last old new x xs p len before e (λ k. after k ∙ ap (λ o. cond (is_none o && eq x k) (Some p) (old k)) e) q
+      by_old (Some n) e = after q ∙ ap (λ o. cond (is_none o && eq x q) (Some p) (old q)) e ∙ known_last old x xs n before e q
+
+  -- its place is the one that was known, or the last
+  place_last : (x : K) (xs : List K) (p : ℕ) (o : Option ℕ) → p ≡ length xs → o ≡ position_from (eq x) 0 xs → position_from (eq x) 0 (xs ++ x ∷ []) ≡ Some (unwrap_or o p)
+  place_last x xs p o len e = more_places (eq x) 0 xs x ∙ ap (λ k. option_map_or Some k (cond (eq x x) (Some (0 + length xs)) None)) (sym e) ∙ by_known o
+    where
+      at_end : 0 + length xs ≡ p
+      at_end = omega (arith, len)
+
+      by_known : (k : Option ℕ) → option_map_or Some k (cond (eq x x) (Some (0 + length xs)) None) ≡ Some (unwrap_or k p)
+      by_known None = ap (λ b. cond b (Some (0 + length xs)) None) (laws.refl x) ∙ ap Some at_end
+      by_known (Some n) = refl
+
   -- it repeats one where its place was known
-  pub repeat_last : (x : K) (xs : List K) → has_repeat eq (xs ++ x ∷ []) ≡ has_repeat eq xs || is_some (position_from (eq x) 0 xs)
+  repeat_last : (x : K) (xs : List K) → has_repeat eq (xs ++ x ∷ []) ≡ has_repeat eq xs || is_some (position_from (eq x) 0 xs)
   repeat_last x xs = repeats xs ∙ ap (λ b. has_repeat eq xs || b) (sym (is_some-position_from (eq x) 0 xs))
     where
       repeats : (ys : List K) → has_repeat eq (ys ++ x ∷ []) ≡ has_repeat eq ys || list_any (eq x) ys
@@ -86,5 +109,27 @@ module _ {K : Type 0} (eq : K → K → Bool) (laws : IsEquivalence eq) where
           ap (λ b. (list_any (eq y) ys || (eq x y || false)) || b) (repeats ys) ∙ four (list_any (eq y) ys) (eq x y) (has_repeat eq ys) (list_any (eq x) ys)
 
   -- its number is its first place up to it
-  pub number_last : (x : K) (keys : List K) (m n : ℕ) → position_from (eq x) 0 (take m keys) ≡ Some n → n ≡ number_in eq keys x
+  number_last : (x : K) (keys : List K) (m n : ℕ) → position_from (eq x) 0 (take m keys) ≡ Some n → n ≡ number_in eq keys x
   number_last x keys m n e = sym (ap (λ o. unwrap_or o (length keys)) (found_in_part (eq x) 0 keys m n e))
+
+  -- what is known of the first keys, with one more of them
+  pub one_more : (keys : List K) (place : ℕ) (x : K) (old new : K → Option ℕ) (known : Option ℕ) (some more : Bool) (first : ℕ) (numbers others : List ℕ) → place < length keys → x ≡ get_or keys place x →
+      known ≡ old x → ((q : K) → new q ≡ with_first eq old x place q) → more ≡ some || is_some known → first ≡ unwrap_or known place → others ≡ numbers ++ first ∷ [] →
+      AreFirst eq old (take place keys) × (some ≡ has_repeat eq (take place keys)) × (numbers ≡ map (number_in eq keys) (take place keys)) →
+      AreFirst eq new (take (place + 1) keys) × (more ≡ has_repeat eq (take (place + 1) keys)) × (others ≡ map (number_in eq keys) (take (place + 1) keys))
+  one_more keys place x old new known some more first numbers others inside here is after repeats chosen pushed before =
+      let xs = take place keys in
+      let longer : take (place + 1) keys ≡ xs ++ x ∷ [] = take_one_more keys place x inside here in
+      let long : place ≡ length xs = sym (length-take-le place keys (omega (arith, inside))) in
+      let found : known ≡ position_from (eq x) 0 xs = is ∙ before.0 x in
+      let at : position_from (eq x) 0 (take (place + 1) keys) ≡ Some (unwrap_or known place) = ap (position_from (eq x) 0) longer ∙ place_last x xs place known long found in (
+        first_more old new x xs (take (place + 1) keys) place long longer before.0 after,
+        repeats ∙ ap (λ b. b || is_some known) before.1 ∙ ap (λ o. has_repeat eq xs || is_some o) found ∙ sym (ap (has_repeat eq) longer ∙ repeat_last x xs),
+        pushed ∙ ap (λ ns. ns ++ first ∷ []) before.2 ∙ ap (λ n. map (number_in eq keys) xs ++ n ∷ []) (chosen ∙ number_last x keys (place + 1) (unwrap_or known place) at) ∙ sym (map-take_more (number_in eq keys) keys place x inside here),
+      )
+
+-- as many of the first keys as there are: all
+pub all_known : {K : Type 0} (eq : K → K → Bool) (keys : List K) (i : ℕ) {places : K → Option ℕ} {some : Bool} {numbers : List ℕ} → length keys ≤ i →
+    AreFirst eq places (take i keys) × (some ≡ has_repeat eq (take i keys)) × (numbers ≡ map (number_in eq keys) (take i keys)) →
+    AreFirst eq places keys × (some ≡ has_repeat eq keys) × (numbers ≡ map (number_in eq keys) keys)
+all_known eq keys i {places} {some} {numbers} past h = subst (λ xs. AreFirst eq places xs × (some ≡ has_repeat eq xs) × (numbers ≡ map (number_in eq keys) xs)) (take_all i keys past) h

@@ -4,6 +4,7 @@ pub mod Keys
 pub mod BuiltInTable
 pub mod Entries
 pub mod Numbers
+pub mod FirstPlaces
 pub mod Inherited
 pub mod Members
 pub mod Hashes

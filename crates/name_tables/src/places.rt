@@ -1,8 +1,10 @@
 // A list of keys, with the first place of each found by hash.
 
-ghost use Rattle.std.specs.Prelude.{◌≡◌, IfOk, is_some, map, true};
+ghost use Rattle.std.specs.Prelude.{◌≡◌, ◌||◌, [], IfOk, OnOk, is_some, map};
 ghost use Rattle.std.specs.List.{position_from};
+ghost use Rattle.indexmap.specs.IndexMap.{get};
 ghost use Rattle.cil_model.specs.Legality.{has_repeat};
+ghost use Rattle.name_tables.specs.FirstPlaces.{AreFirst, with_first};
 ghost use Rattle.name_tables.specs.Inherited.{number_in};
 
 use cil_model::memory::NoMemory;
@@ -34,26 +36,67 @@ impl<K: Eq + Hash + Copy + Drop> Drop for Places<K> {
 
 impl<K: Eq + Hash + Copy + Drop> Model for Places<K> {
     ghost use Rattle.std.specs.Prelude.{◌≡◌, List, is_some, map};
-    ghost use Rattle.std.specs.List.{position_from};
     ghost use Rattle.indexmap.specs.IndexMap.{get};
     ghost use Rattle.cil_model.specs.Legality.{has_repeat};
+    ghost use Rattle.name_tables.specs.FirstPlaces.{AreFirst};
     ghost use Rattle.name_tables.specs.Inherited.{number_in};
 
     ghost Value = { List K };
 
     ghost view = { λ p. p.keys.items };
 
-    ghost invariant = { λ p. ((q : K) → get K.eq p.firsts q ≡ position_from (K.eq q) 0 p.keys.items) × (is_some p.repeated ≡ has_repeat K.eq p.keys.items) × (p.numbers.items ≡ map (number_in K.eq p.keys.items) p.keys.items) };
+    ghost invariant = { λ p. AreFirst K.eq (get K.eq p.firsts) p.keys.items × (is_some p.repeated ≡ has_repeat K.eq p.keys.items) × (p.numbers.items ≡ map (number_in K.eq p.keys.items) p.keys.items) };
 }
 
-/// The lesser of two places.
-fn lesser(known: Option<usize>, place: usize) -> Option<usize>
-    ensures { is_some result ≡ true }
+/// The lesser of two places, where there are two.
+fn lesser(one: Option<usize>, other: Option<usize>) -> Option<usize>
+    ensures { is_some result ≡ is_some one || is_some other }
 {
-    match known {
-        Some(known) if known < place => Some(known),
-        _ => Some(place),
+    match other {
+        None => one,
+        Some(place) => match one {
+            Some(least) if least < place => one,
+            _ => other,
+        },
     }
+}
+
+/// The first place of a key that is known, else none: then this place is noted as its first. Fails for want of memory alone.
+fn note_first<K: Eq + Hash + Copy + Drop>(
+    firsts: &mut IndexMap<K, usize>,
+    key: K,
+    place: usize,
+) -> Result<Option<usize>, NoMemory>
+    ensures known { IfOk result (λ known. known ≡ get K.eq firsts.old key) }
+    ensures noted { OnOk result ((q : K) → get K.eq firsts.new q ≡ with_first K.eq (get K.eq firsts.old) key place q) }
+{
+    let known = firsts.get(&key).copied();
+    if known.is_none() {
+        firsts.insert(key, place)?;
+    }
+    Ok(known)
+}
+
+/// Notes where each key stands first. Of each key the first place of an equal one, and the least of those that stand again. Fails for
+/// want of memory alone.
+fn note_all<K: Eq + Hash + Copy + Drop>(
+    alloc: Global,
+    firsts: &mut IndexMap<K, usize>,
+    keys: &[K],
+) -> Result<(Vec<usize>, Option<usize>), NoMemory>
+    requires { AreFirst K.eq (get K.eq firsts.old) [] }
+    ensures firsts { OnOk result (AreFirst K.eq (get K.eq firsts.new) keys.now) }
+    ensures numbers { IfOk result (λ r. r.0.items ≡ map (number_in K.eq keys.now) keys.now) }
+    ensures repeated { IfOk result (λ r. is_some r.1 ≡ has_repeat K.eq keys.now) }
+{
+    let mut numbers = Vec::with_capacity(alloc, keys.len())?;
+    let mut repeated = None;
+    for place in 0..keys.len() {
+        let known = note_first(firsts, keys[place], place)?;
+        repeated = lesser(repeated, known);
+        numbers.push(known.unwrap_or(place))?;
+    }
+    Ok((numbers, repeated))
 }
 
 impl<K: Eq + Hash + Copy + Drop> Places<K> {
@@ -62,21 +105,7 @@ impl<K: Eq + Hash + Copy + Drop> Places<K> {
         ensures { IfOk result (λ p. p ≡ keys.items) }
     {
         let mut firsts = IndexMap::with_capacity(alloc, keys.len())?;
-        let mut numbers = Vec::with_capacity(alloc, keys.len())?;
-        let mut repeated = None;
-        for place in 0..keys.len() {
-            let key = keys[place];
-            match firsts.get(&key).copied() {
-                Some(first) => {
-                    repeated = lesser(repeated, first);
-                    numbers.push(first)?;
-                }
-                None => {
-                    firsts.insert(key, place)?;
-                    numbers.push(place)?;
-                }
-            }
-        }
+        let (numbers, repeated) = note_all(alloc, &mut firsts, keys.as_slice())?;
         Ok(Places {
             keys,
             numbers,
