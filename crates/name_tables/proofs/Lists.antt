@@ -1,5 +1,6 @@
 -- Lists as a loop goes along them.
-use Rattle.std.proofs.Common.{◌≡◌, ◌<◌, ◌+◌, ℕ, Bool, true, false, cond, List, [], ◌∷◌, ◌++◌, length, take, get_or, map, flat_map, option_map, slice_get, Option, Some, None, refl, sym, ap, ◌∙◌, arith}
+use Rattle.std.proofs.Common.{◌≡◌, ◌<◌, ◌≤◌, ◌+◌, ℕ, Bool, true, false, cond, List, [], ◌∷◌, ◌++◌, length, take, get_or, map, flat_map, option_map, slice_get, Option, Some, None, refl, sym, ap, ◌∙◌, arith}
+use Rattle.std.proofs.Math.Seq.{take_all}
 use Rattle.std.specs.List.{filter, filter_map}
 use Rattle.std.proofs.lemmas.Grind.{flat_map-append}
 use Rattle.std.proofs.lemmas.List.{take_more, map-append, append-nil, length-map, get_or-map}
@@ -21,6 +22,10 @@ map-take_more f xs i x l e = ap (map f) (take_more xs i x l) ∙ map-append f (t
 pub flat_map-take_more : {X Y : Type 0} (f : X → List Y) (xs : List X) (i : ℕ) (x : X) → i < length xs → x ≡ get_or xs i x → flat_map f (take (i + 1) xs) ≡ flat_map f (take i xs) ++ f x
 flat_map-take_more f xs i x l e = ap (flat_map f) (take_one_more xs i x l e) ∙ flat_map-append f (take i xs) (x ∷ []) ∙ ap (λ ys. flat_map f (take i xs) ++ ys) (append-nil (f x))
 
+-- as many of the first items as there are: all
+pub at_end : {X Y : Type 0} (f : List X → Y) (xs : List X) (i : ℕ) {y : Y} → length xs ≤ i → y ≡ f (take i xs) → y ≡ f xs
+at_end f xs i past h = h ∙ ap f (take_all i xs past)
+
 pub map_of_map : {X Y Z : Type 0} (f : X → Y) (g : Y → Z) (xs : List X) → map g (map f xs) ≡ map (λ x. g (f x)) xs
 map_of_map f g [] = refl
 map_of_map f g (x ∷ xs) = ap (λ ys. g (f x) ∷ ys) (map_of_map f g xs)
@@ -39,6 +44,10 @@ alike_at f g xs ys i x y e l h k =
 pub one_more_row : {R Y Z : Type 0} (view : R → Z) (f : Y → Z) (rows more : List R) (ys : List Y) (i : ℕ) (r : R) (y : Y) → i < length ys → y ≡ get_or ys i y → map view rows ≡ map f (take i ys) → more ≡ rows ++ r ∷ [] → view r ≡ f y → map view more ≡ map f (take (i + 1) ys)
 one_more_row view f rows more ys i r y l k e m h =
     ap (map view) m ∙ map-append view rows (r ∷ []) ∙ ap (λ zs. zs ++ view r ∷ []) e ∙ ap (λ z. map f (take i ys) ++ z ∷ []) h ∙ sym (map-take_more f ys i y l k)
+
+-- one more item, made of one more
+pub one_more_item : {X Y : Type 0} (f : X → Y) (ys more : List Y) (xs : List X) (i : ℕ) (y : Y) (x : X) → i < length xs → x ≡ get_or xs i x → ys ≡ map f (take i xs) → more ≡ ys ++ y ∷ [] → y ≡ f x → more ≡ map f (take (i + 1) xs)
+one_more_item f ys more xs i y x l k e m h = m ∙ ap (λ zs. zs ++ y ∷ []) e ∙ ap (λ z. map f (take i xs) ++ z ∷ []) h ∙ sym (map-take_more f xs i x l k)
 
 -- what one more item adds to those that pass
 pub map-filter-take_more : {X Y : Type 0} (f : X → Y) (test : X → Bool) (xs : List X) (i : ℕ) (passes : Bool) (y d : Y) → option_map test (slice_get xs i) ≡ Some passes → get_or (map f xs) i d ≡ y →

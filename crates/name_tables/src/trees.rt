@@ -16,10 +16,8 @@ pub fn methods_of_tree(alloc: Global, tree: &Tree) -> Result<Vec<&Method>, NoMem
 {
     let mut all = Vec::new(alloc);
     for class in tree.classes.as_slice() {
-        let methods = method_members(alloc, class)?;
-        for method in methods.as_slice() {
-            all.push(*method)?;
-        }
+        let mut methods = method_members(alloc, class)?;
+        all.append(&mut methods)?;
     }
     Ok(all)
 }

@@ -2,7 +2,7 @@ use Rattle.std.proofs.Common.{◌≡◌, map, arith, sym, ap, ◌∙◌, ◌++�
 use Rattle.std.proofs.lemmas.List.{map-append, append-nil}
 use Rattle.std.specs.List.{filter_map}
 use Rattle.cil_model.specs.Declarations.{as_field}
-use Rattle.name_tables.proofs.Lists.{filter_map-take_more}
+use Rattle.name_tables.proofs.Lists.{filter_map-take_more, at_end}
 use Rattle.name_tables.proofs.classes.field_members.Goals as goal
 
 pub loop-member-preserved-in_default : goal.loop-member-preserved-in_default
@@ -19,3 +19,9 @@ loop-member-preserved c =
     let one : filter_map as_field (c.member-item.result ∷ []) ≡ c.in-Field.field ∷ [] = ap (λ y. filter_map as_field (y ∷ [])) c.in-Field.is in
     ap (map (λ f. f.now)) c.in_ok-push.ensures.items ∙ map-append (λ f. f.now) c.loop-member.fields.items _ ∙ ap (λ z. z ++ c.in-Field.field ∷ []) c.loop-member.invariant ∙
     sym (step ∙ ap (λ z. filter_map as_field (take c.loop-member.member-index c.as_slice-member-items.result.now) ++ z) one)
+
+pub loop-member-init : goal.loop-member-init
+loop-member-init c = ap (map (λ f. f.now)) c.new-fields.ensures.items
+
+pub returns : goal.returns
+returns c = at_end (filter_map as_field) c.as_slice-member-items.result.now c.loop-member.member-index c.loop-member-test.false c.loop-member.invariant ∙ ap (filter_map as_field) c.as_slice-member-items.ensures

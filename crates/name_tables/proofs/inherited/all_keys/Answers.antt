@@ -1,8 +1,10 @@
 use Rattle.std.proofs.Common.{◌≡◌, arith, ap, ◌∙◌, flat_map, length, take}
 use Rattle.std.proofs.Math.Seq.{take-length}
+use Rattle.name_tables.proofs.Lists.{at_end, flat_map-take_more}
 use Rattle.name_tables.proofs.inherited.all_keys.Goals as goal
 
 pub returns : goal.returns
-returns g c =
-    let z : c.loop-row.row-index ≡ length c.args.rows.now = omega arith in
-    c.in_ok-places.ensures ∙ c.loop-row.invariant ∙ ap (λ n. flat_map (λ row. row.now) (take n c.args.rows.now)) z ∙ ap (flat_map (λ row. row.now)) (take-length c.args.rows.now)
+returns g c = c.in_ok-places.ensures ∙ at_end (flat_map (λ row. row.now)) c.args.rows.now c.loop-row.row-index c.loop-row-test.false c.loop-row.invariant
+
+pub loop-row-init : goal.loop-row-init
+loop-row-init g c = c.new-keys.ensures.items

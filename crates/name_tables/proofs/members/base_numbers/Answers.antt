@@ -9,3 +9,6 @@ pub loop-class-preserved : goal.loop-class-preserved
 loop-class-preserved c =
     c.in_ok-push.ensures.items ∙ ap (λ xs. xs ++ c.base_number.result ∷ []) c.loop-class.invariant ∙
     sym (more_bases c.args.classes.now.tree.now c.loop-class.class c.base_number.result (omega (arith, c.loop-class-test.true, length-map c.all-class-end.result.now (λ (t : ClassTable). entry_of t.class), ap length c.all-class-end.ensures)) c.base_number.ensures)
+
+pub loop-class-init : goal.loop-class-init
+loop-class-init c = c.new-bases.ensures.items

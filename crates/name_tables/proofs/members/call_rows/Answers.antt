@@ -5,7 +5,7 @@ use Rattle.name_tables.specs.declared.class_tables.ClassTable.{ClassTable}
 use Rattle.name_tables.specs.Entries.{declaration_in}
 use Rattle.name_tables.specs.Methods.{call_of}
 use Rattle.name_tables.specs.Sameness.{identity_of, called_of}
-use Rattle.name_tables.proofs.Lists.{alike_at, one_more_row, map_of_map}
+use Rattle.name_tables.proofs.Lists.{alike_at, one_more_row, map_of_map, at_end}
 use Rattle.name_tables.proofs.members.call_rows.Goals as goal
 
 pub call_numbers-requires : goal.call_numbers-requires
@@ -27,3 +27,9 @@ loop-place-preserved c = λ number e.
     let calls = c.in_ok-call_numbers.ensures number own ∙ sym (ap (map (λ m. call_of number (called_of m.now))) here) ∙ sym (map_of_map (λ (m : Bor Method). m.now) (λ m. call_of number (called_of m)) ms) in
     one_more_row (λ r. r.items) (λ (t : ClassTable). map (λ m. call_of number (called_of m)) (declaration_in t.class).methods) c.loop-place.rows.items c.push.new.self.items c.args.tables.now c.loop-place.place c.in_ok-call_numbers.field-0 c.index-tables-place.result
     (omega arith) c.index-tables-place.is (c.loop-place.invariant number e) c.in_ok-push.ensures.items calls
+
+pub loop-place-init : goal.loop-place-init
+loop-place-init c = λ number e. ap (map (λ r. r.items)) c.in_ok-rows.ensures.items
+
+pub returns : goal.returns
+returns c = λ number e. at_end (map (λ (t : ClassTable). map (λ m. call_of number (called_of m)) (declaration_in t.class).methods)) c.args.tables.now c.loop-place.place c.loop-place-test.false (c.loop-place.invariant number e)

@@ -25,3 +25,6 @@ loop-place-preserved c = λ number e.
       | then-is_virtual_at+in_ok-push w ↦ ap (λ v. v.items) w.chosen-is ∙ w.in_ok-push.ensures.items ∙ ap (λ ns. ns ++ own ∷ []) (c.loop-place.invariant number e) ∙ sym (more true w.if-is_virtual_at.true)
       | else-is_virtual_at w ↦ ap (λ v. v.items) w.chosen-is ∙ c.loop-place.invariant number e ∙ sym (append-nil before) ∙ sym (more false w.if-is_virtual_at.false)
     ]
+
+pub loop-place-init : goal.loop-place-init
+loop-place-init c = λ number e. c.new-chosen.ensures.items

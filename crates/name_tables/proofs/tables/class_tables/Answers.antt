@@ -1,7 +1,10 @@
 use Rattle.std.proofs.Common.{◌++◌, ◌∷◌, [], append_assoc, sym, ap, ◌∙◌, map, take, arith}
 use Rattle.name_tables.specs.BuiltInTable.{built_in_entry}
 use Rattle.name_tables.specs.Numbers.{source_entry}
-use Rattle.name_tables.proofs.Lists.{map-take_more}
+use Rattle.name_tables.proofs.Lists.{map-take_more, at_end}
+use Rattle.name_tables.specs.Entries.{entry_of}
+use Rattle.name_tables.specs.declared.class_tables.ClassTable.{ClassTable}
+use Rattle.std.proofs.lemmas.List.{append-nil}
 use Rattle.name_tables.proofs.tables.class_tables.Goals as goal
 
 pub loop-class-preserved : goal.loop-class-preserved
@@ -16,3 +19,14 @@ loop-class-2-preserved c =
     let one = source_entry c.class-item-in-loop-class-2.result ∷ [] in
     c.in_ok-add_source.ensures ∙ ap (λ z. z ++ one) c.loop-class-2.invariant ∙ append_assoc own before one ∙
     ap (λ z. own ++ z) (sym (map-take_more source_entry c.as_slice-class-items.result.now c.loop-class-2.class-index c.class-item-in-loop-class-2.result (omega arith) c.class-item-in-loop-class-2.is))
+
+pub loop-class-init : goal.loop-class-init
+loop-class-init c = ap (map (λ (t : ClassTable). entry_of t.class)) c.new-classes.ensures.items
+
+pub loop-class-2-init : goal.loop-class-2-init
+loop-class-2-init c = at_end (map built_in_entry) c.args.table.now c.loop-class.class-index c.loop-class-test.false c.loop-class.invariant ∙ sym (append-nil (map built_in_entry c.args.table.now))
+
+pub returns : goal.returns
+returns c =
+    at_end (λ classes. map built_in_entry c.args.table.now ++ map source_entry classes) c.as_slice-class-items.result.now c.loop-class-2.class-index c.loop-class-2-test.false c.loop-class-2.invariant ∙
+    ap (λ classes. map built_in_entry c.args.table.now ++ map source_entry classes) c.as_slice-class-items.ensures

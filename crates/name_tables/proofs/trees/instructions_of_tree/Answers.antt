@@ -20,3 +20,6 @@ returns c =
     let z : c.loop-method.method-index ≡ length methods = omega arith in
     c.loop-method.invariant ∙ ap (λ n. flat_map instructions_of (map (λ m. m.now) (take n methods))) z ∙
     ap (flat_map instructions_of) (ap (map (λ m. m.now)) (take-length methods ∙ c.as_slice-method-items.ensures.value) ∙ c.in_ok-methods.ensures)
+
+pub loop-method-init : goal.loop-method-init
+loop-method-init c = ap (map (λ i. i.now)) c.new-instructions.ensures.items
