@@ -41,15 +41,22 @@ fn object_name(alloc: Global) -> Result<ClassName, NoMemory>
     class_name(alloc, "mscorlib", "System.Object")
 }
 
-fn no_code(alloc: Global) -> Code
-    ensures { result ≡ no_code }
+/// Code of these lines, without locals.
+fn code_of(alloc: Global, lines: Vec<Line>) -> Code
+    ensures { result ≡ record { is_entry_point = false; max_stack = pos 0; locals = []; lines = lines.items } }
 {
     Code {
         is_entry_point: false,
         max_stack: 0,
         locals: Sequence::new(Vec::new(alloc)),
-        lines: Sequence::new(Vec::new(alloc)),
+        lines: Sequence::new(lines),
     }
+}
+
+fn no_code(alloc: Global) -> Code
+    ensures { result ≡ no_code }
+{
+    code_of(alloc, Vec::new(alloc))
 }
 
 /// `ret` without labels.
@@ -67,12 +74,24 @@ fn return_alone(alloc: Global) -> Result<Code, NoMemory>
 {
     let mut lines = Vec::new(alloc);
     lines.push(return_line(alloc))?;
-    Ok(Code {
-        is_entry_point: false,
-        max_stack: 0,
-        locals: Sequence::new(Vec::new(alloc)),
-        lines: Sequence::new(lines),
-    })
+    Ok(code_of(alloc, lines))
+}
+
+/// The types of at most one parameter.
+fn parameters_of(
+    alloc: Global,
+    parameter: Option<Element>,
+) -> Result<Vec<DeclaredType>, NoMemory>
+    ensures { IfOk result (λ v. v.items ≡ map plain (option_to_list parameter)) }
+{
+    let mut parameters = Vec::new(alloc);
+    if let Some(element) = parameter {
+        parameters.push(DeclaredType {
+            element,
+            brackets: 0,
+        })?;
+    }
+    Ok(parameters)
 }
 
 /// Adds a method without a result, of at most one parameter.
@@ -85,15 +104,7 @@ fn add_method(
 ) -> Result<(), NoMemory>
     ensures { IfOk result (λ _. methods.new.items ≡ methods.old.items ++ void_method name (map plain (option_to_list parameter)) kind ∷ []) }
 {
-    let parameters = match parameter {
-        None => Vec::new(alloc),
-        Some(element) => vec![in alloc;
-            DeclaredType {
-                element,
-                brackets: 0
-            },
-        ]?,
-    };
+    let parameters = parameters_of(alloc, parameter)?;
     methods.push(Method {
         name,
         signature: Signature {

@@ -50,6 +50,17 @@ pub fn method_members(alloc: Global, class: &Class) -> Result<Vec<&Method>, NoMe
     Ok(methods)
 }
 
+/// The methods by reference, in their order.
+fn referenced(alloc: Global, methods: &[Method]) -> Result<Vec<&Method>, NoMemory>
+    ensures { IfOk result (λ v. map (λ m. m.now) v.items ≡ methods.now) }
+{
+    let mut references = Vec::with_capacity(alloc, methods.len())?;
+    for method in methods {
+        references.push(method)?;
+    }
+    Ok(references)
+}
+
 impl<'a> DeclaredClass<'a> {
     ghost use Rattle.name_tables.specs.Entries.{entry_of};
     ghost use Rattle.name_tables.specs.Numbers.{source_entry};
@@ -91,10 +102,7 @@ impl<'a> DeclaredClass<'a> {
     pub fn of_built_in(alloc: Global, class: &'a BuiltInClass) -> Result<Self, NoMemory>
         ensures { IfOk result (λ d. entry_of d ≡ built_in_entry class.now) }
     {
-        let mut methods = Vec::new(alloc);
-        for method in class.methods.as_slice() {
-            methods.push(method)?;
-        }
+        let methods = referenced(alloc, class.methods.as_slice())?;
         Ok(DeclaredClass {
             name: ClassKey::of(&class.name),
             is_interface: false,

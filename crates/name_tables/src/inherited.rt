@@ -139,13 +139,13 @@ fn numbered<K: Eq + Hash + Copy + Drop>(
     ensures keys { IfOk result (λ f. f.keys ≡ length keys.now + 1) }
     ensures declared { IfOk result (λ f. map (λ r. r.items) f.declared.items ≡ map (λ row. map (number_in K.eq keys.now) row.now) rows.now) }
 {
-    let declared = own_numbers(alloc, keys, rows)?;
     let Some(count) = keys.keys().len().checked_add(1) else {
         return Err(NoMemory);
     };
+    let bases = copied(alloc, bases)?;
     Ok(Forest {
-        bases: copied(alloc, bases)?,
-        declared,
+        bases,
+        declared: own_numbers(alloc, keys, rows)?,
         keys: count,
         most,
     })

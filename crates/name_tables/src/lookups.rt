@@ -115,15 +115,20 @@ impl<'a> NameTables<'a> {
         ensures { IfOk result (λ t. t.classes.tree.now ≡ tree.now) }
     {
         let classes = ClassTables::new(alloc, tree, table)?;
-        NameTables::of(alloc, classes)
+        let bases = base_numbers(alloc, &classes)?;
+        NameTables::of(alloc, classes, bases.as_slice())
     }
 
-    /// The tables of some classes. Fails for want of memory alone.
-    fn of(alloc: Global, classes: ClassTables<'a>) -> Result<Self, NoMemory>
+    /// The tables of these classes, from the number of the base of each. Fails for want of memory alone.
+    fn of(
+        alloc: Global,
+        classes: ClassTables<'a>,
+        bases: &[Option<usize>],
+    ) -> Result<Self, NoMemory>
+        requires { bases.now ≡ base_numbers classes.tree.now }
         ensures { IfOk result (λ t. t.classes.tree.now ≡ classes.entry.tree.now) }
     {
-        let bases = base_numbers(alloc, &classes)?;
-        let (fields, methods, calls) = member_tables(alloc, &classes, bases.as_slice())?;
+        let (fields, methods, calls) = member_tables(alloc, &classes, bases)?;
         Ok(NameTables {
             classes,
             fields,

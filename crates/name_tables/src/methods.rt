@@ -89,19 +89,6 @@ fn all_numbers(
     Ok(declared)
 }
 
-/// The virtual methods of all classes, and the numbers of the methods of all classes among them.
-fn numbered_virtual(
-    alloc: Global,
-    names: &NameTables,
-) -> Result<(Inherited<usize>, Vec<Vec<usize>>), NoMemory>
-    ensures overridable { IfOk result (λ r. IsMemberTable names.now.classes.tree.now r.0.inheritance.forest (virtual_number names.now.methods.keys r.0.keys) (virtual_place names.now.classes.tree.now)) }
-    ensures declared { IfOk result (λ r. AreNumbers names.now.classes.tree.now (virtual_number names.now.methods.keys r.0.keys) (map (λ row. row.items) r.1.items)) }
-{
-    let overridable = all_virtual(alloc, names)?;
-    let declared = all_numbers(alloc, names, &overridable)?;
-    Ok((overridable, declared))
-}
-
 /// Whether a class from one on declares a virtual method of this number. An error exactly where its bases do not end.
 fn finds(overridable: &Inherited<usize>, class: usize, number: usize) -> Result<bool, Endless>
     requires { number < overridable.now.inheritance.forest.keys }
@@ -140,7 +127,20 @@ impl<'t, 'a> MethodTables<'t, 'a> {
     pub fn new(alloc: Global, names: &'t NameTables<'a>) -> Result<Self, NoMemory>
         ensures { IfOk result (λ t. t.names.now.classes.tree.now ≡ names.now.classes.tree.now) }
     {
-        let (overridable, declared) = numbered_virtual(alloc, names)?;
+        let overridable = all_virtual(alloc, names)?;
+        MethodTables::of(alloc, names, overridable)
+    }
+
+    /// Makes them from the tables of names and the virtual methods of all classes. Fails for want of memory alone.
+    fn of(
+        alloc: Global,
+        names: &'t NameTables<'a>,
+        overridable: Inherited<usize>,
+    ) -> Result<Self, NoMemory>
+        requires { IsMemberTable names.now.classes.tree.now overridable.inheritance.forest (virtual_number names.now.methods.keys overridable.keys) (virtual_place names.now.classes.tree.now) }
+        ensures { IfOk result (λ t. t.names.now.classes.tree.now ≡ names.now.classes.tree.now) }
+    {
+        let declared = all_numbers(alloc, names, &overridable)?;
         Ok(MethodTables {
             names,
             overridable,
