@@ -2,7 +2,7 @@
 use Rattle.std.proofs.Common.{◌≡◌, ℕ, zero, suc, ◌+◌, ◌-◌, ◌*◌, ◌<◌, ◌≤◌, List, [], ◌∷◌, ◌++◌, length, take, drop, set, get_or, refl, sym, ap, subst, ◌∙◌, arith, length-append, append-nil}
 use Rattle.std.specs.Prelude.{reverse, map, Option, Some, None, option_map, slice_get, All, IfSome}
 use Rattle.std.proofs.Math.ListN.{length-set}
-use Rattle.std.proofs.lemmas.List.{reverse-append, reverse-reverse, length-reverse, length-take-le, length-map}
+use Rattle.std.proofs.lemmas.List.{reverse-append, reverse-reverse, length-reverse, length-take-le, length-map, same_from_push}
 use Rattle.std.proofs.lemmas.List.Elements.{All-head, All-tail}
 use Rattle.std.proofs.Math.Seq.{take-append_seam}
 use Rattle.std.specs.List.{insert}
@@ -49,26 +49,28 @@ room_at_first depth room n some fits =
     omega (arith, all, fits)
 
 -- the first memory: one frame in an empty row
-pub begun : (arguments : List Value) (kinds : List ValueKind) (method depth room capacity most_below : ℕ) → 0 < depth → length arguments + length kinds ≤ room
-    → depth * room ≤ capacity → depth ≤ most_below + 1
-    → Holds (arguments ++ map zero_value kinds)
-    (record { method = method; place = 0; constructed = None; arguments = 0; locals = length arguments; stack = length arguments + length kinds })
-    [] depth room capacity most_below
+abbrev pub Begun : (arguments : List Value) (kinds : List ValueKind) (method depth room : ℕ) (values : List Value) (below : List Activation) (stack capacity most_below : ℕ) → Type 0
+Begun arguments kinds method depth room values below stack capacity most_below =
+    Holds values (record { method = method; place = 0; constructed = None; arguments = 0; locals = length arguments; stack = stack }) below depth room capacity most_below
     (record { running = new_frame method arguments kinds None; below = []; depth = depth; room = room })
-begun arguments kinds method depth room capacity most_below some fits large deep =
+
+pub begun : (arguments : List Value) (kinds : List ValueKind) (method depth room : ℕ) (values : List Value) (below : List Activation) (stack capacity most_below : ℕ) → 0 < depth → length arguments + length kinds ≤ room
+    → values ≡ arguments ++ map zero_value kinds → below ≡ [] → stack ≡ length values → depth * room ≤ capacity → depth ≤ most_below + 1 → Begun arguments kinds method depth room values below stack capacity most_below
+begun arguments kinds method depth room values below stack capacity most_below some fits values_are below_are stack_is large deep =
     let count : length (map zero_value kinds) ≡ length kinds = length-map kinds zero_value in
     let zero_first : length arguments ≡ 0 + length arguments = omega arith in
-    let stack_first : length arguments + length kinds ≡ 0 + (length arguments + length (map zero_value kinds)) = omega (arith, count) in
-    holds (arguments ++ map zero_value kinds) (record { method = method; place = 0; constructed = None; arguments = 0; locals = length arguments; stack = length arguments + length kinds })
-    [] depth room capacity most_below (new_frame method arguments kinds None) []
+    let long = ap length values_are ∙ length-append arguments (map zero_value kinds) in
+    let stack_first : stack ≡ 0 + (length arguments + length (map zero_value kinds)) = omega (arith, stack_is, long) in
+    holds values (record { method = method; place = 0; constructed = None; arguments = 0; locals = length arguments; stack = stack })
+    below depth room capacity most_below (new_frame method arguments kinds None) []
     (record {
-      values_are = ap (λ xs. arguments ++ xs) (sym (append-nil (map zero_value kinds)));
+      values_are = values_are ∙ ap (λ xs. arguments ++ xs) (sym (append-nil (map zero_value kinds)));
       running_is =
-          ap (λ (k : ℕ). record { method = method; place = 0; constructed = None; arguments = 0; locals = k; stack = length arguments + length kinds }) zero_first
+          ap (λ (k : ℕ). record { method = method; place = 0; constructed = None; arguments = 0; locals = k; stack = stack }) zero_first
           ∙ ap (λ (k : ℕ). record { method = method; place = 0; constructed = None; arguments = 0; locals = 0 + length arguments; stack = k }) stack_first;
-      below_are = refl;
+      below_are = ap reverse below_are;
     })
-    (rw count (omega (arith, fits)), tt) (omega (arith, some)) large deep
+    (rw count (omega (arith, fits)), tt) (omega (arith, some, ap length below_are)) large deep
 
 module _ (values : List Value) (running : Activation) (below : List Activation) (depth room capacity most_below : ℕ) (s : IsSound values running below depth room capacity most_below) where
   abbrev m : Frames
@@ -95,16 +97,53 @@ module _ (values : List Value) (running : Activation) (below : List Activation) 
       holds (values ++ v ∷ []) running below depth room capacity most_below (record f { stack = v ∷ f.stack }) fs
       (rows.pushed values running (reverse below) f fs s.lays v) (omega (arith, less), s.fit.1) s.few s.large s.deep
 
-  pub after_pop : (new : List Value) → 0 < length f.stack → new ≡ take (length values - 1) values → IsSound new running below depth room capacity most_below
-  after_pop new some rest = by f.stack refl
+  -- the topmost value is taken
+  pub record Popped (new : List Value) (v : Value) : Type 0 where
+    pub stack_is : f.stack ≡ v ∷ (shown new running below depth room).running.stack
+    pub others : shown new running below depth room ≡ with_stack m (shown new running below depth room).running.stack
+    pub sound : IsSound new running below depth room capacity most_below
+
+  pub after_pop : (new : List Value) (v : Value) → 0 < length f.stack → values ≡ new ++ v ∷ [] → Popped new v
+  after_pop new v some split = by f.stack refl
     where
-      by : (stack : List Value) → f.stack ≡ stack → IsSound new running below depth room capacity most_below
+      by : (stack : List Value) → f.stack ≡ stack → Popped new v
       by [] e = let none = rw e at some in absurd (omega (arith, none))
       by (x ∷ xs) e =
+          let t = rows.topped values running (reverse below) f fs s.lays x xs e in
+          let same = same_from_push new t.rest v x (sym split ∙ t.split) in
           let long = ap length e in
           let first = s.fit.0 in
-          (holds new running below depth room capacity most_below (record f { stack = xs }) fs
-          (rows.left values running (reverse below) f fs s.lays x xs e new rest) (omega (arith, first, long), s.fit.1) s.few s.large s.deep).sound
+          let lays = subst (λ ys. Lays ys running (reverse below) (record f { stack = xs }) fs) (sym same.0) t.lays in
+          let then = holds new running below depth room capacity most_below (record f { stack = xs }) fs lays (omega (arith, first, long), s.fit.1) s.few s.large s.deep in
+          let left : (shown new running below depth room).running.stack ≡ xs = ap (λ (k : Frames). k.running.stack) then.view in
+          record {
+            stack_is = e ∙ ap (λ y. y ∷ xs) (sym same.1) ∙ ap (λ ys. v ∷ ys) (sym left);
+            others = then.view ∙ ap (with_stack m) (sym left);
+            sound = then.sound;
+          }
+
+  -- where a value lies in the row that is one of these
+  pub record IsAt (xs : List Value) (i place : ℕ) : Type 0 where
+    pub inside : place < length values
+    pub read : (v : Value) → v ≡ get_or values place v → slice_get xs i ≡ Some v
+
+  pub argument_at : (i : ℕ) → i < length f.arguments → IsAt f.arguments i (running.arguments + i)
+  argument_at i less = record {
+    inside = rows.argument_inside values running (reverse below) f fs s.lays i less;
+    read = λ v is. rows.argument_read values running (reverse below) f fs s.lays i v less ∙ ap Some (sym is);
+  }
+
+  pub local_at : (i : ℕ) → i < length f.locals → IsAt f.locals i (running.locals + i)
+  local_at i less = record {
+    inside = rows.local_inside values running (reverse below) f fs s.lays i less;
+    read = λ v is. rows.local_read values running (reverse below) f fs s.lays i v less ∙ ap Some (sym is);
+  }
+
+  pub operand_at : (i : ℕ) → i < length f.stack → IsAt f.stack i (length values - 1 - i)
+  operand_at i less = record {
+    inside = omega (arith, less, rows.length_values values running (reverse below) f fs s.lays);
+    read = λ v is. rows.operand_read values running (reverse below) f fs s.lays i v less ∙ ap Some (sym is);
+  }
 
   -- the place of a value below the topmost ones is in the row
   pub place_below : (n : ℕ) → n ≤ length f.stack → n ≤ length values

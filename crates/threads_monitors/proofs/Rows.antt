@@ -3,7 +3,7 @@ use Rattle.std.proofs.Common.{◌≡◌, ℕ, ◌+◌, ◌-◌, ◌*◌, ◌<◌
 use Rattle.std.specs.Prelude.{reverse, map, slice_get, Option, Some}
 use Rattle.std.proofs.Math.ListN.{length-set, get_or-append}
 use Rattle.std.proofs.Math.Seq.{take-append_seam, drop-append_seam, drop-append-add}
-use Rattle.std.proofs.lemmas.List.{reverse-append, reverse-reverse, length-reverse, set-append_left, set-append_right, get_or-append-add, take-append-drop, length-take-le, length-map}
+use Rattle.std.proofs.lemmas.List.{reverse-append, reverse-reverse, length-reverse, set-append_left, set-append_right, get_or-append-add, take-append-drop, length-take-le, length-map, get_or-reverse, take_more, map_more}
 use Rattle.std.proofs.lemmas.List.Edits.{insert-append_right}
 use Rattle.std.specs.List.{insert}
 use Rattle.std.proofs.lemmas.Nat.{mul-le}
@@ -15,6 +15,16 @@ use Rattle.threads_monitors.specs.declared.frames.Activation.{Activation}
 use Rattle.threads_monitors.specs.Frames.{Frame, size, zero_value, new_frame}
 use Rattle.threads_monitors.specs.Roots.{values_of}
 use Rattle.threads_monitors.specs.Activations.{row, activation, activations, frame_of, frames_of, Lays, Fit}
+
+-- ---- what is appended one by one
+
+pub one_more : {X : Type 0} (old before after more : List X) (n : ℕ) (d : X) → n < length more → before ≡ old ++ take n more → after ≡ before ++ get_or more n d ∷ [] → after ≡ old ++ take (n + 1) more
+one_more old before after more n d less had now =
+    now ∙ ap (λ xs. xs ++ get_or more n d ∷ []) had ∙ append_assoc old (take n more) (get_or more n d ∷ []) ∙ ap (λ xs. old ++ xs) (sym (take_more more n d less))
+
+pub one_made_more : {X Y : Type 0} (h : X → Y) (old before after : List Y) (more : List X) (n : ℕ) (d : X) (y : Y) → n < length more → before ≡ old ++ map h (take n more) → y ≡ h (get_or more n d) → after ≡ before ++ y ∷ [] → after ≡ old ++ map h (take (n + 1) more)
+one_made_more h old before after more n d y less had made now =
+    now ∙ ap (λ x. before ++ x ∷ []) made ∙ ap (λ xs. xs ++ h (get_or more n d) ∷ []) had ∙ append_assoc old (map h (take n more)) (h (get_or more n d) ∷ []) ∙ ap (λ xs. old ++ xs) (sym (map_more h more n d less))
 
 -- ---- what lies in a row
 
@@ -168,14 +178,23 @@ module _ (values : List Value) (running : Activation) (below : List Activation) 
         lays = record { values_are = refl; running_is = l.running_is; below_are = l.below_are };
       }
 
-  -- the topmost value leaves
-  pub left : (x : Value) (s : List Value) → f.stack ≡ x ∷ s → (new : List Value) → new ≡ take (length values - 1) values → Lays new running below (record f { stack = s }) fs
-  left x s e new rest =
-      let t = topped x s e in
-      let long : length values ≡ length t.rest + 1 = ap length t.split ∙ length-append t.rest (x ∷ []) in
-      let less : length values - 1 ≡ length t.rest = omega (arith, long) in
-      let front : new ≡ t.rest = rest ∙ ap (λ n. take n values) less ∙ ap (take (length t.rest)) t.split ∙ take-append_seam t.rest (x ∷ []) in
-      subst (λ xs. Lays xs running below (record f { stack = s }) fs) (sym front) t.lays
+  -- ---- what lies there
+
+  pub operand_read : (i : ℕ) (d : Value) → i < length f.stack → slice_get f.stack i ≡ Some (get_or values (length values - 1 - i) d)
+  operand_read i d less =
+      let left = length f.stack - 1 - i in
+      let place : length values - 1 - i ≡ length (row fs) + (length f.arguments + (length f.locals + left)) = omega (arith, length_values, less) in
+      let mirrored : i ≡ length f.stack - 1 - left = omega (arith, less) in
+      slice_get-get_or f.stack i d less
+      ∙ ap Some (ap (λ n. get_or f.stack n d) mirrored ∙ sym (get_or-reverse f.stack left d (omega (arith, less))) ∙ sym (topmost_read left d place))
+    where
+      topmost_read : (n : ℕ) (d : Value) → length values - 1 - i ≡ length (row fs) + (length f.arguments + (length f.locals + n)) → get_or values (length values - 1 - i) d ≡ get_or (reverse f.stack) n d
+      topmost_read n d place =
+          ap (λ k. get_or values k d) place
+          ∙ ap (λ xs. get_or xs (length (row fs) + (length f.arguments + (length f.locals + n))) d) l.values_are
+          ∙ get_or-append-add (row fs) (values_of f) (length f.arguments + (length f.locals + n)) d
+          ∙ get_or-append-add f.arguments (f.locals ++ reverse f.stack) (length f.locals + n) d
+          ∙ get_or-append-add f.locals (reverse f.stack) n d
 
   -- ---- arguments and locals
 

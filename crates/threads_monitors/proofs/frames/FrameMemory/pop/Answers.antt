@@ -1,12 +1,25 @@
-use Rattle.std.proofs.Common.{arith, ◌-◌, ◌≡◌, ◌∙◌, length, take, ap}
-use Rattle.std.specs.Prelude.{vec_capacity, vec_len}
-use Rattle.threads_monitors.proofs.Memories.{after_pop}
+use Rattle.std.proofs.Common.{arith, ap, sym, ◌∙◌, ◌++◌, reverse, drop}
+use Rattle.std.specs.Prelude.{vec_capacity}
+use Rattle.std.specs.Option.{option_to_list}
+use Rattle.threads_monitors.specs.Frames.{Frames, with_stack}
+use Rattle.threads_monitors.proofs.Memories.{Popped, place_below, after_pop}
 use Rattle.threads_monitors.proofs.frames.FrameMemory.pop.Goals as goal
 
-pub invariant_of-self : goal.invariant_of-self
-invariant_of-self c =
+pub unwrap-requires : goal.unwrap-requires
+unwrap-requires c =
     let given = rw (← c.self.view_is) at c.requires in
-    let same : vec_len c.self.inside.values ≡ length c.self.inside.values.items = omega arith in
-    rw c.pop.ensures.capacity
-    (after_pop c.self.inside.values.items c.self.inside.running c.self.inside.below.items c.self.inside.depth c.self.inside.room (vec_capacity c.self.inside.values) (vec_capacity c.self.inside.below) c.self.invariant c.pop.new.self.items given
-    (c.pop.ensures.rest ∙ ap (λ n. take (n - 1) c.self.inside.values.items) same))
+    c.pop.ensures.variant.1 (omega (arith, place_below c.self.inside.values.items c.self.inside.running c.self.inside.below.items c.self.inside.depth c.self.inside.room (vec_capacity c.self.inside.values) (vec_capacity c.self.inside.below) c.self.invariant 1 given))
+
+popped : (c : goal.After-unwrap) → Popped c.self.inside.values.items c.self.inside.running c.self.inside.below.items c.self.inside.depth c.self.inside.room (vec_capacity c.self.inside.values) (vec_capacity c.self.inside.below) c.self.invariant c.pop.new.self.items c.unwrap.result
+popped c =
+    let given = rw (← c.self.view_is) at c.requires in
+    after_pop c.self.inside.values.items c.self.inside.running c.self.inside.below.items c.self.inside.depth c.self.inside.room (vec_capacity c.self.inside.values) (vec_capacity c.self.inside.below) c.self.invariant c.pop.new.self.items c.unwrap.result given (c.pop.ensures.items ∙ ap (λ o. c.pop.new.self.items ++ option_to_list o) c.unwrap.ensures)
+
+pub invariant_of-self : goal.invariant_of-self
+invariant_of-self c = rw c.pop.ensures.capacity (popped c).sound
+
+pub returns-clause-popped : goal.returns-clause-popped
+returns-clause-popped c = sym (ap (λ (k : Frames). k.running.stack) c.self.view_is) ∙ (popped c).stack_is
+
+pub returns-clause-others : goal.returns-clause-others
+returns-clause-others c = (popped c).others ∙ ap (λ k. with_stack k (reverse (drop c.self.inside.running.stack c.pop.new.self.items))) c.self.view_is
