@@ -1,5 +1,5 @@
 -- Each slot is one seat's own.
-use Rattle.std.proofs.Common.{◌≡◌, ℕ, zero, suc, ◌+◌, ◌*◌, ◌%◌, ◌^◌, ◌<◌, ◌≤◌, All, cond, nat_eq, List, [], ◌∷◌, ◌++◌, length, count_by, map, sum_by, refl, sym, ap, ◌∙◌, eq-eqb, ne_eqb, arith}
+use Rattle.std.proofs.Common.{◌≡◌, ℕ, zero, suc, ◌+◌, ◌*◌, ◌%◌, ◌^◌, ◌<◌, ◌≤◌, All, cond, nat_eq, List, [], ◌∷◌, ◌++◌, length, slice_index, count_by, map, sum_by, refl, sym, ap, ◌∙◌, eq-eqb, ne_eqb, arith}
 use Rattle.std.proofs.lemmas.List.Elements.{All-map}
 use Rattle.std.proofs.lemmas.List.Sums.{sum_by_push, sum_by-cons}
 use Rattle.std.proofs.lemmas.List.{get_or_default}
@@ -58,6 +58,29 @@ sum_by_mapped f g (x ∷ xs) = let here = sum_by-cons g (f x) (map f xs) in let 
 pub opening_all : (flip : FlipValue) → All (IsWriterOf flip) (opening_writers flip.table flip.plan)
 opening_all flip = All-map (IsWriterOf flip) (opening_writer flip.table flip.plan) (range_with_len 0 flip.plan.seats) (λ k d l. (refl, refl))
 
+-- each place is a seat's
+owners_within : (sizes : Sizes) (owners : List ℕ) → length owners ≡ place_count sizes → ((place : ℕ) → place < place_count sizes → slice_index owners place ≡ place % sizes.seats) → All (λ seat. seat < sizes.seats) owners
+owners_within sizes owners are dealt k d l =
+    let some = sizes.some_seats in
+    let is = dealt k (omega (arith, are)) in
+    let below : k % sizes.seats < sizes.seats = mod-lt k (omega arith) in
+    let same = get_or_default owners k d 0 l in
+    omega arith
+
+pub opening_owners : (sizes : Sizes) (owners : List ℕ) → length owners ≡ place_count sizes → ((place : ℕ) → place < place_count sizes → slice_index owners place ≡ place % sizes.seats) → (length owners ≡ place_count sizes) × All (λ seat. seat < sizes.seats) owners
+opening_owners sizes owners are dealt = (are, owners_within sizes owners are dealt)
+
+-- a flip with these owners is of these sizes
+pub flip_of : (sizes : Sizes) (owners : List ℕ) (limit : ℕ) → length owners ≡ place_count sizes → ((place : ℕ) → place < place_count sizes → slice_index owners place ≡ place % sizes.seats) →
+    (flip : FlipValue) → flip ≡ record { table = flip.table; plan = record { owners = owners; seats = sizes.seats; limit = limit }; objects = sizes.objects; slots = sizes.slots } → IsFlipOf sizes flip
+flip_of sizes owners limit are dealt flip is = record {
+  objects_are = ap (λ (f : FlipValue). f.objects) is;
+  slots_are = ap (λ (f : FlipValue). f.slots) is;
+  seats_are = ap (λ (f : FlipValue). f.plan.seats) is;
+  places_are = ap (λ (f : FlipValue). length f.plan.owners) is ∙ are;
+  dealt = λ place l. ap (λ (f : FlipValue). slice_index f.plan.owners place) is ∙ dealt place l;
+}
+
 -- all seats together keep as many loads as there are rounds and slots
 pub kept_by_all : (sizes : Sizes) (flip : FlipValue) (kept : ℕ) (writers : List WriterValue) → IsFlipOf sizes flip → writers ≡ opening_writers flip.table flip.plan → kept ≡ sizes.rounds * sum_by own_count writers
     → kept ≡ sizes.rounds * place_count sizes
@@ -65,7 +88,7 @@ kept_by_all sizes flip kept writers of are e = e ∙ ap (λ (owned : ℕ). sizes
     ∙ (sum_by_mapped (opening_writer flip.table flip.plan) own_count (range_with_len 0 flip.plan.seats) ∙ (each_owned flip.plan.seats flip.plan.owners within ∙ of.places_are)))
   where
     within : All (λ seat. seat < flip.plan.seats) flip.plan.owners
-    within k d l = let some = sizes.some_seats in let dealt = of.dealt k (omega (arith, of.places_are)) in let below : k % sizes.seats < sizes.seats = mod-lt k (omega arith) in let same = get_or_default flip.plan.owners k d 0 l in omega (arith, of.seats_are)
+    within = rw of.seats_are (owners_within sizes flip.plan.owners of.places_are of.dealt)
 
 -- so many loads can be counted
 pub kept_fits : (sizes : Sizes) → sizes.rounds * place_count sizes < 2 ^ 64

@@ -2,11 +2,11 @@
 
 ghost use Rattle.std.specs.Prelude.{◌≡◌, ◌+◌, ◌*◌, ◌%◌, ◌<◌, ◌≤◌, ◌^◌, ℕ, All, IfOk, true, sum_by, vec_len, slice_index};
 ghost use Rattle.std.specs.Arc.{arc_value};
-ghost use Rattle.word_flip.specs.Tokens.{IsWriterOf};
+ghost use Rattle.word_flip.specs.Tokens.{opening_writers, IsCopierOf, IsWriterOf};
 ghost use Rattle.flip_trial.specs.Promised.{promised, promised_by};
 ghost use Rattle.flip_trial.specs.Trial.{own_count, place_count, IsFlipOf};
 
-use crate::collector::run_copier;
+use crate::collector::{CopierReport, run_copier};
 use crate::seat::{SeatReport, run_seat};
 use crate::sizes::Sizes;
 use std::alloc::{AllocError, Global};
@@ -14,7 +14,7 @@ use std::snapshot::Snapshot;
 use std::sync::Arc;
 use std::thread;
 use std::thread::{Promise, PromisedHandle, Threads};
-use word_flip::{Flip, Writer};
+use word_flip::{Copier, Flip, Writer};
 
 /// What a trial gave.
 #[derive(Clone, Copy, Debug, PartialEq, Eq)]
@@ -120,6 +120,57 @@ fn join_all(rt: &impl Threads, threads: Vec<SeatThread>) -> SeatReport
     SeatReport { kept, reclaims }
 }
 
+/// A flip of these sizes, its copier, and a writer for each seat, in order.
+fn open(alloc: Global, sizes: Sizes) -> Result<(Flip, Copier, Vec<Writer>), AllocError>
+    ensures flip { IfOk result (λ made. IsFlipOf sizes made.0) }
+    ensures copier { IfOk result (λ made. IsCopierOf made.0 made.1) }
+    ensures writers { IfOk result (λ made. made.2.items ≡ opening_writers made.0.table made.0.plan) }
+{
+    let owners = owners(alloc, sizes)?;
+    Flip::new(
+        alloc,
+        sizes.objects,
+        sizes.slots,
+        owners.as_slice(),
+        sizes.seats,
+    )
+}
+
+/// What a trial gave, by what its seats and its copier found.
+fn outcome_of(seats: &SeatReport, copied: &CopierReport) -> Outcome
+    ensures kept { result.kept ≡ seats.now.kept }
+    ensures retired { result.retired ≡ copied.now.retired }
+    ensures finished { result.finished ≡ true → copied.now.finished ≡ true }
+{
+    Outcome {
+        kept: seats.kept,
+        retired: copied.retired,
+        finished: seats.reclaims && copied.finished,
+    }
+}
+
+/// Runs the seats and the copier of a flip, and joins all threads.
+fn run_flip(
+    rt: &impl Threads,
+    alloc: Global,
+    flip: &Arc<Flip>,
+    copier: Copier,
+    writers: Vec<Writer>,
+    sizes: Sizes,
+) -> Result<Outcome, AllocError>
+    requires flip { IsFlipOf sizes (arc_value flip.now) }
+    requires copier { IsCopierOf (arc_value flip.now) copier }
+    requires writers { writers.items ≡ opening_writers (arc_value flip.now).table (arc_value flip.now).plan }
+    ensures kept { IfOk result (λ outcome. outcome.kept ≡ sizes.rounds * place_count sizes) }
+    ensures retired { IfOk result (λ outcome. outcome.finished ≡ true → outcome.retired ≡ place_count sizes) }
+    ensures few { IfOk result (λ outcome. outcome.retired ≤ place_count sizes) }
+{
+    let threads = start_all(rt, alloc, flip, writers, sizes)?;
+    let copied = run_copier(flip, copier, sizes);
+    let seats = join_all(rt, threads);
+    Ok(outcome_of(&seats, &copied))
+}
+
 /// Runs a trial: each seat, in a thread of its own, stores an object to each of its slots, loads it, and takes up the
 /// posted stage, round by round, while the calling thread copies each slot, advances to the last stage and retires each
 /// first copy.
@@ -131,21 +182,7 @@ pub fn run(rt: &impl Threads, alloc: Global, sizes: Sizes) -> Result<Outcome, Al
     ensures retired { IfOk result (λ outcome. outcome.finished ≡ true → outcome.retired ≡ place_count sizes) }
     ensures few { IfOk result (λ outcome. outcome.retired ≤ place_count sizes) }
 {
-    let owners = owners(alloc, sizes)?;
-    let (flip, copier, writers) = Flip::new(
-        alloc,
-        sizes.objects,
-        sizes.slots,
-        owners.as_slice(),
-        sizes.seats,
-    )?;
+    let (flip, copier, writers) = open(alloc, sizes)?;
     let flip = Arc::new(alloc, flip)?;
-    let threads = start_all(rt, alloc, &flip, writers, sizes)?;
-    let copied = run_copier(&flip, copier, sizes);
-    let seats = join_all(rt, threads);
-    Ok(Outcome {
-        kept: seats.kept,
-        retired: copied.retired,
-        finished: seats.reclaims && copied.finished,
-    })
+    run_flip(rt, alloc, &flip, copier, writers, sizes)
 }
