@@ -78,10 +78,7 @@ fn return_alone(alloc: Global) -> Result<Code, NoMemory>
 }
 
 /// The types of at most one parameter.
-fn parameters_of(
-    alloc: Global,
-    parameter: Option<Element>,
-) -> Result<Vec<DeclaredType>, NoMemory>
+fn parameters_of(alloc: Global, parameter: Option<Element>) -> Result<Vec<DeclaredType>, NoMemory>
     ensures { IfOk result (λ v. v.items ≡ map plain (option_to_list parameter)) }
 {
     let mut parameters = Vec::new(alloc);

@@ -1,6 +1,5 @@
-use Rattle.std.proofs.Common.{◌≡◌, arith, ap, ◌∙◌, flat_map, length, take}
-use Rattle.std.proofs.Math.Seq.{take-length}
-use Rattle.name_tables.proofs.Lists.{at_end, flat_map-take_more}
+use Rattle.std.proofs.Common.{◌∙◌, flat_map}
+use Rattle.name_tables.proofs.Lists.{at_end}
 use Rattle.name_tables.proofs.inherited.all_keys.Goals as goal
 
 pub returns : goal.returns

@@ -1,5 +1,4 @@
-use Rattle.std.proofs.Common.{◌≡◌, arith, sym, ap, ◌∙◌, map, length, take, refl}
-use Rattle.std.proofs.Math.Seq.{take-length}
+use Rattle.std.proofs.Common.{sym, ap, ◌∙◌, map, refl}
 use Rattle.cil_model.specs.declared.types.ClassName.{ClassName}
 use Rattle.cil_model.specs.Declarations.{Declaration}
 use Rattle.name_tables.specs.declared.class_tables.ClassTable.{ClassTable}
