@@ -18,7 +18,7 @@ use ilasm_tokens::source_tokens::Tokens;
 use std::alloc::Global;
 
 /// What the words before a method's return type say of it.
-#[derive(Clone, Copy, Debug)]
+#[derive(Clone, Copy)]
 pub enum Beginning {
     Static,
     Instance,
