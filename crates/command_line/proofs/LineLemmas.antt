@@ -1,5 +1,6 @@
 -- Lemmas on what a command line holds.
 use Rattle.std.proofs.Common.{codes, [], ◌∷◌, ◌≡◌, ◌<◌, ◌≤◌, ◌^◌, ℕ, Bool, List, Some, None, true, false, refl, sym, subst, ap, inl, inr, arith, ◌∙◌}
+use Rattle.std.specs.Prelude.{IfErr, IfOk, Option, Result, Ok, Err}
 use Rattle.std.specs.Str.Parse.{IsNumeral, digits_value, without_leading_plus}
 use Rattle.clap.proofs.ValueTestLemmas.{Accepts-accepts, accepts-Accepts}
 use Rattle.clap.specs.ValueTests.{is_unsigned_in}
@@ -11,7 +12,8 @@ use Rattle.clap.specs.declared.builder.value_parser.ValueParser.TheVariants as v
 use Rattle.clap.specs.Words.{IsAmong}
 use Rattle.clap.specs.declared.error.Error.{Error}
 use Rattle.clap.specs.declared.error.kind.ErrorKind.TheVariants.{DisplayVersion, ValueValidation}
-use Rattle.command_line.specs.CommandLine.{run, FaultIs, Refuses, cilvm_app, faults_of, number_in, wanted_by, wanted_in}
+use Rattle.orders.specs.declared.order.Order.{Order}
+use Rattle.command_line.specs.CommandLine.{run, Answers, FaultIs, IsOfNone, Refuses, Wanted, cilvm_app, faults_of, number_in, wanted_by, wanted_in, wanted_of}
 use Rattle.command_line.specs.declared.line.LineFault.{LineFault}
 use Rattle.command_line.specs.declared.line.LineFault.TheVariants.{Help, Version, Bad, Memory}
 
@@ -70,6 +72,15 @@ refuses words e (Version text) (inr among) is = subst (λ (k : ErrorKind). IsAmo
 refuses words e (Bad text) (inl memory) is = absurd (is.2 memory)
 refuses words e (Bad text) (inr among) is = inl (kind_of e, among, is.0, is.1)
 refuses words e Memory kind is = tt
+
+-- what the words ask for, or that they ask for nothing, where clap takes them
+pub answers_wanted : (words : List Text) (w : Option Wanted) (answer : Result Order LineFault) → wanted_by words ≡ w → faults_of words ≡ []
+    → IfOk answer (λ order. w ≡ Some (wanted_of order)) → IfErr answer (IsOfNone w) → Answers words answer
+answers_wanted words w (Ok order) found free value none = (free, found ∙ value)
+answers_wanted words w (Err (Bad text)) found free value none = inr (found ∙ none)
+answers_wanted words w (Err Memory) found free value none = tt
+answers_wanted words w (Err (Help text)) found free value none = absurd none
+answers_wanted words w (Err (Version text)) found free value none = absurd none
 
 -- the definitions at words that are written out
 run_example : wanted_by (codes "cilvm" ∷ codes "run" ∷ codes "p.il" ∷ codes "--schedule" ∷ codes "s0*5" ∷ codes "--budget=3" ∷ [])

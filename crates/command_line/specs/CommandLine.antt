@@ -6,9 +6,12 @@ use Rattle.std.specs.Prelude.{if◌then◌else◌, ⊤}
 use Rattle.std.specs.Str.{bytes_eq}
 use Rattle.std.specs.Str.Parse.{digits_value, without_leading_plus}
 use Rattle.clap.specs.ValueTests.{is_unsigned_in}
-use Rattle.clap.specs.Words.{App, IsAmong, Kinds, Row, Rule, Text, fault_of, first_of, new_app}
-use Rattle.clap.specs.Words.{new_rule, subcommand_of, with_rule, with_subcommand}
+use Rattle.clap.specs.Words.{App, IsAmong, Kinds, Row, Rule, Text, app_of, fault_of, first_of, new_app}
+use Rattle.clap.specs.Words.{new_rule, rule_of, subcommand_of, with_rule, with_subcommand}
 use Rattle.clap.specs.declared.builder.action.ArgAction.TheVariants.{SetTrue}
+use Rattle.clap.specs.declared.builder.arg.Arg.{Arg}
+use Rattle.clap.specs.declared.builder.command.Command.{Command}
+use Rattle.clap.specs.declared.builder.command.Command.TheViews.{out-Command}
 use Rattle.clap.specs.declared.builder.value_parser.ValueParser.TheVariants as vp
 use Rattle.clap.specs.declared.error.kind.ErrorKind.{ErrorKind}
 use Rattle.clap.specs.declared.error.kind.ErrorKind.TheVariants.{DisplayHelp, DisplayVersion, OutOfMemory}
@@ -22,6 +25,14 @@ use Rattle.command_line.specs.declared.line.LineFault.{LineFault}
 use Rattle.command_line.specs.declared.line.LineFault.TheVariants.{Help, Version, Bad, Memory}
 
 -- ---- the arguments
+
+-- an argument has this rule, and belongs to one command alone
+abbrev pub IsArgument : Rule → Arg → Type 0
+IsArgument rule arg = (rule_of arg ≡ rule) × (arg.global ≡ false)
+
+-- a command is this one, and all its arguments belong to it alone
+abbrev pub IsCommand : App → Command → Type 0
+IsCommand app command = (app_of command ≡ app) × ((out-Command command).has_globals ≡ false)
 
 -- a value without a name, which has to be given
 abbrev pub file_rule : Text → Rule
@@ -55,27 +66,34 @@ with_limits a = with_rule (with_rule (with_rule a
 abbrev pub with_explain : App → App
 with_explain a = with_rule a (flag_rule (codes "explain"))
 
+-- the options of a run
+abbrev pub with_run_options : App → App
+with_run_options a = with_limits (with_explain a)
+
+-- a command that takes a source
+abbrev pub with_source : Text → App
+with_source name = with_rule (new_app name) (file_rule (codes "file"))
+
+-- a command that takes its schedule from a file too
+abbrev pub with_files : Text → App
+with_files name = with_rule (with_source name) (file_rule (codes "schedule"))
+
 abbrev pub check_app : App
-check_app = with_explain (with_rule (new_app (codes "check")) (file_rule (codes "file")))
+check_app = with_explain (with_source (codes "check"))
 
 abbrev pub run_app : App
-run_app = with_limits (with_explain (with_rule (with_rule (new_app (codes "run")) (file_rule (codes "file")))
-    (needed (text_rule (codes "schedule")))))
-
--- a command that takes its schedule from a file
-abbrev pub with_files : Text → App
-with_files name = with_rule (with_rule (new_app name) (file_rule (codes "file"))) (file_rule (codes "schedule"))
+run_app = with_run_options (with_rule (with_source (codes "run")) (needed (text_rule (codes "schedule"))))
 
 abbrev pub replay_app : App
-replay_app = with_limits (with_explain (with_files (codes "replay")))
+replay_app = with_run_options (with_files (codes "replay"))
 
 abbrev pub trace_app : App
-trace_app = with_limits (with_explain (with_files (codes "trace")))
+trace_app = with_run_options (with_files (codes "trace"))
 
 -- 1 to 16 workers, 1 where none is said, and perhaps the file of a record
 abbrev pub threads_app : App
-threads_app = with_limits (with_explain (with_rule (with_rule (with_rule (new_app (codes "threads")) (file_rule (codes "file")))
-    (with_default (codes "1") (number_rule (codes "workers") 1 16))) (text_rule (codes "record"))))
+threads_app = with_run_options (with_rule (with_rule (with_source (codes "threads"))
+    (with_default (codes "1") (number_rule (codes "workers") 1 16))) (text_rule (codes "record")))
 
 -- all four numbers have to be given
 abbrev pub flip_app : App
@@ -204,6 +222,12 @@ FaultIs k (Help text) = k ≡ DisplayHelp
 FaultIs k (Version text) = k ≡ DisplayVersion
 FaultIs k (Bad text) = (k ≢ DisplayHelp) × (k ≢ DisplayVersion) × (k ≢ OutOfMemory)
 FaultIs k Memory = ⊤
+
+-- the fault of words that ask for nothing
+abbrev pub IsOfNone : Option Wanted → LineFault → Type 0
+IsOfNone wanted (Bad text) = wanted ≡ None
+IsOfNone wanted Memory = ⊤
+IsOfNone wanted _ = ⊥
 
 abbrev pub Refuses : List Text → LineFault → Type 0
 Refuses words (Help text) = IsAmong DisplayHelp (faults_of words)

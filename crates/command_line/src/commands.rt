@@ -1,14 +1,14 @@
 //! The commands that clap reads, with their help.
-ghost use Rattle.std.specs.Prelude.{◌≡◌, IfOk, Some, pos, false};
-ghost use Rattle.std.specs.Prelude.{codes, ◌≤◌, ◌^◌, ◌<◌};
-ghost use Rattle.clap.specs.Words.{app_of, new_app, rule_of};
-ghost use Rattle.clap.specs.declared.builder.command.Command.TheViews.{out-Command};
-ghost use Rattle.command_line.specs.CommandLine.{check_app, cilvm_app, file_rule, flag_rule, number_rule};
-ghost use Rattle.command_line.specs.CommandLine.{flip_app, needed, replay_app, run_app, text_rule, threads_app, trace_app, with_default};
-ghost use Rattle.command_line.specs.CommandLine.{with_explain, with_files, with_limits, with_required_subcommand, with_version};
+ghost use Rattle.std.specs.Prelude.{◌≡◌, IfOk, codes, pos};
+ghost use Rattle.clap.specs.Words.{App, app_of, new_app, with_subcommand};
+ghost use Rattle.clap.specs.declared.builder.value_parser.ValueParser.TheVariants as vp;
+ghost use Rattle.command_line.specs.CommandLine.{IsArgument, IsCommand, check_app, cilvm_app, file_rule, flag_rule};
+ghost use Rattle.command_line.specs.CommandLine.{flip_app, needed, number_rule, replay_app, run_app, text_rule, threads_app, trace_app, with_default};
+ghost use Rattle.command_line.specs.CommandLine.{with_explain, with_files, with_limits, with_required_subcommand, with_run_options, with_source, with_version};
 
 use crate::version::VERSION;
 use cil_model::limits::{LEAST_WORDS, MOST_BUDGET, MOST_DEPTH, MOST_WORDS};
+use clap::builder::ValueParser;
 use clap::{Arg, ArgAction, Command, value_parser};
 use std::alloc::{AllocError, Global};
 
@@ -20,8 +20,7 @@ const EXPLAIN_RUN: &str =
     "After a refusal, shows its place and its rule; after a run, what its live threads wait for";
 
 fn file_argument<'a>(alloc: Global, id: &'a str, name: &'a str, help: &'a str) -> Arg<'a>
-    ensures rule { rule_of result ≡ file_rule id.entry.now }
-    ensures local { result.global ≡ false }
+    ensures { IsArgument (file_rule id.entry.now) result }
 {
     Arg::new(alloc, id)
         .required(true)
@@ -31,35 +30,34 @@ fn file_argument<'a>(alloc: Global, id: &'a str, name: &'a str, help: &'a str) -
 
 /// An option that takes a text.
 fn text_option<'a>(alloc: Global, id: &'a str, name: &'a str, help: &'a str) -> Arg<'a>
-    ensures rule { rule_of result ≡ text_rule id.entry.now }
-    ensures local { result.global ≡ false }
+    ensures { IsArgument (text_rule id.entry.now) result }
 {
     Arg::new(alloc, id).long(id).value_name(name).help(help)
 }
 
 /// An option whose text has to be given.
 fn needed_text<'a>(alloc: Global, id: &'a str, name: &'a str, help: &'a str) -> Arg<'a>
-    ensures rule { rule_of result ≡ needed (text_rule id.entry.now) }
-    ensures local { result.global ≡ false }
+    ensures { IsArgument (needed (text_rule id.entry.now)) result }
 {
     text_option(alloc, id, name, help).required(true)
 }
 
 fn number_option<'a>(alloc: Global, id: &'a str, least: u32, most: u32, help: &'a str) -> Arg<'a>
-    ensures rule { rule_of result ≡ number_rule id.entry.now least most }
-    ensures local { result.global ≡ false }
+    ensures { IsArgument (number_rule id.entry.now least most) result }
 {
-    Arg::new(alloc, id)
-        .long(id)
-        .value_name("N")
-        .help(help)
-        .value_parser(value_parser!(u32).range(i64::from(least)..=i64::from(most)))
+    text_option(alloc, id, "N", help).value_parser(number_parser(least, most))
+}
+
+/// What takes a number in a range.
+fn number_parser<'a>(least: u32, most: u32) -> ValueParser<'a>
+    ensures { result ≡ vp.Signed (pos least) (pos most) }
+{
+    value_parser!(u32).range(i64::from(least)..=i64::from(most))
 }
 
 /// An option that has to be given.
 fn needed_number<'a>(alloc: Global, id: &'a str, least: u32, most: u32, help: &'a str) -> Arg<'a>
-    ensures rule { rule_of result ≡ needed (number_rule id.entry.now least most) }
-    ensures local { result.global ≡ false }
+    ensures { IsArgument (needed (number_rule id.entry.now least most)) result }
 {
     number_option(alloc, id, least, most, help).required(true)
 }
@@ -73,10 +71,19 @@ fn limit_option<'a>(
     default: &'a str,
     help: &'a str,
 ) -> Arg<'a>
-    ensures rule { rule_of result ≡ with_default default.entry.now (number_rule id.entry.now least most) }
-    ensures local { result.global ≡ false }
+    ensures { IsArgument (with_default default.entry.now (number_rule id.entry.now least most)) result }
 {
     number_option(alloc, id, least, most, help).default_value(default)
+}
+
+/// An option that takes nothing.
+fn flag<'a>(alloc: Global, id: &'a str, help: &'a str) -> Arg<'a>
+    ensures { IsArgument (flag_rule id.entry.now) result }
+{
+    Arg::new(alloc, id)
+        .long(id)
+        .action(ArgAction::SetTrue)
+        .help(help)
 }
 
 /// The option that has a refusal explained, and what threads wait for where a run ends with live ones.
@@ -85,31 +92,32 @@ fn with_explain<'a>(
     command: Command<'a>,
     help: &'a str,
 ) -> Result<Command<'a>, AllocError>
-    requires { (out-Command command).has_globals ≡ false }
-    ensures app { IfOk result (λ c. app_of c ≡ with_explain (app_of command.entry)) }
-    ensures local { IfOk result (λ c. (out-Command c).has_globals ≡ false) }
+    ensures { (app : App) → IsCommand app command.entry → IfOk result (IsCommand (with_explain app)) }
 {
-    let explain = Arg::new(alloc, "explain")
-        .long("explain")
-        .action(ArgAction::SetTrue)
-        .help(help);
-    command.arg(explain)
+    command.arg(flag(alloc, "explain", help))
+}
+
+/// A command that takes a source from a file.
+fn source_command<'a>(alloc: Global, name: &'a str) -> Result<Command<'a>, AllocError>
+    ensures { IfOk result (IsCommand (with_source name.entry.now)) }
+{
+    Command::new(alloc, name).arg(file_argument(alloc, "file", "FILE", "The source, in ilasm text"))
 }
 
 /// A command that takes a source and a schedule, each from a file.
 fn with_files<'a>(alloc: Global, name: &'a str) -> Result<Command<'a>, AllocError>
-    ensures app { IfOk result (λ c. app_of c ≡ with_files name.entry.now) }
-    ensures local { IfOk result (λ c. (out-Command c).has_globals ≡ false) }
+    ensures { IfOk result (IsCommand (with_files name.entry.now)) }
 {
-    Command::new(alloc, name)
-        .arg(file_argument(alloc, "file", "FILE", "The source, in ilasm text"))?
-        .arg(file_argument(alloc, "schedule", "SCHEDULE", "The file with the events"))
+    source_command(alloc, name)?.arg(file_argument(
+        alloc,
+        "schedule",
+        "SCHEDULE",
+        "The file with the events",
+    ))
 }
 
 fn with_limits<'a>(alloc: Global, command: Command<'a>) -> Result<Command<'a>, AllocError>
-    requires { (out-Command command).has_globals ≡ false }
-    ensures app { IfOk result (λ c. app_of c ≡ with_limits (app_of command.entry)) }
-    ensures local { IfOk result (λ c. (out-Command c).has_globals ≡ false) }
+    ensures { (app : App) → IsCommand app command.entry → IfOk result (IsCommand (with_limits app)) }
 {
     command
         .arg(limit_option(
@@ -138,27 +146,35 @@ fn with_limits<'a>(alloc: Global, command: Command<'a>) -> Result<Command<'a>, A
         ))
 }
 
-fn check_command<'a>(alloc: Global) -> Result<Command<'a>, AllocError>
-    ensures app { IfOk result (λ c. app_of c ≡ check_app) }
-    ensures local { IfOk result (λ c. (out-Command c).has_globals ≡ false) }
+/// The options of a run: what is explained of it, and its limits.
+fn with_run_options<'a>(
+    alloc: Global,
+    command: Command<'a>,
+    explanation: &'a str,
+) -> Result<Command<'a>, AllocError>
+    ensures { (app : App) → IsCommand app command.entry → IfOk result (IsCommand (with_run_options app)) }
 {
-    let command = Command::new(alloc, "check")
+    let command = with_explain(alloc, command, explanation)?;
+    with_limits(alloc, command)
+}
+
+fn check_command<'a>(alloc: Global) -> Result<Command<'a>, AllocError>
+    ensures { IfOk result (IsCommand check_app) }
+{
+    let command = source_command(alloc, "check")?
         .about("Says whether a source is accepted")
-        .after_help("Example:\n  cilvm check examples/add.il")
-        .arg(file_argument(alloc, "file", "FILE", "The source, in ilasm text"))?;
+        .after_help("Example:\n  cilvm check examples/add.il");
     with_explain(alloc, command, EXPLAIN_REFUSAL)
 }
 
 fn threads_command<'a>(alloc: Global) -> Result<Command<'a>, AllocError>
-    ensures app { IfOk result (λ c. app_of c ≡ threads_app) }
-    ensures local { IfOk result (λ c. (out-Command c).has_globals ≡ false) }
+    ensures { IfOk result (IsCommand threads_app) }
 {
-    let command = Command::new(alloc, "threads")
+    let command = source_command(alloc, "threads")?
         .about("Runs a source by workers, each in a thread of its own")
         .after_help(
             "Of N workers, number K runs the threads whose numbers leave K when they are divided by N. The record is a schedule: 'cilvm replay FILE RECORD' with the same limits does the run again, to the same output. A record has at most 1000000 events.\n\nExample, which prints 5:\n  cilvm threads examples/add.il",
         )
-        .arg(file_argument(alloc, "file", "FILE", "The source, in ilasm text"))?
         .arg(limit_option(alloc, "workers", 1, 16, "1", "Workers, 1 to 16"))?
         .arg(text_option(
             alloc,
@@ -166,59 +182,50 @@ fn threads_command<'a>(alloc: Global) -> Result<Command<'a>, AllocError>
             "RECORD",
             "Writes the events of the run to this file",
         ))?;
-    let command = with_explain(alloc, command, EXPLAIN_REFUSAL)?;
-    with_limits(alloc, command)
+    with_run_options(alloc, command, EXPLAIN_REFUSAL)
 }
 
 fn run_command<'a>(alloc: Global) -> Result<Command<'a>, AllocError>
-    ensures app { IfOk result (λ c. app_of c ≡ run_app) }
-    ensures local { IfOk result (λ c. (out-Command c).has_globals ≡ false) }
+    ensures { IfOk result (IsCommand run_app) }
 {
-    let command = Command::new(alloc, "run")
+    let command = source_command(alloc, "run")?
         .about("Runs a source by a schedule given on the command line")
         .after_help(
             "Events, with spaces between them:\n  s0    a step of thread 0: one instruction\n  a0    its acknowledgement to the collector\n  g     an event of the collector\n  s0*5  five steps; '*' and a count may follow each event\nThe threads have the numbers 0 to 15, and a schedule has at most 1000000 events.\n\nExample, which prints 5:\n  cilvm run examples/add.il --schedule 's0*5'",
         )
-        .arg(file_argument(alloc, "file", "FILE", "The source, in ilasm text"))?
         .arg(needed_text(
             alloc,
             "schedule",
             "EVENTS",
             "The events in their order, as 's0*5 g a0'",
         ))?;
-    let command = with_explain(alloc, command, EXPLAIN_RUN)?;
-    with_limits(alloc, command)
+    with_run_options(alloc, command, EXPLAIN_RUN)
 }
 
 fn replay_command<'a>(alloc: Global) -> Result<Command<'a>, AllocError>
-    ensures app { IfOk result (λ c. app_of c ≡ replay_app) }
-    ensures local { IfOk result (λ c. (out-Command c).has_globals ≡ false) }
+    ensures { IfOk result (IsCommand replay_app) }
 {
     let command = with_files(alloc, "replay")?
         .about("Runs a source by a schedule that a file holds")
         .after_help(
             "The file has the events in the form that 'cilvm run --help' tells, on as many lines as you like.\n\nExample, which prints 5:\n  cilvm replay examples/add.il examples/add.schedule",
         );
-    let command = with_explain(alloc, command, EXPLAIN_RUN)?;
-    with_limits(alloc, command)
+    with_run_options(alloc, command, EXPLAIN_RUN)
 }
 
 fn trace_command<'a>(alloc: Global) -> Result<Command<'a>, AllocError>
-    ensures app { IfOk result (λ c. app_of c ≡ trace_app) }
-    ensures local { IfOk result (λ c. (out-Command c).has_globals ≡ false) }
+    ensures { IfOk result (IsCommand trace_app) }
 {
     let command = with_files(alloc, "trace")?
         .about("Replays a schedule, and prints a line of each event")
         .after_help(
             "A line has these columns, with tabs between them: the event's number, the event, what was reported of it, the instruction that the thread was at, and then, after the event, the thread's frames, the height of its stack, the words in use in the old space, or the only one, and in the new one, the phase that the collector has posted and the one that the thread has acknowledged. An empty line ends the trace. What the program prints and how its threads stand follow as 'cilvm replay' prints them.\n\nExample:\n  cilvm trace examples/add.il examples/add.schedule",
         );
-    let command = with_explain(alloc, command, EXPLAIN_RUN)?;
-    with_limits(alloc, command)
+    with_run_options(alloc, command, EXPLAIN_RUN)
 }
 
 fn flip_command<'a>(alloc: Global) -> Result<Command<'a>, AllocError>
-    ensures app { IfOk result (λ c. app_of c ≡ flip_app) }
-    ensures local { IfOk result (λ c. (out-Command c).has_globals ≡ false) }
+    ensures { IfOk result (IsCommand flip_app) }
 {
     Command::new(alloc, "flip")
         .about("Tries the copying of slots without a lock, by threads")
@@ -256,14 +263,24 @@ fn program<'a>(alloc: Global) -> Command<'a>
         .arg_required_else_help(true)
 }
 
+/// A program with a command more. An error is that of either.
+fn with_command<'a>(
+    program: Command<'a>,
+    command: Result<Command<'a>, AllocError>,
+) -> Result<Command<'a>, AllocError>
+    ensures { (app own : App) → app_of program.entry ≡ app → IfOk command.entry (IsCommand own) → IfOk result (λ c. app_of c ≡ with_subcommand app own.top) }
+{
+    program.subcommand(command?)
+}
+
 /// The whole command line.
 pub fn cilvm_command<'a>(alloc: Global) -> Result<Command<'a>, AllocError>
     ensures { IfOk result (λ c. app_of c ≡ cilvm_app) }
 {
-    let command = program(alloc).subcommand(check_command(alloc)?)?;
-    let command = command.subcommand(threads_command(alloc)?)?;
-    let command = command.subcommand(run_command(alloc)?)?;
-    let command = command.subcommand(replay_command(alloc)?)?;
-    let command = command.subcommand(trace_command(alloc)?)?;
-    command.subcommand(flip_command(alloc)?)
+    let program = with_command(program(alloc), check_command(alloc))?;
+    let program = with_command(program, threads_command(alloc))?;
+    let program = with_command(program, run_command(alloc))?;
+    let program = with_command(program, replay_command(alloc))?;
+    let program = with_command(program, trace_command(alloc))?;
+    with_command(program, flip_command(alloc))
 }

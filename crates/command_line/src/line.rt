@@ -1,7 +1,7 @@
 //! Reads the command line.
-ghost use Rattle.std.specs.Prelude.{◌≡◌, IfOk, IfSome, codes, map, option_map, IfErr, is_some, true, ◌≤◌};
+ghost use Rattle.std.specs.Prelude.{◌≡◌, ◌≤◌, IfErr, IfOk, IfSome, Some, map, option_map, true};
 ghost use Rattle.clap.specs.Words.{found_of, first_of, kind_of, rows_of, subcommand_rows_of};
-ghost use Rattle.command_line.specs.CommandLine.{Answers, FaultIs, IsInRange, check_in, limits_in};
+ghost use Rattle.command_line.specs.CommandLine.{Answers, FaultIs, IsInRange, IsOfNone, check_in, limits_in};
 ghost use Rattle.command_line.specs.CommandLine.{flag_at, number_at, number_in, flip_in, replay_in, run_in, scheduled_in, threads_in, trace_in, wanted_in};
 ghost use Rattle.command_line.specs.CommandLine.{wanted_of, worked_in};
 ghost use Rattle.cil_model.specs.Ranges.{are_in_range};
@@ -43,14 +43,23 @@ pub fn order<'a>(alloc: Global, words: &'a [&'a str]) -> Result<Order<'a>, LineF
 {
     let command = cilvm_command(alloc)?;
     match command.try_get_matches_from(words) {
-        Ok(matches) => match wanted(&matches) {
-            Some(order) => Ok(order),
-            None => Err(LineFault::Bad(String::from_str(
-                alloc,
-                "error: the command line holds no order\n",
-            )?)),
-        },
+        Ok(matches) => wanted_order(alloc, &matches),
         Err(error) => Err(line_fault(alloc, &error)),
+    }
+}
+
+/// The order that the matches hold.
+fn wanted_order<'a>(alloc: Global, matches: &ArgMatches<'a>) -> Result<Order<'a>, LineFault>
+    ensures value { IfOk result (λ order. wanted_in (subcommand_rows_of matches.now) ≡ Some (wanted_of order)) }
+    ensures range { IfOk result IsInRange }
+    ensures none { IfErr result (IsOfNone (wanted_in (subcommand_rows_of matches.now))) }
+{
+    match wanted(matches) {
+        Some(order) => Ok(order),
+        None => Err(LineFault::Bad(String::from_str(
+            alloc,
+            "error: the command line holds no order\n",
+        )?)),
     }
 }
 

@@ -1,11 +1,9 @@
-use Rattle.std.proofs.Common.{◌≡◌, ◌∙◌, ap, codes}
-use Rattle.std.proofs.lemmas.Result.{IfOk-weaker}
-use Rattle.clap.specs.Words.{app_of}
-use Rattle.command_line.specs.CommandLine.{with_explain, with_files, with_limits}
+use Rattle.std.proofs.Common.{codes}
+use Rattle.command_line.specs.CommandLine.{IsCommand, with_files}
 use Rattle.command_line.proofs.commands.replay_command.Goals as goal
 
-pub returns-clause-app : goal.returns-clause-app
-returns-clause-app c =
-    let zero : app_of c.after_help-command.result ≡ with_files (codes "replay") = rw (c.after_help-command.ensures, c.about.ensures) c.in_ok-with_files.ensures.app in
-    let first : app_of c.in_ok-command.command ≡ with_explain (with_files (codes "replay")) = c.in_ok-command.ensures.app ∙ ap with_explain zero in
-    IfOk-weaker c.with_limits.result _ _ (λ r is. is ∙ ap with_limits first) c.with_limits.ensures.app
+pub returns : goal.returns
+returns c =
+    let files = c.in_ok-with_files.ensures in
+    let told : IsCommand (with_files (codes "replay")) c.after_help-command.result = (rw (c.after_help-command.ensures, c.about.ensures) files.0, rw (c.after_help-command.ensures, c.about.ensures) files.1) in
+    c.with_run_options.ensures (with_files (codes "replay")) told

@@ -6,5 +6,6 @@ use Rattle.command_line.proofs.commands.text_option.Goals as goal
 abbrev as_option : Text → Rule → Rule
 as_option id rule = record rule { long = Some id; value_names = 1 }
 
-pub returns-clause-rule : goal.returns-clause-rule
-returns-clause-rule c = rw (c.help.ensures, c.value_name.ensures, c.long.ensures) (ap (as_option c.args.id.now) c.new.ensures.rule)
+pub returns : goal.returns
+returns c =
+    (rw (c.help.ensures, c.value_name.ensures, c.long.ensures) (ap (as_option c.args.id.now) c.new.ensures.rule), rw (c.help.ensures, c.value_name.ensures, c.long.ensures) c.new.ensures.optional.1)
