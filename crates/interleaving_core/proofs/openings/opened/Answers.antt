@@ -21,8 +21,8 @@ pub beginning-requires-clause-there : goal.beginning-requires-clause-there
 beginning-requires-clause-there c =
     let tree = c.in_ok-program.program in
     let number = c.entry_point.result in
-    let legal : IsLegal tree = subst IsLegal c.program-2.ensures c.tree.ensures.legal in
-    let is : IsEntryPoint tree number = subst (λ t. IsEntryPoint t number) c.program-4.ensures c.entry_point.ensures in
+    let legal : IsLegal tree = subst IsLegal c.program.ensures c.tree.ensures.legal in
+    let is : IsEntryPoint tree number = subst (λ t. IsEntryPoint t number) c.program-3.ensures c.entry_point.ensures in
     let entry = entry_there tree legal number is in
     ap is_some (c.number-entry.ensures entry.0 entry.1)
 
@@ -32,16 +32,16 @@ returns-clause-opening c =
     let limits = c.args.limits in
     let number = c.entry_point.result in
     let same : tree ≡ c.args.program = c.in_ok-program.ensures ∙ c.into_parts-program.ensures.program in
-    let legal : IsLegal tree = subst IsLegal c.program-2.ensures c.tree.ensures.legal in
-    let is : IsEntryPoint tree number = subst (λ t. IsEntryPoint t number) c.program-4.ensures c.entry_point.ensures in
+    let legal : IsLegal tree = subst IsLegal c.program.ensures c.tree.ensures.legal in
+    let is : IsEntryPoint tree number = subst (λ t. IsEntryPoint t number) c.program-3.ensures c.entry_point.ensures in
     let entry = entry_there tree legal number is in
     let there : slice_get (all_methods tree) c.number-entry.result ≡ Some entry.0 = c.number-entry.ensures entry.0 entry.1 in
     let first : c.in_ok-first.first ≡ thread_at limits entry.0 [] c.number-entry.result = c.in_ok-first.ensures ∙ c.beginning.ensures.begins entry.0 there [] in
     let threads : c.push.new.self.items ≡ thread_at limits entry.0 [] c.number-entry.result ∷ [] =
     c.in_ok-push.ensures.items ∙ ap (λ (ts : List Thread). ts ++ c.in_ok-first.first ∷ []) c.new-threads.ensures.items ∙ ap (λ t. t ∷ []) first in
-    let literals : c.literals.result.now ≡ literals_of tree = c.literals.ensures ∙ ap literals_of c.program-3.ensures in
+    let literals : c.literals.result.now ≡ literals_of tree = c.literals.ensures ∙ ap literals_of c.program-2.ensures in
     let objects : c.in_ok-heap.heap ≡ no_objects limits.words (length (literals_of tree)) = c.in_ok-heap.ensures ∙ ap (λ xs. no_objects limits.words (length xs)) literals in
-    let classes : c.as_slice.result.now ≡ tree.classes = c.as_slice.ensures ∙ ap (λ t. t.classes) (c.tree.ensures.whole ∙ c.program-2.ensures) in
+    let classes : c.as_slice.result.now ≡ tree.classes = c.as_slice.ensures ∙ ap (λ t. t.classes) (c.tree.ensures.whole ∙ c.program.ensures) in
     let statics : c.in_ok-statics.statics.items ≡ flat_map (λ (x : Class). zeros_of (declared_fields x)) tree.classes = c.in_ok-statics.ensures ∙ ap (flat_map (λ (x : Class). zeros_of (declared_fields x))) classes in
     ap (λ (t : Tree). opening_content t limits) (sym same)
     ∙ opened_as tree legal limits entry.0 c.number-entry.result entry.2 there c.push.new.self.items threads c.new-3.result c.new-3.ensures c.none.result c.none.ensures c.in_ok-heap.heap objects c.in_ok-statics.statics.items statics c.new-4.result.items c.new-4.ensures.items
