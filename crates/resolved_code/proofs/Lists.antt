@@ -1,5 +1,6 @@
 -- Lists of what is found, as a loop goes along them.
 use Rattle.std.proofs.Common.{◌≡◌, ◌<◌, ◌+◌, ℕ, zero, suc, List, [], ◌∷◌, ◌++◌, length, take, get_or, map, option_map, option_and_then, Option, Some, None, refl, sym, ap, ◌∙◌, arith}
+use Rattle.std.proofs.Math.Seq.{take-length}
 use Rattle.name_tables.proofs.Lists.{map-take_more, map_of_map}
 use Rattle.resolved_code.specs.Rules.{all_some}
 
@@ -35,6 +36,10 @@ all_some_absent {X} {Y} rule (z ∷ zs) (suc i) x l e h = by_first (rule z) (all
     by_first None k = refl
     by_first (Some y) k = ap (option_map (λ ys. y ∷ ys)) k
 
+-- at the end of the loop all items are found
+pub all_some_whole : {X Y : Type 0} (rule : X → Option Y) (xs : List X) (i : ℕ) (ys zs : List Y) → i ≡ length xs → all_some (map rule (take i xs)) ≡ Some ys → zs ≡ ys → Some zs ≡ all_some (map rule xs)
+all_some_whole rule xs i ys zs e h k = ap Some k ∙ sym h ∙ ap (λ n. all_some (map rule (take n xs))) e ∙ ap (λ ws. all_some (map rule ws)) (take-length xs)
+
 -- the same of items that are seen through a view
 pub all_some_more_seen : {Z X Y : Type 0} (view : Z → X) (rule : X → Option Y) (zs : List Z) (i : ℕ) (z : Z) (ys : List Y) (y : Y) → i < length zs → z ≡ get_or zs i z →
     all_some (map rule (map view (take i zs))) ≡ Some ys → rule (view z) ≡ Some y → all_some (map rule (map view (take (i + 1) zs))) ≡ Some (ys ++ y ∷ [])
@@ -44,3 +49,7 @@ all_some_more_seen view rule zs i z ys y l e h k =
 pub all_some_absent_seen : {Z X Y : Type 0} (view : Z → X) (rule : X → Option Y) (zs : List Z) (i : ℕ) (z : Z) → i < length zs → z ≡ get_or zs i z → rule (view z) ≡ None →
     all_some (map rule (map view zs)) ≡ None
 all_some_absent_seen view rule zs i z l e h = ap all_some (map_of_map view rule zs) ∙ all_some_absent (λ w. rule (view w)) zs i z l e h
+
+pub all_some_whole_seen : {Z X Y : Type 0} (view : Z → X) (rule : X → Option Y) (zs : List Z) (i : ℕ) (ys ws : List Y) → i ≡ length zs → all_some (map rule (map view (take i zs))) ≡ Some ys → ws ≡ ys →
+    Some ws ≡ all_some (map rule (map view zs))
+all_some_whole_seen view rule zs i ys ws e h k = ap Some k ∙ sym h ∙ ap (λ n. all_some (map rule (map view (take n zs)))) e ∙ ap (λ vs. all_some (map rule (map view vs))) (take-length zs)

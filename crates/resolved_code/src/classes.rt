@@ -9,6 +9,7 @@ ghost use Rattle.resolved_code.specs.Resolved.{BothAlike, IsBody, IsResolvedKind
 use crate::operations::Operation;
 use crate::types::NumberedType;
 use cil_model::sequences::Sequence;
+use std::fmt;
 
 /// A field (ECMA-335 II.16).
 #[derive(Clone, Copy, PartialEq, Eq, Debug)]
@@ -18,11 +19,22 @@ pub struct ResolvedField {
 }
 
 /// A method's body (ECMA-335 II.15.4).
-#[derive(Debug, Drop)]
+#[derive(Drop)]
 pub struct Body {
     pub max_stack: i64,
     pub locals: Sequence<NumberedType>,
     pub operations: Sequence<Operation>,
+}
+
+/// Says how many operations there are, and not which.
+impl fmt::Debug for Body {
+    fn fmt<W: fmt::Write>(&self, f: &mut fmt::Formatter<W>) -> fmt::Result {
+        write!(
+            f,
+            "a body of {} operations",
+            self.operations.as_slice().len()
+        )
+    }
 }
 
 /// What a method is, with its code where it has some (ECMA-335 II.15.2 and II.15.4.2).

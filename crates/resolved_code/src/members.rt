@@ -9,6 +9,7 @@ use crate::instructions::Resolver;
 use crate::labels::Labels;
 use crate::numbering::{numbered_return, numbered_type, numbered_types};
 use crate::operations::Operation;
+use crate::types::NumberedType;
 use cil_model::memory::NoMemory;
 use cil_model::sequences::Sequence;
 use cil_model::trees::{Code, Field, Line, Method, MethodKind};
@@ -46,6 +47,24 @@ pub fn resolved_fields(
     Ok(Some(Sequence::new(resolved)))
 }
 
+/// A body where there are operations.
+fn body_of(
+    max_stack: i64,
+    locals: Sequence<NumberedType>,
+    operations: Option<Sequence<Operation>>,
+) -> Option<Body>
+    ensures { result ≡ option_map (λ o. record { max_stack = max_stack; locals = locals; operations = o }) operations }
+{
+    match operations {
+        None => None,
+        Some(operations) => Some(Body {
+            max_stack,
+            locals,
+            operations,
+        }),
+    }
+}
+
 impl<'n, 'a> Resolver<'n, 'a> {
     /// What runs for each line of a method, in order. Fails for want of memory alone.
     fn operations(
@@ -74,14 +93,8 @@ impl<'n, 'a> Resolver<'n, 'a> {
         let Some(locals) = numbered_types(alloc, self.names, code.locals.as_slice())? else {
             return Ok(None);
         };
-        let Some(operations) = self.operations(alloc, labels, code.lines.as_slice())? else {
-            return Ok(None);
-        };
-        Ok(Some(Body {
-            max_stack: code.max_stack,
-            locals,
-            operations,
-        }))
+        let operations = self.operations(alloc, labels, code.lines.as_slice())?;
+        Ok(body_of(code.max_stack, locals, operations))
     }
 
     /// What a method is (ECMA-335 II.15.2). Fails for want of memory alone.

@@ -9,7 +9,7 @@ use name_tables::lookups::MemberNumber;
 
 /// An instruction, with numbers in place of names: the classes, fields and methods that its operand finds, the places of its labels in
 /// the method, and the number of its literal among those of the source.
-#[derive(Debug, Drop)]
+#[derive(Drop)]
 pub enum Operation {
     /// `nop`
     NoOperation,

@@ -6,6 +6,7 @@ use Rattle.cil_model.specs.Mentions.{literal_of, each_once}
 use Rattle.name_tables.specs.Keys.{text_of_key}
 use Rattle.resolved_code.proofs.OtherInstructions.{no_literal}
 use Rattle.resolved_code.proofs.LiteralNumbers.{literal_met, literals_more}
+use Rattle.std.proofs.Math.Seq.{take_all}
 use Rattle.resolved_code.proofs.literals.distinct_literals.Goals as goal
 
 pub loop-instruction-preserved-in_default : goal.loop-instruction-preserved-in_default
@@ -20,3 +21,7 @@ loop-instruction-preserved c =
     let step = literals_more (λ i. i.now) c.args.instructions.now c.loop-instruction.instruction-index c.instruction-item.result (omega arith) c.instruction-item.is in
     let one : filter_map literal_of (c.instruction-item.result.now ∷ []) ≡ c.in-LoadString.text ∷ [] = ap (λ i. filter_map literal_of (i ∷ [])) c.in-LoadString.is in
     ap (map text_of_key) c.in_ok-insert.ensures.keys ∙ literal_met c.loop-instruction.texts.keys _ before c.loop-instruction.invariant ∙ sym (ap (each_once same_text) (step ∙ ap (λ z. before ++ z) one))
+
+pub returns : goal.returns
+returns c =
+    c.loop-instruction.invariant ∙ ap (λ is. each_once same_text (filter_map literal_of (map (λ i. i.now) is))) (take_all c.loop-instruction.instruction-index c.args.instructions.now c.loop-instruction-test.false)
