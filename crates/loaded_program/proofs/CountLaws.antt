@@ -1,8 +1,8 @@
 -- A legal tree has few methods.
-use Rattle.std.proofs.Common.{◌≡◌, ◌<◌, ◌+◌, ◌^◌, List, [], ◌∷◌, ◌++◌, length, map, refl, ap, ◌∙◌, arith, length-append}
+use Rattle.std.proofs.Common.{◌≡◌, ◌<◌, ℕ, suc, ◌+◌, ◌^◌, List, [], ◌∷◌, ◌++◌, length, get_or, take, drop, map, refl, ap, sym, ◌∙◌, arith, append_assoc, length-append, drop-cons}
 use Rattle.std.specs.List.{flat_map, sum_by}
 use Rattle.std.proofs.lemmas.List.{length-map}
-use Rattle.std.proofs.lemmas.List.Sums.{sum_by-cons}
+use Rattle.std.proofs.lemmas.List.Sums.{sum_by-cons, sum_by_more}
 use Rattle.std.proofs.lemmas.Grind.{flat_map-append}
 use Rattle.cil_model.specs.declared.types.ClassName.{ClassName}
 use Rattle.cil_model.specs.declared.trees.Tree.{Tree}
@@ -15,6 +15,7 @@ use Rattle.resolved_code.specs.declared.classes.ResolvedClass.{ResolvedClass}
 use Rattle.resolved_code.proofs.AlikeLaws.{alike_length}
 use Rattle.programs.proofs.Limits.{source_methods_few}
 use Rattle.loaded_program.specs.AllMethods.{owned_methods, all_methods}
+use Rattle.loaded_program.specs.Numbered.{running_counts}
 use Rattle.loaded_program.proofs.FlatLaws.{owned_count}
 
 -- the methods of the source's classes
@@ -26,6 +27,27 @@ source_counted (c ∷ cs) =
     let second : length (method_members c ++ flat_map method_members cs) ≡ length (method_members c) + length (flat_map method_members cs) = length-append (method_members c) (flat_map method_members cs) in
     let own : length (owned_methods (source_entry c)) ≡ length (method_members c) = length-map (method_members c) (λ m. (source_name c, m)) in
     omega (arith, first, second, own, source_counted cs)
+
+-- ---- counts one by one
+
+module _ {X : Type 0} (count : X → ℕ) (xs : List X) (i : ℕ) (x : X) (next behind : ℕ) (there : i < length xs) (is : x ≡ get_or xs i x) (behind_is : behind ≡ next + count x) where
+  counts_from : map count (drop i xs) ≡ count x ∷ map count (drop (i + 1) xs)
+  counts_from =
+      let on : suc i ≡ i + 1 = omega arith in
+      ap (map count) (drop-cons xs i x there ∙ ap (λ n. get_or xs i x ∷ drop n xs) on) ∙ ap (λ y. count y ∷ map count (drop (i + 1) xs)) (sym is)
+
+  -- the running count of a further one
+  pub running_more : (first all : List ℕ) → first ++ running_counts next (map count (drop i xs)) ≡ all → (first ++ next ∷ []) ++ running_counts behind (map count (drop (i + 1) xs)) ≡ all
+  running_more first all so_far =
+      append_assoc first (next ∷ []) (running_counts behind (map count (drop (i + 1) xs)))
+      ∙ ap (λ n. first ++ next ∷ running_counts n (map count (drop (i + 1) xs))) behind_is
+      ∙ ap (λ ns. first ++ running_counts next ns) (sym counts_from)
+      ∙ so_far
+
+  -- and the sum up to it
+  pub counted_more : next ≡ sum_by count (take i xs) → behind ≡ sum_by count (take (i + 1) xs)
+  counted_more so_far =
+      behind_is ∙ ap (λ n. n + count x) so_far ∙ ap (λ y. sum_by count (take i xs) + count y) is ∙ sym (sum_by_more count xs i x there)
 
 module _ (tree : Tree) where
   -- with the built-in ones they are fewer than there are flat numbers

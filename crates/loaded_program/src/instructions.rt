@@ -8,7 +8,7 @@ use object_memory::{Addr, ArrayElement, ValueKind};
 use resolved_code::types::NumberedType;
 
 /// An instruction with what its step needs: slots of fields, addresses of literals, flat numbers of methods.
-#[derive(Debug, Drop)]
+#[derive(Drop)]
 pub enum LinkedInstruction {
     /// `nop`
     NoOperation,

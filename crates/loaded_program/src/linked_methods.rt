@@ -23,7 +23,7 @@ use resolved_code::operations::Operation;
 use std::alloc::Global;
 
 /// Which method runs where one is called on an object, by flat numbers.
-#[derive(Debug, Drop)]
+#[derive(Drop)]
 pub(crate) enum Targets {
     /// The method itself, on any object: it is not virtual.
     Itself,
@@ -32,7 +32,7 @@ pub(crate) enum Targets {
 }
 
 /// The instructions of a method, and which method runs where it is called on an object.
-#[derive(Debug, Drop)]
+#[derive(Drop)]
 pub(crate) struct LinkedMethod {
     pub code: Vec<LinkedInstruction>,
     pub targets: Targets,

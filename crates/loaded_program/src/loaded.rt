@@ -24,7 +24,6 @@ use std::alloc::Global;
 use std::marker::Model;
 
 /// A legal program with its layout and its methods by flat numbers, whose instructions are linked: a step looks nothing up.
-#[derive(Debug)]
 pub struct LoadedProgram {
     program: Program,
     layout: Layout,

@@ -20,7 +20,7 @@ use std::alloc::Global;
 
 /// All methods of a program by flat numbers: class by class, in the order of the classes' numbers, those of a class in their order.
 /// Contracts say whose table it is by `IsMethodTable`.
-#[derive(Debug, Drop)]
+#[derive(Drop)]
 pub(crate) struct MethodTable {
     methods: Vec<TableMethod>,
     first: Vec<u32>,
