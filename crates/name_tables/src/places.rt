@@ -61,7 +61,7 @@ fn lesser(one: Option<usize>, other: Option<usize>) -> Option<usize>
     }
 }
 
-/// The first place of a key that is known, else none: then this place is noted as its first. Fails for want of memory alone.
+/// The first place of a key that stood before; none of a new one, whose first this place becomes. Fails for want of memory alone.
 fn note_first<K: Eq + Hash + Copy + Drop>(
     firsts: &mut IndexMap<K, usize>,
     key: K,
