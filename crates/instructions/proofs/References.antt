@@ -12,11 +12,11 @@ use Rattle.object_memory.specs.declared.values.Value.TheVariants.{Ref}
 use Rattle.object_memory.specs.Objects.{Objects, monitor_at}
 use Rattle.barriers.specs.Barriers.{are_comparable, are_same, is_monitor_storable}
 use Rattle.threads_monitors.specs.Frames.{Frames, with_stack}
-use Rattle.threads_monitors.specs.Monitors.{with_exit}
+use Rattle.threads_monitors.specs.Monitors.{with_entry, with_exit}
 use Rattle.threads_monitors.specs.declared.effects.Effect.{Effect}
 use Rattle.threads_monitors.specs.declared.effects.Effect.TheVariants.{GoesOn, Returns, Blocks, Raises}
 use Rattle.threads_monitors.specs.declared.mutators.Mutator.{Mutator}
-use Rattle.instructions.specs.BuiltInTurns.{carried, exit_turn, reference_from}
+use Rattle.instructions.specs.BuiltInTurns.{carried, enter_turn, exit_turn, is_countable, reference_from}
 use Rattle.instructions.specs.Frames.{branch_reference, branch_test, comparison, same_reference}
 use Rattle.instructions.specs.ObjectTurns.{ObjectTurn}
 
@@ -55,20 +55,28 @@ carried_stays m n (o, Returns) other = refl
 carried_stays m n (o, Blocks) other = refl
 carried_stays m n (o, Raises f) other = refl
 
-module _ (mutator : Mutator) (m : Frames) (o : Objects) where
-  abbrev leaves_by : List Value → ObjectTurn
-  leaves_by stack = reference_from stack m (λ a n. if (a.number == 0) || (is_some (monitor_at o a) && is_monitor_storable mutator.phase o a) then carried m n (with_exit mutator o a) else None)
+-- a rule of an entry or an exit, by which references it admits, and what it makes of the objects
+module _ (admits : Addr → Bool) (change : Addr → Objects × Effect) (m : Frames) where
+  abbrev turn_by : List Value → ObjectTurn
+  turn_by stack = reference_from stack m (λ a n. if admits a then carried m n (change a) else None)
 
-  pub exit_stays : (a : Addr) (x : Objects × Effect) → slice_get m.running.stack 0 ≡ Some (Ref a) → IsSome (exit_turn mutator m o) → x ≡ with_exit mutator o a → (x.1 ≡ GoesOn → ⊥) → exit_turn mutator m o ≡ Some (m, x.0, x.1)
-  exit_stays a x top there is other = by_stack m.running.stack top there
+  pub stays : (a : Addr) (x : Objects × Effect) → slice_get m.running.stack 0 ≡ Some (Ref a) → IsSome (turn_by m.running.stack) → x ≡ change a → (x.1 ≡ GoesOn → ⊥) → turn_by m.running.stack ≡ Some (m, x.0, x.1)
+  stays a x top there is other = by_stack m.running.stack top there
     where
-      by_test : (t : Bool) (rest : List Value) → IsSome (if t then carried m (with_stack m rest) (with_exit mutator o a) else None) → (if t then carried m (with_stack m rest) (with_exit mutator o a) else None) ≡ Some (m, x.0, x.1)
+      by_test : (t : Bool) (rest : List Value) → IsSome (if t then carried m (with_stack m rest) (change a) else None) → (if t then carried m (with_stack m rest) (change a) else None) ≡ Some (m, x.0, x.1)
       by_test true rest h = ap (carried m (with_stack m rest)) (sym is) ∙ carried_stays m (with_stack m rest) x other
       by_test false rest h = absurd cc
 
-      by_stack : (stack : List Value) → slice_get stack 0 ≡ Some (Ref a) → IsSome (leaves_by stack) → leaves_by stack ≡ Some (m, x.0, x.1)
+      by_stack : (stack : List Value) → slice_get stack 0 ≡ Some (Ref a) → IsSome (turn_by stack) → turn_by stack ≡ Some (m, x.0, x.1)
       by_stack [] e h = absurd cc
       by_stack (v ∷ rest) e h =
           let same : v ≡ Ref a = cc in
-          subst (λ w. leaves_by (w ∷ rest) ≡ Some (m, x.0, x.1)) (sym same)
-          (by_test ((a.number == 0) || (is_some (monitor_at o a) && is_monitor_storable mutator.phase o a)) rest (subst (λ w. IsSome (leaves_by (w ∷ rest))) same h))
+          subst (λ w. turn_by (w ∷ rest) ≡ Some (m, x.0, x.1)) (sym same)
+          (by_test (admits a) rest (subst (λ w. IsSome (turn_by (w ∷ rest))) same h))
+
+module _ (mutator : Mutator) (m : Frames) (o : Objects) (a : Addr) (x : Objects × Effect) (top : slice_get m.running.stack 0 ≡ Some (Ref a)) (other : x.1 ≡ GoesOn → ⊥) where
+  pub enter_stays : IsSome (enter_turn mutator m o) → x ≡ with_entry mutator o a → enter_turn mutator m o ≡ Some (m, x.0, x.1)
+  enter_stays there is = stays (λ b. (b.number == 0) || (is_countable (monitor_at o b) && is_monitor_storable mutator.phase o b)) (with_entry mutator o) m a x top there is other
+
+  pub exit_stays : IsSome (exit_turn mutator m o) → x ≡ with_exit mutator o a → exit_turn mutator m o ≡ Some (m, x.0, x.1)
+  exit_stays there is = stays (λ b. (b.number == 0) || (is_some (monitor_at o b) && is_monitor_storable mutator.phase o b)) (with_exit mutator o) m a x top there is other

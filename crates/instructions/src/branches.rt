@@ -1,6 +1,7 @@
 // Branches.
 
-ghost use Rattle.std.specs.Prelude.{◌≡◌, ◌^◌, ◌<◌, ℕ, IsSome, Some, slice_get, map};
+ghost use Rattle.std.specs.Prelude.{◌≡◌, IsSome, Some, slice_get};
+ghost use Rattle.std.specs.Int.{w32, cast_unsigned};
 ghost use Rattle.instructions.specs.Frames.{branch_true_turn, branch_false_turn, branch_compare_turn, branch_test, switch_turn, is_set};
 
 use crate::integers::Integer;
@@ -85,14 +86,21 @@ fn is_taken(
     }
 }
 
+/// The place of that number, counted as unsigned. None where there are not so many.
+fn numbered_place(places: &[usize], number: i32) -> Option<usize>
+    ensures { result ≡ slice_get places.now (cast_unsigned w32 number) }
+{
+    places.get(number.cast_unsigned() as usize).copied()
+}
+
 /// `switch` (ECMA-335 III.3.66).
 pub fn switch(frames: &mut FrameMemory, places: &[usize]) -> Effect
     requires { IsSome (switch_turn places.now frames.old) }
     ensures { Some (frames.new, result) ≡ switch_turn places.now frames.old }
 {
     match frames.pop() {
-        Value::Int32(number) => match places.get(number.cast_unsigned() as usize) {
-            Some(place) => jump(frames, *place),
+        Value::Int32(number) => match numbered_place(places, number) {
+            Some(place) => jump(frames, place),
             None => go_on(frames),
         },
         _ => unreachable!(),
