@@ -51,14 +51,11 @@ fn push_times(text: &mut String, character: char, times: usize) -> Result<(), No
     Ok(())
 }
 
-/// Adds what stands before a line, and answers how many digits its number has.
+/// Adds the margin of a line, and answers how wide it is.
 fn push_number(text: &mut String, number: usize) -> Result<usize, NoMemory> {
-    text.push_str("  ")?;
     let before = text.len();
-    write!(text, "{number}")?;
-    let digits = text.len().saturating_sub(before);
-    text.push_str(" | ")?;
-    Ok(digits)
+    write!(text, "  {number} | ")?;
+    Ok(text.len().saturating_sub(before))
 }
 
 fn push_line(text: &mut String, line: &[u8], window: Window) -> Result<(), NoMemory> {
@@ -105,11 +102,9 @@ pub(crate) fn push_excerpt(
     let line = line_at(text, offset);
     let column = offset.saturating_sub(line.start).min(line.bytes.len());
     let window = Window::round(column, line.bytes.len());
-    let digits = push_number(shown, line.number)?;
+    let width = push_number(shown, line.number)?;
     push_line(shown, line.bytes, window)?;
-    shown.push_str("\n  ")?;
-    push_times(shown, ' ', digits)?;
-    shown.push_str(" | ")?;
+    write!(shown, "\n{:>width$}", "| ")?;
     push_carets(shown, line.bytes, window, column, length)?;
     shown.push('\n')?;
     Ok(())

@@ -7,7 +7,12 @@ fn is_word_byte(byte: u8) -> bool {
 
 /// How many letters, digits, `_` and `.` stand together where these bytes begin.
 fn run_length(bytes: &[u8]) -> usize {
-    bytes.iter().take_while(|byte| is_word_byte(**byte)).count()
+    for (length, byte) in bytes.iter().enumerate() {
+        if !is_word_byte(*byte) {
+            return length;
+        }
+    }
+    bytes.len()
 }
 
 /// How many bytes stand before the end of a string literal, its quote counted, or before the end of the line.

@@ -20,15 +20,20 @@ pub(crate) struct TextLine<'t> {
 
 /// The bytes before the first line feed; all, where there is none.
 fn first_line(text: &[u8]) -> &[u8] {
-    let length = text.iter().take_while(|byte| **byte != b'\n').count();
-    text.get(..length).unwrap_or(text)
+    for (length, byte) in text.iter().enumerate() {
+        if *byte == b'\n' {
+            return text.get(..length).unwrap_or(text);
+        }
+    }
+    text
 }
 
 /// The line in which the byte at an offset stands; for an offset behind the end it is the last line.
 pub(crate) fn line_at(text: &[u8], offset: usize) -> TextLine<'_> {
     let mut number = 1usize;
     let mut start = 0usize;
-    for (place, byte) in text.iter().enumerate().take(offset) {
+    let before = text.get(..offset).unwrap_or(text);
+    for (place, byte) in before.iter().enumerate() {
         if *byte == b'\n' {
             number = number.saturating_add(1);
             start = place.saturating_add(1);

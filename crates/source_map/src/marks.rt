@@ -22,14 +22,14 @@ pub(crate) enum Mark<'a> {
     Instruction,
 }
 
-pub(crate) fn is_word(token: &SourceToken, word: &[u8]) -> bool {
+fn is_word(token: &SourceToken, word: &[u8]) -> bool {
     match token.reserved() {
         None => false,
         Some(found) => found == word,
     }
 }
 
-pub(crate) fn is_symbol(token: &SourceToken, symbol: Symbol) -> bool {
+fn is_symbol(token: &SourceToken, symbol: Symbol) -> bool {
     match token.symbol() {
         None => false,
         Some(found) => found == symbol,
@@ -59,15 +59,76 @@ fn is_marked(token: &SourceToken, mark: Mark) -> bool {
 }
 
 /// The number of a token with a mark, of those from a number on, where so many others with the mark stand before it.
-pub(crate) fn marked(tokens: Tokens, from: usize, mark: Mark, others: usize) -> Option<usize> {
+fn marked(tokens: Tokens, from: usize, mark: Mark, others: usize) -> Option<usize> {
     let mut left = others;
-    for (number, token) in tokens.iter().enumerate().skip(from) {
+    let rest = tokens.get(from..).unwrap_or(&[]);
+    for (place, token) in rest.iter().enumerate() {
         if is_marked(token, mark) {
             if left == 0 {
-                return Some(number);
+                return from.checked_add(place);
             }
             left -= 1;
         }
     }
     None
+}
+
+/// A token of a source, from which others are found; none where a step before found none.
+#[derive(Clone, Copy)]
+pub(crate) struct Walk<'t> {
+    tokens: Tokens<'t>,
+    at: Option<usize>,
+}
+
+impl<'t> Walk<'t> {
+    /// The first token of a source.
+    pub fn at_first(tokens: Tokens<'t>) -> Self {
+        Walk {
+            tokens,
+            at: Some(0),
+        }
+    }
+
+    /// The number of the token in the source.
+    pub fn number(self) -> Option<usize> {
+        self.at
+    }
+
+    /// The token with a mark, from this one on, behind so many others with the mark.
+    pub fn to(self, mark: Mark, others: usize) -> Self {
+        let at = match self.at {
+            None => None,
+            Some(from) => marked(self.tokens, from, mark, others),
+        };
+        Walk { at, ..self }
+    }
+
+    /// The token so many places further on.
+    pub fn forward(self, distance: usize) -> Self {
+        let at = match self.at {
+            None => None,
+            Some(number) => number.checked_add(distance),
+        };
+        Walk { at, ..self }
+    }
+
+    /// The token so many places before.
+    pub fn back(self, distance: usize) -> Self {
+        let at = match self.at {
+            None => None,
+            Some(number) => number.checked_sub(distance),
+        };
+        Walk { at, ..self }
+    }
+
+    /// Whether the token has a mark.
+    pub fn is(self, mark: Mark) -> bool {
+        match self.at {
+            None => false,
+            Some(number) => match self.tokens.get(number) {
+                None => false,
+                Some(token) => is_marked(token, mark),
+            },
+        }
+    }
 }

@@ -34,10 +34,13 @@ pub fn nth_field(class: &Class, place: usize) -> Option<(usize, &Field)> {
 
 /// How many methods a class has.
 fn count_methods(class: &Class) -> usize {
-    let members = class.members.as_slice().iter();
-    members
-        .filter(|member| matches!(member, Member::Method(_)))
-        .count()
+    let mut count = 0usize;
+    for member in class.members.as_slice() {
+        if let Member::Method(_) = member {
+            count = count.saturating_add(1);
+        }
+    }
+    count
 }
 
 /// A method of a source: its class, its number among the members of that class, and its place among the methods.

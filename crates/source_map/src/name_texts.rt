@@ -10,12 +10,14 @@ pub struct ClassText<'a>(pub ClassKey<'a>);
 
 impl fmt::Display for ClassText<'_> {
     fn fmt<W: fmt::Write>(&self, f: &mut fmt::Formatter<W>) -> fmt::Result {
-        if let Some(assembly) = self.0.assembly {
-            let assembly = assembly.as_str();
-            write!(f, "[{assembly}]")?;
-        }
         let name = self.0.name.as_str();
-        write!(f, "{name}")
+        match self.0.assembly {
+            None => f.write_str(name),
+            Some(assembly) => {
+                let assembly = assembly.as_str();
+                write!(f, "[{assembly}]{name}")
+            }
+        }
     }
 }
 
@@ -25,21 +27,26 @@ pub struct TypeText<'a>(pub &'a DeclaredType);
 
 impl fmt::Display for TypeText<'_> {
     fn fmt<W: fmt::Write>(&self, f: &mut fmt::Formatter<W>) -> fmt::Result {
-        match &self.0.element {
-            Element::Int32 => write!(f, "int32")?,
-            Element::Int64 => write!(f, "int64")?,
-            Element::Object => write!(f, "object")?,
-            Element::String => write!(f, "string")?,
-            Element::Class(class) => {
-                let class = ClassText(ClassKey::of(class));
-                write!(f, "class {class}")?;
-            }
-        }
+        tell_element(f, &self.0.element)?;
         for _ in 0..self.0.brackets {
-            write!(f, "[]")?;
+            f.write_str("[]")?;
         }
         Ok(())
     }
+}
+
+fn tell_element<W: fmt::Write>(f: &mut fmt::Formatter<W>, element: &Element) -> fmt::Result {
+    let word = match element {
+        Element::Int32 => "int32",
+        Element::Int64 => "int64",
+        Element::Object => "object",
+        Element::String => "string",
+        Element::Class(class) => {
+            let class = ClassText(ClassKey::of(class));
+            return write!(f, "class {class}");
+        }
+    };
+    f.write_str(word)
 }
 
 /// A method without its class: `void Bark(int32, string)`, `void .ctor()`.
@@ -48,24 +55,40 @@ pub struct MethodText<'a>(pub MethodKey<'a>);
 
 impl fmt::Display for MethodText<'_> {
     fn fmt<W: fmt::Write>(&self, f: &mut fmt::Formatter<W>) -> fmt::Result {
-        match self.0.return_type {
-            None => write!(f, "void ")?,
-            Some(declared) => {
-                let declared = TypeText(declared);
-                write!(f, "{declared} ")?;
-            }
-        }
+        tell_return(f, self.0.return_type)?;
         let name = match self.0.name {
             None => ".ctor",
             Some(name) => name.as_str(),
         };
-        write!(f, "{name}(")?;
-        let mut comma = "";
-        for parameter in self.0.parameters {
-            let parameter = TypeText(parameter);
-            write!(f, "{comma}{parameter}")?;
-            comma = ", ";
-        }
-        write!(f, ")")
+        write!(f, " {name}(")?;
+        tell_parameters(f, self.0.parameters)?;
+        f.write_str(")")
     }
+}
+
+/// The type of a result, or `void`.
+fn tell_return<W: fmt::Write>(
+    f: &mut fmt::Formatter<W>,
+    declared: Option<&DeclaredType>,
+) -> fmt::Result {
+    match declared {
+        None => f.write_str("void"),
+        Some(declared) => {
+            let declared = TypeText(declared);
+            write!(f, "{declared}")
+        }
+    }
+}
+
+fn tell_parameters<W: fmt::Write>(
+    f: &mut fmt::Formatter<W>,
+    parameters: &[DeclaredType],
+) -> fmt::Result {
+    let mut comma = "";
+    for parameter in parameters {
+        let parameter = TypeText(parameter);
+        write!(f, "{comma}{parameter}")?;
+        comma = ", ";
+    }
+    Ok(())
 }

@@ -1,6 +1,6 @@
 //! Where the parts of a source stand.
 
-use crate::marks::{Mark, is_symbol, is_word, marked};
+use crate::marks::{Mark, Walk};
 use crate::places::{ClassPart, LinePart, MemberPart, Place};
 use cil_model::memory::NoMemory;
 use cil_model::tokens::Symbol;
@@ -20,119 +20,110 @@ pub fn offset_of(alloc: Global, source: &[u8], place: Place) -> Result<Option<us
 }
 
 fn offset_among(source: &[u8], tokens: Tokens, place: Place) -> Option<usize> {
-    token_offset(source, number_of(tokens, place)?).ok()
+    let number = beginning_of(Walk::at_first(tokens), place).number()?;
+    token_offset(source, number).ok()
 }
 
-/// The number of the token with which a part begins.
-fn number_of(tokens: Tokens, place: Place) -> Option<usize> {
+/// The token with which a part begins, by the first of the source.
+fn beginning_of(first: Walk<'_>, place: Place) -> Walk<'_> {
     match place {
-        Place::Extern(number) => behind(marked(tokens, 0, Mark::Word(b".assembly"), number)?, 2),
-        Place::InClass { class, part } => part_of_class(tokens, class_at(tokens, class)?, part),
+        Place::Extern(number) => first.to(Mark::Word(b".assembly"), number).forward(2),
+        Place::InClass { class, part } => part_of_class(class_at(first, class), part),
         Place::InMember {
             class,
             member,
             part,
-        } => part_of_member(tokens, member_at(tokens, class, member)?, part),
+        } => part_of_member(member_at(first, class, member), part),
         Place::InLine {
             class,
             member,
             line,
             part,
         } => {
-            let method = member_at(tokens, class, member)?;
-            let instruction = marked(tokens, method, Mark::Instruction, line)?;
-            part_of_line(tokens, instruction, part)
+            let method = member_at(first, class, member);
+            part_of_line(method.to(Mark::Instruction, line), part)
         }
     }
 }
 
-fn behind(number: usize, distance: usize) -> Option<usize> {
-    number.checked_add(distance)
+fn class_at(first: Walk<'_>, class: usize) -> Walk<'_> {
+    first.to(Mark::Word(b".class"), class)
 }
 
-fn class_at(tokens: Tokens, class: usize) -> Option<usize> {
-    marked(tokens, 0, Mark::Word(b".class"), class)
+fn member_at(first: Walk<'_>, class: usize, member: usize) -> Walk<'_> {
+    class_at(first, class).to(Mark::Member, member)
 }
 
-fn member_at(tokens: Tokens, class: usize, member: usize) -> Option<usize> {
-    marked(tokens, class_at(tokens, class)?, Mark::Member, member)
-}
-
-fn part_of_class(tokens: Tokens, class: usize, part: ClassPart) -> Option<usize> {
+fn part_of_class(class: Walk<'_>, part: ClassPart) -> Walk<'_> {
     match part {
-        ClassPart::Name => marked(tokens, class, Mark::Name, 0),
-        ClassPart::Base => {
-            let base = marked(tokens, class, Mark::Word(b"extends"), 0)?;
-            class_name(tokens, behind(base, 1)?)
-        }
-        ClassPart::Interface(place) => listed(tokens, class, place),
+        ClassPart::Name => class.to(Mark::Name, 0),
+        ClassPart::Base => class_name(class.to(Mark::Word(b"extends"), 0).forward(1)),
+        ClassPart::Interface(place) => listed(class, place),
     }
 }
 
 /// The name of a class whose reference begins at a token: an assembly in brackets may stand before it.
-fn class_name(tokens: Tokens, reference: usize) -> Option<usize> {
-    if is_symbol(tokens.get(reference)?, Symbol::OpenBracket) {
-        return behind(reference, 3);
+fn class_name(reference: Walk<'_>) -> Walk<'_> {
+    if reference.is(Mark::Symbol(Symbol::OpenBracket)) {
+        return reference.forward(3);
     }
-    Some(reference)
+    reference
 }
 
 /// The name of an interface that a class lists.
-fn listed(tokens: Tokens, class: usize, place: usize) -> Option<usize> {
-    let list = marked(tokens, class, Mark::Word(b"implements"), 0)?;
-    let mut name = class_name(tokens, behind(list, 1)?)?;
+fn listed(class: Walk<'_>, place: usize) -> Walk<'_> {
+    let mut name = class_name(class.to(Mark::Word(b"implements"), 0).forward(1));
     for _ in 0..place {
-        name = class_name(tokens, behind(name, 2)?)?;
+        name = class_name(name.forward(2));
     }
-    Some(name)
+    name
 }
 
-fn part_of_member(tokens: Tokens, member: usize, part: MemberPart) -> Option<usize> {
+fn part_of_member(member: Walk<'_>, part: MemberPart) -> Walk<'_> {
     match part {
-        MemberPart::Name => member_name(tokens, member),
-        MemberPart::ClassOfType(place) => class_of_type(tokens, member, place),
-        MemberPart::EntryPoint => marked(tokens, member, Mark::Word(b".entrypoint"), 0),
-        MemberPart::MaxStack => behind(marked(tokens, member, Mark::Word(b".maxstack"), 0)?, 1),
-        MemberPart::Locals => marked(tokens, member, Mark::Word(b".locals"), 0),
+        MemberPart::Name => member_name(member),
+        MemberPart::ClassOfType(place) => class_of_type(member, place),
+        MemberPart::EntryPoint => member.to(Mark::Word(b".entrypoint"), 0),
+        MemberPart::MaxStack => member.to(Mark::Word(b".maxstack"), 0).forward(1),
+        MemberPart::Locals => member.to(Mark::Word(b".locals"), 0),
     }
 }
 
 /// The name of a field, which is its last token, or of a method, which stands before its parameters.
-fn member_name(tokens: Tokens, member: usize) -> Option<usize> {
-    let next = if is_word(tokens.get(member)?, b".field") {
-        marked(tokens, behind(member, 1)?, Mark::FieldEnd, 0)?
+fn member_name(member: Walk<'_>) -> Walk<'_> {
+    let next = if member.is(Mark::Word(b".field")) {
+        member.forward(1).to(Mark::FieldEnd, 0)
     } else {
-        marked(tokens, member, Mark::Symbol(Symbol::OpenParenthesis), 0)?
+        member.to(Mark::Symbol(Symbol::OpenParenthesis), 0)
     };
-    next.checked_sub(1)
+    next.back(1)
 }
 
 /// The name of the class in the type of this place among those with `class`, from a token on.
-fn class_of_type(tokens: Tokens, from: usize, place: usize) -> Option<usize> {
-    let word = marked(tokens, from, Mark::Word(b"class"), place)?;
-    class_name(tokens, behind(word, 1)?)
+fn class_of_type(from: Walk<'_>, place: usize) -> Walk<'_> {
+    class_name(from.to(Mark::Word(b"class"), place).forward(1))
 }
 
-fn part_of_line(tokens: Tokens, instruction: usize, part: LinePart) -> Option<usize> {
+fn part_of_line(instruction: Walk<'_>, part: LinePart) -> Walk<'_> {
     match part {
-        LinePart::Name => Some(instruction),
-        LinePart::Label(place) => instruction.checked_sub(place.checked_mul(2)?),
-        LinePart::ClassOfType(place) => class_of_type(tokens, instruction, place),
-        LinePart::Owner => owner_end(tokens, instruction)?.checked_sub(1),
-        LinePart::Member => behind(owner_end(tokens, instruction)?, 1),
-        LinePart::Target(place) => target(tokens, behind(instruction, 1)?, place),
+        LinePart::Name => instruction,
+        LinePart::Label(place) => instruction.back(place.saturating_mul(2)),
+        LinePart::ClassOfType(place) => class_of_type(instruction, place),
+        LinePart::Owner => owner_end(instruction).back(1),
+        LinePart::Member => owner_end(instruction).forward(1),
+        LinePart::Target(place) => target(instruction.forward(1), place),
     }
 }
 
 /// The `::` behind the class whose member an instruction names.
-fn owner_end(tokens: Tokens, instruction: usize) -> Option<usize> {
-    marked(tokens, instruction, Mark::Symbol(Symbol::DoubleColon), 0)
+fn owner_end(instruction: Walk<'_>) -> Walk<'_> {
+    instruction.to(Mark::Symbol(Symbol::DoubleColon), 0)
 }
 
 /// A label to which an instruction goes: the one operand of a branch, or one of those in the parentheses of `switch`.
-fn target(tokens: Tokens, operand: usize, place: usize) -> Option<usize> {
-    if is_symbol(tokens.get(operand)?, Symbol::OpenParenthesis) {
-        return behind(operand, place.checked_mul(2)?.checked_add(1)?);
+fn target(operand: Walk<'_>, place: usize) -> Walk<'_> {
+    if operand.is(Mark::Symbol(Symbol::OpenParenthesis)) {
+        return operand.forward(place.saturating_mul(2)).forward(1);
     }
-    Some(operand)
+    operand
 }
