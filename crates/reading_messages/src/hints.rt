@@ -10,24 +10,20 @@ pub(crate) struct ExpectedText(pub Expected);
 
 impl fmt::Display for ExpectedText {
     fn fmt<W: fmt::Write>(&self, f: &mut fmt::Formatter<W>) -> fmt::Result {
-        match self.0 {
-            Expected::Word(word) => {
-                let word = str::from_utf8(word).unwrap_or("?");
-                write!(f, "`{word}`")
-            }
-            Expected::Symbol(symbol) => {
-                let mark = mark_of(symbol);
-                write!(f, "`{mark}`")
-            }
-            Expected::ListEnd(symbol) => {
-                let mark = mark_of(symbol);
-                write!(f, "`,` or `{mark}`")
-            }
-            _ => {
-                let words = words_of(self.0);
-                write!(f, "{words}")
-            }
+        match quoted(self.0) {
+            None => f.write_str(words_of(self.0)),
+            Some((before, quoted)) => write!(f, "{before}`{quoted}`"),
         }
+    }
+}
+
+/// A word or a mark that is shown in backquotes, and what stands before it.
+fn quoted(expected: Expected) -> Option<(&'static str, &'static str)> {
+    match expected {
+        Expected::Word(word) => Some(("", str::from_utf8(word).unwrap_or("?"))),
+        Expected::Symbol(symbol) => Some(("", mark_of(symbol))),
+        Expected::ListEnd(symbol) => Some(("`,` or ", mark_of(symbol))),
+        _ => None,
     }
 }
 

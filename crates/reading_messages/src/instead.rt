@@ -1,8 +1,9 @@
 //! What to write in the place of what a source has.
 
-use crate::left_out::{INSTRUCTIONS, LeftOut, MARKS, NEEDLESS, WORDS};
+use crate::left_out::{INSTRUCTIONS, MARKS, NEEDLESS, WORDS};
 use crate::places::advice_at;
 use crate::spots::{Spot, is_name};
+use crate::tables::{Entry, advice_in, is_listed};
 use cil_model::tokens::Symbol;
 use ilasm_tokens::expected::Expected;
 use ilasm_tokens::words::{WordUse, use_of};
@@ -13,98 +14,108 @@ use std::fmt;
 pub(crate) enum Instead<'a> {
     /// This sentence.
     Advice(&'static str),
-    /// The rest without this word.
-    Without(&'a str),
-    /// This name of an instruction.
-    Instruction(&'a str),
-    /// A type by its class.
-    ClassType(&'a str),
+    /// What is to be done, and a name behind it.
+    Named { before: &'static str, name: &'a str },
     /// A member behind the name of its class.
     Member { class: &'a str, member: &'a str },
+}
+
+impl<'a> Instead<'a> {
+    /// The rest without this word.
+    fn without(word: &'a str) -> Self {
+        Instead::Named {
+            before: "leave out `",
+            name: word,
+        }
+    }
+
+    /// This name of an instruction.
+    fn instruction(name: &'a str) -> Self {
+        Instead::Named {
+            before: "write `",
+            name,
+        }
+    }
+
+    /// A type by its class.
+    fn class_type(name: &'a str) -> Self {
+        Instead::Named {
+            before: "write `class ",
+            name,
+        }
+    }
 }
 
 impl fmt::Display for Instead<'_> {
     fn fmt<W: fmt::Write>(&self, f: &mut fmt::Formatter<W>) -> fmt::Result {
         match *self {
-            Instead::Advice(advice) => write!(f, "{advice}"),
-            Instead::Without(word) => write!(f, "leave out `{word}`"),
-            Instead::Instruction(name) => write!(f, "write `{name}`"),
-            Instead::ClassType(name) => write!(f, "write `class {name}`"),
+            Instead::Advice(advice) => f.write_str(advice),
+            Instead::Named { before, name } => write!(f, "{before}{name}`"),
             Instead::Member { class, member } => write!(f, "write `{class}::{member}`"),
         }
     }
 }
 
-/// Whether a word of a table stands for this one.
-fn stands_for(listed: &str, word: &str) -> bool {
-    listed == word || (listed.ends_with('.') && word.starts_with(listed))
-}
-
-fn is_listed(words: &[&str], word: &str) -> bool {
-    words.iter().any(|listed| stands_for(*listed, word))
-}
-
 /// What a table says of a word.
-fn advice_of<'a>(table: &'static [LeftOut], word: &str) -> Option<Instead<'a>> {
-    for entry in table {
-        if is_listed(entry.words, word) {
-            return Some(Instead::Advice(entry.advice));
-        }
+fn advice_of<'a>(table: &[Entry], word: &str) -> Option<Instead<'a>> {
+    Some(Instead::Advice(advice_in(table, word)?))
+}
+
+/// What to write in the place of a word that goes without anything there.
+fn instead_of_needless(word: &str) -> Option<Instead<'_>> {
+    if is_listed(NEEDLESS, word) {
+        return Some(Instead::without(word));
     }
     None
 }
 
 /// What to write in the place of a word outside of code; None where this profile has the word, or no one has it.
 fn instead_of_word(word: &str) -> Option<Instead<'_>> {
-    if is_listed(NEEDLESS, word) {
-        return Some(Instead::Without(word));
-    }
-    advice_of(WORDS, word)
+    instead_of_needless(word).or(advice_of(WORDS, word))
 }
 
-fn is_instruction(word: &str) -> bool {
-    matches!(use_of(word.as_bytes()), Some(WordUse::Instruction(_)))
+/// An instruction of this name.
+fn instruction(name: &str) -> Option<Instead<'_>> {
+    match use_of(name.as_bytes()) {
+        Some(WordUse::Instruction(_)) => Some(Instead::instruction(name)),
+        _ => None,
+    }
+}
+
+/// The signed form of an instruction.
+fn signed(name: &str) -> Option<Instead<'_>> {
+    instruction(name.strip_suffix(".un")?)
 }
 
 /// What to write in the place of a name of an instruction: for a short form the long one, for an unsigned form the signed one. None where
 /// no one has such an instruction.
 fn instead_of_instruction(name: &str) -> Option<Instead<'_>> {
     let long = name.strip_suffix(".s").unwrap_or(name);
-    if is_instruction(long) {
-        return Some(Instead::Instruction(long));
-    }
-    if let Some(instead) = advice_of(INSTRUCTIONS, long) {
-        return Some(instead);
-    }
-    match long.strip_suffix(".un") {
-        Some(signed) if is_instruction(signed) => Some(Instead::Instruction(signed)),
-        _ => None,
-    }
+    instruction(long)
+        .or(advice_of(INSTRUCTIONS, long))
+        .or(signed(long))
 }
 
 /// What to write in the place of what begins like a number.
 fn instead_of_number(number: &str) -> Option<Instead<'_>> {
-    let digits = number.strip_prefix("-").unwrap_or(number);
-    if digits.starts_with("0x") || digits.starts_with("0X") {
-        return Some(Instead::Advice("write the number in decimal digits"));
+    match number.strip_prefix("-").unwrap_or(number).as_bytes() {
+        [b'0', b'x' | b'X', ..] => Some(Instead::Advice("write the number in decimal digits")),
+        [.., b'.', b'.', b'.'] => {
+            Some(Instead::Advice("write the brackets with nothing between"))
+        }
+        digits if digits.contains(&b'.') => Some(Instead::Advice(
+            "write an integer: there are no floating-point numbers",
+        )),
+        _ => None,
     }
-    if digits.ends_with("...") {
-        return Some(Instead::Advice("write the brackets with nothing between"));
-    }
-    if digits.contains('.') {
-        return Some(Instead::Advice("write an integer: there are no floating-point numbers"));
-    }
-    None
 }
 
 /// What to write in the place of bytes with which no token begins.
 pub(crate) fn instead_of_bytes(bytes: &str) -> Option<Instead<'_>> {
-    if let Some(instead) = instead_of_word(bytes) {
-        return Some(instead);
-    }
+    let instead = instead_of_word(bytes);
     match bytes.as_bytes() {
-        [b'0'..=b'9', ..] | [b'-', b'0'..=b'9', ..] => instead_of_number(bytes),
-        _ => advice_of(MARKS, bytes),
+        [b'0'..=b'9', ..] | [b'-', b'0'..=b'9', ..] => instead.or(instead_of_number(bytes)),
+        _ => instead.or(advice_of(MARKS, bytes)),
     }
 }
 
@@ -116,21 +127,24 @@ fn instead_of_member(name: &str) -> Instead<'_> {
     }
 }
 
-/// What the place of a token says, or the token before it.
-fn instead_by_place<'a>(expected: Expected, spot: Spot<'a>) -> Option<Instead<'a>> {
-    if let Some(advice) = advice_at(expected, spot) {
-        return Some(Instead::Advice(advice));
-    }
+/// What a token says, or the token before it.
+fn instead_by_token<'a>(expected: Expected, spot: Spot<'a>) -> Option<Instead<'a>> {
     match expected {
-        Expected::Word(_) | Expected::ListEnd(_) if is_listed(NEEDLESS, spot.before) => {
-            Some(Instead::Without(spot.before))
-        }
+        Expected::Word(_) | Expected::ListEnd(_) => instead_of_needless(spot.before),
         Expected::Symbol(Symbol::DoubleColon) if !is_name(spot.found) => {
             Some(instead_of_member(spot.before))
         }
         Expected::Type | Expected::ElementType | Expected::ReturnType | Expected::CalledMethod
-            if is_name(spot.found) => { Some(Instead::ClassType(spot.found)) }
+            if is_name(spot.found) => { Some(Instead::class_type(spot.found)) }
         _ => None,
+    }
+}
+
+/// What the place of a token says, or the token before it.
+fn instead_by_place<'a>(expected: Expected, spot: Spot<'a>) -> Option<Instead<'a>> {
+    match advice_at(expected, spot) {
+        None => instead_by_token(expected, spot),
+        Some(advice) => Some(Instead::Advice(advice)),
     }
 }
 

@@ -8,6 +8,7 @@ mod places;
 mod readings;
 mod schedules;
 mod spots;
+mod tables;
 
 pub use readings::explain_reading;
 pub use schedules::explain_schedule;

@@ -29,17 +29,9 @@ impl fmt::Display for ByteText {
     }
 }
 
-/// The bytes of a token, none of which is above 127.
-#[derive(Clone, Copy)]
-struct AsciiText<'a>(&'a [u8]);
-
-impl fmt::Display for AsciiText<'_> {
-    fn fmt<W: fmt::Write>(&self, f: &mut fmt::Formatter<W>) -> fmt::Result {
-        match str::from_utf8(self.0) {
-            Ok(text) => write!(f, "{text}"),
-            Err(_) => write!(f, "?"),
-        }
-    }
+/// A token as text; none of its bytes is above 127.
+fn text_of(token: &[u8]) -> &str {
+    str::from_utf8(token).unwrap_or("?")
 }
 
 /// What stands where it is not expected.
@@ -48,18 +40,27 @@ struct Found<'a>(&'a [u8]);
 
 impl fmt::Display for Found<'_> {
     fn fmt<W: fmt::Write>(&self, f: &mut fmt::Formatter<W>) -> fmt::Result {
-        let token = AsciiText(self.0);
+        let kind = kind_of(self.0);
+        let token = text_of(self.0);
         match self.0 {
-            [] => write!(f, "the end of the source"),
-            [b'"', ..] => write!(f, "the literal {token}"),
-            [b'0'..=b'9' | b'-', ..] => write!(f, "the integer {token}"),
-            [b'A'..=b'Z' | b'a'..=b'z' | b'_' | b'.', ..] => match use_of(self.0) {
-                None => write!(f, "the name `{token}`"),
-                Some(WordUse::Grammar) => write!(f, "the reserved word `{token}`"),
-                Some(WordUse::Instruction(_)) => write!(f, "the instruction `{token}`"),
-            },
-            _ => write!(f, "`{token}`"),
+            [] => f.write_str("the end of the source"),
+            [b'"' | b'-' | b'0'..=b'9', ..] => write!(f, "{kind}{token}"),
+            _ => write!(f, "{kind}`{token}`"),
         }
+    }
+}
+
+/// What a token is called before it is shown; nothing of a mark.
+fn kind_of(token: &[u8]) -> &'static str {
+    match token {
+        [b'"', ..] => "the literal ",
+        [b'0'..=b'9' | b'-', ..] => "the integer ",
+        [b'A'..=b'Z' | b'a'..=b'z' | b'_' | b'.', ..] => match use_of(token) {
+            None => "the name ",
+            Some(WordUse::Grammar) => "the reserved word ",
+            Some(WordUse::Instruction(_)) => "the instruction ",
+        },
+        _ => "",
     }
 }
 
@@ -91,7 +92,7 @@ impl fmt::Display for Unread<'_> {
             }
             Unread::NoToken { rest, token } => tell_no_token(f, rest, token),
             Unread::NoInstruction(name) => {
-                let name = AsciiText(name);
+                let name = text_of(name);
                 write!(
                     f,
                     "`{name}` is no instruction, and no label without a `:` behind it"
@@ -106,31 +107,53 @@ impl fmt::Display for Unread<'_> {
     }
 }
 
+/// Why a string literal is no token.
+fn fault_of_literal(literal: &[u8]) -> &'static str {
+    match literal {
+        [_, .., b'"'] => {
+            "the literal has a byte that is no visible character, or an escape other than \\n, \\t, \\\\ and \\\""
+        }
+        _ => "the literal does not end on its line",
+    }
+}
+
+/// What a token is not that begins with this byte; None where no token does.
+fn wanted_of(first: u8) -> Option<&'static str> {
+    match first {
+        b'0'..=b'9' | b'-' => Some("decimal integer of 64 bits"),
+        b'.' => Some("word of the grammar, and no name"),
+        b'A'..=b'Z' | b'a'..=b'z' | b'_' => Some(
+            "name: one `.` stands between two parts, and each begins with a letter or `_`",
+        ),
+        _ => None,
+    }
+}
+
+/// Why no token begins with these bytes, the first of which is no quote.
+fn tell_no_word<W: fmt::Write>(f: &mut fmt::Formatter<W>, first: u8, token: &[u8]) -> fmt::Result {
+    match wanted_of(first) {
+        None => {
+            let byte = ByteText(first);
+            write!(f, "no token begins with {byte}")
+        }
+        Some(wanted) => {
+            let token = text_of(token);
+            write!(f, "`{token}` is no {wanted}")
+        }
+    }
+}
+
 /// Why no token begins with these bytes.
 fn tell_no_token<W: fmt::Write>(
     f: &mut fmt::Formatter<W>,
     rest: &[u8],
-    found: &[u8],
+    token: &[u8],
 ) -> fmt::Result {
-    let token = AsciiText(found);
     match rest {
-        [b'/', b'*', ..] => write!(f, "the comment that begins here has no end"),
-        [b'"', ..] if found.len() > 1 && found.last() == Some(&b'"') => write!(
-            f,
-            "the literal has a byte that is no visible character, or an escape other than \\n, \\t, \\\\ and \\\""
-        ),
-        [b'"', ..] => write!(f, "the literal does not end on its line"),
-        [b'0'..=b'9' | b'-', ..] => write!(f, "`{token}` is no decimal integer of 64 bits"),
-        [b'.', ..] => write!(f, "`{token}` is no word of the grammar, and no name"),
-        [b'A'..=b'Z' | b'a'..=b'z' | b'_', ..] => write!(
-            f,
-            "`{token}` is no name: one `.` stands between two parts, and each begins with a letter or `_`"
-        ),
-        [byte, ..] => {
-            let byte = ByteText(*byte);
-            write!(f, "no token begins with {byte}")
-        }
-        [] => write!(f, "no token begins here"),
+        [] => f.write_str("no token begins here"),
+        [b'/', b'*', ..] => f.write_str("the comment that begins here has no end"),
+        [b'"', ..] => f.write_str(fault_of_literal(token)),
+        [first, ..] => tell_no_word(f, *first, token),
     }
 }
 
@@ -154,6 +177,17 @@ fn instead_of_mark(text: &[u8]) -> Option<Instead<'_>> {
     }
 }
 
+/// The message of what is wrong at an offset, or of the whole source, without what to write instead.
+fn sentence_of(
+    alloc: Global,
+    named: Named,
+    offset: Option<usize>,
+    unread: Unread,
+) -> Result<String, NoMemory> {
+    let sentence = unread.to_string(alloc)?;
+    named.message(alloc, offset, sentence.as_str())
+}
+
 /// The message of what is wrong at an offset, or of the whole source; what to write instead is the last line.
 fn told(
     alloc: Global,
@@ -162,8 +196,7 @@ fn told(
     unread: Unread,
     instead: Option<Instead>,
 ) -> Result<String, NoMemory> {
-    let sentence = unread.to_string(alloc)?;
-    let mut message = named.message(alloc, offset, sentence.as_str())?;
+    let mut message = sentence_of(alloc, named, offset, unread)?;
     if let Some(instead) = instead {
         writeln!(message, "{instead}")?;
     }
@@ -194,32 +227,34 @@ fn no_tree(
     told(alloc, named, Some(shown), unread, instead)
 }
 
+/// A byte above 127 stands at an offset.
+fn not_ascii(alloc: Global, named: Named, offset: usize) -> Result<String, NoMemory> {
+    let byte = named.text.get(offset).copied().unwrap_or(0);
+    let instead = instead_of_mark(named.text);
+    told(alloc, named, Some(offset), Unread::Foreign(byte), instead)
+}
+
+fn no_token(alloc: Global, named: Named, offset: usize) -> Result<String, NoMemory> {
+    let rest = named.text.get(offset..).unwrap_or(&[]);
+    let token = token_at(named.text, offset);
+    let instead = match rest {
+        [b'/', b'*', ..] => None,
+        _ => instead_of_bytes(word_at(named.text, offset)),
+    };
+    let unread = Unread::NoToken { rest, token };
+    told(alloc, named, Some(offset), unread, instead)
+}
+
 /// Why a source has no tree. The last line says what to write instead, where that can be told by the token at fault and its place. Fails
 /// for want of memory alone, and where memory was wanted for the tree.
 pub fn explain_reading(alloc: Global, named: Named, error: ReadError) -> Result<String, NoMemory> {
-    let text = named.text;
     match error {
-        ReadError::TooLong => told(alloc, named, None, Unread::TooLong(text.len()), None),
-        ReadError::NotAscii { offset } => {
-            let byte = text.get(offset).copied().unwrap_or(0);
-            let instead = instead_of_mark(text);
-            told(alloc, named, Some(offset), Unread::Foreign(byte), instead)
+        ReadError::TooLong => {
+            let unread = Unread::TooLong(named.text.len());
+            told(alloc, named, None, unread, None)
         }
-        ReadError::NoToken { offset } => {
-            let rest = text.get(offset..).unwrap_or(&[]);
-            let token = token_at(text, offset);
-            let instead = match rest {
-                [b'/', b'*', ..] => None,
-                _ => instead_of_bytes(word_at(text, offset)),
-            };
-            told(
-                alloc,
-                named,
-                Some(offset),
-                Unread::NoToken { rest, token },
-                instead,
-            )
-        }
+        ReadError::NotAscii { offset } => not_ascii(alloc, named, offset),
+        ReadError::NoToken { offset } => no_token(alloc, named, offset),
         ReadError::NoTree { offset, expected } => no_tree(alloc, named, offset, expected),
         ReadError::OutOfMemory => Err(NoMemory),
     }

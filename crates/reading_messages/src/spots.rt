@@ -16,24 +16,32 @@ pub(crate) struct Spot<'a> {
     pub after: &'a str,
 }
 
-/// A name, and no reserved word.
+/// What a token may be.
+#[derive(Clone, Copy)]
+pub(crate) enum Form {
+    Name,
+    /// A reserved word that has the form of a name.
+    Reserved,
+    Number,
+    /// `[`
+    Bracket,
+    Other,
+}
+
+pub(crate) fn form_of(token: &str) -> Form {
+    match token.as_bytes() {
+        [b'A'..=b'Z' | b'a'..=b'z' | b'_', ..] => match use_of(token.as_bytes()) {
+            None => Form::Name,
+            Some(_) => Form::Reserved,
+        },
+        [b'0'..=b'9' | b'-', ..] => Form::Number,
+        [b'['] => Form::Bracket,
+        _ => Form::Other,
+    }
+}
+
 pub(crate) fn is_name(token: &str) -> bool {
-    match token.as_bytes() {
-        [b'A'..=b'Z' | b'a'..=b'z' | b'_', ..] => use_of(token.as_bytes()).is_none(),
-        _ => false,
-    }
-}
-
-/// A reserved word that has the form of a name.
-pub(crate) fn is_reserved(token: &str) -> bool {
-    match token.as_bytes() {
-        [b'a'..=b'z', ..] => use_of(token.as_bytes()).is_some(),
-        _ => false,
-    }
-}
-
-pub(crate) fn is_number(token: &str) -> bool {
-    matches!(token.as_bytes(), [b'0'..=b'9' | b'-', ..])
+    matches!(form_of(token), Form::Name)
 }
 
 /// How many tokens a text has; none where no list of tokens is the text's. Fails for want of memory alone.
