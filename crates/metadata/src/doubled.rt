@@ -10,7 +10,7 @@ ghost use Rattle.name_tables.specs.Keys.{text_of_key, class_of_key};
 use crate::violations::{Doubled, DoubledInClass, Repeat};
 use cil_model::memory::NoMemory;
 use cil_model::texts::Text;
-use cil_model::trees::{Class, ClassKind, Method, Tree};
+use cil_model::trees::{Class, ClassKind, Field, Method, Tree};
 use cil_model::types::ClassName;
 use name_tables::bodies::label_keys;
 use name_tables::class_tables::method_keys;
@@ -41,12 +41,11 @@ fn class_names(alloc: Global, classes: &[Class]) -> Result<Vec<TextKey<'_>>, NoM
     Ok(keys)
 }
 
-fn field_names(alloc: Global, class: &Class) -> Result<Vec<TextKey<'_>>, NoMemory>
-    ensures { IfOk result (λ v. map text_of_key v.items ≡ map (λ f. f.name) (field_members class.now)) }
+fn field_names<'a>(alloc: Global, fields: &[&'a Field]) -> Result<Vec<TextKey<'a>>, NoMemory>
+    ensures { IfOk result (λ v. map text_of_key v.items ≡ map (λ f. f.name) (map (λ f. f.now) fields.now)) }
 {
-    let fields = field_members(alloc, class)?;
     let mut keys = Vec::new(alloc);
-    for field in fields.as_slice() {
+    for field in fields {
         keys.push(TextKey { text: &field.name })?;
     }
     Ok(keys)
@@ -62,25 +61,48 @@ fn class_keys(alloc: Global, names: &[ClassName]) -> Result<Vec<ClassKey<'_>>, N
     Ok(keys)
 }
 
+/// The next place behind the first one with that number.
+fn place_again(numbers: &[usize], first: usize) -> usize {
+    for (place, number) in numbers.iter().enumerate() {
+        if place > first && *number == first {
+            return place;
+        }
+    }
+    first
+}
+
 /// Where the first key that stands again further on does so.
 fn repeat_among<K: Eq + Hash + Copy + Drop>(places: &Places<K>) -> Option<Repeat>
     ensures { is_some result ≡ has_repeat K.eq places.now }
 {
     let first = places.repeated()?;
-    let mut again = first;
-    for (place, key) in places.keys().iter().enumerate() {
-        if place > again && again == first && places.first(*key) == Some(first) {
-            again = place;
-        }
-    }
+    let again = place_again(places.numbers(), first);
     Some(Repeat { first, again })
+}
+
+/// The same among keys whose places are not known.
+fn repeated_key<K: Eq + Hash + Copy + Drop>(
+    alloc: Global,
+    keys: Vec<K>,
+) -> Result<Option<Repeat>, NoMemory>
+    ensures { IfOk result (λ r. is_some r ≡ has_repeat K.eq keys.items) }
+{
+    let places = Places::new(alloc, keys)?;
+    Ok(repeat_among(&places))
 }
 
 fn repeated_text(alloc: Global, keys: Vec<TextKey>) -> Result<Option<Repeat>, NoMemory>
     ensures { IfOk result (λ r. is_some r ≡ has_repeat same_text (map text_of_key keys.entry.items)) }
 {
-    let places = Places::new(alloc, keys)?;
-    Ok(repeat_among(&places))
+    repeated_key(alloc, keys)
+}
+
+fn repeated_field(alloc: Global, class: &Class) -> Result<Option<Repeat>, NoMemory>
+    ensures { IfOk result (λ r. is_some r ≡ has_repeat (λ a b. same_text a.name b.name) (field_members class.now)) }
+{
+    let fields = field_members(alloc, class)?;
+    let names = field_names(alloc, fields.as_slice())?;
+    repeated_text(alloc, names)
 }
 
 fn repeated_method(alloc: Global, class: &Class) -> Result<Option<Repeat>, NoMemory>
@@ -88,8 +110,7 @@ fn repeated_method(alloc: Global, class: &Class) -> Result<Option<Repeat>, NoMem
 {
     let methods = method_members(alloc, class)?;
     let keys = method_keys(alloc, methods.as_slice())?;
-    let places = Places::new(alloc, keys)?;
-    Ok(repeat_among(&places))
+    repeated_key(alloc, keys)
 }
 
 pub fn interfaces_named(kind: &ClassKind) -> &[ClassName]
@@ -105,28 +126,44 @@ fn repeated_interface(alloc: Global, class: &Class) -> Result<Option<Repeat>, No
     ensures { IfOk result (λ r. is_some r ≡ has_repeat same_class (interfaces_named class.now.kind)) }
 {
     let keys = class_keys(alloc, interfaces_named(&class.kind))?;
-    let places = Places::new(alloc, keys)?;
-    Ok(repeat_among(&places))
+    repeated_key(alloc, keys)
 }
 
-/// The first method with a label that stands twice, and its places among the labels of the method.
-fn repeated_label(alloc: Global, class: &Class) -> Result<Option<DoubledInClass>, NoMemory>
-    ensures { IfOk result (λ d. is_some d ≡ list_any (λ m. has_repeat same_text (labels_before m)) (method_members class.now)) }
+fn repeated_label(alloc: Global, method: &Method) -> Result<Option<Repeat>, NoMemory>
+    ensures { IfOk result (λ r. is_some r ≡ has_repeat same_text (labels_before method.now)) }
 {
-    let methods = method_members(alloc, class)?;
-    for (method, declared) in methods.as_slice().iter().enumerate() {
-        if let Some(labels) = repeated_text(alloc, label_keys(alloc, declared)?)? {
+    let labels = label_keys(alloc, method)?;
+    repeated_text(alloc, labels)
+}
+
+/// The first of these methods with a label that stands twice, and its places among the labels of the method.
+fn first_with_repeated_label(
+    alloc: Global,
+    methods: &[&Method],
+) -> Result<Option<DoubledInClass>, NoMemory>
+    ensures { IfOk result (λ d. is_some d ≡ list_any (λ m. has_repeat same_text (labels_before m)) (map (λ m. m.now) methods.now)) }
+{
+    for (method, declared) in methods.iter().enumerate() {
+        if let Some(labels) = repeated_label(alloc, declared)? {
             return Ok(Some(DoubledInClass::Labels { method, labels }));
         }
     }
     Ok(None)
 }
 
+/// What stands twice in a method of a class: a label.
+fn doubled_in_methods(alloc: Global, class: &Class) -> Result<Option<DoubledInClass>, NoMemory>
+    ensures { IfOk result (λ d. is_some d ≡ list_any (λ m. has_repeat same_text (labels_before m)) (method_members class.now)) }
+{
+    let methods = method_members(alloc, class)?;
+    first_with_repeated_label(alloc, methods.as_slice())
+}
+
 /// What stands twice in a class: a field, a method, an interface that it lists, or a label.
 fn doubled_in_class(alloc: Global, class: &Class) -> Result<Option<DoubledInClass>, NoMemory>
     ensures { IfOk result (λ d. is_some d ≡ class_doubles class.now) }
 {
-    if let Some(fields) = repeated_text(alloc, field_names(alloc, class)?)? {
+    if let Some(fields) = repeated_field(alloc, class)? {
         return Ok(Some(DoubledInClass::Fields(fields)));
     }
     if let Some(methods) = repeated_method(alloc, class)? {
@@ -135,7 +172,21 @@ fn doubled_in_class(alloc: Global, class: &Class) -> Result<Option<DoubledInClas
     if let Some(interfaces) = repeated_interface(alloc, class)? {
         return Ok(Some(DoubledInClass::Interfaces(interfaces)));
     }
-    repeated_label(alloc, class)
+    doubled_in_methods(alloc, class)
+}
+
+fn repeated_extern(alloc: Global, tree: &Tree) -> Result<Option<Repeat>, NoMemory>
+    ensures { IfOk result (λ r. is_some r ≡ has_repeat same_text tree.now.externs) }
+{
+    let names = text_keys(alloc, tree.externs.as_slice())?;
+    repeated_text(alloc, names)
+}
+
+fn repeated_class(alloc: Global, tree: &Tree) -> Result<Option<Repeat>, NoMemory>
+    ensures { IfOk result (λ r. is_some r ≡ has_repeat (λ a b. same_text a.name b.name) tree.now.classes) }
+{
+    let names = class_names(alloc, tree.classes.as_slice())?;
+    repeated_text(alloc, names)
 }
 
 fn doubled_in_classes(alloc: Global, classes: &[Class]) -> Result<Option<Doubled>, NoMemory>
@@ -154,10 +205,10 @@ fn doubled_in_classes(alloc: Global, classes: &[Class]) -> Result<Option<Doubled
 pub fn doubled_name(alloc: Global, tree: &Tree) -> Result<Option<Doubled>, NoMemory>
     ensures { IfOk result (λ d. is_some d ≡ doubles_name tree.now) }
 {
-    if let Some(externs) = repeated_text(alloc, text_keys(alloc, tree.externs.as_slice())?)? {
+    if let Some(externs) = repeated_extern(alloc, tree)? {
         return Ok(Some(Doubled::Externs(externs)));
     }
-    if let Some(classes) = repeated_text(alloc, class_names(alloc, tree.classes.as_slice())?)? {
+    if let Some(classes) = repeated_class(alloc, tree)? {
         return Ok(Some(Doubled::Classes(classes)));
     }
     doubled_in_classes(alloc, tree.classes.as_slice())

@@ -3,23 +3,17 @@ use Rattle.cil_model.specs.declared.trees.Field.{Field}
 use Rattle.cil_model.specs.Same.{same_text, same_class}
 use Rattle.cil_model.specs.Declarations.{field_members, method_members, interfaces_named}
 use Rattle.cil_model.specs.Legality.{has_repeat, same_method}
-use Rattle.programs.proofs.Repeats.{has_repeat-map, first_decides, none_before, if_ok_then}
+use Rattle.programs.proofs.Repeats.{first_decides, none_before, if_ok_then}
 use Rattle.metadata.proofs.doubled.doubled_in_class.Goals as goal
 
 pub returns-in-Some : goal.returns-in-Some
-returns-in-Some c =
-    let k = c.args.class.now in
-    let a : is_some c.in_ok-fields.field-0 ≡ has_repeat (λ (x y : Field). same_text x.name y.name) (field_members k) =
-    c.in_ok-fields.ensures ∙ ap (has_repeat same_text) c.in_ok-field_names.ensures ∙ has_repeat-map (λ (f : Field). f.name) same_text (field_members k) in
-    first_decides _ _ (first_decides _ _ (first_decides _ _ (sym (ap is_some c.in-Some.is) ∙ a)))
+returns-in-Some c = first_decides _ _ (first_decides _ _ (first_decides _ _ (sym (ap is_some c.in-Some.is) ∙ c.in_ok-fields.ensures)))
 
 pub returns : goal.returns
 returns c =
     let k = c.args.class.now in
-    let a : is_some c.in_ok-fields.field-0 ≡ has_repeat (λ (x y : Field). same_text x.name y.name) (field_members k) =
-    c.in_ok-fields.ensures ∙ ap (has_repeat same_text) c.in_ok-field_names.ensures ∙ has_repeat-map (λ (f : Field). f.name) same_text (field_members k) in
     let two : has_repeat (λ (x y : Field). same_text x.name y.name) (field_members k) || has_repeat same_method (method_members k) ≡ false =
-    none_before _ _ (sym a ∙ ap is_some c.in_default.is) ∙ sym c.in_ok-methods.ensures ∙ ap is_some c.in_default-2.is in
+    none_before _ _ (sym c.in_ok-fields.ensures ∙ ap is_some c.in_default.is) ∙ sym c.in_ok-methods.ensures ∙ ap is_some c.in_default-2.is in
     let three : has_repeat (λ (x y : Field). same_text x.name y.name) (field_members k) || has_repeat same_method (method_members k) || has_repeat same_class (interfaces_named k.kind) ≡ false =
     none_before _ _ two ∙ sym c.in_ok-interfaces.ensures ∙ ap is_some c.in_default-3.is in
-    if_ok_then c.repeated_label.result _ _ (λ v e. e ∙ sym (none_before _ _ three)) c.repeated_label.ensures
+    if_ok_then c.doubled_in_methods.result _ _ (λ v e. e ∙ sym (none_before _ _ three)) c.doubled_in_methods.ensures
