@@ -6,7 +6,8 @@ ghost use Rattle.std.specs.Option.{option_map_or};
 ghost use Rattle.cil_model.specs.Chains.{base_of, is_virtual, is_abstract_method};
 ghost use Rattle.cil_model.specs.Declarations.{source_name};
 ghost use Rattle.cil_model.specs.Legality.{is_interface_method, has_abstract_slot, overrides_no_virtual, kinds_fit, misfits_kind};
-ghost use Rattle.programs.specs.Found.{slot_filled_at, slot_over, slot_numbered, open_over, open_numbered, is_left_open, class_leaves_open, plain_numbered};
+ghost use Rattle.programs.specs.Found.{slot_filled_at, slot_over, slot_numbered, open_over, open_numbered, is_left_open, method_leaves_open, entry_leaves_open, class_leaves_open, plain_numbered};
+ghost use Rattle.name_tables.specs.Entries.{entry_of};
 ghost use Rattle.name_tables.specs.Keys.{class_of_key, method_of_key};
 ghost use Rattle.name_tables.specs.Methods.{line_of};
 ghost use Rattle.name_tables.specs.Numbers.{class_number, method_found};
@@ -17,7 +18,7 @@ use crate::violations::{KindFault, Misfit};
 use cil_model::memory::NoMemory;
 use cil_model::trees::{Class, ClassKind, Method};
 use inheritance::Endless;
-use name_tables::classes::method_members;
+use name_tables::classes::{DeclaredClass, method_members};
 use name_tables::keys::{ClassKey, MethodKey};
 use name_tables::kinds::{is_abstract_method, is_new_slot_method, is_virtual};
 use name_tables::lookups::{MemberNumber, NameTables};
@@ -117,7 +118,7 @@ fn method_leaves_open(
     introduced: &[usize],
     method: &Method,
 ) -> bool
-    ensures { result ≡ (is_virtual method.now.kind && is_left_open names.now.classes.tree.now (identity_of method.now) chain.now introduced.now) }
+    ensures { result ≡ method_leaves_open names.now.classes.tree.now chain.now introduced.now method.now }
 {
     if !is_virtual(&method.kind) {
         return false;
@@ -133,7 +134,7 @@ fn method_left_open(
     introduced: &[usize],
     methods: &[&Method],
 ) -> Option<usize>
-    ensures { is_some result ≡ list_any (λ m. is_virtual m.kind && is_left_open names.now.classes.tree.now (identity_of m) chain.now introduced.now) (map (λ m. m.now) methods.now) }
+    ensures { is_some result ≡ list_any (method_leaves_open names.now.classes.tree.now chain.now introduced.now) (map (λ m. m.now) methods.now) }
 {
     for (place, method) in methods.iter().enumerate() {
         if method_leaves_open(names, chain, introduced, method) {
@@ -186,27 +187,53 @@ fn first_left_open(
     Ok(None)
 }
 
-/// Whether the method at a place of the class at a place of a chain is virtual, and its slot is filled by an abstract one.
-fn is_open_at(
+/// Whether the method at a place of a class is virtual, and its slot is filled by an abstract one along a chain.
+fn is_open_in(
     alloc: Global,
     names: &NameTables,
     chain: &[usize],
-    behind: usize,
+    declared: &DeclaredClass,
     place: usize,
 ) -> Result<bool, NoMemory>
-    ensures { IfOk result (λ is_open. is_open ≡ true → list_any (class_leaves_open names.now.classes.tree.now chain.now) chain.now ≡ true) }
+    ensures { IfOk result (λ is_open. is_open ≡ true → entry_leaves_open names.now.classes.tree.now chain.now (entry_of declared.now) ≡ true) }
 {
-    let Some(class) = chain.get(behind) else {
-        return Ok(false);
-    };
-    let Some(declared) = names.classes.class(*class) else {
-        return Ok(false);
-    };
     let Some(method) = declared.methods.as_slice().get(place) else {
         return Ok(false);
     };
     let introduced = names.chain(alloc, declared.name)?;
     Ok(method_leaves_open(names, chain, introduced.as_slice(), method))
+}
+
+/// The same of the method of a number.
+fn is_open_at(
+    alloc: Global,
+    names: &NameTables,
+    chain: &[usize],
+    number: MemberNumber,
+) -> Result<bool, NoMemory>
+    ensures { IfOk result (λ is_open. is_open ≡ true → class_leaves_open names.now.classes.tree.now chain.now number.class ≡ true) }
+{
+    match names.classes.class(number.class) {
+        None => Ok(false),
+        Some(declared) => is_open_in(alloc, names, chain, declared, number.place),
+    }
+}
+
+/// The same; false where the class does not stand in the chain.
+fn is_open_along(
+    alloc: Global,
+    names: &NameTables,
+    chain: &[usize],
+    number: MemberNumber,
+) -> Result<bool, NoMemory>
+    ensures { IfOk result (λ is_open. is_open ≡ true → list_any (class_leaves_open names.now.classes.tree.now chain.now) chain.now ≡ true) }
+{
+    for class in chain {
+        if *class == number.class {
+            return is_open_at(alloc, names, chain, number);
+        }
+    }
+    Ok(false)
 }
 
 /// The method that seems to be left open along a chain, where it is.
@@ -220,10 +247,7 @@ fn open_suspect(
     let Some(open) = slots.suspect(chain) else {
         return Ok(None);
     };
-    let Some(behind) = chain.iter().position(|number| *number == open.class) else {
-        return Ok(None);
-    };
-    if is_open_at(alloc, slots.methods.names, chain, behind, open.place)? {
+    if is_open_along(alloc, slots.methods.names, chain, open)? {
         return Ok(Some(open));
     }
     Ok(None)

@@ -206,33 +206,74 @@ impl<'m, 't, 'a> OpenSlots<'m, 't, 'a> {
         }
     }
 
-    /// The place of the abstract method of a class that is nearest from the first class on, where there is one.
-    fn top_of(&self, first: usize, class: usize) -> Option<usize> {
+    /// Whether a method is abstract, and the nearest of its name and signature from the first class on.
+    fn is_top(&self, first: usize, at: MemberNumber, method: &Method) -> bool {
+        if !is_abstract_method(&method.kind) {
+            return false;
+        }
+        let key = MethodKey::new(&method.name, &method.signature);
+        match self.methods.nearest(first, key) {
+            Ok(Some(found)) => found == at,
+            _ => false,
+        }
+    }
+
+    /// The abstract method of a class that is nearest from the first class on, where there is one.
+    fn top_of(&self, first: usize, class: usize) -> Option<MemberNumber> {
         let declared = self.methods.names.classes.class(class)?;
         for (place, method) in declared.methods.as_slice().iter().enumerate() {
-            let key = MethodKey::new(&method.name, &method.signature);
-            if is_abstract_method(&method.kind) {
-                if let Ok(Some(found)) = self.methods.nearest(first, key) {
-                    if found.class == class && found.place == place {
-                        return Some(place);
-                    }
-                }
+            let at = MemberNumber { class, place };
+            if self.is_top(first, at, method) {
+                return Some(at);
             }
         }
         None
     }
 
+    /// The abstract method that one hides from its class's base on, where there is one.
+    fn hidden_by(&self, base: usize, method: &Method) -> Option<MemberNumber> {
+        if is_override(method) {
+            return None;
+        }
+        let key = MethodKey::new(&method.name, &method.signature);
+        if !may_be_top(self.methods, Some(base), key) {
+            return None;
+        }
+        match self.methods.nearest(base, key) {
+            Ok(found) => found,
+            Err(Endless) => None,
+        }
+    }
+
     /// The abstract method that a method of a class hides, where there is one.
-    fn hidden_by(&self, class: usize) -> Option<MemberNumber> {
+    fn hidden_behind(&self, class: usize) -> Option<MemberNumber> {
         let names = self.methods.names;
         let declared = names.classes.class(class)?;
         let base = names.base(class)?;
         for method in declared.methods.as_slice() {
-            let key = MethodKey::new(&method.name, &method.signature);
-            if !is_override(method) && may_be_top(self.methods, Some(base), key) {
-                if let Ok(found) = self.methods.nearest(base, key) {
-                    return found;
-                }
+            if let Some(hidden) = self.hidden_by(base, method) {
+                return Some(hidden);
+            }
+        }
+        None
+    }
+
+    /// The nearest abstract method along these classes that is not overridden.
+    fn first_top(&self, chain: &[usize]) -> Option<MemberNumber> {
+        let first = *chain.first()?;
+        for class in chain {
+            if let Some(top) = self.top_of(first, *class) {
+                return Some(top);
+            }
+        }
+        None
+    }
+
+    /// The nearest abstract method along these classes that is hidden.
+    fn first_hidden(&self, chain: &[usize]) -> Option<MemberNumber> {
+        for class in chain {
+            if let Some(hidden) = self.hidden_behind(*class) {
+                return Some(hidden);
             }
         }
         None
@@ -241,20 +282,9 @@ impl<'m, 't, 'a> OpenSlots<'m, 't, 'a> {
     /// A method that seems to be left open along these classes: the nearest one that is not overridden, or else one that is hidden. Its
     /// contract says nothing: whoever asks tries the method.
     pub fn suspect(&self, chain: &[usize]) -> Option<MemberNumber> {
-        let first = *chain.first()?;
-        for class in chain {
-            if let Some(place) = self.top_of(first, *class) {
-                return Some(MemberNumber {
-                    class: *class,
-                    place,
-                });
-            }
+        match self.first_top(chain) {
+            None => self.first_hidden(chain),
+            Some(top) => Some(top),
         }
-        for class in chain {
-            if let Some(hidden) = self.hidden_by(*class) {
-                return Some(hidden);
-            }
-        }
-        None
     }
 }

@@ -40,10 +40,17 @@ open_numbered tree k slot (n ∷ ns) = open_over tree k n (option_map_or (λ s. 
 abbrev pub is_left_open : Tree → MethodIdentity → List ℕ → List ℕ → Bool
 is_left_open tree k chain introduced = option_map_or (λ slot. open_numbered tree k slot chain) (slot_numbered tree k introduced) false
 
--- whether a slot that a class's methods fill is filled by an abstract method along a chain (II.15.4.2)
+-- whether the slot of a virtual method, known along one chain, is filled by an abstract method along another (II.15.4.2)
+abbrev pub method_leaves_open : Tree → List ℕ → List ℕ → Method → Bool
+method_leaves_open tree chain introduced m = is_virtual m.kind && is_left_open tree (identity_of m) chain introduced
+
+-- whether a slot that the methods of a declared class fill is filled by an abstract method along a chain (II.15.4.2)
+abbrev pub entry_leaves_open : Tree → List ℕ → ClassName × Declaration → Bool
+entry_leaves_open tree chain e = list_any (method_leaves_open tree chain (chain_numbers tree e.0)) e.1.methods
+
+-- the same of the class of a number (II.15.4.2)
 abbrev pub class_leaves_open : Tree → List ℕ → ℕ → Bool
-class_leaves_open tree chain n =
-    option_map_or (λ (e : ClassName × Declaration). list_any (λ (m : Method). is_virtual m.kind && is_left_open tree (identity_of m) chain (chain_numbers tree e.0)) e.1.methods) (slice_get (declarations tree) n) false
+class_leaves_open tree chain n = option_map_or (entry_leaves_open tree chain) (slice_get (declarations tree) n) false
 
 -- a virtual method without newslot fills the slot of the next virtual one behind it (II.10.3.1)
 abbrev pub is_override : Method → Bool
