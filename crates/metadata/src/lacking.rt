@@ -83,8 +83,23 @@ fn table_of(
     Ok(Some(table))
 }
 
-/// Of each interface that many classes list: of each class, whether it may lack a method of the interface. So it takes no time with
-/// both the classes that list an interface and its methods. Fails for want of memory alone.
+/// Of each interface that many classes list: of each class, whether it may lack a method of the interface.
+fn tables_of(
+    alloc: Global,
+    methods: &MethodTables,
+    listings: &Listings,
+) -> Result<Vec<Option<Vec<bool>>>, NoMemory>
+    ensures { IfOk result (λ tables. AreTables methods.now.names.now.classes.tree.now tables.items) }
+{
+    let mut tables = Vec::new(alloc);
+    for interface in 0..methods.names.bases().len() {
+        tables.push(table_of(alloc, methods, listings, interface)?)?;
+    }
+    Ok(tables)
+}
+
+/// The same for a whole tree. So it takes no time with both the classes that list an interface and its methods. Fails for want of memory
+/// alone.
 pub(crate) fn lacking_tables(
     alloc: Global,
     methods: &MethodTables,
@@ -92,11 +107,7 @@ pub(crate) fn lacking_tables(
     ensures { IfOk result (λ tables. AreTables methods.now.names.now.classes.tree.now tables.items) }
 {
     let listings = Listings::new(alloc, methods.names)?;
-    let mut tables = Vec::new(alloc);
-    for interface in 0..methods.names.bases().len() {
-        tables.push(table_of(alloc, methods, &listings, interface)?)?;
-    }
-    Ok(tables)
+    tables_of(alloc, methods, &listings)
 }
 
 fn is_false(table: &[bool], class: usize) -> bool

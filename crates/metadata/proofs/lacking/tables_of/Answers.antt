@@ -3,7 +3,7 @@ use Rattle.std.proofs.lemmas.List.{length-append}
 use Rattle.std.proofs.lemmas.Option.{same_Some, none-some}
 use Rattle.std.specs.Option.{ForSome}
 use Rattle.metadata.specs.Implemented.{IsTable}
-use Rattle.metadata.proofs.lacking.lacking_tables.Goals as goal
+use Rattle.metadata.proofs.lacking.tables_of.Goals as goal
 
 -- one more behind others, where there is one
 some_more : {X : Type 0} (P : ℕ → X → Type 0) (xs : List (Option X)) (o : Option X) → ((i : ℕ) (x : X) → slice_get xs i ≡ Some (Some x) → P i x) → ForSome o (P (length xs)) → (i : ℕ) (x : X) → slice_get (xs ++ o ∷ []) i ≡ Some (Some x) → P i x

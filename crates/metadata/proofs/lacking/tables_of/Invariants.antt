@@ -1,6 +1,6 @@
 use Rattle.std.proofs.Common.{◌≡◌, length}
 use Rattle.metadata.specs.Implemented.{AreTables}
-use Rattle.metadata.proofs.lacking.lacking_tables.Given as goal
+use Rattle.metadata.proofs.lacking.tables_of.Given as goal
 
 abbrev pub invariant-loop-interface : goal.invariant-loop-interface
 invariant-loop-interface l = record {
