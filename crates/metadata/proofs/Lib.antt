@@ -7,3 +7,4 @@ pub mod CountLaws
 pub mod MethodLaws
 pub mod OpenLaws
 mod RuleLaws
+mod WalkLaws
