@@ -2,7 +2,8 @@
 
 ghost use Rattle.std.specs.Prelude.{◌≡◌, IfOk, option_map, slice_get, option_and_then};
 ghost use Rattle.cil_model.specs.Legality.{IsLegal};
-ghost use Rattle.programs.specs.Contents.{IsContents};
+ghost use Rattle.resolved_code.specs.Resolved.{AreResolved};
+ghost use Rattle.programs.specs.Contents.{IsContents, IsEntryPoint};
 
 use crate::entries::entry_number;
 use cil_model::memory::NoMemory;
@@ -22,24 +23,61 @@ pub struct Contents {
     pub entry_point: MemberNumber,
 }
 
+/// The entry point of a legal tree.
+fn entry_of_legal(names: &NameTables) -> MemberNumber
+    requires { IsLegal names.now.classes.tree.now }
+    ensures { IsEntryPoint names.now.classes.tree.now result }
+{
+    let Some(entry_point) = entry_number(names.classes.all()) else {
+        unreachable!()
+    };
+    entry_point
+}
+
+/// The classes of a legal tree by their numbers.
+fn classes_of_legal(
+    alloc: Global,
+    names: &NameTables,
+    literals: &Literals,
+) -> Result<Sequence<ResolvedClass>, NoMemory>
+    requires legal { IsLegal names.now.classes.tree.now }
+    requires literals { literals.now.tree.now ≡ names.now.classes.tree.now }
+    ensures { IfOk result (λ classes. AreResolved names.now.classes.tree.now classes) }
+{
+    let Some(classes) = resolve_classes(alloc, names, literals)? else {
+        unreachable!()
+    };
+    Ok(classes)
+}
+
 impl Contents {
+    /// What a legal tree with these literals is by numbers.
+    fn with_literals(
+        alloc: Global,
+        names: &NameTables,
+        literals: &Literals,
+    ) -> Result<Self, NoMemory>
+        requires legal { IsLegal names.now.classes.tree.now }
+        requires literals { literals.now.tree.now ≡ names.now.classes.tree.now }
+        ensures { IfOk result (λ c. IsContents names.now.classes.tree.now c) }
+    {
+        let entry_point = entry_of_legal(names);
+        let texts = literals.texts(alloc)?;
+        let classes = classes_of_legal(alloc, names, literals)?;
+        Ok(Contents {
+            classes,
+            literals: texts,
+            entry_point,
+        })
+    }
+
     /// What a legal tree is by numbers. Fails for want of memory alone.
     pub fn of_legal(alloc: Global, names: &NameTables) -> Result<Self, NoMemory>
         requires { IsLegal names.now.classes.tree.now }
         ensures { IfOk result (λ c. IsContents names.now.classes.tree.now c) }
     {
-        let Some(entry_point) = entry_number(names.classes.all()) else {
-            unreachable!()
-        };
         let literals = Literals::new(alloc, names.classes.tree)?;
-        let Some(classes) = resolve_classes(alloc, names, &literals)? else {
-            unreachable!()
-        };
-        Ok(Contents {
-            classes,
-            literals: literals.texts(alloc)?,
-            entry_point,
-        })
+        Contents::with_literals(alloc, names, &literals)
     }
 }
 

@@ -1,12 +1,10 @@
 use Rattle.std.proofs.Common.{◌≡◌, option_map, ap, subst, ◌∙◌}
 use Rattle.std.specs.Prelude.{IfSome}
-use Rattle.cil_model.specs.Mentions.{literals_of}
 use Rattle.name_tables.specs.declared.lookups.MemberNumber.{MemberNumber}
 use Rattle.name_tables.specs.Numbers.{declarations}
-use Rattle.resolved_code.specs.Resolved.{AreResolved}
 use Rattle.programs.specs.Contents.{entry_from, IsEntryPoint}
 use Rattle.programs.proofs.EntryNumbers.{never_none, entry_found}
-use Rattle.programs.proofs.contents.Contents.of_legal.Goals as goal
+use Rattle.programs.proofs.contents.entry_of_legal.Goals as goal
 
 pub unreachable-requires : goal.unreachable-requires
 unreachable-requires c =
@@ -19,8 +17,4 @@ returns c =
     let t = c.args.names.now.classes.tree.now in
     let told : option_map (λ (m : MemberNumber). (m.class, m.place)) c.entry_number.result ≡ entry_from 0 (declarations t) = c.entry_number.ensures ∙ ap (entry_from 0) c.all.ensures in
     let entry : IfSome c.entry_number.result (IsEntryPoint t) = (entry_found t c.requires c.entry_number.result told).1 in
-    record {
-      classes = subst (λ o. IfSome o (AreResolved t)) c.in-Some-2.is c.in_ok-classes.ensures.resolved;
-      literals = c.in_ok-texts.ensures ∙ ap literals_of c.in_ok-literals.ensures;
-      entry_point = subst (λ o. IfSome o (IsEntryPoint t)) c.in-Some.is entry;
-    }
+    subst (λ o. IfSome o (IsEntryPoint t)) c.in-Some.is entry
