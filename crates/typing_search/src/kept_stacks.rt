@@ -12,7 +12,7 @@ use std::marker::Model;
 use std::mem::size_of;
 
 /// What an entry is but for the number of a class, and for brackets.
-#[derive(Clone, Copy, PartialEq, Eq, Debug)]
+#[derive(Clone, Copy)]
 enum EntryKind {
     Int32,
     Int64,
@@ -24,7 +24,7 @@ enum EntryKind {
 }
 
 /// An entry in eight bytes. A class is 0 where the kind has none, and so are brackets.
-#[derive(Clone, Copy, PartialEq, Eq, Debug)]
+#[derive(Clone, Copy)]
 struct KeptEntry {
     kind: EntryKind,
     class: u16,
@@ -113,14 +113,14 @@ fn narrowed(entries: &[StackEntry], alloc: Global) -> Result<Option<Vec<KeptEntr
 }
 
 /// The entries of a stack: in eight bytes each, or as they are where one of them takes more.
-#[derive(Debug, Drop)]
+#[derive(Drop)]
 enum Form {
     Narrow(Vec<KeptEntry>),
     Wide(Vec<StackEntry>),
 }
 
 /// A stack of types that is kept. Contracts see it as the list of its entries, the top first.
-#[derive(Debug, Drop)]
+#[derive(Drop)]
 pub struct KeptStack {
     form: Form,
 }

@@ -20,7 +20,7 @@ use resolved_code::types::{NumberedElement, NumberedType};
 use std::alloc::Global;
 
 /// Why no stack is above two others.
-#[derive(Clone, Copy, PartialEq, Eq, Debug)]
+#[derive(Clone, Copy, Debug)]
 pub enum StackMismatch {
     /// They hold other numbers of values: the first, and the second.
     Heights(usize, usize),
@@ -29,14 +29,14 @@ pub enum StackMismatch {
 }
 
 /// Why there is no merged stack.
-#[derive(Clone, Copy, PartialEq, Eq, Debug)]
+#[derive(Clone, Copy)]
 pub enum MergeError {
     Apart(StackMismatch),
     OutOfMemory,
 }
 
 /// A merged stack, and whether it says less than the first of the two did.
-#[derive(Debug, Drop)]
+#[derive(Drop)]
 pub struct StackMerge {
     pub stack: Sequence<StackEntry>,
     pub is_higher: bool,

@@ -51,9 +51,8 @@ fn enter(
 /// The places in the order of the steps back.
 fn places_left(operations: &[Operation], alloc: Global) -> Result<Vec<usize>, NoMemory> {
     let mut is_entered = vec![in alloc; false; operations.len()]?;
-    let mut pending = Vec::new(alloc);
+    let mut pending = vec![in alloc; Step::Enter(0)]?;
     let mut left = Vec::new(alloc);
-    pending.push(Step::Enter(0))?;
     for _ in 0..operations.len().saturating_mul(MOST_TARGETS + 3) {
         let Some(step) = pending.pop() else {
             return Ok(left);

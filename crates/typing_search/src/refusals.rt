@@ -1,12 +1,16 @@
 // Why a method has no typing.
 
+ghost use Rattle.std.specs.Prelude.{◌≡◌};
+ghost use Rattle.typing_search.specs.declared.refusals.TypingError.TheVariants.{OutOfMemory};
+
 use crate::merging::StackMismatch;
+use cil_model::memory::NoMemory;
 use cil_model::sequences::Sequence;
 use flow_rules::entries::StackEntry;
 use flow_rules::mismatches::Mismatch;
 
 /// Why no stack can stand before an instruction.
-#[derive(Clone, Copy, PartialEq, Eq, Debug)]
+#[derive(Clone, Copy, Debug)]
 pub enum Reason {
     /// The instruction has no result on the stack that reaches it.
     NoResult(Mismatch),
@@ -42,8 +46,16 @@ pub struct FailurePoint {
 }
 
 /// Why there is no typing of a method: a search fails; or nothing is known, for want of memory.
-#[derive(Debug, Drop)]
+#[derive(Drop)]
 pub enum TypingError {
     Untyped(FailurePoint),
     OutOfMemory,
+}
+
+impl From<NoMemory> for TypingError {
+    ghost from_gives = { λ _ error. error ≡ OutOfMemory };
+
+    fn from(_error: NoMemory) -> TypingError {
+        TypingError::OutOfMemory
+    }
 }

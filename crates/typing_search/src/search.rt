@@ -32,7 +32,7 @@ use flow_rules::type_tree::TypeTree;
 use resolved_code::classes::Body;
 use resolved_code::operations::Operation;
 use resolved_code::types::NumberedType;
-use std::alloc::Global;
+use std::alloc::{AllocError, Global};
 
 /// The stacks found so far, one a place where control was found to go; a flag a place, set where its ways on are still to be looked at;
 /// the order in which these places are taken; and the rank in it at which the look for the next of them begins.
@@ -228,42 +228,22 @@ fn result_at(
     }
 }
 
-/// Where control goes on to. Fails for want of memory alone.
-fn ways_behind(operation: &Operation, next: usize, alloc: Global) -> Result<Vec<usize>, TypingError>
-    ensures ways { IfOk result (λ ways. ways.items ≡ ways_on operation.now next) }
-    ensures err { IfErr result (λ e. e ≡ OutOfMemory) }
-{
-    match ways_on(operation, next, alloc) {
-        Ok(ways) => Ok(ways),
-        Err(_) => Err(TypingError::OutOfMemory),
-    }
-}
-
 /// Rows of which nothing is found. Fails for want of memory alone.
-fn unmapped(places: usize, alloc: Global) -> Result<Vec<Option<KeptStack>>, TypingError>
-    ensures rows { IfOk result (λ rows. rows.items ≡ replicate places None) }
-    ensures err { IfErr result (λ e. e ≡ OutOfMemory) }
+fn unmapped(places: usize, alloc: Global) -> Result<Vec<Option<KeptStack>>, NoMemory>
+    ensures { IfOk result (λ rows. rows.items ≡ replicate places None) }
 {
-    let Ok(mut rows) = Vec::with_capacity(alloc, places) else {
-        return Err(TypingError::OutOfMemory);
-    };
+    let mut rows = Vec::with_capacity(alloc, places)?;
     for place in 0..places {
-        if rows.push(None).is_err() {
-            return Err(TypingError::OutOfMemory);
-        }
+        rows.push(None)?;
     }
     Ok(rows)
 }
 
 /// Flags of which none is set. Fails for want of memory alone.
-fn none_pending(places: usize, alloc: Global) -> Result<Vec<bool>, TypingError>
-    ensures flags { IfOk result (λ flags. flags.items ≡ replicate places false) }
-    ensures err { IfErr result (λ e. e ≡ OutOfMemory) }
+fn none_pending(places: usize, alloc: Global) -> Result<Vec<bool>, AllocError>
+    ensures { IfOk result (λ flags. flags.items ≡ replicate places false) }
 {
-    match vec![in alloc; false; places] {
-        Ok(flags) => Ok(flags),
-        Err(_) => Err(TypingError::OutOfMemory),
-    }
+    vec![in alloc; false; places]
 }
 
 /// The first pending place that isn't before this one.
@@ -314,26 +294,15 @@ fn pending_after(is_pending: &[bool], order: &Order, from: usize) -> Option<usiz
     }
 }
 
-/// The order in which places are taken. Fails for want of memory alone.
-fn order_of(operations: &[Operation], alloc: Global) -> Result<Order, TypingError>
-    ensures { IfErr result (λ e. e ≡ OutOfMemory) }
-{
-    match Order::new(operations, alloc) {
-        Ok(order) => Ok(order),
-        Err(_) => Err(TypingError::OutOfMemory),
-    }
-}
-
 impl Search {
     /// Nothing is found of the places of these operations. Fails for want of memory alone.
-    fn new(operations: &[Operation], alloc: Global) -> Result<Self, TypingError>
+    fn new(operations: &[Operation], alloc: Global) -> Result<Self, NoMemory>
         ensures rows { IfOk result (λ s. s.rows.items ≡ replicate (length operations.now) None) }
         ensures whole { IfOk result (λ s. IsWhole s) }
-        ensures err { IfErr result (λ e. e ≡ OutOfMemory) }
     {
         let is_pending = none_pending(operations.len(), alloc)?;
         let rows = unmapped(operations.len(), alloc)?;
-        let order = order_of(operations, alloc)?;
+        let order = Order::new(operations, alloc)?;
         Ok(Search {
             rows,
             is_pending,
@@ -534,7 +503,7 @@ impl Search {
         // That class System.Object is looked up shows that the program is legal.
         let _object = method.types.class(0);
         let after = result_at(method, operation, place, stack, alloc)?;
-        let ways = ways_behind(operation, place_behind(operations, place), alloc)?;
+        let ways = ways_on(operation, place_behind(operations, place), alloc)?;
         let risen = self.raise_all(method.types, ways.as_slice(), after.as_slice(), most, alloc);
         let incoming = IncomingStack {
             from: place,

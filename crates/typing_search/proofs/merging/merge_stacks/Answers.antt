@@ -1,6 +1,10 @@
-use Rattle.std.proofs.Common.{◌<◌, ◌≤◌, length, arith, ◌∙◌}
+use Rattle.std.proofs.Common.{◌<◌, ◌≤◌, List, length, take, sym, subst, arith, ◌∙◌}
+use Rattle.std.proofs.lemmas.List.{take_all}
 use Rattle.std.proofs.lemmas.Result.{err_from_is_err_and}
 use Rattle.cil_model.specs.declared.trees.Tree.{Tree}
+use Rattle.flow_rules.specs.Named.{stack_types}
+use Rattle.flow_rules.specs.declared.entries.StackEntry.{StackEntry}
+use Rattle.typing_search.specs.Rises.{stack_rises}
 use Rattle.typing_search.proofs.StackLaws.{apart_heights, merge_fails, merged_more, kept_more, merged_whole}
 use Rattle.typing_search.proofs.merging.merge_stacks.Goals as goal
 
@@ -33,3 +37,15 @@ returns-clause-merged c =
     let past : length c.args.known.now ≤ c.loop-index.index = omega (arith, c.loop-index-test.false, c.len-index-end.ensures) in
     let beyond : length c.args.coming.now ≤ c.loop-index.index = omega (arith, past, c.len.ensures, c.if-len-coming.false) in
     merged_whole c.args.types.now c.args.known.now c.args.coming.now c.loop-index.stack.items c.new.result c.loop-index.index past beyond c.loop-index.invariant.merged c.new.ensures
+
+pub returns-clause-same : goal.returns-clause-same
+returns-clause-same c low =
+    let past : length c.args.known.now ≤ c.loop-index.index = omega (arith, c.loop-index-test.false, c.len-index-end.ensures) in
+    c.new.ensures ∙ c.loop-index.invariant.same low ∙ take_all c.loop-index.index c.args.known.now past
+
+pub returns-clause-higher : goal.returns-clause-higher
+returns-clause-higher c high =
+    let tree : Tree = c.args.types.now in
+    let past : length c.args.known.now ≤ c.loop-index.index = omega (arith, c.loop-index-test.false, c.len-index-end.ensures) in
+    subst (λ (known : List StackEntry). stack_rises tree (stack_types tree c.new.result) < stack_rises tree (stack_types tree known)) (take_all c.loop-index.index c.args.known.now past)
+    (subst (λ (merged : List StackEntry). stack_rises tree (stack_types tree merged) < stack_rises tree (stack_types tree (take c.loop-index.index c.args.known.now))) (sym c.new.ensures) (c.loop-index.invariant.higher high))

@@ -31,4 +31,4 @@ returns-clause-found c =
     λ code of u. visit_goes_on c.args.method.now c.args.operations.now (pos c.args.most) code of c.class-object.ensures.legal c.args.self.now c.args.place u c.in-Some.operation.now c.in-Some.ensures.found
     c.in-Some-mapped_at.stack.now (sym same ∙ c.in-Some-mapped_at.ensures.mapped) c.raise_all-risen.result c.answered.result c.raise_all-risen.new.self c.as_slice-3.result.now c.as_slice-2.result.now
     (λ lines i is. c.in_ok-after.ensures.found lines i is ∙ ap (λ (s : List StackEntry). Some (stack_types c.args.method.now.types.now s)) (sym c.as_slice-3.ensures))
-    (c.as_slice-2.ensures.value ∙ c.in_ok-ways.ensures.ways ∙ ap (ways_on c.in-Some.operation.now) c.place_behind.ensures) c.raise_all-risen.ensures c.answered.ensures.told
+    (c.as_slice-2.ensures.value ∙ c.in_ok-ways.ensures ∙ ap (ways_on c.in-Some.operation.now) c.place_behind.ensures) c.raise_all-risen.ensures c.answered.ensures.told
