@@ -1,5 +1,5 @@
 -- What a merge answers.
-use Rattle.std.specs.Prelude.{◌≡◌, ℕ, List, [], Option, Some, None, slice_get, slice_index_or}
+use Rattle.std.specs.Prelude.{◌≡◌, ◌+◌, ℕ, List, [], Option, Some, None, slice_get, slice_index_or}
 use Rattle.cil_model.specs.declared.types.ClassName.{ClassName}
 use Rattle.cil_model.specs.declared.types.DeclaredType.{DeclaredType}
 use Rattle.cil_model.specs.Declarations.{Declaration}
@@ -31,6 +31,10 @@ IsClassAt tree n class = (name : ClassName) × (declared : Declaration) × (slic
 -- the type has so many parents above it
 abbrev pub IsDepth : Tree → DeclaredType → ℕ → Type 0
 IsDepth tree t n = (top : DeclaredType) × (ancestor tree n t ≡ Some top) × (parent tree top ≡ None)
+
+-- two types stand on the way up from another, the second above the first
+abbrev pub IsFork : Tree → DeclaredType → DeclaredType → DeclaredType → Type 0
+IsFork tree t below above = (n : ℕ) × (ancestor tree n t ≡ Some below) × (ancestor tree (n + 1) t ≡ Some above)
 
 -- two types have as many parents above them
 abbrev pub AreLevel : Tree → DeclaredType → DeclaredType → Type 0

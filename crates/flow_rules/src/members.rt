@@ -23,28 +23,14 @@ use crate::method_types::MethodTypes;
 use crate::mismatches::{FlowError, Mismatch};
 use crate::operators::put;
 use crate::type_stack::TypeStack;
-use crate::type_tree::{TypeTree, type_of_class};
+use crate::type_tree::{TypeTree, item_at, type_of_class};
 use crate::variables::{give, take_fitting, take_operands};
 use name_tables::lookups::MemberNumber;
-use resolved_code::classes::{ResolvedField, ResolvedKind, ResolvedMethod};
+use resolved_code::classes::{ResolvedKind, ResolvedMethod};
 use resolved_code::types::NumberedType;
 
 fn no_such_member(number: MemberNumber) -> FlowError {
     FlowError::Mismatch(Mismatch::NoSuchMember(number))
-}
-
-fn field_in(fields: &[ResolvedField], place: usize) -> Option<&ResolvedField>
-    ensures found { IfSome result (λ field. slice_get fields.now place ≡ Some field.now) }
-    ensures beyond { result ≡ None → slice_get fields.now place ≡ None }
-{
-    fields.get(place)
-}
-
-fn method_in(methods: &[ResolvedMethod], place: usize) -> Option<&ResolvedMethod>
-    ensures found { IfSome result (λ method. slice_get methods.now place ≡ Some method.now) }
-    ensures beyond { result ≡ None → slice_get methods.now place ≡ None }
-{
-    methods.get(place)
 }
 
 /// The type of the field that a reference finds (ECMA-335 II.16).
@@ -54,7 +40,7 @@ fn field_type(types: &TypeTree, number: MemberNumber) -> Result<NumberedType, Fl
     let Some(class) = types.class(number.class) else {
         return Err(no_such_member(number));
     };
-    match field_in(class.fields.as_slice(), number.place) {
+    match item_at(class.fields.as_slice(), number.place) {
         None => Err(no_such_member(number)),
         Some(field) => Ok(field.field_type),
     }
@@ -68,7 +54,7 @@ fn method_at<'a>(types: &'a TypeTree, number: MemberNumber) -> Result<&'a Resolv
     let Some(class) = types.class(number.class) else {
         return Err(no_such_member(number));
     };
-    match method_in(class.methods.as_slice(), number.place) {
+    match item_at(class.methods.as_slice(), number.place) {
         None => Err(no_such_member(number)),
         Some(method) => Ok(method),
     }

@@ -11,7 +11,7 @@ use std::alloc::Global;
 use std::marker::Model;
 
 /// What a verifier knows of the values on a stack. Contracts see it as the list of its entries, the top first.
-#[derive(Debug, Drop)]
+#[derive(Drop)]
 pub struct TypeStack {
     entries: Vec<StackEntry>,
 }

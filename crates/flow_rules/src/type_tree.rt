@@ -14,7 +14,7 @@ ghost use Rattle.resolved_code.specs.Numbered.{class_name};
 ghost use Rattle.resolved_code.specs.declared.types.NumberedElement.TheVariants.{Object, Class};
 ghost use Rattle.flow_rules.specs.declared.entries.StackEntry.TheVariants.{Declared, Null};
 ghost use Rattle.flow_rules.specs.Named.{type_named, element_named, class_named, is_known};
-ghost use Rattle.flow_rules.specs.Merging.{AreClasses, AreLevel, IsClassAt, IsDepth, IsMerged, IsLine, AreLines};
+ghost use Rattle.flow_rules.specs.Merging.{AreClasses, AreLevel, IsClassAt, IsDepth, IsFork, IsMerged, IsLine, AreLines};
 
 use crate::entries::{StackEntry, is_reference};
 use crate::lines::Lines;
@@ -25,6 +25,13 @@ use resolved_code::type_tests::TypeTest;
 use resolved_code::types::{NumberedElement, NumberedType};
 use std::alloc::Global;
 use std::marker::Model;
+
+/// Two types on the way up from another, the second above the first.
+#[derive(Clone, Copy)]
+struct Fork {
+    below: NumberedType,
+    above: NumberedType,
+}
 
 /// The types of a legal program, each below its parent. Contracts see it as the program's tree.
 #[derive(Drop)]
@@ -137,7 +144,7 @@ impl<'a> TypeTree<'a> {
         ensures beyond { result ≡ None → class_name self.now number ≡ None }
         ensures legal { IsLegal self.now }
     {
-        class_in(self.classes, number)
+        item_at(self.classes, number)
     }
 
     /// The element of a class's parent: its base, or `object`.
@@ -246,14 +253,13 @@ impl<'a> TypeTree<'a> {
     fn object_up(&self, t: NumberedType, steps: usize) -> Option<NumberedType>
         ensures { IfSome result (λ above. ancestor self.now steps (type_named self.now t) ≡ Some (type_named self.now above)) }
     {
-        let last = self.lines.length_from(t.element).checked_sub(1)?;
+        let last = self.lines.length_from(t.element).saturating_sub(1);
         let top = self.lines.up(t.element, last)?;
-        let fewer = steps.checked_sub(last)?;
+        let fewer = steps.saturating_sub(last);
         if fewer == 0 || has_element_above(top) {
             return None;
         }
-        let above = fewer_brackets(t.brackets, fewer)?;
-        Some(above)
+        fewer_brackets(t.brackets, fewer)
     }
 
     /// Whether two types have the same type above them at a height, counted from their tops. Its contract says nothing.
@@ -278,30 +284,34 @@ impl<'a> TypeTree<'a> {
         least
     }
 
+    /// The last type on the way up from another that is not among so many at its top, and the first that is, where they are seen.
+    fn fork(&self, t: NumberedType, shared: usize) -> Option<Fork>
+        ensures legal { IfSome result (λ _. IsLegal self.now) }
+        ensures known { IfSome result (λ fork. is_known self.now fork.below.element ≡ true) }
+        ensures steps { IfSome result (λ fork. IsFork self.now (type_named self.now t) (type_named self.now fork.below) (type_named self.now fork.above)) }
+    {
+        let height = self.lines.height(t);
+        let steps = height.saturating_sub(shared).checked_sub(1)?;
+        let below = self.up(t, steps)?;
+        let above = self.up(t, steps + 1)?;
+        Some(Fork {
+            below: self.known(below),
+            above,
+        })
+    }
+
     /// The type in which the ways up from two others meet, where it is seen: it is above both, and the types below it on the two ways
     /// differ.
     fn met(&self, first: NumberedType, second: NumberedType) -> Option<NumberedType>
         ensures { IfSome result (λ above. IsMerged self.now (Declared first) (Declared second) (Some (Declared above))) }
     {
         let shared = self.shared(first, second);
-        let steps = self
-            .lines
-            .height(first)
-            .checked_sub(shared)?
-            .checked_sub(1)?;
-        let other_steps = self
-            .lines
-            .height(second)
-            .checked_sub(shared)?
-            .checked_sub(1)?;
-        let below = self.known(self.up(first, steps)?);
-        let other_below = self.known(self.up(second, other_steps)?);
-        let above = self.up(first, steps + 1)?;
-        let other_above = self.up(second, other_steps + 1)?;
-        if !is_same(above, other_above) || is_same(below, other_below) {
+        let one = self.fork(first, shared)?;
+        let other = self.fork(second, shared)?;
+        if !is_same(one.above, other.above) || is_same(one.below, other.below) {
             return None;
         }
-        Some(above)
+        Some(one.above)
     }
 
     /// The closest type above two others. Mostly they are one, or one of them is above the other, or it is seen where they meet. Else
@@ -390,11 +400,12 @@ impl<'a> TypeTree<'a> {
     }
 }
 
-fn class_in(classes: &[ResolvedClass], number: usize) -> Option<&ResolvedClass>
-    ensures found { IfSome result (λ class. slice_get classes.now number ≡ Some class.now) }
-    ensures beyond { result ≡ None → slice_get classes.now number ≡ None }
+/// The item at a place.
+pub(crate) fn item_at<T>(items: &[T], place: usize) -> Option<&T>
+    ensures found { IfSome result (λ item. slice_get items.now place ≡ Some item.now) }
+    ensures beyond { result ≡ None → slice_get items.now place ≡ None }
 {
-    classes.get(number)
+    items.get(place)
 }
 
 /// Whether a class is another, or lists it.
@@ -436,8 +447,7 @@ fn has_element_above(element: NumberedElement) -> bool
 
 /// `object` with so many brackets less.
 fn fewer_brackets(brackets: u32, fewer: usize) -> Option<NumberedType>
-    ensures element { IfSome result (λ t. t.element ≡ Object) }
-    ensures brackets { IfSome result (λ t. t.brackets + fewer ≡ brackets) }
+    ensures { IfSome result (λ t. (t.element ≡ Object) × (t.brackets + fewer ≡ brackets)) }
 {
     let fewer = u32::try_from(fewer).ok()?;
     Some(objects(brackets.checked_sub(fewer)?))
