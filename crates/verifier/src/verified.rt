@@ -19,7 +19,6 @@ use std::alloc::Global;
 use std::marker::Model;
 
 /// An accepted program with its layout and a typing of each method.
-#[derive(Debug)]
 pub struct Verified {
     program: Program,
     layout: Layout,
