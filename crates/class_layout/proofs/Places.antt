@@ -1,8 +1,8 @@
 -- Places in lists.
-use Rattle.std.proofs.Common.{◌≡◌, ◌<◌, ◌+◌, ℕ, suc, List, [], ◌∷◌, ◌++◌, length, map, get_or, take, slice_get, Option, Some, None, refl, sym, ap, ◌∙◌, append_assoc}
-use Rattle.std.specs.Prelude.{filter_map, flat_map}
+use Rattle.std.proofs.Common.{◌≡◌, ◌<◌, ◌+◌, ℕ, suc, Bool, true, false, List, [], ◌∷◌, ◌++◌, length, map, get_or, take, drop, cond, slice_get, Option, Some, None, refl, sym, ap, ◌∙◌, append_assoc}
+use Rattle.std.specs.Prelude.{filter_map, find, flat_map}
 use Rattle.std.specs.List.{cons_option}
-use Rattle.std.proofs.lemmas.List.{take_more, append-nil}
+use Rattle.std.proofs.lemmas.List.{take_more, drop_more, append-nil}
 use Rattle.std.proofs.lemmas.Grind.{flat_map-append}
 use Rattle.name_tables.proofs.NumberLaws.{none_is_some}
 use Rattle.name_tables.proofs.Lists.{map-take_more, filter_map-take_more}
@@ -31,6 +31,13 @@ filter_takes h xs i x ys zs y l e before some after =
 pub push_takes : {X Z : Type 0} (f : X → Z) (xs : List X) (i : ℕ) (x : X) (ys zs : List Z) (y : Z) → i < length xs → x ≡ get_or xs i x → ys ≡ map f (take i xs) → y ≡ f x → zs ≡ ys ++ y ∷ [] → zs ≡ map f (take (i + 1) xs)
 push_takes f xs i x ys zs y l e before answered after =
     after ∙ ap (λ vs. vs ++ y ∷ []) before ∙ ap (λ z. map f (take i xs) ++ z ∷ []) answered ∙ sym (map-take_more f xs i x l e)
+
+-- a loop that looks for an item: it is found, or sought behind
+pub finds_here : {X : Type 0} (sought : X → Bool) (xs : List X) (i : ℕ) (d : X) → i < length xs → sought (get_or xs i d) ≡ true → find sought (drop i xs) ≡ Some (get_or xs i d)
+finds_here sought xs i d l is = ap (find sought) (drop_more xs i d l) ∙ ap (λ b. cond b (Some (get_or xs i d)) (find sought (drop (i + 1) xs))) is
+
+pub finds_behind : {X : Type 0} (sought : X → Bool) (xs : List X) (i : ℕ) (d : X) → i < length xs → sought (get_or xs i d) ≡ false → find sought (drop (i + 1) xs) ≡ find sought (drop i xs)
+finds_behind sought xs i d l is = sym (ap (find sought) (drop_more xs i d l) ∙ ap (λ b. cond b (Some (get_or xs i d)) (find sought (drop (i + 1) xs))) is)
 
 -- a loop that pushes a list for each item
 pub flat_takes : {X Y : Type 0} (f : X → List Y) (xs : List X) (i : ℕ) (d : X) (ys zs : List Y) → i < length xs → ys ≡ flat_map f (take i xs) → zs ≡ ys ++ f (get_or xs i d) → zs ≡ flat_map f (take (i + 1) xs)

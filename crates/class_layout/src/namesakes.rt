@@ -135,10 +135,12 @@ impl<'c, 'p> Namesakes<'c, 'p> {
     fn own_method(&self, class: usize) -> Option<MemberNumber>
         ensures { result ≡ own_at self.now.classes.now.all.now self.now.identity class }
     {
-        let resolved = self.classes.all.get(class)?;
-        match own_place(resolved.methods.as_slice(), self.identity) {
+        match self.classes.all.get(class) {
             None => None,
-            Some(place) => Some(MemberNumber { class, place }),
+            Some(resolved) => match own_place(resolved.methods.as_slice(), self.identity) {
+                None => None,
+                Some(place) => Some(MemberNumber { class, place }),
+            },
         }
     }
 

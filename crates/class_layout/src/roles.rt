@@ -9,7 +9,7 @@ use resolved_code::classes::{ResolvedClass, ResolvedKind, ResolvedMethod};
 use std::alloc::Global;
 
 /// What a method is to the slots of its name and signature.
-#[derive(Clone, Copy, PartialEq, Eq, Debug)]
+#[derive(Clone, Copy)]
 pub enum Role {
     /// It fills none: it is not virtual.
     Plain,

@@ -16,9 +16,9 @@ pub fn row_at<T>(rows: &[Vec<T>], number: usize) -> &[T]
 pub fn flag_at(flags: &[bool], number: usize) -> bool
     ensures { result ≡ unwrap_or (slice_get flags.now number) false }
 {
-    match flags.get(number).copied() {
+    match flags.get(number) {
         None => false,
-        Some(flag) => flag,
+        Some(flag) => *flag,
     }
 }
 
@@ -26,8 +26,8 @@ pub fn flag_at(flags: &[bool], number: usize) -> bool
 pub fn entry_at<T: Copy>(entries: &[Option<T>], number: usize) -> Option<T>
     ensures { result ≡ unwrap_or (slice_get entries.now number) None }
 {
-    match entries.get(number).copied() {
+    match entries.get(number) {
         None => None,
-        Some(entry) => entry,
+        Some(entry) => *entry,
     }
 }

@@ -1,4 +1,6 @@
 use Rattle.std.proofs.Common.{◌≡◌, ◌++◌, ◌∷◌, [], map, get_or, ap, ◌∙◌, arith, append_assoc}
+use Rattle.std.specs.Prelude.{flat_map}
+use Rattle.std.proofs.lemmas.List.{take_all}
 use Rattle.class_layout.specs.ByClass.{with_interfaces}
 use Rattle.class_layout.proofs.Places.{flat_takes}
 use Rattle.class_layout.proofs.ancestry.ancestors.Goals as goal
@@ -10,3 +12,6 @@ loop-class-preserved c =
     let after : c.extend_from_slice.new.self.items ≡ c.loop-class.numbers.items ++ with_interfaces table x =
     c.in_ok-extend_from_slice.ensures.items ∙ ap (λ z. z ++ c.interfaces.result.now) c.in_ok-push.ensures.items ∙ append_assoc c.loop-class.numbers.items (x ∷ []) c.interfaces.result.now ∙ ap (λ z. c.loop-class.numbers.items ++ (x ∷ z)) c.interfaces.ensures in
     flat_takes (with_interfaces table) c.args.chain.now c.loop-class.class-index 0 c.loop-class.numbers.items c.extend_from_slice.new.self.items (omega arith) c.loop-class.invariant after
+
+pub returns : goal.returns
+returns c = c.loop-class.invariant ∙ ap (flat_map (with_interfaces (map (λ r. r.interfaces) c.args.classes.now.all.now))) (take_all c.loop-class.class-index c.args.chain.now c.loop-class-test.false)

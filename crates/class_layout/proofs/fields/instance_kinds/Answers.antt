@@ -1,5 +1,6 @@
-use Rattle.std.proofs.Common.{◌≡◌, ◌<◌, ◌+◌, ◌++◌, ◌∷◌, [], ℕ, List, Option, Some, None, length, get_or, take, sym, ◌∙◌, arith}
+use Rattle.std.proofs.Common.{◌≡◌, ◌<◌, ◌+◌, ◌++◌, ◌∷◌, [], ℕ, List, Option, Some, None, length, get_or, take, sym, ap, ◌∙◌, arith}
 use Rattle.std.specs.Prelude.{filter_map}
+use Rattle.std.proofs.lemmas.List.{take_all}
 use Rattle.std.proofs.lemmas.Option.{slice_get-get_or, get_or_from_slice_get}
 use Rattle.class_layout.specs.NumberedKinds.{numbered_kind}
 use Rattle.class_layout.proofs.Places.{filter_skips, filter_takes}
@@ -21,3 +22,6 @@ loop-field-preserved-in_default c =
 pub loop-field-preserved : goal.loop-field-preserved
 loop-field-preserved c =
     takes numbered_kind c.args.fields.now c.loop-field.field-index _ c.loop-field.kinds.items c.push.new.self.items c.in-Some.kind (omega arith) c.loop-field.invariant (sym c.instance_kind.ensures ∙ c.in-Some.is) c.in_ok-push.ensures.items
+
+pub returns : goal.returns
+returns c = c.loop-field.invariant ∙ ap (filter_map numbered_kind) (take_all c.loop-field.field-index c.args.fields.now c.loop-field-test.false)
