@@ -1,6 +1,6 @@
 -- What a heap tells of its objects, in the terms of the collector's steps.
-use Rattle.std.proofs.Common.{◌≡◌, ℕ, ◌+◌, ◌-◌, ◌<◌, ◌≤◌, ◌||◌, Bool, true, false, [], length, refl, sym, ap, ◌∙◌, arith}
-use Rattle.std.specs.Prelude.{◌==◌, is_some, IsSome, Option, Some, None, option_map, slice_get, unwrap_or}
+use Rattle.std.proofs.Common.{◌≡◌, ℕ, ◌+◌, ◌-◌, ◌<◌, ◌≤◌, ◌||◌, Bool, true, false, List, [], length, refl, sym, ap, ◌∙◌, arith}
+use Rattle.std.specs.Prelude.{◌==◌, is_some, IsSome, Option, Some, None, option_map, slice_get, slice_index, unwrap_or}
 use Rattle.std.proofs.lemmas.Option.{slice_get-get_or, unwrap_or-slice_get}
 use Rattle.cil_model.specs.declared.limits.TheConstants.{MOST_WORDS}
 use Rattle.cil_model.specs.declared.phases.Phase.TheVariants.{Mark, Copy}
@@ -13,7 +13,8 @@ use Rattle.object_memory.specs.Spaces.{Spaces, IsSpace, AreSpaces, first_of, cel
 use Rattle.object_memory.specs.Objects.{Objects}
 use Rattle.object_memory.proofs.Blocks.{range_in}
 use Rattle.object_memory.proofs.TwoBlocks.{new_is_cell, old_is_cell}
-use Rattle.collector.specs.References.{SlotsPass, Test, reference_in}
+use Rattle.object_memory.specs.declared.kinds.Kind.{Kind}
+use Rattle.collector.specs.References.{SlotsPass, Test, holds_reference, reference_in}
 use Rattle.collector.specs.Phases.{is_live, is_marked_cell}
 use Rattle.collector.specs.Marking.{word_of}
 use Rattle.collector.specs.Conditions.{IsReadable}
@@ -51,6 +52,15 @@ new_slots m h a c e = ap (λ (o : Option Cell). unwrap_or (option_map (λ (x : C
 
 pub word_told : (c : Cell) (slot : ℕ) → slot < length c.slots → slice_get c.slots slot ≡ Some (word_of c slot)
 word_told c slot inside = slice_get-get_or c.slots slot 0 inside ∙ ap Some (sym (unwrap_or-slice_get c.slots slot 0))
+
+-- what the heap tells of a slot of an old object
+pub old_word : (m : Spaces) (a : Addr) (c : Cell) (slot word : ℕ) → cell_in m.old a ≡ Some c → word ≡ slice_index (slots_at m a) slot → word ≡ word_of c slot
+old_word m a c slot word at is = is ∙ ap (λ (words : List ℕ). slice_index words slot) (old_slots m a c at) ∙ sym (unwrap_or-slice_get c.slots slot 0)
+
+pub old_reference : (tree : Tree) (m : Spaces) (a : Addr) (c : Cell) (kind : Kind) (slot : ℕ) (holds : Bool) → cell_in m.old a ≡ Some c
+    → option_map (λ (x : Cell). x.kind) (cell_at m a) ≡ Some kind → holds ≡ holds_reference tree kind slot → holds_reference tree c.kind slot ≡ holds
+old_reference tree m a c kind slot holds at is told_so =
+    ap (λ (k : Kind). holds_reference tree k slot) (sym (told (λ (x : Cell). x.kind) (cell_at m a) c kind (old_is_cell m a c at) is)) ∙ sym told_so
 
 -- a slot can be read where its reference passes a test that only what is there passes
 pub readable : (layout : Layout) (tree : Tree) (o : Objects) (test : Test) → IsLayout tree layout → (a : Addr) (c : Cell) (slot : ℕ) → cell_in o.spaces.old a ≡ Some c → slot < length c.slots
