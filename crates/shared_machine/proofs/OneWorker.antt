@@ -1,16 +1,16 @@
 -- A worker that is alone: its count fixes the history.
-use Rattle.std.proofs.Common.{◌≡◌, ℕ, ◌+◌, ◌<◌, List, [], ◌≤◌, ◌∷◌, ◌++◌, get_or, take, length, refl, sym, ap, ◌∙◌, subst, arith, eq-eqb, All, nat_eq}
-use Rattle.std.proofs.lemmas.List.{length-append}
+use Rattle.std.proofs.Common.{◌≡◌, ℕ, ◌+◌, ◌<◌, List, [], ◌≤◌, ◌∷◌, ◌++◌, get_or, take, length, replicate, refl, sym, ap, ◌∙◌, subst, append_assoc, arith, eq-eqb, All, nat_eq}
+use Rattle.std.proofs.lemmas.List.{append-nil, length-append, replicate_more}
 use Rattle.std.proofs.lemmas.List.Elements.{All-head, All-nil, All-push, All-tail, All-weaker}
 use Rattle.worker_counts.specs.Counts.{Count}
 use Rattle.cil_model.specs.declared.events.Event.{Event}
 use Rattle.cil_model.specs.declared.reports.Report.{Report}
 use Rattle.schedule_text.specs.Items.{events_of as events_in}
 use Rattle.schedule_text.specs.declared.items.Item.{Item}
-use Rattle.schedule_text.proofs.SoFar.{so_far, so_far_all, so_far_more, so_far_none}
+use Rattle.schedule_text.proofs.SoFar.{so_far, so_far_all}
 use Rattle.shared_machine.specs.Codes.{add}
 use Rattle.shared_machine.specs.Histories.{AreOf, AreSmall, IsSmall, count_of, entry, events_of, pairs_if, pairs_of}
-use Rattle.shared_machine.specs.Worlds.{AgreesWith, IfDid, added}
+use Rattle.shared_machine.specs.Worlds.{AgreesWith, HasCounted, IfDid, added}
 use Rattle.shared_machine.specs.declared.answer.Answer.{Answer}
 use Rattle.shared_machine.specs.declared.answer.Answer.TheVariants.{Did}
 use Rattle.shared_machine.specs.declared.history.Entry.{Entry}
@@ -61,19 +61,15 @@ same_history h k mine mine' same =
 
 -- ---- the only worker's ticket
 
--- what the ticket has counted are these events, each with a report
-pub record HasCounted (events : List Event) (t : Count) : Type 0 where
-  pub entries : List Entry
-  pub are : events_of entries ≡ events
-  pub mine : AreMine entries
-  pub worker : t.worker ≡ 0
-  pub count : t.count ≡ count_of 0 entries
+-- an entry of one worker
+abbrev IsOfOne : Entry → Type 0
+IsOfOne e = (e.worker < 1) × IsSmall e.event
 
 pub counted_first : (t : Count) → t ≡ record { worker = 0; count = 0 } → HasCounted [] t
 counted_first t is = record {
   entries = [];
   are = refl;
-  mine = All-nil IsMine;
+  mine = All-nil IsOfOne;
   worker = ap (λ (c : Count). c.worker) is;
   count = ap (λ (c : Count). c.count) is;
 }
@@ -85,7 +81,7 @@ counted_more events e t next x r small h told did' =
     record {
       entries = h.entries ++ entry 0 e r ∷ [];
       are = events-more h.entries (entry 0 e r) ∙ ap (λ (es : List Event). es ++ e ∷ []) h.are;
-      mine = All-push IsMine h.entries (entry 0 e r) h.mine (refl, small);
+      mine = All-push IsOfOne h.entries (entry 0 e r) h.mine (omega arith, small);
       worker = ap (λ (c : Count). c.worker) did ∙ h.worker;
       count = ap (λ (c : Count). c.count) did ∙ ap (λ n. add n e r) h.count ∙ sym (count_mine 0 h.entries e r);
     }
@@ -93,27 +89,28 @@ counted_more events e t next x r small h told did' =
 -- ---- item by item
 
 -- none of an item's yet
-pub counted_none : (items : List Item) (i : ℕ) (e : Event) (t : Count) → HasCounted (events_in (take i items)) t → HasCounted (so_far items i e 0) t
-counted_none items i e t h = subst (λ es. HasCounted es t) (sym (so_far_none items i e)) h
+pub counted_none : (before : List Event) (e : Event) (t : Count) → HasCounted before t → HasCounted (before ++ replicate 0 e) t
+counted_none before e t h = subst (λ es. HasCounted es t) (sym (append-nil before)) h
 
 -- one more of them
-pub counted_time : (items : List Item) (i : ℕ) (e : Event) (n : ℕ) (t next : Count) (x : Answer) (r : Report) → IsSmall e → HasCounted (so_far items i e n) t → x ≡ Did r
-    → IfDid x (λ s. next ≡ added t e s) → HasCounted (so_far items i e (n + 1)) next
-counted_time items i e n t next x r small h told did =
-    subst (λ es. HasCounted es next) (so_far_more items i e n) (counted_more (so_far items i e n) e t next x r small h told did)
+pub counted_time : (before : List Event) (e : Event) (n : ℕ) (t next : Count) (x : Answer) (r : Report) → IsSmall e → HasCounted (before ++ replicate n e) t → x ≡ Did r
+    → IfDid x (λ s. next ≡ added t e s) → HasCounted (before ++ replicate (n + 1) e) next
+counted_time before e n t next x r small h told did =
+    subst (λ es. HasCounted es next) (append_assoc before (replicate n e) (e ∷ []) ∙ ap (λ es. before ++ es) (replicate_more n e)) (counted_more (before ++ replicate n e) e t next x r small h told did)
 
 -- all of them
-pub counted_item : (items : List Item) (i : ℕ) (d : Item) (n : ℕ) (t : Count) → i < length items → (get_or items i d).count ≤ n → n ≤ (get_or items i d).count
-    → HasCounted (so_far items i (get_or items i d).event n) t → HasCounted (events_in (take (i + 1) items)) t
-counted_item items i d n t below past within h =
-    let all : n ≡ (get_or items i d).count = omega (arith, past, within) in
-    subst (λ es. HasCounted es t) (ap (λ m. so_far items i (get_or items i d).event m) all ∙ so_far_all items i d below) h
+pub counted_times : (before : List Event) (e : Event) (n count : ℕ) (t : Count) → count ≤ n → n ≤ count → HasCounted (before ++ replicate n e) t → HasCounted (before ++ replicate count e) t
+counted_times before e n count t past within h = let all : n ≡ count = omega arith in subst (λ m. HasCounted (before ++ replicate m e) t) all h
+
+-- one item more
+pub counted_item : (items : List Item) (i : ℕ) (d : Item) (t : Count) → i < length items → HasCounted (so_far items i (get_or items i d).event (get_or items i d).count) t → HasCounted (events_in (take (i + 1) items)) t
+counted_item items i d t below h = subst (λ es. HasCounted es t) (so_far_all items i d below) h
 
 -- so these are the history's
 pub counted_all : (events : List Event) (t : Count) (history : List Entry) → HasCounted events t → AreOf 1 history → AgreesWith history t → events_of history ≡ events
 counted_all events t history h of agrees =
     let same : count_of 0 history ≡ count_of 0 h.entries = ap (λ w. count_of w history) (sym h.worker) ∙ sym agrees ∙ h.count in
-    ap events_of (same_history history h.entries (of_one history of) h.mine same) ∙ h.are
+    ap events_of (same_history history h.entries (of_one history of) (of_one h.entries h.mine) same) ∙ h.are
 
 -- the only ticket, taken from the list that it is alone in
 pub taken : (all rest : List Count) (t first : Count) → all ≡ rest ++ t ∷ [] → all ≡ first ∷ [] → (t ≡ first) × (rest ≡ [])

@@ -87,6 +87,14 @@ pub record IsDid (old : Shown) (t : Count) (e : Event) (new : Shown) (r : Report
 abbrev pub AgreesWith : List Entry → Count → Type 0
 AgreesWith h t = t.count ≡ count_of t.worker h
 
+-- the ticket of the only worker has counted these events, each with some report
+pub record HasCounted (events : List Event) (t : Count) : Type 0 where
+  pub entries : List Entry
+  pub are : events_of entries ≡ events
+  pub mine : AreOf 1 entries
+  pub worker : t.worker ≡ 0
+  pub count : t.count ≡ count_of 0 entries
+
 -- the ticket's count is in the book
 abbrev pub IsIn : List ℕ → Count → Type 0
 IsIn book t = slice_get book t.worker ≡ Some t.count
