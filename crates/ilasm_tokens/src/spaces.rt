@@ -48,13 +48,13 @@ pub fn after_spaces(bytes: &[u8]) -> Result<&[u8], Failure>
         if is_white(*first) {
             rest = after;
         } else if *first == b'/' {
-            let [second, skip_gap @ ..] = after else {
+            let [second, comment @ ..] = after else {
                 return Ok(rest);
             };
             if *second == b'/' {
-                rest = after_line(skip_gap);
+                rest = after_line(comment);
             } else if *second == b'*' {
-                let Some(outside) = after_block(skip_gap) else {
+                let Some(outside) = after_block(comment) else {
                     return Err(Failure::no_token(rest.len()));
                 };
                 rest = outside;
