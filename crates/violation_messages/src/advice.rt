@@ -24,7 +24,7 @@ pub(crate) enum Advice<'a> {
 impl fmt::Display for Advice<'_> {
     fn fmt<W: fmt::Write>(&self, f: &mut fmt::Formatter<W>) -> fmt::Result {
         match *self {
-            Advice::Sentence(sentence) => write!(f, "{sentence}"),
+            Advice::Sentence(sentence) => f.write_str(sentence),
             Advice::Extern(library) => {
                 write!(
                     f,
@@ -135,9 +135,7 @@ fn advice_on_entry(entry: &BadEntry) -> &'static str {
     match entry {
         BadEntry::Absent => "write `.entrypoint` before `.maxstack` of the first method",
         BadEntry::Second => "leave out one of the two",
-        BadEntry::NotStatic(_) | BadEntry::Returns(_) | BadEntry::Takes(_) => {
-            "write `static void Main()`"
-        }
+        BadEntry::Returns(_) | BadEntry::Unfit { .. } => "write `static void Main()`",
     }
 }
 

@@ -45,40 +45,19 @@ impl fmt::Display for Breach<'_> {
     }
 }
 
-/// A breach, and where it is. None where the tree has no such place.
-pub fn breach_of<'a>(
-    names: &'a NameTables<'a>,
-    violation: Violation,
-) -> Option<(Breach<'a>, Sites)> {
+/// A breach, and where it is.
+pub(crate) type Found<'a> = (Breach<'a>, Sites);
+
+/// What breaks a rule, and where. None where the tree has no such place.
+pub fn breach_of<'a>(names: &'a NameTables<'a>, violation: Violation) -> Option<Found<'a>> {
     let tree = names.classes.tree;
     match violation {
-        Violation::Doubled(doubled) => {
-            let (doubled, sites) = doubled_name(tree, doubled)?;
-            Some((Breach::Doubled(doubled), sites))
-        }
-        Violation::Unknown(unknown) => {
-            let (unknown, sites) = unknown_name(names, unknown)?;
-            Some((Breach::Unknown(unknown), sites))
-        }
-        Violation::OwnBase { class } => {
-            let (own_base, sites) = own_base(names, class)?;
-            Some((Breach::OwnBase(own_base), sites))
-        }
-        Violation::NotImplemented(absent) => {
-            let (absent, sites) = not_implemented(names, absent)?;
-            Some((Breach::NotImplemented(absent), sites))
-        }
-        Violation::Misfit(misfit) => {
-            let (misfit, sites) = misfit_of(names, misfit)?;
-            Some((Breach::Misfit(misfit), sites))
-        }
-        Violation::BadEntry(entry) => {
-            let (entry, sites) = bad_entry(tree, entry)?;
-            Some((Breach::BadEntry(entry), sites))
-        }
-        Violation::Passed(passed) => {
-            let (passed, sites) = passed_limit(names, passed)?;
-            Some((Breach::Passed(passed), sites))
-        }
+        Violation::Doubled(doubled) => doubled_name(tree, doubled),
+        Violation::Unknown(unknown) => unknown_name(names, unknown),
+        Violation::OwnBase { class } => own_base(names, class),
+        Violation::NotImplemented(absent) => not_implemented(names, absent),
+        Violation::Misfit(misfit) => misfit_of(names, misfit),
+        Violation::BadEntry(entry) => bad_entry(tree, entry),
+        Violation::Passed(passed) => passed_limit(names, passed),
     }
 }

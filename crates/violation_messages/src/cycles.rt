@@ -1,6 +1,7 @@
 //! Classes that stand in the chain of their own base (number 203).
 
-use crate::sites::Sites;
+use crate::breaches::{Breach, Found};
+use crate::sites::{Sites, class_key};
 use name_tables::keys::ClassKey;
 use name_tables::lookups::NameTables;
 use source_map::{ClassPart, ClassText, Place};
@@ -22,30 +23,34 @@ impl fmt::Display for OwnBase<'_> {
     fn fmt<W: fmt::Write>(&self, f: &mut fmt::Formatter<W>) -> fmt::Result {
         let class = ClassText(self.class);
         write!(f, "the bases of `{class}` lead back to it: `{class}`")?;
-        let mut class = self.number;
-        for _ in 0..MOST_NAMED {
-            let Some(base) = self.names.base(class) else {
-                break;
-            };
-            class = base;
-            let Some(key) = self.names.classes.names().get(base) else {
-                break;
-            };
-            let text = ClassText(*key);
-            write!(f, " extends `{text}`")?;
-            if *key == self.class {
-                return Ok(());
-            }
-        }
-        write!(f, " and so on")
+        tell_bases(f, self)
     }
 }
 
+/// The base of a class, with its number.
+fn base_of<'a>(names: &NameTables<'a>, class: usize) -> Option<(usize, ClassKey<'a>)> {
+    let base = names.base(class)?;
+    Some((base, class_key(names, base)?))
+}
+
+fn tell_bases<W: fmt::Write>(f: &mut fmt::Formatter<W>, own_base: &OwnBase) -> fmt::Result {
+    let mut class = own_base.number;
+    for _ in 0..MOST_NAMED {
+        let Some((base, key)) = base_of(own_base.names, class) else {
+            break;
+        };
+        class = base;
+        let text = ClassText(key);
+        write!(f, " extends `{text}`")?;
+        if key == own_base.class {
+            return Ok(());
+        }
+    }
+    f.write_str(" and so on")
+}
+
 /// A class that is its own base. None where the tree has no such class.
-pub(crate) fn own_base<'a>(
-    names: &'a NameTables<'a>,
-    class: usize,
-) -> Option<(OwnBase<'a>, Sites)> {
+pub(crate) fn own_base<'a>(names: &'a NameTables<'a>, class: usize) -> Option<Found<'a>> {
     let declared = names.classes.tree.classes.as_slice().get(class)?;
     let key = ClassKey::of_source(declared);
     let own_base = OwnBase {
@@ -54,5 +59,6 @@ pub(crate) fn own_base<'a>(
         names,
     };
     let part = ClassPart::Base;
-    Some((own_base, Sites::at(Place::InClass { class, part })))
+    let place = Place::InClass { class, part };
+    Some((Breach::OwnBase(own_base), Sites::at(place)))
 }

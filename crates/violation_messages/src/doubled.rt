@@ -1,8 +1,9 @@
 //! Names that stand twice (number 201).
 
-use crate::sites::{MemberSpot, Sites, class_name, key_of, located_method};
+use crate::breaches::{Breach, Found};
+use crate::sites::{MemberSpot, Sites, class_name, key_of, listed_interface, located_method};
 use cil_model::texts::Text;
-use cil_model::trees::{ClassKind, Method, Tree};
+use cil_model::trees::{Method, Tree};
 use metadata::violations;
 use metadata::violations::{DoubledInClass, Repeat, SourceMember};
 use name_tables::bodies::lines_of;
@@ -36,14 +37,8 @@ pub enum Doubled<'a> {
 impl fmt::Display for Doubled<'_> {
     fn fmt<W: fmt::Write>(&self, f: &mut fmt::Formatter<W>) -> fmt::Result {
         match self {
-            Doubled::Extern(name) => {
-                let name = name.as_str();
-                write!(f, "the extern `{name}` stands twice")
-            }
-            Doubled::Class(name) => {
-                let name = name.as_str();
-                write!(f, "two classes have the name `{name}`")
-            }
+            Doubled::Extern(name) => tell_name(f, "the extern", *name, " stands twice"),
+            Doubled::Class(name) => tell_name(f, "two classes have the name", *name, ""),
             Doubled::Interface { class, interface } => {
                 let class = class.as_str();
                 let interface = ClassText(*interface);
@@ -59,20 +54,24 @@ impl fmt::Display for Doubled<'_> {
                 let method = MethodText(*method);
                 write!(f, "the class `{class}` has two methods `{method}`")
             }
-            Doubled::Label(name) => {
-                let name = name.as_str();
-                write!(f, "the label `{name}` stands twice in the method")
-            }
+            Doubled::Label(name) => tell_name(f, "the label", *name, " stands twice in the method"),
         }
     }
 }
 
-/// A name that stands twice, and where.
-type Found<'a> = (Doubled<'a>, Sites);
+fn tell_name<W: fmt::Write>(
+    f: &mut fmt::Formatter<W>,
+    before: &str,
+    name: &Text,
+    behind: &str,
+) -> fmt::Result {
+    let name = name.as_str();
+    write!(f, "{before} `{name}`{behind}")
+}
 
 /// A name that stands twice, at the second of its places.
 fn found(doubled: Doubled<'_>, again: Place, first: Place) -> Found<'_> {
-    (doubled, Sites::beside(again, Some(first)))
+    (Breach::Doubled(doubled), Sites::beside(again, Some(first)))
 }
 
 fn doubled_extern(tree: &Tree, repeat: Repeat) -> Option<Found<'_>> {
@@ -129,12 +128,9 @@ fn interface_name(class: usize, entry: usize) -> Place {
 
 fn doubled_interface(tree: &Tree, class: usize, repeat: Repeat) -> Option<Found<'_>> {
     let declared = tree.classes.as_slice().get(class)?;
-    let ClassKind::Class { interfaces, .. } = &declared.kind else {
-        return None;
-    };
     let doubled = Doubled::Interface {
         class: &declared.name,
-        interface: ClassKey::of(interfaces.as_slice().get(repeat.again)?),
+        interface: listed_interface(declared, repeat.again)?,
     };
     let again = interface_name(class, repeat.again);
     let first = interface_name(class, repeat.first);
@@ -162,19 +158,24 @@ fn doubled_label(tree: &Tree, method: SourceMember, repeat: Repeat) -> Option<Fo
     Some(found(Doubled::Label(label), again, first))
 }
 
+/// A name that stands twice in a class.
+fn doubled_in_class(tree: &Tree, class: usize, doubled: DoubledInClass) -> Option<Found<'_>> {
+    match doubled {
+        DoubledInClass::Fields(fields) => doubled_field(tree, class, fields),
+        DoubledInClass::Methods(methods) => doubled_method(tree, class, methods),
+        DoubledInClass::Interfaces(entries) => doubled_interface(tree, class, entries),
+        DoubledInClass::Labels { method, labels } => {
+            let place = method;
+            doubled_label(tree, SourceMember { class, place }, labels)
+        }
+    }
+}
+
 /// A name that stands twice where it must stand once (number 201), and its two places. None where the tree has no such places.
-pub fn doubled_name(tree: &Tree, doubled: violations::Doubled) -> Option<(Doubled<'_>, Sites)> {
+pub fn doubled_name(tree: &Tree, doubled: violations::Doubled) -> Option<Found<'_>> {
     match doubled {
         violations::Doubled::Externs(externs) => doubled_extern(tree, externs),
         violations::Doubled::Classes(classes) => doubled_class(tree, classes),
-        violations::Doubled::InClass { class, doubled } => match doubled {
-            DoubledInClass::Fields(fields) => doubled_field(tree, class, fields),
-            DoubledInClass::Methods(methods) => doubled_method(tree, class, methods),
-            DoubledInClass::Interfaces(entries) => doubled_interface(tree, class, entries),
-            DoubledInClass::Labels { method, labels } => {
-                let place = method;
-                doubled_label(tree, SourceMember { class, place }, labels)
-            }
-        },
+        violations::Doubled::InClass { class, doubled } => doubled_in_class(tree, class, doubled),
     }
 }

@@ -1,5 +1,6 @@
 //! The entry point (number 206).
 
+use crate::breaches::{Breach, Found};
 use crate::sites::{Sites, key_of, located_method};
 use cil_model::trees::{Method, Tree};
 use cil_model::types::DeclaredType;
@@ -15,26 +16,20 @@ pub enum BadEntry<'a> {
     Absent,
     /// There are two.
     Second,
-    /// It stands in a method that is not static.
-    NotStatic(MethodKey<'a>),
     /// It stands in a method that returns a value of this type.
     Returns(&'a DeclaredType),
-    /// It stands in a method with parameters.
-    Takes(MethodKey<'a>),
+    /// It stands in a method that has this fault.
+    Unfit {
+        method: MethodKey<'a>,
+        fault: &'static str,
+    },
 }
 
 impl fmt::Display for BadEntry<'_> {
     fn fmt<W: fmt::Write>(&self, f: &mut fmt::Formatter<W>) -> fmt::Result {
         match self {
-            BadEntry::Absent => write!(f, "no method has `.entrypoint`"),
-            BadEntry::Second => write!(f, "a second method has `.entrypoint`"),
-            BadEntry::NotStatic(method) => {
-                let method = MethodText(*method);
-                write!(
-                    f,
-                    "the method `{method}` has `.entrypoint`, but is not static"
-                )
-            }
+            BadEntry::Absent => f.write_str("no method has `.entrypoint`"),
+            BadEntry::Second => f.write_str("a second method has `.entrypoint`"),
             BadEntry::Returns(declared) => {
                 let declared = TypeText(*declared);
                 write!(
@@ -42,12 +37,10 @@ impl fmt::Display for BadEntry<'_> {
                     "the method with `.entrypoint` returns `{declared}`, and not `void`"
                 )
             }
-            BadEntry::Takes(method) => {
+            BadEntry::Unfit { method, fault } => {
                 let method = MethodText(*method);
-                write!(
-                    f,
-                    "the method `{method}` has `.entrypoint`, but has parameters"
-                )
+                let fault = *fault;
+                write!(f, "the method `{method}` has `.entrypoint`, but {fault}")
             }
         }
     }
@@ -59,27 +52,37 @@ fn entry_at(tree: &Tree, method: SourceMember) -> Option<(Place, &Method)> {
     Some((spot.part(MemberPart::EntryPoint), declared))
 }
 
+fn found(entry: BadEntry<'_>, sites: Sites) -> Found<'_> {
+    (Breach::BadEntry(entry), sites)
+}
+
+fn second_entry(tree: &Tree, first: SourceMember, second: SourceMember) -> Option<Found<'_>> {
+    let (first, _) = entry_at(tree, first)?;
+    let (second, _) = entry_at(tree, second)?;
+    Some(found(BadEntry::Second, Sites::beside(second, Some(first))))
+}
+
+/// An entry point in a method that returns a value.
+fn returning(tree: &Tree, method: SourceMember) -> Option<Found<'_>> {
+    let (place, declared) = entry_at(tree, method)?;
+    let returned = declared.signature.return_type.as_ref()?;
+    Some(found(BadEntry::Returns(returned), Sites::at(place)))
+}
+
+/// An entry point in a method that has another fault.
+fn unfit<'a>(tree: &'a Tree, method: SourceMember, fault: &'static str) -> Option<Found<'a>> {
+    let (place, declared) = entry_at(tree, method)?;
+    let method = key_of(declared);
+    Some(found(BadEntry::Unfit { method, fault }, Sites::at(place)))
+}
+
 /// Why a source has not one fit entry point. None where the tree has no such place.
-pub(crate) fn bad_entry(tree: &Tree, entry: violations::BadEntry) -> Option<(BadEntry<'_>, Sites)> {
+pub(crate) fn bad_entry(tree: &Tree, entry: violations::BadEntry) -> Option<Found<'_>> {
     match entry {
-        violations::BadEntry::Absent => Some((BadEntry::Absent, Sites::NONE)),
-        violations::BadEntry::Second { first, second } => {
-            let (first, _) = entry_at(tree, first)?;
-            let (second, _) = entry_at(tree, second)?;
-            Some((BadEntry::Second, Sites::beside(second, Some(first))))
-        }
-        violations::BadEntry::NotStatic(method) => {
-            let (place, declared) = entry_at(tree, method)?;
-            Some((BadEntry::NotStatic(key_of(declared)), Sites::at(place)))
-        }
-        violations::BadEntry::Returns(method) => {
-            let (place, declared) = entry_at(tree, method)?;
-            let returned = declared.signature.return_type.as_ref()?;
-            Some((BadEntry::Returns(returned), Sites::at(place)))
-        }
-        violations::BadEntry::Takes(method) => {
-            let (place, declared) = entry_at(tree, method)?;
-            Some((BadEntry::Takes(key_of(declared)), Sites::at(place)))
-        }
+        violations::BadEntry::Absent => Some(found(BadEntry::Absent, Sites::NONE)),
+        violations::BadEntry::Second { first, second } => second_entry(tree, first, second),
+        violations::BadEntry::NotStatic(method) => unfit(tree, method, "is not static"),
+        violations::BadEntry::Returns(method) => returning(tree, method),
+        violations::BadEntry::Takes(method) => unfit(tree, method, "has parameters"),
     }
 }

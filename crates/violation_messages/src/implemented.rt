@@ -1,11 +1,12 @@
 //! Methods of listed interfaces that are absent (number 204).
 
-use crate::sites::{Sites, key_of, method_place};
+use crate::breaches::{Breach, Found};
+use crate::sites::{Sites, class_key, listed_interface, method_key, method_place};
 use cil_model::texts::Text;
-use cil_model::trees::ClassKind;
+use cil_model::trees::Class;
 use metadata::violations;
 use name_tables::keys::{ClassKey, MethodKey};
-use name_tables::lookups::NameTables;
+use name_tables::lookups::{MemberNumber, NameTables};
 use source_map::{ClassPart, ClassText, MethodText, Place};
 use std::fmt;
 
@@ -28,22 +29,25 @@ impl fmt::Display for NotImplemented<'_> {
             f,
             "the class `{class}` lists `{interface}`, but has and inherits no virtual method `{method}`"
         )?;
-        if let Some(plain) = self.plain_in {
-            let plain = ClassText(plain);
-            write!(f, ": that of `{plain}` is not virtual")?;
+        match self.plain_in {
+            None => Ok(()),
+            Some(plain) => {
+                let plain = ClassText(plain);
+                write!(f, ": that of `{plain}` is not virtual")
+            }
         }
-        Ok(())
     }
 }
 
 /// The nearest class from one on along its bases with a method of this name and signature.
-fn owner_along<'a>(names: &NameTables<'a>, first: usize, key: MethodKey) -> Option<ClassKey<'a>> {
-    let mut class = first;
+fn owner_along<'a>(names: &NameTables<'a>, first: &Class, key: MethodKey) -> Option<ClassKey<'a>> {
+    let mut next = names.classes.number(ClassKey::of_source(first));
     for _ in 0..names.classes.longest_chain() {
+        let class = next?;
         if names.classes.method(class, key).is_some() {
-            return names.classes.names().get(class).copied();
+            return class_key(names, class);
         }
-        class = names.base(class)?;
+        next = names.base(class);
     }
     None
 }
@@ -52,27 +56,23 @@ fn owner_along<'a>(names: &NameTables<'a>, first: usize, key: MethodKey) -> Opti
 pub(crate) fn not_implemented<'a>(
     names: &NameTables<'a>,
     absent: violations::NotImplemented,
-) -> Option<(NotImplemented<'a>, Sites)> {
+) -> Option<Found<'a>> {
     let violations::NotImplemented { class, listed } = absent;
     let declared = names.classes.tree.classes.as_slice().get(class)?;
-    let ClassKind::Class { interfaces, .. } = &declared.kind else {
-        return None;
+    let interface = listed_interface(declared, listed.interface)?;
+    let owner = MemberNumber {
+        class: names.classes.number(interface)?,
+        place: listed.method,
     };
-    let interface = ClassKey::of(interfaces.as_slice().get(listed.interface)?);
-    let owner = names.classes.number(interface)?;
-    let methods = names.classes.class(owner)?.methods.as_slice();
-    let method = key_of(*methods.get(listed.method)?);
-    let number = names.classes.number(ClassKey::of_source(declared))?;
+    let method = method_key(names, owner)?;
     let absent = NotImplemented {
         class: &declared.name,
         interface,
         method,
-        plain_in: owner_along(names, number, method),
+        plain_in: owner_along(names, declared, method),
     };
     let part = ClassPart::Interface(listed.interface);
     let place = Place::InClass { class, part };
-    Some((
-        absent,
-        Sites::beside(place, method_place(names, owner, method)),
-    ))
+    let sites = Sites::beside(place, method_place(names, owner.class, method));
+    Some((Breach::NotImplemented(absent), sites))
 }

@@ -1,13 +1,16 @@
 //! Methods whose kinds do not fit (number 205).
 
-use crate::sites::{MemberSpot, Sites, class_name, key_of, method_place};
+use crate::breaches::{Breach, Found};
+use crate::sites::{
+    MemberSpot, Sites, class_key, class_name, key_of, method_key, method_place, source_number,
+};
 use cil_model::texts::Text;
 use cil_model::trees::Class;
 use metadata::violations;
 use metadata::violations::KindFault;
 use name_tables::keys::{ClassKey, MethodKey};
 use name_tables::lookups::{MemberNumber, NameTables};
-use source_map::{ClassText, MethodText, nth_method};
+use source_map::{ClassText, MethodText, Place, nth_method};
 use std::fmt;
 
 /// A method whose kind does not fit its class or what it inherits.
@@ -94,18 +97,21 @@ fn tell_left_open<W: fmt::Write>(
         f,
         "the class `{class}` is not abstract, but the abstract method `{method}` of `{owner}` is not overridden in it"
     )?;
-    if let Some(hiding) = hidden_by {
-        let hiding = ClassText(hiding);
-        write!(
-            f,
-            ": that of `{hiding}` is another, since it has newslot or is not virtual"
-        )?;
+    match hidden_by {
+        None => Ok(()),
+        Some(hiding) => {
+            let hiding = ClassText(hiding);
+            write!(
+                f,
+                ": that of `{hiding}` is another, since it has newslot or is not virtual"
+            )
+        }
     }
-    Ok(())
 }
 
-/// A method whose kind does not fit, and where.
-type Found<'a> = (Misfit<'a>, Sites);
+fn found(misfit: Misfit<'_>, sites: Sites) -> Found<'_> {
+    (Breach::Misfit(misfit), sites)
+}
 
 /// What stands between a class and one of its bases: the last class that is not abstract, since there first a method of that base is left
 /// open; and the last class that has a method of a name and signature.
@@ -115,64 +121,95 @@ struct Nearer {
     hiding: Option<usize>,
 }
 
+fn is_abstract_class(names: &NameTables, class: usize) -> bool {
+    match names.classes.class(class) {
+        None => false,
+        Some(declared) => declared.is_abstract,
+    }
+}
+
 /// What stands between a class and one of its bases, by their numbers. None where it is no base of the class.
 fn nearer_than(names: &NameTables, first: usize, owner: usize, key: MethodKey) -> Option<Nearer> {
     let mut open = None;
     let mut hiding = None;
-    let mut class = first;
+    let mut next = Some(first);
     for _ in 0..names.classes.longest_chain() {
+        let class = next?;
         if class == owner {
             return Some(Nearer { open, hiding });
         }
         if names.classes.method(class, key).is_some() {
             hiding = Some(class);
         }
-        if !names.classes.class(class)?.is_abstract {
+        if !is_abstract_class(names, class) {
             open = Some(class);
         }
-        class = names.base(class)?;
+        next = names.base(class);
     }
     None
 }
 
-/// The number in the source of a class that has a number among all classes. None for a built-in class.
-fn source_number(names: &NameTables, class: usize) -> Option<usize> {
-    let sources = names.classes.tree.classes.as_slice().len();
-    let built_in = names.classes.names().len().checked_sub(sources)?;
-    class.checked_sub(built_in)
+/// A method that is left open, with what stands between its class, which is the owner, and the class that leaves it open.
+fn told_left_open<'a>(
+    names: &NameTables<'a>,
+    owner: usize,
+    method: MethodKey<'a>,
+    nearer: Nearer,
+) -> Option<Found<'a>> {
+    let number = source_number(names, nearer.open?)?;
+    let misfit = Misfit::LeftOpen {
+        class: &names.classes.tree.classes.as_slice().get(number)?.name,
+        owner: class_key(names, owner)?,
+        method,
+        hidden_by: match nearer.hiding {
+            None => None,
+            Some(hiding) => class_key(names, hiding),
+        },
+    };
+    let declared = method_place(names, owner, method);
+    Some(found(misfit, Sites::beside(class_name(number), declared)))
 }
 
 fn left_open<'a>(names: &NameTables<'a>, class: &Class, open: MemberNumber) -> Option<Found<'a>> {
     let first = names.classes.number(ClassKey::of_source(class))?;
-    let methods = names.classes.class(open.class)?.methods.as_slice();
-    let method = key_of(*methods.get(open.place)?);
+    let method = method_key(names, open)?;
     let nearer = nearer_than(names, first, open.class, method)?;
-    let keys = names.classes.names();
-    let number = source_number(names, nearer.open?)?;
-    let misfit = Misfit::LeftOpen {
-        class: &names.classes.tree.classes.as_slice().get(number)?.name,
-        owner: *keys.get(open.class)?,
-        method,
-        hidden_by: match nearer.hiding {
-            None => None,
-            Some(hiding) => keys.get(hiding).copied(),
-        },
-    };
-    let declared = method_place(names, open.class, method);
-    Some((misfit, Sites::beside(class_name(number), declared)))
+    told_left_open(names, open.class, method, nearer)
 }
 
+/// The name of a method of a class that has a number in the source, and the place of that name.
+fn named_method(class: usize, declared: &Class, method: usize) -> Option<(MethodKey<'_>, Place)> {
+    let (member, method) = nth_method(declared, method)?;
+    Some((key_of(method), MemberSpot { class, member }.name()))
+}
+
+fn in_interface(class: usize, declared: &Class, method: usize) -> Option<Found<'_>> {
+    let (method, place) = named_method(class, declared, method)?;
+    let interface = &declared.name;
+    Some(found(Misfit::InInterface { interface, method }, Sites::at(place)))
+}
+
+fn is_abstract(class: usize, declared: &Class, method: usize) -> Option<Found<'_>> {
+    let (method, place) = named_method(class, declared, method)?;
+    let class = &declared.name;
+    Some(found(Misfit::Abstract { class, method }, Sites::at(place)))
+}
+
+/// A method that would override one of a base, which has a number among all classes.
 fn over_plain<'a>(
     names: &NameTables<'a>,
     class: &'a Class,
-    method: MethodKey<'a>,
+    named: (MethodKey<'a>, Place),
     base: usize,
-) -> Option<Misfit<'a>> {
-    Some(Misfit::OverPlain {
+) -> Option<Found<'a>> {
+    let (method, place) = named;
+    let misfit = Misfit::OverPlain {
         class: &class.name,
         method,
-        owner: *names.classes.names().get(base)?,
-    })
+        owner: class_key(names, base)?,
+    };
+    let overridden = method_place(names, base, method);
+    Some(found(misfit, Sites::beside(place, overridden)))
 }
 
 /// A method whose kind does not fit its class or what that inherits. None where the tree has no such place.
@@ -183,30 +220,16 @@ pub(crate) fn misfit_of<'a>(
     let violations::Misfit { class, fault } = misfit;
     let declared = names.classes.tree.classes.as_slice().get(class)?;
     match fault {
-        KindFault::InInterface { method } => {
-            let (member, method) = nth_method(declared, method)?;
-            let misfit = Misfit::InInterface {
-                interface: &declared.name,
-                method: key_of(method),
-            };
-            Some((misfit, Sites::at(MemberSpot { class, member }.name())))
-        }
-        KindFault::Abstract { method } => {
-            let (member, method) = nth_method(declared, method)?;
-            let misfit = Misfit::Abstract {
-                class: &declared.name,
-                method: key_of(method),
-            };
-            Some((misfit, Sites::at(MemberSpot { class, member }.name())))
-        }
+        KindFault::InInterface { method } => in_interface(class, declared, method),
+        KindFault::Abstract { method } => is_abstract(class, declared, method),
         KindFault::LeftOpen { open } => left_open(names, declared, open),
         KindFault::OverPlain { method, base } => {
-            let (member, method) = nth_method(declared, method)?;
-            let key = key_of(method);
-            let misfit = over_plain(names, declared, key, base)?;
-            let overridden = method_place(names, base, key);
-            let place = MemberSpot { class, member }.name();
-            Some((misfit, Sites::beside(place, overridden)))
+            over_plain(
+                names,
+                declared,
+                named_method(class, declared, method)?,
+                base,
+            )
         }
     }
 }

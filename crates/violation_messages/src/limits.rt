@@ -1,5 +1,6 @@
 //! Limits that are passed (number 207), all of which are this profile's.
 
+use crate::breaches::{Breach, Found};
 use crate::references::{place_of, type_at};
 use crate::sites::{MemberSpot, Sites, class_name, located_method};
 use cil_model::instructions::Instruction;
@@ -8,9 +9,9 @@ use cil_model::limits::{
     MOST_LOCALS, MOST_METHODS, MOST_STACK, MOST_STATIC_FIELDS, MOST_TARGETS,
 };
 use cil_model::texts::Text;
-use cil_model::trees::{Class, Member, Method};
+use cil_model::trees::{Class, Member, Method, Tree};
 use metadata::violations;
-use metadata::violations::MethodLimit;
+use metadata::violations::{MethodLimit, SourceMember, TypeSite};
 use name_tables::bodies::{code_of, lines_of, locals_of};
 use name_tables::keys::ClassKey;
 use name_tables::kinds::is_static;
@@ -18,41 +19,88 @@ use name_tables::lookups::NameTables;
 use source_map::{LinePart, MemberPart, MethodPlace, Place, method_of_number};
 use std::fmt;
 
+/// How many of some things there may be.
+#[derive(Clone, Copy)]
+pub struct Limit {
+    /// Which has them.
+    owner: &'static str,
+    things: &'static str,
+    most: usize,
+}
+
+const CLASSES: Limit = Limit {
+    owner: "the source",
+    things: "classes and interfaces",
+    most: MOST_CLASSES,
+};
+
+const METHODS: Limit = Limit {
+    owner: "the source",
+    things: "methods",
+    most: MOST_METHODS,
+};
+
+const STATIC_FIELDS: Limit = Limit {
+    owner: "the source",
+    things: "static fields",
+    most: MOST_STATIC_FIELDS,
+};
+
+const ARGUMENTS: Limit = Limit {
+    owner: "the method",
+    things: "arguments, `this` counted",
+    most: MOST_ARGUMENTS,
+};
+
+const LOCALS: Limit = Limit {
+    owner: "the method",
+    things: "locals",
+    most: MOST_LOCALS,
+};
+
+const INSTRUCTIONS: Limit = Limit {
+    owner: "the method",
+    things: "instructions",
+    most: MOST_INSTRUCTIONS,
+};
+
+const TARGETS: Limit = Limit {
+    owner: "the `switch`",
+    things: "targets",
+    most: MOST_TARGETS,
+};
+
 /// A limit that is passed, with the number that passes it.
 #[derive(Clone, Copy)]
 pub enum Passed<'a> {
-    Classes(usize),
-    /// Of the source; this is the first that is too many.
-    Methods,
-    /// Of the source; this is the first that is too many.
-    StaticFields,
+    Counted(Limit, usize),
+    /// Here stands the first that is too many.
+    Beyond(Limit),
     /// Of an object of this class.
     InstanceFields(&'a Text, usize),
-    Arguments(usize),
     MaxStack(i64),
-    Locals(usize),
-    Instructions(usize),
-    /// Of a `switch`.
-    Targets(usize),
     /// Of a type.
     Brackets(u32),
 }
 
 impl fmt::Display for Passed<'_> {
     fn fmt<W: fmt::Write>(&self, f: &mut fmt::Formatter<W>) -> fmt::Result {
-        match self {
-            Passed::Classes(count) => {
-                write!(
-                    f,
-                    "the source has {count} classes and interfaces, more than {MOST_CLASSES}"
-                )
+        match *self {
+            Passed::Counted(limit, count) => {
+                let Limit {
+                    owner,
+                    things,
+                    most,
+                } = limit;
+                write!(f, "{owner} has {count} {things}, more than {most}")
             }
-            Passed::Methods => write!(f, "the source has more than {MOST_METHODS} methods"),
-            Passed::StaticFields => {
-                write!(
-                    f,
-                    "the source has more than {MOST_STATIC_FIELDS} static fields"
-                )
+            Passed::Beyond(limit) => {
+                let Limit {
+                    owner,
+                    things,
+                    most,
+                } = limit;
+                write!(f, "{owner} has more than {most} {things}")
             }
             Passed::InstanceFields(class, count) => {
                 let class = class.as_str();
@@ -61,27 +109,8 @@ impl fmt::Display for Passed<'_> {
                     "an object of `{class}` has {count} fields with those of its bases, more than {MOST_INSTANCE_FIELDS}"
                 )
             }
-            Passed::Arguments(count) => write!(
-                f,
-                "the method has {count} arguments, `this` counted, more than {MOST_ARGUMENTS}"
-            ),
             Passed::MaxStack(height) => {
                 write!(f, "`.maxstack` is {height}, and not from 0 to {MOST_STACK}")
-            }
-            Passed::Locals(count) => {
-                write!(f, "the method has {count} locals, more than {MOST_LOCALS}")
-            }
-            Passed::Instructions(count) => {
-                write!(
-                    f,
-                    "the method has {count} instructions, more than {MOST_INSTRUCTIONS}"
-                )
-            }
-            Passed::Targets(count) => {
-                write!(
-                    f,
-                    "the `switch` has {count} targets, more than {MOST_TARGETS}"
-                )
             }
             Passed::Brackets(count) => {
                 write!(
@@ -93,11 +122,8 @@ impl fmt::Display for Passed<'_> {
     }
 }
 
-/// A passed limit and its place.
-type Found<'a> = (Passed<'a>, Sites);
-
-fn found(passed: Passed<'_>, place: Place) -> Option<Found<'_>> {
-    Some((passed, Sites::at(place)))
+fn found(passed: Passed<'_>, place: Place) -> Found<'_> {
+    (Breach::Passed(passed), Sites::at(place))
 }
 
 // ---- one method
@@ -105,12 +131,23 @@ fn found(passed: Passed<'_>, place: Place) -> Option<Found<'_>> {
 /// The array that `newarr` makes has one more pair of brackets than the type that stands there.
 fn passed_by_instruction(instruction: &Instruction) -> Option<Passed<'_>> {
     match instruction {
-        Instruction::Switch(labels) => Some(Passed::Targets(labels.as_slice().len())),
+        Instruction::Switch(labels) => Some(Passed::Counted(TARGETS, labels.as_slice().len())),
         Instruction::NewArray(declared) => {
             Some(Passed::Brackets(declared.brackets.saturating_add(1)))
         }
         _ => None,
     }
+}
+
+fn passed_by_line(spot: MemberSpot, method: &Method, number: usize) -> Option<Found<'_>> {
+    let line = lines_of(method).get(number)?;
+    let passed = passed_by_instruction(&line.instruction)?;
+    Some(found(passed, spot.line(number, LinePart::Name)))
+}
+
+fn passed_stack(spot: MemberSpot, method: &Method) -> Option<Found<'_>> {
+    let passed = Passed::MaxStack(code_of(&method.kind)?.max_stack);
+    Some(found(passed, spot.part(MemberPart::MaxStack)))
 }
 
 fn count_arguments(method: &Method) -> usize {
@@ -124,35 +161,29 @@ fn count_arguments(method: &Method) -> usize {
 fn passed_by_method(spot: MemberSpot, method: &Method, limit: MethodLimit) -> Option<Found<'_>> {
     match limit {
         MethodLimit::Arguments => {
-            let count = count_arguments(method);
-            found(Passed::Arguments(count), spot.name())
+            let passed = Passed::Counted(ARGUMENTS, count_arguments(method));
+            Some(found(passed, spot.name()))
         }
         MethodLimit::Instructions => {
-            let place = spot.line(MOST_INSTRUCTIONS, LinePart::Name);
-            found(Passed::Instructions(lines_of(method).len()), place)
+            let passed = Passed::Counted(INSTRUCTIONS, lines_of(method).len());
+            Some(found(passed, spot.line(MOST_INSTRUCTIONS, LinePart::Name)))
         }
         MethodLimit::Locals => {
-            let place = spot.part(MemberPart::Locals);
-            found(Passed::Locals(locals_of(method).len()), place)
+            let passed = Passed::Counted(LOCALS, locals_of(method).len());
+            Some(found(passed, spot.part(MemberPart::Locals)))
         }
-        MethodLimit::MaxStack => {
-            let place = spot.part(MemberPart::MaxStack);
-            found(Passed::MaxStack(code_of(&method.kind)?.max_stack), place)
-        }
-        MethodLimit::Line(number) => {
-            let line = lines_of(method).get(number)?;
-            let place = spot.line(number, LinePart::Name);
-            found(passed_by_instruction(&line.instruction)?, place)
-        }
+        MethodLimit::MaxStack => passed_stack(spot, method),
+        MethodLimit::Line(number) => passed_by_line(spot, method, number),
     }
 }
 
 // ---- the whole tree
 
 /// The first method of the source that is too many.
-fn method_beyond(classes: &[Class]) -> Option<MemberSpot> {
+fn passed_methods(classes: &[Class]) -> Option<Found<'_>> {
     let MethodPlace { class, member, .. } = method_of_number(classes, MOST_METHODS)?;
-    Some(MemberSpot { class, member })
+    let spot = MemberSpot { class, member };
+    Some(found(Passed::Beyond(METHODS), spot.name()))
 }
 
 /// The static field of a class that has this place among them.
@@ -173,6 +204,25 @@ fn static_field_at(class: usize, declared: &Class, place: usize) -> Option<Membe
     None
 }
 
+fn passed_static_fields(classes: &[Class], class: usize, place: usize) -> Option<Found<'_>> {
+    let spot = static_field_at(class, classes.get(class)?, place)?;
+    Some(found(Passed::Beyond(STATIC_FIELDS), spot.name()))
+}
+
+/// How many instance fields a class of a number among all classes declares.
+fn count_own_fields(names: &NameTables, class: usize) -> usize {
+    let Some(declared) = names.classes.class(class) else {
+        return 0;
+    };
+    let mut count = 0usize;
+    for field in declared.fields.as_slice() {
+        if !field.is_static {
+            count = count.saturating_add(1);
+        }
+    }
+    count
+}
+
 /// How many instance fields an object of a class has, those of its bases counted.
 fn count_fields(names: &NameTables, class: &Class) -> usize {
     let mut count = 0usize;
@@ -181,14 +231,26 @@ fn count_fields(names: &NameTables, class: &Class) -> usize {
         let Some(number) = next else {
             return count;
         };
-        if let Some(declared) = names.classes.class(number) {
-            let fields = declared.fields.as_slice();
-            let own = fields.iter().filter(|field| !field.is_static).count();
-            count = count.saturating_add(own);
-        }
+        count = count.saturating_add(count_own_fields(names, number));
         next = names.base(number);
     }
     count
+}
+
+fn passed_fields<'a>(names: &NameTables<'a>, class: usize) -> Option<Found<'a>> {
+    let declared = names.classes.tree.classes.as_slice().get(class)?;
+    let passed = Passed::InstanceFields(&declared.name, count_fields(names, declared));
+    Some(found(passed, class_name(class)))
+}
+
+fn passed_brackets(tree: &Tree, site: TypeSite) -> Option<Found<'_>> {
+    let passed = Passed::Brackets(type_at(tree, site)?.brackets);
+    Some(found(passed, place_of(tree, site.part)?))
+}
+
+fn passed_in_method(tree: &Tree, method: SourceMember, limit: MethodLimit) -> Option<Found<'_>> {
+    let (spot, declared) = located_method(tree, method)?;
+    passed_by_method(spot, declared, limit)
 }
 
 /// A limit that is passed. None where the tree has no such place.
@@ -200,26 +262,15 @@ pub(crate) fn passed_limit<'a>(
     let classes = tree.classes.as_slice();
     match passed {
         violations::Passed::Classes => {
-            found(Passed::Classes(classes.len()), class_name(MOST_CLASSES))
+            let passed = Passed::Counted(CLASSES, classes.len());
+            Some(found(passed, class_name(MOST_CLASSES)))
         }
-        violations::Passed::Methods => found(Passed::Methods, method_beyond(classes)?.name()),
+        violations::Passed::Methods => passed_methods(classes),
         violations::Passed::StaticFields { class, place } => {
-            let spot = static_field_at(class, classes.get(class)?, place)?;
-            found(Passed::StaticFields, spot.name())
+            passed_static_fields(classes, class, place)
         }
-        violations::Passed::Brackets(site) => {
-            let brackets = type_at(tree, site)?.brackets;
-            found(Passed::Brackets(brackets), place_of(tree, site.part)?)
-        }
-        violations::Passed::InstanceFields { class } => {
-            let declared = classes.get(class)?;
-            let count = count_fields(names, declared);
-            let passed = Passed::InstanceFields(&declared.name, count);
-            found(passed, class_name(class))
-        }
-        violations::Passed::Method { method, limit } => {
-            let (spot, declared) = located_method(tree, method)?;
-            passed_by_method(spot, declared, limit)
-        }
+        violations::Passed::Brackets(site) => passed_brackets(tree, site),
+        violations::Passed::InstanceFields { class } => passed_fields(names, class),
+        violations::Passed::Method { method, limit } => passed_in_method(tree, method, limit),
     }
 }

@@ -26,19 +26,40 @@ fn note(breach: &Breach) -> &'static str {
     }
 }
 
+/// The sentence of a breach at its place.
+fn sentence_at(
+    alloc: Global,
+    named: Named,
+    breach: &Breach,
+    place: Option<Place>,
+) -> Result<String, NoMemory> {
+    let offset = offset_at(alloc, named.text, place)?;
+    let sentence = breach.to_string(alloc)?;
+    named.message(alloc, offset, sentence.as_str())
+}
+
+/// Adds what stands at the place with which a breach does not agree, if there is one.
+fn push_note(
+    alloc: Global,
+    message: &mut String,
+    named: Named,
+    breach: &Breach,
+    other: Option<Place>,
+) -> Result<(), NoMemory> {
+    match offset_at(alloc, named.text, other)? {
+        None => Ok(()),
+        offset => named.push_where(message, offset, note(breach)),
+    }
+}
+
 fn told_breach(
     alloc: Global,
     named: Named,
     breach: &Breach,
     sites: Sites,
 ) -> Result<String, NoMemory> {
-    let place = offset_at(alloc, named.text, sites.place)?;
-    let other = offset_at(alloc, named.text, sites.other)?;
-    let sentence = breach.to_string(alloc)?;
-    let mut message = named.message(alloc, place, sentence.as_str())?;
-    if other.is_some() {
-        named.push_where(&mut message, other, note(breach))?;
-    }
+    let mut message = sentence_at(alloc, named, breach, sites.place)?;
+    push_note(alloc, &mut message, named, breach, sites.other)?;
     if let Some(advice) = advice_on(breach) {
         writeln!(message, "{advice}")?;
     }

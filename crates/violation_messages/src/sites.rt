@@ -1,9 +1,9 @@
 //! Where rules are broken.
 
-use cil_model::trees::{Class, Field, Member, Method, Tree};
+use cil_model::trees::{Class, ClassKind, Field, Member, Method, Tree};
 use metadata::violations::SourceMember;
-use name_tables::keys::MethodKey;
-use name_tables::lookups::NameTables;
+use name_tables::keys::{ClassKey, MethodKey};
+use name_tables::lookups::{MemberNumber, NameTables};
 use source_map::{ClassPart, LinePart, MemberPart, Place, nth_field, nth_method};
 
 /// Where a rule is broken.
@@ -99,6 +99,35 @@ pub fn located_field(tree: &Tree, number: SourceMember) -> Option<(MemberSpot, &
     Some((MemberSpot { class, member }, field))
 }
 
+/// An interface that a class lists, by its place in the list. None where it lists no such.
+pub(crate) fn listed_interface(class: &Class, entry: usize) -> Option<ClassKey<'_>> {
+    let ClassKind::Class { interfaces, .. } = &class.kind else {
+        return None;
+    };
+    Some(ClassKey::of(interfaces.as_slice().get(entry)?))
+}
+
+/// The name of a class by its number among all classes.
+pub(crate) fn class_key<'a>(names: &NameTables<'a>, class: usize) -> Option<ClassKey<'a>> {
+    names.classes.names().get(class).copied()
+}
+
+/// The name and signature of a method by its number among those of all classes.
+pub(crate) fn method_key<'a>(
+    names: &NameTables<'a>,
+    number: MemberNumber,
+) -> Option<MethodKey<'a>> {
+    let methods = names.classes.class(number.class)?.methods.as_slice();
+    Some(key_of(*methods.get(number.place)?))
+}
+
+/// The number in the source of a class that has a number among all classes, the built-in ones first. None for a built-in class.
+pub(crate) fn source_number(names: &NameTables, class: usize) -> Option<usize> {
+    let sources = names.classes.tree.classes.as_slice().len();
+    let built_in = names.classes.names().len().checked_sub(sources)?;
+    class.checked_sub(built_in)
+}
+
 /// The number of a method among the members of its class.
 fn member_number(class: &Class, key: MethodKey) -> Option<usize> {
     for (number, member) in class.members.as_slice().iter().enumerate() {
@@ -111,12 +140,11 @@ fn member_number(class: &Class, key: MethodKey) -> Option<usize> {
     None
 }
 
-/// The place of the name of a method in a class, which has its number among all classes, the built-in ones first. None where the class
-/// is built in or has no such method.
+/// The place of the name of a method in a class, which has its number among all classes. None where the class is built in or has no such
+/// method.
 pub fn method_place(names: &NameTables, class: usize, key: MethodKey) -> Option<Place> {
-    let classes = names.classes.tree.classes.as_slice();
-    let built_in = names.classes.names().len().checked_sub(classes.len())?;
-    let class = class.checked_sub(built_in)?;
-    let member = member_number(classes.get(class)?, key)?;
+    let class = source_number(names, class)?;
+    let declared = names.classes.tree.classes.as_slice().get(class)?;
+    let member = member_number(declared, key)?;
     Some(MemberSpot { class, member }.name())
 }

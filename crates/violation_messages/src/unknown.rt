@@ -1,13 +1,14 @@
 //! Names that stand for nothing of the kind needed (number 202).
 
+use crate::breaches::{Breach, Found};
 use crate::references::{MemberKey, class_of, class_place, line_at, member_of, type_at};
-use crate::sites::{Sites, key_of};
+use crate::sites::{Sites, key_of, listed_interface};
 use cil_model::instructions::Instruction;
 use cil_model::texts::Text;
 use cil_model::trees::{Class, ClassKind, Field, Method, Tree};
 use metadata::mentions::labels_of;
 use metadata::violations;
-use metadata::violations::{ClassFault, HeadingName, SourceMember};
+use metadata::violations::{ClassFault, HeadingName, SourceMember, TypeSite};
 use name_tables::keys::{ClassKey, FieldKey, MethodKey};
 use name_tables::kinds::is_static;
 use name_tables::lookups::NameTables;
@@ -54,8 +55,9 @@ pub enum Unknown<'a> {
     },
 }
 
-/// A name that stands for nothing of the kind needed, and where.
-type Found<'a> = (Unknown<'a>, Sites);
+fn found(unknown: Unknown<'_>, place: Place) -> Found<'_> {
+    (Breach::Unknown(unknown), Sites::at(place))
+}
 
 /// `static` or `instance`
 fn kind_word(is_static: bool) -> &'static str {
@@ -64,7 +66,7 @@ fn kind_word(is_static: bool) -> &'static str {
 
 impl fmt::Display for Unknown<'_> {
     fn fmt<W: fmt::Write>(&self, f: &mut fmt::Formatter<W>) -> fmt::Result {
-        match self {
+        match *self {
             Unknown::Extern(name) => {
                 let name = name.as_str();
                 write!(
@@ -72,21 +74,14 @@ impl fmt::Display for Unknown<'_> {
                     "`{name}` is no library: an extern is `mscorlib` or `cilvm`"
                 )
             }
-            Unknown::Class { class, role, fault } => tell_class(f, *class, *role, *fault),
+            Unknown::Class { class, role, fault } => tell_class(f, class, role, fault),
             Unknown::Label(name) => {
                 let name = name.as_str();
                 write!(f, "no instruction of the method has the label `{name}`")
             }
             Unknown::Field { owner, field, near } => {
-                let owner = ClassText(*owner);
-                let kind = kind_word(field.is_static);
-                let declared = TypeText(field.field_type);
-                let name = field.name.as_str();
-                write!(
-                    f,
-                    "`{owner}` has and inherits no {kind} field `{declared} {name}`"
-                )?;
-                tell_near_field(f, *near)
+                tell_absent_field(f, owner, field)?;
+                tell_near_field(f, near)
             }
             Unknown::Method {
                 owner,
@@ -94,10 +89,36 @@ impl fmt::Display for Unknown<'_> {
                 is_static,
                 near,
             } => {
-                tell_absent_method(f, *owner, *method, *is_static)?;
-                tell_near_method(f, *near)
+                tell_absent_method(f, owner, method, is_static)?;
+                tell_near_method(f, near)
             }
         }
+    }
+}
+
+fn tell_absent_field<W: fmt::Write>(
+    f: &mut fmt::Formatter<W>,
+    owner: ClassKey,
+    field: FieldKey,
+) -> fmt::Result {
+    let owner = ClassText(owner);
+    let kind = kind_word(field.is_static);
+    let declared = TypeText(field.field_type);
+    let name = field.name.as_str();
+    write!(
+        f,
+        "`{owner}` has and inherits no {kind} field `{declared} {name}`"
+    )
+}
+
+/// What a class lacks that has no such method; a constructor is not inherited.
+fn lack_of(method: MethodKey, is_static: bool) -> &'static str {
+    if is_static {
+        return "has and inherits no static method";
+    }
+    match method.name {
+        None => "has no constructor",
+        Some(_) => "has and inherits no instance method",
     }
 }
 
@@ -108,13 +129,42 @@ fn tell_absent_method<W: fmt::Write>(
     is_static: bool,
 ) -> fmt::Result {
     let owner = ClassText(owner);
-    let is_constructor = method.name.is_none();
+    let lack = lack_of(method, is_static);
     let method = MethodText(method);
-    if is_constructor && !is_static {
-        return write!(f, "`{owner}` has no constructor `{method}`");
+    write!(f, "`{owner}` {lack} `{method}`")
+}
+
+/// What stands before the name of a class that may not be named so, and behind it.
+fn fault_of_class(class: ClassKey, role: Role, fault: ClassFault) -> (&'static str, &'static str) {
+    match fault {
+        ClassFault::NoExtern => ("no `.assembly extern` declares the assembly of ", ""),
+        ClassFault::Absent => (absence_of_class(class, role), ""),
+        ClassFault::IsInterface => ("", " is an interface, and a class extends a class"),
+        ClassFault::IsClass => ("", " is a class, and a class implements interfaces"),
+        ClassFault::IsBuiltIn => fault_of_built_in(class, role),
     }
-    let kind = kind_word(is_static);
-    write!(f, "`{owner}` has and inherits no {kind} method `{method}`")
+}
+
+fn absence_of_class(class: ClassKey, role: Role) -> &'static str {
+    if class.assembly.is_some() {
+        return "there is no built-in class ";
+    }
+    match role {
+        Role::Interface => "the source has no interface ",
+        Role::Base => "the source has no class ",
+        Role::Type | Role::Owner => "the source has no class or interface ",
+    }
+}
+
+fn fault_of_built_in(class: ClassKey, role: Role) -> (&'static str, &'static str) {
+    if let Role::Base = role {
+        return ("no class may extend the built-in class ", "");
+    }
+    match class.name.as_str() {
+        "System.Object" => ("the type of ", " is `object`, without `class`"),
+        "System.String" => ("the type of ", " is `string`, without `class`"),
+        _ => ("no type may name the built-in class ", ""),
+    }
 }
 
 /// Why a class may not be named so.
@@ -125,36 +175,11 @@ fn tell_class<W: fmt::Write>(
     fault: ClassFault,
 ) -> fmt::Result {
     let name = ClassText(class);
-    match (fault, role) {
-        (ClassFault::NoExtern, _) => {
-            write!(f, "no `.assembly extern` declares the assembly of `{name}`")
-        }
-        (ClassFault::Absent, _) if class.assembly.is_some() => {
-            write!(f, "there is no built-in class `{name}`")
-        }
-        (ClassFault::Absent, _) => {
-            let kind = match role {
-                Role::Interface => "interface",
-                Role::Base => "class",
-                Role::Type | Role::Owner => "class or interface",
-            };
-            write!(f, "the source has no {kind} `{name}`")?;
-            tell_assembly(f, class.name.as_str())
-        }
-        (ClassFault::IsInterface, _) => {
-            write!(f, "`{name}` is an interface, and a class extends a class")
-        }
-        (ClassFault::IsClass, _) => {
-            write!(f, "`{name}` is a class, and a class implements interfaces")
-        }
-        (ClassFault::IsBuiltIn, Role::Base) => {
-            write!(f, "no class may extend the built-in class `{name}`")
-        }
-        (ClassFault::IsBuiltIn, _) => match class.name.as_str() {
-            "System.Object" => write!(f, "the type of `{name}` is `object`, without `class`"),
-            "System.String" => write!(f, "the type of `{name}` is `string`, without `class`"),
-            _ => write!(f, "no type may name the built-in class `{name}`"),
-        },
+    let (before, behind) = fault_of_class(class, role, fault);
+    write!(f, "{before}`{name}`{behind}")?;
+    match fault {
+        ClassFault::Absent if class.assembly.is_none() => tell_assembly(f, class.name.as_str()),
+        _ => Ok(()),
     }
 }
 
@@ -187,6 +212,18 @@ fn tell_near_field<W: fmt::Write>(f: &mut fmt::Formatter<W>, near: Option<&Field
     write!(f, ", but the {kind} field `{declared} {name}`")
 }
 
+/// What stands before a method with the name of another; nothing before a constructor.
+fn kind_of_method(method: &Method) -> &'static str {
+    if key_of(method).name.is_none() {
+        return "";
+    }
+    if is_static(&method.kind) {
+        "the static method "
+    } else {
+        "the instance method "
+    }
+}
+
 fn tell_near_method<W: fmt::Write>(
     f: &mut fmt::Formatter<W>,
     near: Option<&Method>,
@@ -194,33 +231,26 @@ fn tell_near_method<W: fmt::Write>(
     let Some(method) = near else {
         return Ok(());
     };
-    let kind = kind_word(is_static(&method.kind));
-    let key = key_of(method);
-    let method = MethodText(key);
-    if key.name.is_none() {
-        return write!(f, ", but `{method}`");
-    }
-    write!(f, ", but the {kind} method `{method}`")
+    let kind = kind_of_method(method);
+    let method = MethodText(key_of(method));
+    write!(f, ", but {kind}`{method}`")
 }
 
 // ---- classes
 
 /// A class that the first line of a class names.
 fn named_in_heading(class: &Class, name: HeadingName) -> Option<(ClassKey<'_>, Role)> {
-    let ClassKind::Class {
-        base,
-        interfaces,
-        ..
-    } = &class.kind
-    else {
-        return None;
-    };
     match name {
-        HeadingName::Base => Some((ClassKey::of(base), Role::Base)),
-        HeadingName::Interface(entry) => {
-            let interface = interfaces.as_slice().get(entry)?;
-            Some((ClassKey::of(interface), Role::Interface))
-        }
+        HeadingName::Base => Some((base_of(class)?, Role::Base)),
+        HeadingName::Interface(entry) => Some((listed_interface(class, entry)?, Role::Interface)),
+    }
+}
+
+/// The base that a class names.
+fn base_of(class: &Class) -> Option<ClassKey<'_>> {
+    match &class.kind {
+        ClassKind::Class { base, .. } => Some(ClassKey::of(base)),
+        _ => None,
     }
 }
 
@@ -239,7 +269,14 @@ fn unknown_in_heading(
         class: number,
         part,
     };
-    Some((Unknown::Class { class, role, fault }, Sites::at(place)))
+    Some(found(Unknown::Class { class, role, fault }, place))
+}
+
+fn unknown_in_type(tree: &Tree, site: TypeSite, fault: ClassFault) -> Option<Found<'_>> {
+    let class = class_of(type_at(tree, site)?)?;
+    let place = class_place(tree, site)?;
+    let role = Role::Type;
+    Some(found(Unknown::Class { class, role, fault }, place))
 }
 
 // ---- instructions
@@ -255,13 +292,14 @@ fn field_named<'a>(fields: &[&'a Field], name: &Text) -> Option<&'a Field> {
 
 /// The nearest field of this name, from a class on through its bases.
 fn near_field<'a>(names: &NameTables<'a>, owner: ClassKey, name: &Text) -> Option<&'a Field> {
-    let mut class = names.classes.number(owner)?;
+    let mut next = names.classes.number(owner);
     for _ in 0..names.classes.longest_chain() {
+        let class = next?;
         let declared = names.classes.class(class)?;
         if let Some(field) = field_named(declared.fields.as_slice(), name) {
             return Some(field);
         }
-        class = names.base(class)?;
+        next = names.base(class);
     }
     None
 }
@@ -292,13 +330,14 @@ fn near_method<'a>(
 ) -> Option<&'a Method> {
     let longest = names.classes.longest_chain();
     let most = if name.is_some() { longest } else { 1 };
-    let mut class = names.classes.number(owner)?;
+    let mut next = names.classes.number(owner);
     for _ in 0..most {
+        let class = next?;
         let declared = names.classes.class(class)?;
         if let Some(method) = method_named(declared.methods.as_slice(), name) {
             return Some(method);
         }
-        class = names.base(class)?;
+        next = names.base(class);
     }
     None
 }
@@ -337,7 +376,7 @@ fn unknown_owner(
         role: Role::Owner,
         fault,
     };
-    Some((unknown, Sites::at(spot.line(line, LinePart::Owner))))
+    Some(found(unknown, spot.line(line, LinePart::Owner)))
 }
 
 fn unknown_member<'a>(
@@ -348,7 +387,7 @@ fn unknown_member<'a>(
     let (spot, instruction) = line_at(names.classes.tree, method, line)?;
     let (owner, member) = member_of(instruction)?;
     let unknown = absent_member(names, ClassKey::of(owner), member);
-    Some((unknown, Sites::at(spot.line(line, LinePart::Member))))
+    Some(found(unknown, spot.line(line, LinePart::Member)))
 }
 
 fn unknown_label(
@@ -360,31 +399,25 @@ fn unknown_label(
     let (spot, instruction) = line_at(tree, method, line)?;
     let label = labels_of(instruction).get(target)?;
     let place = spot.line(line, LinePart::Target(target));
-    Some((Unknown::Label(label), Sites::at(place)))
+    Some(found(Unknown::Label(label), place))
 }
 
 // ---- the whole tree
 
+fn unknown_extern(tree: &Tree, number: usize) -> Option<Found<'_>> {
+    let name = tree.externs.as_slice().get(number)?;
+    Some(found(Unknown::Extern(name), Place::Extern(number)))
+}
+
 /// A name that stands for nothing of the kind needed (number 202), and its place. None where the tree has no such place.
-pub fn unknown_name<'a>(
-    names: &NameTables<'a>,
-    unknown: violations::Unknown,
-) -> Option<(Unknown<'a>, Sites)> {
+pub fn unknown_name<'a>(names: &NameTables<'a>, unknown: violations::Unknown) -> Option<Found<'a>> {
     let tree = names.classes.tree;
     match unknown {
-        violations::Unknown::Extern(number) => {
-            let name = tree.externs.as_slice().get(number)?;
-            Some((Unknown::Extern(name), Sites::at(Place::Extern(number))))
-        }
+        violations::Unknown::Extern(number) => unknown_extern(tree, number),
         violations::Unknown::Heading { class, name, fault } => {
             unknown_in_heading(tree, class, name, fault)
         }
-        violations::Unknown::Type { site, fault } => {
-            let role = Role::Type;
-            let class = class_of(type_at(tree, site)?)?;
-            let place = class_place(tree, site)?;
-            Some((Unknown::Class { class, role, fault }, Sites::at(place)))
-        }
+        violations::Unknown::Type { site, fault } => unknown_in_type(tree, site, fault),
         violations::Unknown::Owner {
             method,
             line,
