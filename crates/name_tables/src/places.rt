@@ -2,15 +2,15 @@
 
 ghost use Rattle.std.specs.Prelude.{◌≡◌, ◌||◌, [], IfOk, OnOk, is_some, map};
 ghost use Rattle.std.specs.List.{position_from};
-ghost use Rattle.indexmap.specs.IndexMap.{get};
+ghost use Rattle.std.specs.HashMap.{get};
 ghost use Rattle.cil_model.specs.Legality.{has_repeat};
 ghost use Rattle.name_tables.specs.FirstPlaces.{AreFirst, with_first};
 ghost use Rattle.name_tables.specs.Inherited.{number_in};
 
 use cil_model::memory::NoMemory;
-use indexmap::IndexMap;
 use std::alloc::Global;
 use std::cmp::Eq;
+use std::collections::HashMap;
 use std::hash::Hash;
 use std::marker::Model;
 
@@ -18,7 +18,7 @@ use std::marker::Model;
 pub struct Places<K: Eq + Hash + Copy + Drop> {
     keys: Vec<K>,
     numbers: Vec<usize>,
-    firsts: IndexMap<K, usize>,
+    firsts: HashMap<K, usize>,
     repeated: Option<usize>,
 }
 
@@ -36,7 +36,7 @@ impl<K: Eq + Hash + Copy + Drop> Drop for Places<K> {
 
 impl<K: Eq + Hash + Copy + Drop> Model for Places<K> {
     ghost use Rattle.std.specs.Prelude.{◌≡◌, List, is_some, map};
-    ghost use Rattle.indexmap.specs.IndexMap.{get};
+    ghost use Rattle.std.specs.HashMap.{get};
     ghost use Rattle.cil_model.specs.Legality.{has_repeat};
     ghost use Rattle.name_tables.specs.FirstPlaces.{AreFirst};
     ghost use Rattle.name_tables.specs.Inherited.{number_in};
@@ -63,7 +63,7 @@ fn lesser(one: Option<usize>, other: Option<usize>) -> Option<usize>
 
 /// The first place of a key that stood before; none of a new one, whose first this place becomes. Fails for want of memory alone.
 fn note_first<K: Eq + Hash + Copy + Drop>(
-    firsts: &mut IndexMap<K, usize>,
+    firsts: &mut HashMap<K, usize>,
     key: K,
     place: usize,
 ) -> Result<Option<usize>, NoMemory>
@@ -81,7 +81,7 @@ fn note_first<K: Eq + Hash + Copy + Drop>(
 /// want of memory alone.
 fn note_all<K: Eq + Hash + Copy + Drop>(
     alloc: Global,
-    firsts: &mut IndexMap<K, usize>,
+    firsts: &mut HashMap<K, usize>,
     keys: &[K],
 ) -> Result<(Vec<usize>, Option<usize>), NoMemory>
     requires { AreFirst K.eq (get K.eq firsts.old) [] }
@@ -104,7 +104,7 @@ impl<K: Eq + Hash + Copy + Drop> Places<K> {
     pub fn new(alloc: Global, keys: Vec<K>) -> Result<Self, NoMemory>
         ensures { IfOk result (λ p. p ≡ keys.items) }
     {
-        let mut firsts = IndexMap::with_capacity(alloc, keys.len())?;
+        let mut firsts = HashMap::with_capacity(alloc, keys.len())?;
         let (numbers, repeated) = note_all(alloc, &mut firsts, keys.as_slice())?;
         Ok(Places {
             keys,

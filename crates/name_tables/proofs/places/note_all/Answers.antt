@@ -1,5 +1,5 @@
 use Rattle.std.proofs.Common.{is_some, refl, arith}
-use Rattle.indexmap.specs.IndexMap.{get}
+use Rattle.std.specs.HashMap.{get}
 use Rattle.name_tables.proofs.FirstPlaces.{one_more, all_known}
 use Rattle.name_tables.proofs.places.note_all.Goals as goal
 

@@ -1,5 +1,5 @@
 use Rattle.std.proofs.Common.{◌≡◌, is_some, map, take}
-use Rattle.indexmap.specs.IndexMap.{get}
+use Rattle.std.specs.HashMap.{get}
 use Rattle.cil_model.specs.Legality.{has_repeat}
 use Rattle.name_tables.specs.FirstPlaces.{AreFirst}
 use Rattle.name_tables.specs.Inherited.{number_in}
