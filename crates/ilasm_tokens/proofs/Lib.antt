@@ -3,3 +3,4 @@ mod Text
 pub mod Reserved
 pub mod Reading
 mod Places
+mod SpaceLaws

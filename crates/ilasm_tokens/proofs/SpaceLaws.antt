@@ -1,0 +1,64 @@
+-- What is behind white space and comments, by the bytes that stand at the front.
+use Rattle.std.proofs.Common.{◌≡◌, ◌≢◌, ◌≤◌, ◌<◌, ◌-◌, ℕ, Bool, true, false, List, [], ◌∷◌, length, take, drop, get_or, Some, refl, ap, sym, ◌∙◌, arith}
+use Rattle.std.proofs.Math.Seq.{take-length}
+use Rattle.std.proofs.lemmas.Bool.{ne_eqb}
+use Rattle.cil_model.specs.Lexemes.{is_white, skip_gap, between, slash, in_line, in_block}
+
+-- what is behind the first byte
+abbrev pub behind : List ℕ → List ℕ
+behind bs = take (length bs - 1) (drop 1 bs)
+
+behind_first : (c : ℕ) (cs : List ℕ) → cs ≡ behind (c ∷ cs)
+behind_first c cs = sym (ap (λ (n : ℕ). take n cs) (omega arith) ∙ take-length cs)
+
+abbrev first : List ℕ → ℕ
+first bs = get_or bs 0 0
+
+pub past_white : (bs : List ℕ) (white : Bool) → 1 ≤ length bs → white ≡ is_white (first bs) → white ≡ true → skip_gap between bs ≡ skip_gap between (behind bs)
+past_white [] white some e is = absurd (omega arith)
+past_white (c ∷ cs) white some e is = rw (sym e ∙ is) (ap (skip_gap between) (behind_first c cs))
+
+pub none_left : (bs : List ℕ) → length bs < 1 → skip_gap between bs ≡ Some bs
+none_left [] none = refl
+none_left (c ∷ cs) none = absurd (omega (arith, none))
+
+pub at_token : (bs : List ℕ) (white : Bool) → 1 ≤ length bs → white ≡ is_white (first bs) → white ≡ false → first bs ≢ 47 → skip_gap between bs ≡ Some bs
+at_token [] white some e is other = refl
+at_token (c ∷ cs) white some e is other = rw (sym e ∙ is, ne_eqb c 47 other) refl
+
+at_slash : (bs : List ℕ) (white : Bool) → 1 ≤ length bs → white ≡ is_white (first bs) → white ≡ false → first bs ≡ 47 → skip_gap between bs ≡ skip_gap slash (behind bs)
+at_slash [] white some e is found = absurd (omega arith)
+at_slash (c ∷ cs) white some e is found = rw found (ap (skip_gap slash) (behind_first c cs))
+
+with_slash : (bs : List ℕ) → 1 ≤ length bs → first bs ≡ 47 → 47 ∷ behind bs ≡ bs
+with_slash [] some found = absurd (omega arith)
+with_slash (c ∷ cs) some found = rw found (ap (λ (bs : List ℕ). 47 ∷ bs) (sym (behind_first 47 cs)))
+
+module _ (bs : List ℕ) (white : Bool) (some : 1 ≤ length bs) (is_test : white ≡ is_white (first bs)) (is_other : white ≡ false) (found : first bs ≡ 47) where
+  pub last_slash : length (behind bs) < 1 → skip_gap between bs ≡ Some bs
+  last_slash none = at_slash bs white some is_test is_other found ∙ alone (behind bs) none ∙ ap Some (with_slash bs some found)
+    where
+      alone : (cs : List ℕ) → length cs < 1 → skip_gap slash cs ≡ Some (47 ∷ cs)
+      alone [] less = refl
+      alone (c ∷ cs) less = absurd (omega (arith, less))
+
+  pub in_line_comment : 1 ≤ length (behind bs) → first (behind bs) ≡ 47 → skip_gap between bs ≡ skip_gap in_line (behind (behind bs))
+  in_line_comment more second = at_slash bs white some is_test is_other found ∙ line (behind bs) more second
+    where
+      line : (cs : List ℕ) → 1 ≤ length cs → first cs ≡ 47 → skip_gap slash cs ≡ skip_gap in_line (behind cs)
+      line [] some e = absurd (omega arith)
+      line (c ∷ cs) some e = rw e (ap (skip_gap in_line) (behind_first c cs))
+
+  pub in_block_comment : 1 ≤ length (behind bs) → first (behind bs) ≢ 47 → first (behind bs) ≡ 42 → skip_gap between bs ≡ skip_gap in_block (behind (behind bs))
+  in_block_comment more other second = at_slash bs white some is_test is_other found ∙ block (behind bs) more second
+    where
+      block : (cs : List ℕ) → 1 ≤ length cs → first cs ≡ 42 → skip_gap slash cs ≡ skip_gap in_block (behind cs)
+      block [] some e = absurd (omega arith)
+      block (c ∷ cs) some e = rw e (ap (skip_gap in_block) (behind_first c cs))
+
+  pub slash_alone : first (behind bs) ≢ 47 → first (behind bs) ≢ 42 → skip_gap between bs ≡ Some bs
+  slash_alone line block = at_slash bs white some is_test is_other found ∙ other (behind bs) line block ∙ ap Some (with_slash bs some found)
+    where
+      other : (cs : List ℕ) → first cs ≢ 47 → first cs ≢ 42 → skip_gap slash cs ≡ Some (47 ∷ cs)
+      other [] line block = refl
+      other (c ∷ cs) line block = rw (ne_eqb c 47 line, ne_eqb c 42 block) refl
