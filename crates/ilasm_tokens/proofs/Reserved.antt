@@ -1,5 +1,5 @@
 -- The buckets hold the reserved words, each in its own.
-use Rattle.std.proofs.Common.{◌≡◌, ◌==◌, ◌∙◌, ◌&&◌, ◌||◌, ℕ, zero, suc, Bool, true, false, not, List, [], ◌∷◌, ◌++◌, Option, Some, None, cond, refl, ap, sym}
+use Rattle.std.proofs.Common.{◌≡◌, ◌==◌, ◌∙◌, ◌&&◌, ◌||◌, ◌/◌, ◌%◌, ℕ, zero, suc, Bool, true, false, not, List, [], ◌∷◌, ◌++◌, Option, Some, None, cond, refl, ap, sym}
 use Rattle.std.specs.Prelude.{is_some, bytes_eq, get_or}
 use Rattle.std.specs.List.{list_all, list_any}
 use Rattle.std.proofs.lemmas.Bool.{eqb-true}
@@ -7,7 +7,7 @@ use Rattle.std.proofs.lemmas.Slice.Eq.{bytes_eq-Decides}
 use Rattle.cil_model.specs.Same.{same_lists, same_text}
 use Rattle.cil_model.specs.Words.{grammar_words, instruction_words, short_words, is_reserved, begins_segment, is_digit}
 use Rattle.ilasm_tokens.specs.declared.words.WordUse.{WordUse}
-use Rattle.ilasm_tokens.specs.Vocabulary.{Entry, buckets, bucket_from, look_up, use_of}
+use Rattle.ilasm_tokens.specs.Vocabulary.{Entry, groups, bucket_from, look_up, use_of}
 
 pub both : (a b : Bool) → a && b ≡ true → (a ≡ true) × (b ≡ true)
 both true b e = (refl, e)
@@ -31,6 +31,11 @@ of_each test w (v ∷ vs) all any =
       | false ↦ λ _ further. of_each test w vs parts.1 further
     ] refl any
 
+at : {A : Type 0} (passes : A → Bool) (absent : A) (xs : List A) (n : ℕ) → passes absent ≡ true → list_all passes xs ≡ true → passes (get_or xs n absent) ≡ true
+at passes absent [] n other all = other
+at passes absent (x ∷ xs) zero other all = (both (passes x) (list_all passes xs) all).0
+at passes absent (x ∷ xs) (suc n) other all = at passes absent xs n other (both (passes x) (list_all passes xs) all).1
+
 module _ (test : List ℕ → WordUse → Bool) where
   abbrev passes : Entry → Bool
   passes e = test e.0 e.1
@@ -46,15 +51,12 @@ module _ (test : List ℕ → WordUse → Bool) where
         | false ↦ λ _ further. in_bucket es w u parts.1 further
       ] (bytes_eq-Decides x.0 w).0 e
 
-  at : (bs : List (List Entry)) (n : ℕ) → list_all (list_all passes) bs ≡ true → list_all passes (get_or bs n []) ≡ true
-  at [] n all = refl
-  at (b ∷ bs) zero all = (both (list_all passes b) (list_all (list_all passes) bs) all).0
-  at (b ∷ bs) (suc n) all = at bs n (both (list_all passes b) (list_all (list_all passes) bs) all).1
-
   -- what holds of each entry holds of what is found
-  pub of_entries : (w : List ℕ) (u : WordUse) → list_all (list_all passes) buckets ≡ true → use_of w ≡ Some u → test w u ≡ true
+  pub of_entries : (w : List ℕ) (u : WordUse) → list_all (list_all (list_all passes)) groups ≡ true → use_of w ≡ Some u → test w u ≡ true
   unfolding use_of
-  of_entries w u all e = in_bucket (get_or buckets (bucket_from 0 w) []) w u (at buckets (bucket_from 0 w) all) e
+  of_entries w u all e =
+      let group : List (List Entry) = get_or groups (bucket_from 0 w / 8) [] in
+      in_bucket (get_or group (bucket_from 0 w % 8) []) w u (at (list_all passes) [] group (bucket_from 0 w % 8) refl (at (list_all (list_all passes)) [] groups (bucket_from 0 w / 8) refl all)) e
 
 -- ---- the reserved words are those of the definition
 

@@ -1,7 +1,7 @@
 //! The reserved words, and what they are for.
 
 ghost use Rattle.std.specs.Prelude.{◌≡◌, ◌<◌, [], length, get_or, map};
-ghost use Rattle.ilasm_tokens.specs.Vocabulary.{Entry, bucket_from, look_up, use_of};
+ghost use Rattle.ilasm_tokens.specs.Vocabulary.{Entry, bucket_from, groups, look_up, use_of};
 
 use cil_model::instructions::{
     BinaryOperation, BranchComparison, Comparison, ShiftOperation, UnaryOperation,
@@ -111,8 +111,17 @@ pub enum TypeTest {
     IsInstance,
 }
 
-/// The reserved words, in the bucket of each.
-static BUCKETS: [&[(&[u8], WordUse)]; 64] = [
+/// How many buckets there are.
+const BUCKET_COUNT: usize = 64;
+
+/// How many buckets a group has.
+const GROUP_LENGTH: usize = 8;
+
+/// Buckets that follow one another, with their reserved words and what these are for.
+type Group = [&'static [(&'static [u8], WordUse)]; GROUP_LENGTH];
+
+/// The buckets 0 to 7.
+static BUCKETS_0_TO_7: Group = [
     &[],
     &[
         (
@@ -204,6 +213,10 @@ static BUCKETS: [&[(&[u8], WordUse)]; 64] = [
             WordUse::Instruction(Form::Bare(Bare::Shift(ShiftOperation::Left))),
         ),
     ],
+];
+
+/// The buckets 8 to 15.
+static BUCKETS_8_TO_15: Group = [
     &[(b"static", WordUse::Grammar)],
     &[(b"dup", WordUse::Instruction(Form::Bare(Bare::Duplicate)))],
     &[
@@ -251,6 +264,10 @@ static BUCKETS: [&[(&[u8], WordUse)]; 64] = [
         (b"newarr", WordUse::Instruction(Form::NewArray)),
         (b"ldlen", WordUse::Instruction(Form::Bare(Bare::LoadLength))),
     ],
+];
+
+/// The buckets 16 to 23.
+static BUCKETS_16_TO_23: Group = [
     &[(
         b"stsfld",
         WordUse::Instruction(Form::Field(FieldAccess::StoreStatic)),
@@ -275,6 +292,10 @@ static BUCKETS: [&[(&[u8], WordUse)]; 64] = [
     ],
     &[(b"extern", WordUse::Grammar), (b"class", WordUse::Grammar)],
     &[(b"string", WordUse::Grammar)],
+];
+
+/// The buckets 24 to 31.
+static BUCKETS_24_TO_31: Group = [
     &[],
     &[
         (
@@ -329,6 +350,10 @@ static BUCKETS: [&[(&[u8], WordUse)]; 64] = [
             WordUse::Instruction(Form::Bare(Bare::Int32(3))),
         ),
     ],
+];
+
+/// The buckets 32 to 39.
+static BUCKETS_32_TO_39: Group = [
     &[(
         b"ldc.i4.4",
         WordUse::Instruction(Form::Bare(Bare::Int32(4))),
@@ -372,6 +397,10 @@ static BUCKETS: [&[(&[u8], WordUse)]; 64] = [
     )],
     &[(b".ctor", WordUse::Grammar)],
     &[],
+];
+
+/// The buckets 40 to 47.
+static BUCKETS_40_TO_47: Group = [
     &[
         (b"rtspecialname", WordUse::Grammar),
         (
@@ -417,6 +446,10 @@ static BUCKETS: [&[(&[u8], WordUse)]; 64] = [
         (b".method", WordUse::Grammar),
         (b"ldloc.3", WordUse::Instruction(Form::Bare(Bare::Local(3)))),
     ],
+];
+
+/// The buckets 48 to 55.
+static BUCKETS_48_TO_55: Group = [
     &[(b"int32", WordUse::Grammar)],
     &[(b"interface", WordUse::Grammar)],
     &[(b"void", WordUse::Grammar), (b".field", WordUse::Grammar)],
@@ -440,6 +473,10 @@ static BUCKETS: [&[(&[u8], WordUse)]; 64] = [
     ],
     &[],
     &[(b"object", WordUse::Grammar)],
+];
+
+/// The buckets 56 to 63.
+static BUCKETS_56_TO_63: Group = [
     &[
         (b"hidebysig", WordUse::Grammar),
         (b"cil", WordUse::Grammar),
@@ -491,7 +528,7 @@ fn bucket_of(word: &[u8]) -> usize
 {
     let mut sum = 0;
     for byte in word {
-        sum = (sum + usize::from(*byte)) % BUCKETS.len();
+        sum = (sum + usize::from(*byte)) % BUCKET_COUNT;
     }
     sum
 }
@@ -516,10 +553,29 @@ fn bucket<'a>(table: &[&'a [(&'a [u8], WordUse)]], number: usize) -> &'a [(&'a [
     table[number]
 }
 
+/// The group of this number.
+fn group(number: usize) -> &'static Group
+    requires { number < 8 }
+    ensures { map (λ b. map {B = Entry} (λ e. (e.0.now, e.1)) b.now) result.now ≡ get_or groups number [] }
+{
+    match number {
+        0 => &BUCKETS_0_TO_7,
+        1 => &BUCKETS_8_TO_15,
+        2 => &BUCKETS_16_TO_23,
+        3 => &BUCKETS_24_TO_31,
+        4 => &BUCKETS_32_TO_39,
+        5 => &BUCKETS_40_TO_47,
+        6 => &BUCKETS_48_TO_55,
+        _ => &BUCKETS_56_TO_63,
+    }
+}
+
 /// What the word is for, if it is reserved.
 #[tactic(auto, unfolding(crate::specs::Vocabulary::use_of))]
 pub fn use_of(word: &[u8]) -> Option<WordUse>
     ensures { result ≡ use_of word.now }
 {
-    look_up(bucket(&BUCKETS, bucket_of(word)), word)
+    let number = bucket_of(word);
+    let words = bucket(group(number / GROUP_LENGTH), number % GROUP_LENGTH);
+    look_up(words, word)
 }
