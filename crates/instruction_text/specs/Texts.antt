@@ -77,10 +77,17 @@ constructor_text owner parameters = codes "void " ++ class_text owner ++ codes "
 abbrev pub labels_text : List (List ℕ) → List ℕ
 labels_text labels = codes "(" ++ listed characters_text labels ++ codes ")"
 
--- the word of an instruction without an operand; none of one with an operand
+-- the word of an instruction, with what stands between it and an operand
 abbrev pub word_text : Instruction → List ℕ
 word_text NoOperation = codes "nop"
+word_text (LoadInt32 z) = codes "ldc.i4"
+word_text (LoadInt64 z) = codes "ldc.i8"
 word_text LoadNull = codes "ldnull"
+word_text (LoadString characters) = codes "ldstr"
+word_text (LoadArgument n) = codes "ldarg"
+word_text (StoreArgument n) = codes "starg"
+word_text (LoadLocal n) = codes "ldloc"
+word_text (StoreLocal n) = codes "stloc"
 word_text Duplicate = codes "dup"
 word_text Pop = codes "pop"
 word_text (Binary op) = binary_word op
@@ -89,6 +96,16 @@ word_text (Shift op) = shift_word op
 word_text (Compare op) = comparison_word op
 word_text ConvertInt32 = codes "conv.i4"
 word_text ConvertInt64 = codes "conv.i8"
+word_text (Branch label) = codes "br"
+word_text (BranchTrue label) = codes "brtrue"
+word_text (BranchFalse label) = codes "brfalse"
+word_text (BranchCompare op label) = branch_word op
+word_text (Switch labels) = codes "switch"
+word_text (LoadField r) = codes "ldfld"
+word_text (StoreField r) = codes "stfld"
+word_text (LoadStaticField r) = codes "ldsfld"
+word_text (StoreStaticField r) = codes "stsfld"
+word_text (NewArray t) = codes "newarr"
 word_text LoadLength = codes "ldlen"
 word_text LoadElementInt32 = codes "ldelem.i4"
 word_text LoadElementInt64 = codes "ldelem.i8"
@@ -96,8 +113,13 @@ word_text LoadElementReference = codes "ldelem.ref"
 word_text StoreElementInt32 = codes "stelem.i4"
 word_text StoreElementInt64 = codes "stelem.i8"
 word_text StoreElementReference = codes "stelem.ref"
+word_text (CastClass t) = codes "castclass"
+word_text (IsInstance t) = codes "isinst"
+word_text (Call true r) = codes "call instance"
+word_text (Call false r) = codes "call"
+word_text (CallVirtual owner name signature) = codes "callvirt instance"
+word_text (NewObject owner parameters) = codes "newobj instance"
 word_text Return = codes "ret"
-word_text _ = []
 
 -- an instruction in its long form, with one space before its operand
 abbrev pub instruction_text : Instruction → List ℕ

@@ -2,6 +2,7 @@
 
 use cil_model::texts::Text;
 use std::fmt;
+use std::fmt::Display;
 
 /// The characters of a name or of a string literal, in printable ASCII.
 #[derive(Clone, Copy, Debug)]
@@ -16,7 +17,7 @@ impl<'a> fmt::Display for CharactersText<'a> {
 
     fn fmt<W: fmt::Write>(&self, f: &mut fmt::Formatter<W>) -> fmt::Result {
         for byte in self.0.as_str().as_bytes() {
-            write!(f, "{}", CharacterText(*byte))?;
+            CharacterText(*byte).fmt(f)?;
         }
         Ok(())
     }
@@ -36,10 +37,10 @@ impl fmt::Display for CharacterText {
 
     fn fmt<W: fmt::Write>(&self, f: &mut fmt::Formatter<W>) -> fmt::Result {
         match self.0 {
-            b'\n' => write!(f, "\\n"),
-            b'\t' => write!(f, "\\t"),
-            b'"' => write!(f, "\\\""),
-            b'\\' => write!(f, "\\\\"),
+            b'\n' => f.write_str("\\n"),
+            b'\t' => f.write_str("\\t"),
+            b'"' => f.write_str("\\\""),
+            b'\\' => f.write_str("\\\\"),
             byte @ b' '..=b'~' => write!(f, "{}", char::from(byte)),
             byte => write!(f, "\\{}{}{}", byte / 64, byte / 8 % 8, byte % 8),
         }

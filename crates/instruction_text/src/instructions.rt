@@ -1,7 +1,9 @@
 //! Instructions in their long forms.
 
 ghost use Rattle.std.specs.Prelude.{◌≡◌};
+ghost use Rattle.std.specs.Option.{option_map};
 ghost use Rattle.cil_model.specs.Grammar.{binary_word, branch_word, comparison_word, shift_word, unary_word};
+ghost use Rattle.instruction_text.specs.Operands.{operand_text, text_of};
 ghost use Rattle.instruction_text.specs.Texts.{word_text};
 
 use crate::characters::CharactersText;
@@ -12,6 +14,7 @@ use cil_model::instructions::{
 };
 use cil_model::texts::Text;
 use std::fmt;
+use std::fmt::Display;
 
 /// An instruction as ilasm writes it, in its long form, with one space before an operand (ECMA-335 III): `ldc.i4 2`, `br L1`,
 /// `call void [mscorlib]System.Console::WriteLine(int32)`.
@@ -28,50 +31,45 @@ impl<'a> fmt::Display for InstructionText<'a> {
     ghost output = { λ instruction. Some (instruction_text instruction.0.now) };
 
     fn fmt<W: fmt::Write>(&self, f: &mut fmt::Formatter<W>) -> fmt::Result {
-        match self.0 {
-            Instruction::LoadInt32(number) => write!(f, "ldc.i4 {number}"),
-            Instruction::LoadInt64(number) => write!(f, "ldc.i8 {number}"),
-            Instruction::LoadString(text) => write!(f, "ldstr \"{}\"", CharactersText(text)),
-            Instruction::LoadArgument(number) => write!(f, "ldarg {number}"),
-            Instruction::StoreArgument(number) => write!(f, "starg {number}"),
-            Instruction::LoadLocal(number) => write!(f, "ldloc {number}"),
-            Instruction::StoreLocal(number) => write!(f, "stloc {number}"),
-            Instruction::Branch(label) => write!(f, "br {}", CharactersText(label)),
-            Instruction::BranchTrue(label) => write!(f, "brtrue {}", CharactersText(label)),
-            Instruction::BranchFalse(label) => write!(f, "brfalse {}", CharactersText(label)),
-            Instruction::BranchCompare(comparison, label) => {
-                write!(f, "{} {}", branch_word(*comparison), CharactersText(label))
-            }
-            Instruction::Switch(labels) => write!(f, "switch {}", LabelsText(labels.as_slice())),
-            Instruction::LoadField(field) => write!(f, "ldfld {}", FieldText(field)),
-            Instruction::StoreField(field) => write!(f, "stfld {}", FieldText(field)),
-            Instruction::LoadStaticField(field) => write!(f, "ldsfld {}", FieldText(field)),
-            Instruction::StoreStaticField(field) => write!(f, "stsfld {}", FieldText(field)),
-            Instruction::NewArray(element) => write!(f, "newarr {}", TypeText(element)),
-            Instruction::CastClass(target) => write!(f, "castclass {}", TypeText(target)),
-            Instruction::IsInstance(target) => write!(f, "isinst {}", TypeText(target)),
-            Instruction::Call {
-                is_instance: true,
-                method,
-            } => write!(f, "call instance {}", MethodText(method)),
-            Instruction::Call { method, .. } => write!(f, "call {}", MethodText(method)),
-            Instruction::CallVirtual {
-                owner,
-                name,
-                signature,
-            } => write!(
-                f,
-                "callvirt instance {}",
-                VirtualText(owner, name, signature)
-            ),
-            Instruction::NewObject(owner, parameters) => {
-                write!(
-                    f,
-                    "newobj instance {}",
-                    ConstructorText(owner, parameters.as_slice())
-                )
-            }
-            instruction => write!(f, "{}", word_of(instruction)),
+        let word = word_of(self.0);
+        match operand_of(self.0) {
+            None => f.write_str(word),
+            Some(operand) => write!(f, "{word} {operand}"),
+        }
+    }
+}
+
+/// What stands behind the word of an instruction.
+#[derive(Clone, Copy)]
+enum Operand<'a> {
+    Number(i64),
+    Quoted(CharactersText<'a>),
+    Label(CharactersText<'a>),
+    Labels(LabelsText<'a>),
+    Field(FieldText<'a>),
+    Type(TypeText<'a>),
+    Method(MethodText<'a>),
+    Virtual(VirtualText<'a>),
+    Constructor(ConstructorText<'a>),
+}
+
+impl<'a> fmt::Display for Operand<'a> {
+    ghost use Rattle.std.specs.Prelude.{Some};
+    ghost use Rattle.instruction_text.specs.Operands.{text_of};
+
+    ghost output = { λ operand. Some (text_of operand) };
+
+    fn fmt<W: fmt::Write>(&self, f: &mut fmt::Formatter<W>) -> fmt::Result {
+        match self {
+            Operand::Number(number) => number.fmt(f),
+            Operand::Quoted(characters) => write!(f, "\"{characters}\""),
+            Operand::Label(label) => label.fmt(f),
+            Operand::Labels(labels) => labels.fmt(f),
+            Operand::Field(field) => field.fmt(f),
+            Operand::Type(operand) => operand.fmt(f),
+            Operand::Method(method) => method.fmt(f),
+            Operand::Virtual(method) => method.fmt(f),
+            Operand::Constructor(constructor) => constructor.fmt(f),
         }
     }
 }
@@ -88,23 +86,68 @@ impl<'a> fmt::Display for LabelsText<'a> {
 
     fn fmt<W: fmt::Write>(&self, f: &mut fmt::Formatter<W>) -> fmt::Result {
         let Some((first, others)) = self.0.split_first() else {
-            return write!(f, "()");
+            return f.write_str("()");
         };
         write!(f, "({}", CharactersText(first))?;
         for label in others {
             write!(f, ", {}", CharactersText(label))?;
         }
-        write!(f, ")")
+        f.write_str(")")
     }
 }
 
-/// The word of an instruction that has no operand. Empty for one that has an operand.
+/// The operand of an instruction, if it has one.
+fn operand_of(instruction: &Instruction) -> Option<Operand<'_>>
+    ensures { option_map text_of result ≡ operand_text instruction.now }
+{
+    let operand = match instruction {
+        Instruction::LoadInt32(number) => Operand::Number(i64::from(*number)),
+        Instruction::LoadInt64(number)
+        | Instruction::LoadArgument(number)
+        | Instruction::StoreArgument(number)
+        | Instruction::LoadLocal(number)
+        | Instruction::StoreLocal(number) => Operand::Number(*number),
+        Instruction::LoadString(text) => Operand::Quoted(CharactersText(text)),
+        Instruction::Branch(label)
+        | Instruction::BranchTrue(label)
+        | Instruction::BranchFalse(label)
+        | Instruction::BranchCompare(_, label) => Operand::Label(CharactersText(label)),
+        Instruction::Switch(labels) => Operand::Labels(LabelsText(labels.as_slice())),
+        Instruction::LoadField(field)
+        | Instruction::StoreField(field)
+        | Instruction::LoadStaticField(field)
+        | Instruction::StoreStaticField(field) => Operand::Field(FieldText(field)),
+        Instruction::NewArray(operand)
+        | Instruction::CastClass(operand)
+        | Instruction::IsInstance(operand) => Operand::Type(TypeText(operand)),
+        Instruction::Call { method, .. } => Operand::Method(MethodText(method)),
+        Instruction::CallVirtual {
+            owner,
+            name,
+            signature,
+        } => Operand::Virtual(VirtualText(owner, name, signature)),
+        Instruction::NewObject(owner, parameters) => {
+            Operand::Constructor(ConstructorText(owner, parameters.as_slice()))
+        }
+        _ => return None,
+    };
+    Some(operand)
+}
+
+/// The word of an instruction, with what stands between it and an operand.
 fn word_of(instruction: &Instruction) -> &'static str
     ensures { result.now ≡ word_text instruction.now }
 {
     match instruction {
         Instruction::NoOperation => "nop",
+        Instruction::LoadInt32(_) => "ldc.i4",
+        Instruction::LoadInt64(_) => "ldc.i8",
         Instruction::LoadNull => "ldnull",
+        Instruction::LoadString(_) => "ldstr",
+        Instruction::LoadArgument(_) => "ldarg",
+        Instruction::StoreArgument(_) => "starg",
+        Instruction::LoadLocal(_) => "ldloc",
+        Instruction::StoreLocal(_) => "stloc",
         Instruction::Duplicate => "dup",
         Instruction::Pop => "pop",
         Instruction::Binary(operation) => binary_word(*operation),
@@ -113,6 +156,16 @@ fn word_of(instruction: &Instruction) -> &'static str
         Instruction::Compare(comparison) => comparison_word(*comparison),
         Instruction::ConvertInt32 => "conv.i4",
         Instruction::ConvertInt64 => "conv.i8",
+        Instruction::Branch(_) => "br",
+        Instruction::BranchTrue(_) => "brtrue",
+        Instruction::BranchFalse(_) => "brfalse",
+        Instruction::BranchCompare(comparison, _) => branch_word(*comparison),
+        Instruction::Switch(_) => "switch",
+        Instruction::LoadField(_) => "ldfld",
+        Instruction::StoreField(_) => "stfld",
+        Instruction::LoadStaticField(_) => "ldsfld",
+        Instruction::StoreStaticField(_) => "stsfld",
+        Instruction::NewArray(_) => "newarr",
         Instruction::LoadLength => "ldlen",
         Instruction::LoadElementInt32 => "ldelem.i4",
         Instruction::LoadElementInt64 => "ldelem.i8",
@@ -120,8 +173,16 @@ fn word_of(instruction: &Instruction) -> &'static str
         Instruction::StoreElementInt32 => "stelem.i4",
         Instruction::StoreElementInt64 => "stelem.i8",
         Instruction::StoreElementReference => "stelem.ref",
+        Instruction::CastClass(_) => "castclass",
+        Instruction::IsInstance(_) => "isinst",
+        Instruction::Call {
+            is_instance: true,
+            ..
+        } => "call instance",
+        Instruction::Call { .. } => "call",
+        Instruction::CallVirtual { .. } => "callvirt instance",
+        Instruction::NewObject(..) => "newobj instance",
         Instruction::Return => "ret",
-        _ => "",
     }
 }
 

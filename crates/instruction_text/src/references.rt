@@ -6,6 +6,7 @@ use cil_model::instructions::{FieldReference, MethodName, MethodReference};
 use cil_model::texts::Text;
 use cil_model::types::{ClassName, DeclaredType, Signature};
 use std::fmt;
+use std::fmt::Display;
 
 /// The name of a method, or `.ctor` (ECMA-335 II.10.5.1).
 #[derive(Clone, Copy, Debug)]
@@ -19,8 +20,8 @@ impl<'a> fmt::Display for MethodNameText<'a> {
 
     fn fmt<W: fmt::Write>(&self, f: &mut fmt::Formatter<W>) -> fmt::Result {
         match self.0 {
-            MethodName::Constructor => write!(f, ".ctor"),
-            MethodName::Named(name) => write!(f, "{}", CharactersText(name)),
+            MethodName::Constructor => f.write_str(".ctor"),
+            MethodName::Named(name) => CharactersText(name).fmt(f),
         }
     }
 }

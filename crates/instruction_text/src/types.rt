@@ -3,6 +3,7 @@
 use crate::characters::CharactersText;
 use cil_model::types::{ClassName, DeclaredType, Element};
 use std::fmt;
+use std::fmt::Display;
 
 /// A class by its name, with its assembly in brackets where it has one (ECMA-335 II.7.3): `[mscorlib]System.Console` or `Dog`.
 #[derive(Clone, Copy, Debug)]
@@ -17,7 +18,7 @@ impl<'a> fmt::Display for ClassText<'a> {
     fn fmt<W: fmt::Write>(&self, f: &mut fmt::Formatter<W>) -> fmt::Result {
         let name = CharactersText(&self.0.name);
         match &self.0.assembly {
-            None => write!(f, "{name}"),
+            None => name.fmt(f),
             Some(assembly) => write!(f, "[{}]{name}", CharactersText(assembly)),
         }
     }
@@ -35,10 +36,10 @@ impl<'a> fmt::Display for ElementText<'a> {
 
     fn fmt<W: fmt::Write>(&self, f: &mut fmt::Formatter<W>) -> fmt::Result {
         match self.0 {
-            Element::Int32 => write!(f, "int32"),
-            Element::Int64 => write!(f, "int64"),
-            Element::Object => write!(f, "object"),
-            Element::String => write!(f, "string"),
+            Element::Int32 => f.write_str("int32"),
+            Element::Int64 => f.write_str("int64"),
+            Element::Object => f.write_str("object"),
+            Element::String => f.write_str("string"),
             Element::Class(class) => write!(f, "class {}", ClassText(class)),
         }
     }
@@ -55,9 +56,9 @@ impl<'a> fmt::Display for TypeText<'a> {
     ghost output = { λ declared. Some (type_text declared.0.now) };
 
     fn fmt<W: fmt::Write>(&self, f: &mut fmt::Formatter<W>) -> fmt::Result {
-        write!(f, "{}", ElementText(&self.0.element))?;
+        ElementText(&self.0.element).fmt(f)?;
         for _bracket in 0..self.0.brackets {
-            write!(f, "[]")?;
+            f.write_str("[]")?;
         }
         Ok(())
     }
@@ -75,8 +76,8 @@ impl<'a> fmt::Display for ReturnText<'a> {
 
     fn fmt<W: fmt::Write>(&self, f: &mut fmt::Formatter<W>) -> fmt::Result {
         match self.0 {
-            None => write!(f, "void"),
-            Some(declared) => write!(f, "{}", TypeText(declared)),
+            None => f.write_str("void"),
+            Some(declared) => TypeText(declared).fmt(f),
         }
     }
 }
@@ -93,12 +94,12 @@ impl<'a> fmt::Display for TypesText<'a> {
 
     fn fmt<W: fmt::Write>(&self, f: &mut fmt::Formatter<W>) -> fmt::Result {
         let Some((first, others)) = self.0.split_first() else {
-            return write!(f, "()");
+            return f.write_str("()");
         };
         write!(f, "({}", TypeText(first))?;
         for declared in others {
             write!(f, ", {}", TypeText(declared))?;
         }
-        write!(f, ")")
+        f.write_str(")")
     }
 }
