@@ -1,15 +1,18 @@
 -- Laws of changes.
-use Rattle.std.proofs.Common.{◌≡◌, ◌≢◌, ◌<◌, ◌≤◌, ◌-◌, ◌⊎◌, inl, inr, ℕ, true, false, ◌&&◌, ◌==◌, nat_le, if◌then◌else◌, List, [], ◌∷◌, ◌++◌, length, take, drop, get_or, map, Option, None, refl, sym, ap, ◌∙◌, arith}
+use Rattle.std.proofs.Common.{◌≡◌, ◌≢◌, ◌<◌, ◌≤◌, ◌-◌, ◌+◌, ◌⊎◌, inl, inr, ℕ, zero, suc, Bool, true, false, ◌&&◌, ◌==◌, nat_le, if◌then◌else◌, List, [], ◌∷◌, ◌++◌, length, take, drop, get_or, map, Option, None, Some, refl, sym, ap, ◌∙◌, arith}
 use Rattle.std.proofs.lemmas.List.Folds.{list_all-append}
-use Rattle.std.proofs.lemmas.Bool.{and_from, le-leb, lt-leb, leb-true}
+use Rattle.std.proofs.lemmas.Bool.{and_from, eqb-true, le-leb, lt-leb, leb-true}
 use Rattle.std.proofs.lemmas.Bool.Decides.{eqb_tells}
 use Rattle.std.proofs.lemmas.List.{get_or-set_same, get_or-set_other, length-set, length-map, get_or-map, get_or_past, take-append-drop, take_rest}
 use Rattle.std.proofs.Math.Seq.{drop-cons}
-use Rattle.std.specs.List.{list_all}
+use Rattle.std.specs.List.{list_all, position_from}
+use Rattle.std.specs.Option.{option_map_or}
 use Rattle.cil_model.proofs.SameLaws.{both_first, both_second}
 use Rattle.inheritance.specs.declared.changes.Declared.{Declared}
 use Rattle.inheritance.specs.declared.changes.Change.{Change}
-use Rattle.inheritance.specs.Changes.{known, is_ordered, is_past, changes_of, known_of, with_change, AreUpTo, AddsChange}
+use Rattle.inheritance.specs.declared.changes.Source.{Source}
+use Rattle.inheritance.specs.declared.changes.Source.TheVariants.{Nothing, Class, Time}
+use Rattle.inheritance.specs.Changes.{known, is_ordered, is_past, changes_of, known_of, with_change, found_from, is_earlier, AreUpTo, AddsChange, AddsChanges}
 
 pub known-append : (t : ℕ) (xs ys : List Change) (before : Option Declared) → known before t (xs ++ ys) ≡ known (known before t xs) t ys
 known-append t [] ys before = refl
@@ -104,10 +107,52 @@ adds_no_change rows key c past = record { width = refl; up_to = λ u. u; found =
     other q t (inl e) h = absurd (omega (arith, h, e.1, past))
     other q t (inr e) h = ap (λ b. if b && nat_le c.time t then c.found else known_of rows q t) (sym e.0)
 
+-- ---- the changes of keys that a class declares
+
+pub adds_none : (rows : List (List Change)) (first : ℕ) (source : Source) (time : ℕ) → AddsChanges rows rows [] first source time
+adds_none rows first source time = record { width = refl; up_to = λ u. u; found = λ q t h. either (nat_le time t) (known_of rows q t) }
+  where
+    either : (late : Bool) (x : Option Declared) → x ≡ (if late then x else x)
+    either true x = refl
+    either false x = refl
+
+-- one key more, in front of these
+module _ (old mid new : List (List Change)) (key first : ℕ) (keys : List ℕ) (source : Source) (time : ℕ) (finds : Option Declared) (earlier : is_earlier time source ≡ true) (behind : AddsChanges old mid keys (first + 1) source time) (is : finds ≡ found_from mid source key first) (one : AddsChange mid new key (record { time = time; found = finds })) where
+  as_before : (of : Source) → is_earlier time of ≡ true → key < length old → found_from mid of key first ≡ found_from old of key first
+  as_before Nothing before within = refl
+  as_before (Class class) before within = refl
+  as_before (Time past) before within =
+      behind.found key past within ∙
+      ap (λ late. if late then option_map_or (found_from old source key) (position_from (λ k. key == k) (first + 1) keys) (known_of old key past) else known_of old key past)
+      (lt-leb time past (omega (arith, leb-true (past + 1) time before)))
+
+  choose : (same late : Bool) (f : ℕ → Option Declared) (place : Option ℕ) (x : Option Declared) → (same ≡ true → finds ≡ f first) →
+      (if same && late then finds else (if late then option_map_or f place x else x)) ≡ (if late then option_map_or f (if same then Some first else place) x else x)
+  choose true true f place x e = e refl
+  choose true false f place x e = refl
+  choose false true f place x e = refl
+  choose false false f place x e = refl
+
+  pub adds_before : AddsChanges old new (key ∷ keys) first source time
+  adds_before = record {
+    width = one.width ∙ behind.width;
+    up_to = λ u. one.up_to (behind.up_to u);
+    found = λ q t h.
+        one.found q t (omega (arith, behind.width, h)) ∙
+        ap (λ x. if (q == key) && nat_le time t then finds else x) (behind.found q t h) ∙
+        choose (q == key) (nat_le time t) (found_from old source q) (position_from (λ k. q == k) (first + 1) keys) (known_of old q t)
+        (λ e. let same : q ≡ key = eqb-true q key e in is ∙ as_before source earlier (omega (arith, same, h)) ∙ ap (λ k. found_from old source k first) (sym same));
+  }
+
 -- ---- rows behind vectors
 
 pub row_of : {X Y : Type 0} (f : X → Y) (xs : List X) (i : ℕ) (x : X) (d : Y) → i < length xs → x ≡ get_or xs i x → get_or (map f xs) i d ≡ f x
 row_of f xs i x d h e = get_or-map f xs i x d h ∙ ap f (sym e)
+
+pub item_of : {X : Type 0} (xs : List X) (i : ℕ) (x d : X) → i < length xs → x ≡ get_or xs i x → x ≡ get_or xs i d
+item_of [] i x d within e = absurd (omega (arith, within))
+item_of (y ∷ ys) zero x d within e = e
+item_of (y ∷ ys) (suc i) x d within e = item_of ys i x d (omega (arith, within)) e
 
 pub row_past : {X Y : Type 0} (f : X → Y) (xs : List X) (i : ℕ) (d : Y) → length xs ≤ i → get_or (map f xs) i d ≡ d
 row_past f xs i d h = get_or_past (map f xs) i d (omega (arith, h, length-map xs f))
