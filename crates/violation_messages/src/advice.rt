@@ -1,7 +1,5 @@
 //! What to write in the place of names that this profile lacks.
 
-use crate::breaches::Breach;
-use crate::entry::BadEntry;
 use crate::unknown::{Role, Unknown, library_of};
 use metadata::violations::ClassFault;
 use name_tables::keys::{ClassKey, MethodKey};
@@ -9,7 +7,7 @@ use std::fmt;
 
 /// What to write in the place of what breaks a rule. It prints as one sentence without an end.
 #[derive(Clone, Copy)]
-pub(crate) enum Advice<'a> {
+pub enum Advice<'a> {
     /// This sentence.
     Sentence(&'static str),
     /// The declaration of this library.
@@ -131,26 +129,15 @@ fn advice_on_method(owner: ClassKey, method: MethodKey) -> Option<&'static str> 
     }
 }
 
-fn advice_on_entry(entry: &BadEntry) -> &'static str {
-    match entry {
-        BadEntry::Absent => "write `.entrypoint` before `.maxstack` of the first method",
-        BadEntry::Second => "leave out one of the two",
-        BadEntry::Returns(_) | BadEntry::Unfit { .. } => "write `static void Main()`",
-    }
-}
-
-/// What to write in the place of what breaks a rule; None where the breach says it, or nothing is to be said.
-pub(crate) fn advice_on<'a>(breach: &Breach<'a>) -> Option<Advice<'a>> {
-    match breach {
-        Breach::Unknown(Unknown::Extern(_)) => Some(Advice::Extern("mscorlib")),
-        Breach::Unknown(Unknown::Class { class, role, fault }) => {
-            advice_on_fault(*class, *role, *fault)
-        }
-        Breach::Unknown(Unknown::Method { owner, method, .. }) => {
+/// What to write in the place of a name that stands for nothing of the kind needed.
+pub(crate) fn advice_on<'a>(unknown: &Unknown<'a>) -> Option<Advice<'a>> {
+    match unknown {
+        Unknown::Extern(_) => Some(Advice::Extern("mscorlib")),
+        Unknown::Class { class, role, fault } => advice_on_fault(*class, *role, *fault),
+        Unknown::Method { owner, method, .. } => {
             let sentence = advice_on_method(*owner, *method)?;
             Some(Advice::Sentence(sentence))
         }
-        Breach::BadEntry(entry) => Some(Advice::Sentence(advice_on_entry(entry))),
         _ => None,
     }
 }

@@ -27,6 +27,8 @@ impl fmt::Display for OwnBase<'_> {
     }
 }
 
+impl Breach for OwnBase<'_> {}
+
 /// The base of a class, with its number.
 fn base_of<'a>(names: &NameTables<'a>, class: usize) -> Option<(usize, ClassKey<'a>)> {
     let base = names.base(class)?;
@@ -50,7 +52,7 @@ fn tell_bases<W: fmt::Write>(f: &mut fmt::Formatter<W>, own_base: &OwnBase) -> f
 }
 
 /// A class that is its own base. None where the tree has no such class.
-pub(crate) fn own_base<'a>(names: &'a NameTables<'a>, class: usize) -> Option<Found<'a>> {
+pub(crate) fn own_base<'a>(names: &'a NameTables<'a>, class: usize) -> Option<Found<OwnBase<'a>>> {
     let declared = names.classes.tree.classes.as_slice().get(class)?;
     let key = ClassKey::of_source(declared);
     let own_base = OwnBase {
@@ -60,5 +62,5 @@ pub(crate) fn own_base<'a>(names: &'a NameTables<'a>, class: usize) -> Option<Fo
     };
     let part = ClassPart::Base;
     let place = Place::InClass { class, part };
-    Some((Breach::OwnBase(own_base), Sites::at(place)))
+    Some((own_base, Sites::at(place)))
 }

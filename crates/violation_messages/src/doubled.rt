@@ -59,6 +59,12 @@ impl fmt::Display for Doubled<'_> {
     }
 }
 
+impl Breach for Doubled<'_> {
+    fn note(&self) -> &'static str {
+        "the first stands here"
+    }
+}
+
 fn tell_name<W: fmt::Write>(
     f: &mut fmt::Formatter<W>,
     before: &str,
@@ -70,24 +76,29 @@ fn tell_name<W: fmt::Write>(
 }
 
 /// A name that stands twice, at the second of its places.
-fn found(doubled: Doubled<'_>, again: Place, first: Place) -> Found<'_> {
-    (Breach::Doubled(doubled), Sites::beside(again, Some(first)))
+fn found(doubled: Doubled<'_>, again: Place, first: Place) -> Option<Found<Doubled<'_>>> {
+    Some((doubled, Sites::beside(again, Some(first))))
 }
 
-fn doubled_extern(tree: &Tree, repeat: Repeat) -> Option<Found<'_>> {
+fn doubled_extern(tree: &Tree, repeat: Repeat) -> Option<Found<Doubled<'_>>> {
     let doubled = Doubled::Extern(tree.externs.as_slice().get(repeat.again)?);
     let first = Place::Extern(repeat.first);
-    Some(found(doubled, Place::Extern(repeat.again), first))
+    found(doubled, Place::Extern(repeat.again), first)
 }
 
-fn doubled_class(tree: &Tree, repeat: Repeat) -> Option<Found<'_>> {
+fn doubled_class(tree: &Tree, repeat: Repeat) -> Option<Found<Doubled<'_>>> {
     let again = tree.classes.as_slice().get(repeat.again)?;
     let doubled = Doubled::Class(&again.name);
-    Some(found(doubled, class_name(repeat.again), class_name(repeat.first)))
+    found(doubled, class_name(repeat.again), class_name(repeat.first))
 }
 
 /// A member of a class that stands twice, by its two numbers among the members.
-fn found_in(doubled: Doubled<'_>, class: usize, again: usize, first: usize) -> Found<'_> {
+fn found_in(
+    doubled: Doubled<'_>,
+    class: usize,
+    again: usize,
+    first: usize,
+) -> Option<Found<Doubled<'_>>> {
     let again = MemberSpot {
         class,
         member: again,
@@ -99,7 +110,7 @@ fn found_in(doubled: Doubled<'_>, class: usize, again: usize, first: usize) -> F
     found(doubled, again.name(), first.name())
 }
 
-fn doubled_field(tree: &Tree, class: usize, repeat: Repeat) -> Option<Found<'_>> {
+fn doubled_field(tree: &Tree, class: usize, repeat: Repeat) -> Option<Found<Doubled<'_>>> {
     let declared = tree.classes.as_slice().get(class)?;
     let (again, field) = nth_field(declared, repeat.again)?;
     let (first, _) = nth_field(declared, repeat.first)?;
@@ -107,10 +118,10 @@ fn doubled_field(tree: &Tree, class: usize, repeat: Repeat) -> Option<Found<'_>>
         class: &declared.name,
         field: &field.name,
     };
-    Some(found_in(doubled, class, again, first))
+    found_in(doubled, class, again, first)
 }
 
-fn doubled_method(tree: &Tree, class: usize, repeat: Repeat) -> Option<Found<'_>> {
+fn doubled_method(tree: &Tree, class: usize, repeat: Repeat) -> Option<Found<Doubled<'_>>> {
     let declared = tree.classes.as_slice().get(class)?;
     let (again, method) = nth_method(declared, repeat.again)?;
     let (first, _) = nth_method(declared, repeat.first)?;
@@ -118,7 +129,7 @@ fn doubled_method(tree: &Tree, class: usize, repeat: Repeat) -> Option<Found<'_>
         class: &declared.name,
         method: key_of(method),
     };
-    Some(found_in(doubled, class, again, first))
+    found_in(doubled, class, again, first)
 }
 
 fn interface_name(class: usize, entry: usize) -> Place {
@@ -126,7 +137,7 @@ fn interface_name(class: usize, entry: usize) -> Place {
     Place::InClass { class, part }
 }
 
-fn doubled_interface(tree: &Tree, class: usize, repeat: Repeat) -> Option<Found<'_>> {
+fn doubled_interface(tree: &Tree, class: usize, repeat: Repeat) -> Option<Found<Doubled<'_>>> {
     let declared = tree.classes.as_slice().get(class)?;
     let doubled = Doubled::Interface {
         class: &declared.name,
@@ -134,7 +145,7 @@ fn doubled_interface(tree: &Tree, class: usize, repeat: Repeat) -> Option<Found<
     };
     let again = interface_name(class, repeat.again);
     let first = interface_name(class, repeat.first);
-    Some(found(doubled, again, first))
+    found(doubled, again, first)
 }
 
 /// A label by its place among all labels of a method.
@@ -151,15 +162,19 @@ fn label_at(spot: MemberSpot, method: &Method, place: usize) -> Option<(&Text, P
     None
 }
 
-fn doubled_label(tree: &Tree, method: SourceMember, repeat: Repeat) -> Option<Found<'_>> {
+fn doubled_label(tree: &Tree, method: SourceMember, repeat: Repeat) -> Option<Found<Doubled<'_>>> {
     let (spot, declared) = located_method(tree, method)?;
     let (label, again) = label_at(spot, declared, repeat.again)?;
     let (_, first) = label_at(spot, declared, repeat.first)?;
-    Some(found(Doubled::Label(label), again, first))
+    found(Doubled::Label(label), again, first)
 }
 
 /// A name that stands twice in a class.
-fn doubled_in_class(tree: &Tree, class: usize, doubled: DoubledInClass) -> Option<Found<'_>> {
+fn doubled_in_class(
+    tree: &Tree,
+    class: usize,
+    doubled: DoubledInClass,
+) -> Option<Found<Doubled<'_>>> {
     match doubled {
         DoubledInClass::Fields(fields) => doubled_field(tree, class, fields),
         DoubledInClass::Methods(methods) => doubled_method(tree, class, methods),
@@ -172,7 +187,7 @@ fn doubled_in_class(tree: &Tree, class: usize, doubled: DoubledInClass) -> Optio
 }
 
 /// A name that stands twice where it must stand once (number 201), and its two places. None where the tree has no such places.
-pub fn doubled_name(tree: &Tree, doubled: violations::Doubled) -> Option<Found<'_>> {
+pub fn doubled_name(tree: &Tree, doubled: violations::Doubled) -> Option<Found<Doubled<'_>>> {
     match doubled {
         violations::Doubled::Externs(externs) => doubled_extern(tree, externs),
         violations::Doubled::Classes(classes) => doubled_class(tree, classes),

@@ -1,5 +1,6 @@
 //! The entry point (number 206).
 
+use crate::advice::Advice;
 use crate::breaches::{Breach, Found};
 use crate::sites::{Sites, key_of, located_method};
 use cil_model::trees::{Method, Tree};
@@ -52,34 +53,56 @@ fn entry_at(tree: &Tree, method: SourceMember) -> Option<(Place, &Method)> {
     Some((spot.part(MemberPart::EntryPoint), declared))
 }
 
-fn found(entry: BadEntry<'_>, sites: Sites) -> Found<'_> {
-    (Breach::BadEntry(entry), sites)
+impl Breach for BadEntry<'_> {
+    fn note(&self) -> &'static str {
+        "the first stands here"
+    }
+
+    fn advice(&self) -> Option<Advice<'_>> {
+        Some(Advice::Sentence(match self {
+            BadEntry::Absent => "write `.entrypoint` before `.maxstack` of the first method",
+            BadEntry::Second => "leave out one of the two",
+            BadEntry::Returns(_) | BadEntry::Unfit { .. } => "write `static void Main()`",
+        }))
+    }
 }
 
-fn second_entry(tree: &Tree, first: SourceMember, second: SourceMember) -> Option<Found<'_>> {
+fn found(entry: BadEntry<'_>, sites: Sites) -> Option<Found<BadEntry<'_>>> {
+    Some((entry, sites))
+}
+
+fn second_entry(
+    tree: &Tree,
+    first: SourceMember,
+    second: SourceMember,
+) -> Option<Found<BadEntry<'_>>> {
     let (first, _) = entry_at(tree, first)?;
     let (second, _) = entry_at(tree, second)?;
-    Some(found(BadEntry::Second, Sites::beside(second, Some(first))))
+    found(BadEntry::Second, Sites::beside(second, Some(first)))
 }
 
 /// An entry point in a method that returns a value.
-fn returning(tree: &Tree, method: SourceMember) -> Option<Found<'_>> {
+fn returning(tree: &Tree, method: SourceMember) -> Option<Found<BadEntry<'_>>> {
     let (place, declared) = entry_at(tree, method)?;
     let returned = declared.signature.return_type.as_ref()?;
-    Some(found(BadEntry::Returns(returned), Sites::at(place)))
+    found(BadEntry::Returns(returned), Sites::at(place))
 }
 
 /// An entry point in a method that has another fault.
-fn unfit<'a>(tree: &'a Tree, method: SourceMember, fault: &'static str) -> Option<Found<'a>> {
+fn unfit<'a>(
+    tree: &'a Tree,
+    method: SourceMember,
+    fault: &'static str,
+) -> Option<Found<BadEntry<'a>>> {
     let (place, declared) = entry_at(tree, method)?;
     let method = key_of(declared);
-    Some(found(BadEntry::Unfit { method, fault }, Sites::at(place)))
+    found(BadEntry::Unfit { method, fault }, Sites::at(place))
 }
 
 /// Why a source has not one fit entry point. None where the tree has no such place.
-pub(crate) fn bad_entry(tree: &Tree, entry: violations::BadEntry) -> Option<Found<'_>> {
+pub(crate) fn bad_entry(tree: &Tree, entry: violations::BadEntry) -> Option<Found<BadEntry<'_>>> {
     match entry {
-        violations::BadEntry::Absent => Some(found(BadEntry::Absent, Sites::NONE)),
+        violations::BadEntry::Absent => found(BadEntry::Absent, Sites::NONE),
         violations::BadEntry::Second { first, second } => second_entry(tree, first, second),
         violations::BadEntry::NotStatic(method) => unfit(tree, method, "is not static"),
         violations::BadEntry::Returns(method) => returning(tree, method),

@@ -39,6 +39,8 @@ impl fmt::Display for NotImplemented<'_> {
     }
 }
 
+impl Breach for NotImplemented<'_> {}
+
 /// The nearest class from one on along its bases with a method of this name and signature.
 fn owner_along<'a>(names: &NameTables<'a>, first: &Class, key: MethodKey) -> Option<ClassKey<'a>> {
     let mut next = names.classes.number(ClassKey::of_source(first));
@@ -56,7 +58,7 @@ fn owner_along<'a>(names: &NameTables<'a>, first: &Class, key: MethodKey) -> Opt
 pub(crate) fn not_implemented<'a>(
     names: &NameTables<'a>,
     absent: violations::NotImplemented,
-) -> Option<Found<'a>> {
+) -> Option<Found<NotImplemented<'a>>> {
     let violations::NotImplemented { class, listed } = absent;
     let declared = names.classes.tree.classes.as_slice().get(class)?;
     let interface = listed_interface(declared, listed.interface)?;
@@ -74,5 +76,5 @@ pub(crate) fn not_implemented<'a>(
     let part = ClassPart::Interface(listed.interface);
     let place = Place::InClass { class, part };
     let sites = Sites::beside(place, method_place(names, owner.class, method));
-    Some((Breach::NotImplemented(absent), sites))
+    Some((absent, sites))
 }

@@ -109,8 +109,10 @@ fn tell_left_open<W: fmt::Write>(
     }
 }
 
-fn found(misfit: Misfit<'_>, sites: Sites) -> Found<'_> {
-    (Breach::Misfit(misfit), sites)
+impl Breach for Misfit<'_> {}
+
+fn found(misfit: Misfit<'_>, sites: Sites) -> Option<Found<Misfit<'_>>> {
+    Some((misfit, sites))
 }
 
 /// What stands between a class and one of its bases: the last class that is not abstract, since there first a method of that base is left
@@ -155,7 +157,7 @@ fn told_left_open<'a>(
     owner: usize,
     method: MethodKey<'a>,
     nearer: Nearer,
-) -> Option<Found<'a>> {
+) -> Option<Found<Misfit<'a>>> {
     let number = source_number(names, nearer.open?)?;
     let misfit = Misfit::LeftOpen {
         class: &names.classes.tree.classes.as_slice().get(number)?.name,
@@ -167,10 +169,14 @@ fn told_left_open<'a>(
         },
     };
     let declared = method_place(names, owner, method);
-    Some(found(misfit, Sites::beside(class_name(number), declared)))
+    found(misfit, Sites::beside(class_name(number), declared))
 }
 
-fn left_open<'a>(names: &NameTables<'a>, class: &Class, open: MemberNumber) -> Option<Found<'a>> {
+fn left_open<'a>(
+    names: &NameTables<'a>,
+    class: &Class,
+    open: MemberNumber,
+) -> Option<Found<Misfit<'a>>> {
     let first = names.classes.number(ClassKey::of_source(class))?;
     let method = method_key(names, open)?;
     let nearer = nearer_than(names, first, open.class, method)?;
@@ -183,16 +189,16 @@ fn named_method(class: usize, declared: &Class, method: usize) -> Option<(Method
     Some((key_of(method), MemberSpot { class, member }.name()))
 }
 
-fn in_interface(class: usize, declared: &Class, method: usize) -> Option<Found<'_>> {
+fn in_interface(class: usize, declared: &Class, method: usize) -> Option<Found<Misfit<'_>>> {
     let (method, place) = named_method(class, declared, method)?;
     let interface = &declared.name;
-    Some(found(Misfit::InInterface { interface, method }, Sites::at(place)))
+    found(Misfit::InInterface { interface, method }, Sites::at(place))
 }
 
-fn is_abstract(class: usize, declared: &Class, method: usize) -> Option<Found<'_>> {
+fn is_abstract(class: usize, declared: &Class, method: usize) -> Option<Found<Misfit<'_>>> {
     let (method, place) = named_method(class, declared, method)?;
     let class = &declared.name;
-    Some(found(Misfit::Abstract { class, method }, Sites::at(place)))
+    found(Misfit::Abstract { class, method }, Sites::at(place))
 }
 
 /// A method that would override one of a base, which has a number among all classes.
@@ -201,7 +207,7 @@ fn over_plain<'a>(
     class: &'a Class,
     named: (MethodKey<'a>, Place),
     base: usize,
-) -> Option<Found<'a>> {
+) -> Option<Found<Misfit<'a>>> {
     let (method, place) = named;
     let misfit = Misfit::OverPlain {
         class: &class.name,
@@ -209,14 +215,14 @@ fn over_plain<'a>(
         owner: class_key(names, base)?,
     };
     let overridden = method_place(names, base, method);
-    Some(found(misfit, Sites::beside(place, overridden)))
+    found(misfit, Sites::beside(place, overridden))
 }
 
 /// A method whose kind does not fit its class or what that inherits. None where the tree has no such place.
 pub(crate) fn misfit_of<'a>(
     names: &NameTables<'a>,
     misfit: violations::Misfit,
-) -> Option<Found<'a>> {
+) -> Option<Found<Misfit<'a>>> {
     let violations::Misfit { class, fault } = misfit;
     let declared = names.classes.tree.classes.as_slice().get(class)?;
     match fault {

@@ -122,8 +122,10 @@ impl fmt::Display for Passed<'_> {
     }
 }
 
-fn found(passed: Passed<'_>, place: Place) -> Found<'_> {
-    (Breach::Passed(passed), Sites::at(place))
+impl Breach for Passed<'_> {}
+
+fn found(passed: Passed<'_>, place: Place) -> Option<Found<Passed<'_>>> {
+    Some((passed, Sites::at(place)))
 }
 
 // ---- one method
@@ -139,15 +141,15 @@ fn passed_by_instruction(instruction: &Instruction) -> Option<Passed<'_>> {
     }
 }
 
-fn passed_by_line(spot: MemberSpot, method: &Method, number: usize) -> Option<Found<'_>> {
+fn passed_by_line(spot: MemberSpot, method: &Method, number: usize) -> Option<Found<Passed<'_>>> {
     let line = lines_of(method).get(number)?;
     let passed = passed_by_instruction(&line.instruction)?;
-    Some(found(passed, spot.line(number, LinePart::Name)))
+    found(passed, spot.line(number, LinePart::Name))
 }
 
-fn passed_stack(spot: MemberSpot, method: &Method) -> Option<Found<'_>> {
+fn passed_stack(spot: MemberSpot, method: &Method) -> Option<Found<Passed<'_>>> {
     let passed = Passed::MaxStack(code_of(&method.kind)?.max_stack);
-    Some(found(passed, spot.part(MemberPart::MaxStack)))
+    found(passed, spot.part(MemberPart::MaxStack))
 }
 
 fn count_arguments(method: &Method) -> usize {
@@ -158,19 +160,23 @@ fn count_arguments(method: &Method) -> usize {
     parameters.saturating_add(1)
 }
 
-fn passed_by_method(spot: MemberSpot, method: &Method, limit: MethodLimit) -> Option<Found<'_>> {
+fn passed_by_method(
+    spot: MemberSpot,
+    method: &Method,
+    limit: MethodLimit,
+) -> Option<Found<Passed<'_>>> {
     match limit {
         MethodLimit::Arguments => {
             let passed = Passed::Counted(ARGUMENTS, count_arguments(method));
-            Some(found(passed, spot.name()))
+            found(passed, spot.name())
         }
         MethodLimit::Instructions => {
             let passed = Passed::Counted(INSTRUCTIONS, lines_of(method).len());
-            Some(found(passed, spot.line(MOST_INSTRUCTIONS, LinePart::Name)))
+            found(passed, spot.line(MOST_INSTRUCTIONS, LinePart::Name))
         }
         MethodLimit::Locals => {
             let passed = Passed::Counted(LOCALS, locals_of(method).len());
-            Some(found(passed, spot.part(MemberPart::Locals)))
+            found(passed, spot.part(MemberPart::Locals))
         }
         MethodLimit::MaxStack => passed_stack(spot, method),
         MethodLimit::Line(number) => passed_by_line(spot, method, number),
@@ -180,10 +186,10 @@ fn passed_by_method(spot: MemberSpot, method: &Method, limit: MethodLimit) -> Op
 // ---- the whole tree
 
 /// The first method of the source that is too many.
-fn passed_methods(classes: &[Class]) -> Option<Found<'_>> {
+fn passed_methods(classes: &[Class]) -> Option<Found<Passed<'_>>> {
     let MethodPlace { class, member, .. } = method_of_number(classes, MOST_METHODS)?;
     let spot = MemberSpot { class, member };
-    Some(found(Passed::Beyond(METHODS), spot.name()))
+    found(Passed::Beyond(METHODS), spot.name())
 }
 
 /// The static field of a class that has this place among them.
@@ -204,9 +210,13 @@ fn static_field_at(class: usize, declared: &Class, place: usize) -> Option<Membe
     None
 }
 
-fn passed_static_fields(classes: &[Class], class: usize, place: usize) -> Option<Found<'_>> {
+fn passed_static_fields(
+    classes: &[Class],
+    class: usize,
+    place: usize,
+) -> Option<Found<Passed<'_>>> {
     let spot = static_field_at(class, classes.get(class)?, place)?;
-    Some(found(Passed::Beyond(STATIC_FIELDS), spot.name()))
+    found(Passed::Beyond(STATIC_FIELDS), spot.name())
 }
 
 /// How many instance fields a class of a number among all classes declares.
@@ -237,18 +247,22 @@ fn count_fields(names: &NameTables, class: &Class) -> usize {
     count
 }
 
-fn passed_fields<'a>(names: &NameTables<'a>, class: usize) -> Option<Found<'a>> {
+fn passed_fields<'a>(names: &NameTables<'a>, class: usize) -> Option<Found<Passed<'a>>> {
     let declared = names.classes.tree.classes.as_slice().get(class)?;
     let passed = Passed::InstanceFields(&declared.name, count_fields(names, declared));
-    Some(found(passed, class_name(class)))
+    found(passed, class_name(class))
 }
 
-fn passed_brackets(tree: &Tree, site: TypeSite) -> Option<Found<'_>> {
+fn passed_brackets(tree: &Tree, site: TypeSite) -> Option<Found<Passed<'_>>> {
     let passed = Passed::Brackets(type_at(tree, site)?.brackets);
-    Some(found(passed, place_of(tree, site.part)?))
+    found(passed, place_of(tree, site.part)?)
 }
 
-fn passed_in_method(tree: &Tree, method: SourceMember, limit: MethodLimit) -> Option<Found<'_>> {
+fn passed_in_method(
+    tree: &Tree,
+    method: SourceMember,
+    limit: MethodLimit,
+) -> Option<Found<Passed<'_>>> {
     let (spot, declared) = located_method(tree, method)?;
     passed_by_method(spot, declared, limit)
 }
@@ -257,13 +271,13 @@ fn passed_in_method(tree: &Tree, method: SourceMember, limit: MethodLimit) -> Op
 pub(crate) fn passed_limit<'a>(
     names: &NameTables<'a>,
     passed: violations::Passed,
-) -> Option<Found<'a>> {
+) -> Option<Found<Passed<'a>>> {
     let tree = names.classes.tree;
     let classes = tree.classes.as_slice();
     match passed {
         violations::Passed::Classes => {
             let passed = Passed::Counted(CLASSES, classes.len());
-            Some(found(passed, class_name(MOST_CLASSES)))
+            found(passed, class_name(MOST_CLASSES))
         }
         violations::Passed::Methods => passed_methods(classes),
         violations::Passed::StaticFields { class, place } => {

@@ -1,8 +1,13 @@
 //! Why a tree is no legal program (numbers 201 to 207).
 
-use crate::advice::advice_on;
-use crate::breaches::{Breach, breach_of};
-use crate::sites::Sites;
+use crate::breaches::{Breach, Found};
+use crate::cycles::own_base;
+use crate::doubled::doubled_name;
+use crate::entry::bad_entry;
+use crate::implemented::not_implemented;
+use crate::kinds::misfit_of;
+use crate::limits::passed_limit;
+use crate::unknown::unknown_name;
 use cil_model::memory::NoMemory;
 use cil_model::trees::Tree;
 use metadata::violations::Violation;
@@ -18,19 +23,11 @@ fn offset_at(alloc: Global, text: &[u8], place: Option<Place>) -> Result<Option<
     }
 }
 
-/// What is said at the place with which a breach does not agree.
-fn note(breach: &Breach) -> &'static str {
-    match breach {
-        Breach::Doubled(_) | Breach::BadEntry(_) => "the first stands here",
-        _ => "that method stands here",
-    }
-}
-
 /// The sentence of a breach at its place.
-fn sentence_at(
+fn sentence_at<B: Breach>(
     alloc: Global,
     named: Named,
-    breach: &Breach,
+    breach: &B,
     place: Option<Place>,
 ) -> Result<String, NoMemory> {
     let offset = offset_at(alloc, named.text, place)?;
@@ -39,28 +36,32 @@ fn sentence_at(
 }
 
 /// Adds what stands at the place with which a breach does not agree, if there is one.
-fn push_note(
+fn push_note<B: Breach>(
     alloc: Global,
     message: &mut String,
     named: Named,
-    breach: &Breach,
+    breach: &B,
     other: Option<Place>,
 ) -> Result<(), NoMemory> {
     match offset_at(alloc, named.text, other)? {
         None => Ok(()),
-        offset => named.push_where(message, offset, note(breach)),
+        offset => named.push_where(message, offset, breach.note()),
     }
 }
 
-fn told_breach(
+/// What was found of a rule that is broken, in words; the rule's own sentence where nothing was.
+fn told<B: Breach + Copy + Drop>(
     alloc: Global,
     named: Named,
-    breach: &Breach,
-    sites: Sites,
+    violation: Violation,
+    found: Option<Found<B>>,
 ) -> Result<String, NoMemory> {
-    let mut message = sentence_at(alloc, named, breach, sites.place)?;
-    push_note(alloc, &mut message, named, breach, sites.other)?;
-    if let Some(advice) = advice_on(breach) {
+    let Some((breach, sites)) = found else {
+        return broken(alloc, named, violation);
+    };
+    let mut message = sentence_at(alloc, named, &breach, sites.place)?;
+    push_note(alloc, &mut message, named, &breach, sites.other)?;
+    if let Some(advice) = breach.advice() {
         writeln!(message, "{advice}")?;
     }
     Ok(message)
@@ -86,9 +87,17 @@ fn told_violation(
     names: &NameTables,
     violation: Violation,
 ) -> Result<String, NoMemory> {
-    match breach_of(names, violation) {
-        Some((breach, sites)) => told_breach(alloc, named, &breach, sites),
-        None => broken(alloc, named, violation),
+    let tree = names.classes.tree;
+    match violation {
+        Violation::Doubled(doubled) => told(alloc, named, violation, doubled_name(tree, doubled)),
+        Violation::Unknown(unknown) => told(alloc, named, violation, unknown_name(names, unknown)),
+        Violation::OwnBase { class } => told(alloc, named, violation, own_base(names, class)),
+        Violation::NotImplemented(absent) => {
+            told(alloc, named, violation, not_implemented(names, absent))
+        }
+        Violation::Misfit(misfit) => told(alloc, named, violation, misfit_of(names, misfit)),
+        Violation::BadEntry(entry) => told(alloc, named, violation, bad_entry(tree, entry)),
+        Violation::Passed(passed) => told(alloc, named, violation, passed_limit(names, passed)),
     }
 }
 

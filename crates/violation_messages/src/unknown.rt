@@ -1,5 +1,6 @@
 //! Names that stand for nothing of the kind needed (number 202).
 
+use crate::advice::{Advice, advice_on};
 use crate::breaches::{Breach, Found};
 use crate::references::{MemberKey, class_of, class_place, line_at, member_of, type_at};
 use crate::sites::{Sites, key_of, listed_interface};
@@ -55,8 +56,8 @@ pub enum Unknown<'a> {
     },
 }
 
-fn found(unknown: Unknown<'_>, place: Place) -> Found<'_> {
-    (Breach::Unknown(unknown), Sites::at(place))
+fn found(unknown: Unknown<'_>, place: Place) -> Option<Found<Unknown<'_>>> {
+    Some((unknown, Sites::at(place)))
 }
 
 /// `static` or `instance`
@@ -93,6 +94,12 @@ impl fmt::Display for Unknown<'_> {
                 tell_near_method(f, near)
             }
         }
+    }
+}
+
+impl Breach for Unknown<'_> {
+    fn advice(&self) -> Option<Advice<'_>> {
+        advice_on(self)
     }
 }
 
@@ -259,7 +266,7 @@ fn unknown_in_heading(
     number: usize,
     name: HeadingName,
     fault: ClassFault,
-) -> Option<Found<'_>> {
+) -> Option<Found<Unknown<'_>>> {
     let (class, role) = named_in_heading(tree.classes.as_slice().get(number)?, name)?;
     let part = match name {
         HeadingName::Base => ClassPart::Base,
@@ -269,14 +276,14 @@ fn unknown_in_heading(
         class: number,
         part,
     };
-    Some(found(Unknown::Class { class, role, fault }, place))
+    found(Unknown::Class { class, role, fault }, place)
 }
 
-fn unknown_in_type(tree: &Tree, site: TypeSite, fault: ClassFault) -> Option<Found<'_>> {
+fn unknown_in_type(tree: &Tree, site: TypeSite, fault: ClassFault) -> Option<Found<Unknown<'_>>> {
     let class = class_of(type_at(tree, site)?)?;
     let place = class_place(tree, site)?;
     let role = Role::Type;
-    Some(found(Unknown::Class { class, role, fault }, place))
+    found(Unknown::Class { class, role, fault }, place)
 }
 
 // ---- instructions
@@ -368,7 +375,7 @@ fn unknown_owner(
     method: SourceMember,
     line: usize,
     fault: ClassFault,
-) -> Option<Found<'_>> {
+) -> Option<Found<Unknown<'_>>> {
     let (spot, instruction) = line_at(tree, method, line)?;
     let (owner, _) = member_of(instruction)?;
     let unknown = Unknown::Class {
@@ -376,18 +383,18 @@ fn unknown_owner(
         role: Role::Owner,
         fault,
     };
-    Some(found(unknown, spot.line(line, LinePart::Owner)))
+    found(unknown, spot.line(line, LinePart::Owner))
 }
 
 fn unknown_member<'a>(
     names: &NameTables<'a>,
     method: SourceMember,
     line: usize,
-) -> Option<Found<'a>> {
+) -> Option<Found<Unknown<'a>>> {
     let (spot, instruction) = line_at(names.classes.tree, method, line)?;
     let (owner, member) = member_of(instruction)?;
     let unknown = absent_member(names, ClassKey::of(owner), member);
-    Some(found(unknown, spot.line(line, LinePart::Member)))
+    found(unknown, spot.line(line, LinePart::Member))
 }
 
 fn unknown_label(
@@ -395,22 +402,25 @@ fn unknown_label(
     method: SourceMember,
     line: usize,
     target: usize,
-) -> Option<Found<'_>> {
+) -> Option<Found<Unknown<'_>>> {
     let (spot, instruction) = line_at(tree, method, line)?;
     let label = labels_of(instruction).get(target)?;
     let place = spot.line(line, LinePart::Target(target));
-    Some(found(Unknown::Label(label), place))
+    found(Unknown::Label(label), place)
 }
 
 // ---- the whole tree
 
-fn unknown_extern(tree: &Tree, number: usize) -> Option<Found<'_>> {
+fn unknown_extern(tree: &Tree, number: usize) -> Option<Found<Unknown<'_>>> {
     let name = tree.externs.as_slice().get(number)?;
-    Some(found(Unknown::Extern(name), Place::Extern(number)))
+    found(Unknown::Extern(name), Place::Extern(number))
 }
 
 /// A name that stands for nothing of the kind needed (number 202), and its place. None where the tree has no such place.
-pub fn unknown_name<'a>(names: &NameTables<'a>, unknown: violations::Unknown) -> Option<Found<'a>> {
+pub fn unknown_name<'a>(
+    names: &NameTables<'a>,
+    unknown: violations::Unknown,
+) -> Option<Found<Unknown<'a>>> {
     let tree = names.classes.tree;
     match unknown {
         violations::Unknown::Extern(number) => unknown_extern(tree, number),
