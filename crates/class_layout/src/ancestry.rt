@@ -18,7 +18,7 @@ use resolved_code::types::NumberedType;
 use std::alloc::Global;
 
 /// For each class, whether it may stand for each class.
-#[derive(Debug, Drop)]
+#[derive(Drop)]
 pub struct Ancestry {
     pub rows: Vec<Vec<bool>>,
 }

@@ -28,7 +28,6 @@ use std::alloc::Global;
 
 /// Where the fields of a program lie, which methods its virtual calls run, and which types stand for others. Contracts say whose
 /// layout it is by `IsLayout`.
-#[derive(Debug)]
 pub struct Layout {
     ancestry: Ancestry,
     kinds: Vec<Vec<SlotKind>>,

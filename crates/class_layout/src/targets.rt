@@ -22,7 +22,7 @@ use resolved_code::classes::ResolvedMethod;
 use std::alloc::Global;
 
 /// The methods that run where one method is called.
-#[derive(Debug, Drop)]
+#[derive(Drop)]
 pub enum Targets {
     /// The method itself, on any object: it is not virtual.
     Itself,

@@ -19,7 +19,7 @@ use name_tables::built_in::BuiltInClass;
 use std::alloc::Global;
 
 /// Where a method is declared.
-#[derive(Clone, Copy, Debug)]
+#[derive(Clone, Copy)]
 pub enum MethodPlace {
     /// In a built-in class, by its place among them, at a place among its methods.
     BuiltIn { class: usize, method: usize },

@@ -8,7 +8,7 @@ ghost use Rattle.ilasm_tokens.specs.Lexing.{kind_of};
 use cil_model::tokens::Symbol;
 
 /// What a byte may begin.
-#[derive(Clone, Copy, Debug, PartialEq, Eq)]
+#[derive(Clone, Copy, PartialEq, Eq)]
 pub enum Kind {
     /// A word: a letter, `_` or `.`.
     Word,

@@ -11,7 +11,7 @@ use std::alloc::{AllocError, Global};
 use std::marker::Model;
 
 /// A token that borrows its bytes from the source. Contracts see it as the token of the definition.
-#[derive(Debug, Drop)]
+#[derive(Drop)]
 pub struct SourceToken<'s> {
     part: Part<'s>,
 }
@@ -20,7 +20,7 @@ pub struct SourceToken<'s> {
 pub type Tokens<'s> = &'s [SourceToken<'s>];
 
 /// How a token stands in the source.
-#[derive(Clone, Copy, Debug)]
+#[derive(Clone, Copy)]
 enum Part<'s> {
     Reserved(&'s [u8]),
     Name(&'s [u8]),

@@ -8,7 +8,7 @@ use cil_model::instructions::{
 };
 
 /// What a reserved word is for.
-#[derive(Clone, Copy, Debug)]
+#[derive(Clone, Copy)]
 pub enum WordUse {
     /// A word of the grammar alone.
     Grammar,
@@ -17,7 +17,7 @@ pub enum WordUse {
 }
 
 /// The operands that follow an instruction's name, and the instruction that they make.
-#[derive(Clone, Copy, Debug)]
+#[derive(Clone, Copy)]
 pub enum Form {
     /// None.
     Bare(Bare),
@@ -46,7 +46,7 @@ pub enum Form {
 }
 
 /// Instructions whose name says all. Those of a short form have their operand in it.
-#[derive(Clone, Copy, Debug)]
+#[derive(Clone, Copy)]
 pub enum Bare {
     NoOperation,
     LoadNull,
@@ -77,7 +77,7 @@ pub enum Bare {
 }
 
 /// Instructions with an integer of 64 bits.
-#[derive(Clone, Copy, Debug)]
+#[derive(Clone, Copy)]
 pub enum WithInteger {
     LoadInt64,
     LoadArgument,
@@ -87,7 +87,7 @@ pub enum WithInteger {
 }
 
 /// Instructions with one label.
-#[derive(Clone, Copy, Debug)]
+#[derive(Clone, Copy)]
 pub enum Jump {
     Always,
     IfTrue,
@@ -96,7 +96,7 @@ pub enum Jump {
 }
 
 /// Instructions with a field.
-#[derive(Clone, Copy, Debug)]
+#[derive(Clone, Copy)]
 pub enum FieldAccess {
     Load,
     Store,
@@ -105,7 +105,7 @@ pub enum FieldAccess {
 }
 
 /// Instructions with a type.
-#[derive(Clone, Copy, Debug)]
+#[derive(Clone, Copy)]
 pub enum TypeTest {
     Cast,
     IsInstance,

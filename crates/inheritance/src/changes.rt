@@ -6,21 +6,21 @@ ghost use Rattle.inheritance.specs.Changes.{changes_of, is_ordered, known, known
 use cil_model::memory::NoMemory;
 
 /// Where a key is declared: the number of the class, and the place among the keys that it declares.
-#[derive(Clone, Copy, Debug, PartialEq, Eq)]
+#[derive(Clone, Copy, PartialEq, Eq)]
 pub struct Declared {
     pub class: usize,
     pub place: usize,
 }
 
 /// What a key finds from a time on.
-#[derive(Clone, Copy, Debug)]
+#[derive(Clone, Copy)]
 pub(crate) struct Change {
     pub time: usize,
     pub found: Option<Declared>,
 }
 
 /// What the keys that a class declares find from a time on: nothing, the class itself, or what they found at an earlier time.
-#[derive(Clone, Copy, Debug)]
+#[derive(Clone, Copy)]
 pub(crate) enum Source {
     Nothing,
     Class(usize),

@@ -11,7 +11,7 @@ use cil_model::memory::NoMemory;
 use std::alloc::Global;
 
 /// The classes from one on through its bases up to where a cycle is cut or the bases end: the last of them, and how many they are.
-#[derive(Clone, Copy, Debug)]
+#[derive(Clone, Copy)]
 pub(crate) struct Part {
     pub last: usize,
     pub length: usize,

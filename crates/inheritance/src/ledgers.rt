@@ -9,7 +9,7 @@ use cil_model::memory::NoMemory;
 use std::alloc::Global;
 
 /// When a class was entered, and how many classes there are from it on through its bases.
-#[derive(Clone, Copy, Debug)]
+#[derive(Clone, Copy)]
 pub(crate) struct Entry {
     pub time: usize,
     pub length: usize,

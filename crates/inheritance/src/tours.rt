@@ -4,7 +4,7 @@ use cil_model::memory::NoMemory;
 use std::alloc::Global;
 
 /// A step of the search.
-#[derive(Clone, Copy, Debug)]
+#[derive(Clone, Copy)]
 pub(crate) enum Step {
     /// To a class, from its base, or from nowhere where it has none.
     Enter(usize),

@@ -22,7 +22,7 @@ use resolved_code::types::{NumberedElement, NumberedType};
 use std::alloc::Global;
 
 /// What a call needs to know of a method (ECMA-335 II.15).
-#[derive(Debug, Drop)]
+#[derive(Drop)]
 pub struct TableMethod {
     /// Its class, and its place there.
     pub member: MemberNumber,

@@ -16,7 +16,7 @@ use resolved_code::resolved::resolve_classes;
 use std::alloc::Global;
 
 /// The classes of a legal tree by their numbers, its literals by theirs, and the number of its entry point.
-#[derive(Debug, Drop)]
+#[derive(Drop)]
 pub struct Contents {
     pub classes: Sequence<ResolvedClass>,
     pub literals: Sequence<Text>,

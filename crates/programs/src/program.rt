@@ -15,7 +15,6 @@ use std::marker::Model;
 
 /// A legal program: the tree, with its classes, literals and entry point by numbers. Classes 0 to 4 are the built-in ones, and
 /// those of the source follow in order.
-#[derive(Debug)]
 pub struct Program {
     tree: Tree,
     contents: Contents,

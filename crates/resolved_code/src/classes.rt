@@ -9,10 +9,9 @@ ghost use Rattle.resolved_code.specs.Resolved.{BothAlike, IsBody, IsResolvedKind
 use crate::operations::Operation;
 use crate::types::NumberedType;
 use cil_model::sequences::Sequence;
-use std::fmt;
 
 /// A field (ECMA-335 II.16).
-#[derive(Clone, Copy, PartialEq, Eq, Debug)]
+#[derive(Clone, Copy, PartialEq, Eq)]
 pub struct ResolvedField {
     pub is_static: bool,
     pub field_type: NumberedType,
@@ -26,19 +25,8 @@ pub struct Body {
     pub operations: Sequence<Operation>,
 }
 
-/// Says how many operations there are, and not which.
-impl fmt::Debug for Body {
-    fn fmt<W: fmt::Write>(&self, f: &mut fmt::Formatter<W>) -> fmt::Result {
-        write!(
-            f,
-            "a body of {} operations",
-            self.operations.as_slice().len()
-        )
-    }
-}
-
 /// What a method is, with its code where it has some (ECMA-335 II.15.2 and II.15.4.2).
-#[derive(Debug, Drop)]
+#[derive(Drop)]
 pub enum ResolvedKind {
     Static(Body),
     Instance(Body),
@@ -48,7 +36,7 @@ pub enum ResolvedKind {
 
 /// A method (ECMA-335 II.15). Methods have one `identity` exactly where they have the same name and signature. No return type is
 /// `void`.
-#[derive(Debug, Drop)]
+#[derive(Drop)]
 pub struct ResolvedMethod {
     pub identity: usize,
     pub parameters: Sequence<NumberedType>,
@@ -57,7 +45,7 @@ pub struct ResolvedMethod {
 }
 
 /// A class or an interface (ECMA-335 II.10): its base and interfaces by their numbers, its fields and methods in source order.
-#[derive(Debug, Drop)]
+#[derive(Drop)]
 pub struct ResolvedClass {
     pub is_interface: bool,
     pub is_abstract: bool,

@@ -14,7 +14,7 @@ use std::marker::Model;
 
 /// Where the values of a frame begin in the row of all values: its arguments, its locals and its stack. Beside them what
 /// it runs, the place of the next instruction, and the object to push at the end of a constructor.
-#[derive(Clone, Copy, Debug)]
+#[derive(Clone, Copy)]
 struct Activation {
     method: u32,
     place: u32,
@@ -26,7 +26,7 @@ struct Activation {
 
 /// The frames of a live thread (ECMA-335 I.12.3.2), one of which runs. All memory is taken when the first one is made: no
 /// call and no return takes any. Contracts see a list of frames with their arguments, locals and stacks.
-#[derive(Debug, Drop)]
+#[derive(Drop)]
 pub struct FrameMemory {
     values: Vec<Value>,
     running: Activation,

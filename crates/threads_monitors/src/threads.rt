@@ -21,14 +21,14 @@ const THREAD_SLOT: u32 = 0;
 
 /// How a thread stands: with its frames while it is live, or as it ended. A thread that ended has no frames; the monitors
 /// that it holds stay held (this profile).
-#[derive(Debug, Drop)]
+#[derive(Drop)]
 pub enum Standing {
     Live(FrameMemory),
     Ended(End),
 }
 
 /// A thread that was started, and the steps of its budget that are left.
-#[derive(Debug, Drop)]
+#[derive(Drop)]
 pub struct Thread {
     pub standing: Standing,
     pub steps_left: u32,
@@ -36,7 +36,7 @@ pub struct Thread {
 
 /// What a thread begins with: its first method, by number, with the kinds of its locals; how many frames it may have, how
 /// many values one frame may hold (arguments, locals and stack), and how many steps it may make.
-#[derive(Clone, Copy, Debug)]
+#[derive(Clone, Copy)]
 pub struct Beginning<'a> {
     pub method: u32,
     pub locals: &'a [ValueKind],
