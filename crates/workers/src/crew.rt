@@ -129,18 +129,14 @@ fn send_all<
         seats,
         herald,
     };
-    match send(scope, rt, alloc, shared, epochs, gate, workers, worker) {
-        Ok(thread) => {
-            let mut tickets = send_all(scope, rt, alloc, shared, epochs, gate, workers, rest);
-            tickets.push_reserved(thread.join(rt));
-            tickets
-        }
-        Err(ticket) => {
-            let mut tickets = send_all(scope, rt, alloc, shared, epochs, gate, workers, rest);
-            tickets.push_reserved(ticket);
-            tickets
-        }
-    }
+    let sent = send(scope, rt, alloc, shared, epochs, gate, workers, worker);
+    let mut tickets = send_all(scope, rt, alloc, shared, epochs, gate, workers, rest);
+    let ticket = match sent {
+        Ok(thread) => thread.join(rt),
+        Err(ticket) => ticket,
+    };
+    tickets.push_reserved(ticket);
+    tickets
 }
 
 /// Runs workers, each in a thread of its own, until each has found in a pass that no thread of the machine is live or that the stop mark
