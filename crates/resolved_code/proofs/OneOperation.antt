@@ -16,17 +16,16 @@ use Rattle.cil_model.specs.declared.trees.ClassKind.{ClassKind}
 use Rattle.cil_model.specs.declared.trees.ClassKind.TheVariants.{Interface, Class as PlainClass}
 use Rattle.cil_model.specs.declared.trees.Field.{Field}
 use Rattle.cil_model.specs.declared.trees.Line.{Line}
-use Rattle.cil_model.specs.declared.trees.Method.{Method}
 use Rattle.cil_model.specs.Bodies.{constructor_reference, virtual_reference}
 use Rattle.cil_model.specs.Chains.{find_field, find_method}
-use Rattle.cil_model.specs.Declarations.{Declaration, field_members, fields_unless_interface, method_members}
+use Rattle.cil_model.specs.Declarations.{Declaration, field_members, fields_unless_interface}
 use Rattle.cil_model.specs.Legality.{IsLegal, class_doubles, doubles_name, has_repeat, same_method}
 use Rattle.cil_model.specs.Mentions.{each_once, instructions_of_tree, literal_of, literals_of}
 use Rattle.cil_model.specs.Same.{same_text}
 use Rattle.cil_model.proofs.Legal.{unbroken}
 use Rattle.cil_model.proofs.Lists.{none_is_some, once_kept, passes_not}
 use Rattle.cil_model.proofs.SameLaws.{never, same_method_name_itself, same_signature_itself, same_text_itself, text_equivalence}
-use Rattle.name_tables.specs.Numbers.{class_number, declarations, field_at, field_number, member_at, method_at, method_number, source_entry}
+use Rattle.name_tables.specs.Numbers.{class_number, declarations, field_number, member_at, method_number, source_entry}
 use Rattle.name_tables.specs.declared.lookups.MemberNumber.{MemberNumber}
 use Rattle.name_tables.proofs.NumberLaws.{field_is_numbered, method_is_numbered}
 use Rattle.resolved_code.specs.Numbered.{class_name, element_at, type_at}

@@ -74,9 +74,9 @@ fn branch(labels: &Labels, instruction: &Instruction) -> Option<Operation>
     ensures { result ≡ branch_rule labels.now.lines.now instruction.now }
 {
     match instruction {
-        Instruction::Branch(label) => Some(Operation::Branch(labels.place(label)?)),
-        Instruction::BranchTrue(label) => Some(Operation::BranchTrue(labels.place(label)?)),
-        Instruction::BranchFalse(label) => Some(Operation::BranchFalse(labels.place(label)?)),
+        Instruction::Branch(label) => labels.place(label).map(Operation::Branch),
+        Instruction::BranchTrue(label) => labels.place(label).map(Operation::BranchTrue),
+        Instruction::BranchFalse(label) => labels.place(label).map(Operation::BranchFalse),
         Instruction::BranchCompare(comparison, label) => {
             Some(Operation::BranchCompare(*comparison, labels.place(label)?))
         }
@@ -120,13 +120,13 @@ impl<'n, 'a> Resolver<'n, 'a> {
     {
         match instruction {
             Instruction::NewArray(declared) => {
-                Some(Operation::NewArray(numbered_type(self.names, declared)?))
+                numbered_type(self.names, declared).map(Operation::NewArray)
             }
             Instruction::CastClass(declared) => {
-                Some(Operation::CastClass(numbered_type(self.names, declared)?))
+                numbered_type(self.names, declared).map(Operation::CastClass)
             }
             Instruction::IsInstance(declared) => {
-                Some(Operation::IsInstance(numbered_type(self.names, declared)?))
+                numbered_type(self.names, declared).map(Operation::IsInstance)
             }
             _ => None,
         }
@@ -154,10 +154,10 @@ impl<'n, 'a> Resolver<'n, 'a> {
                 field: self.field(false, reference)?,
             }),
             Instruction::LoadStaticField(reference) => {
-                Some(Operation::LoadStaticField(self.field(true, reference)?))
+                self.field(true, reference).map(Operation::LoadStaticField)
             }
             Instruction::StoreStaticField(reference) => {
-                Some(Operation::StoreStaticField(self.field(true, reference)?))
+                self.field(true, reference).map(Operation::StoreStaticField)
             }
             _ => None,
         }
@@ -218,7 +218,8 @@ impl<'n, 'a> Resolver<'n, 'a> {
     fn new_object(&self, class: &ClassName, parameters: &[DeclaredType]) -> Option<Operation>
         ensures { result ≡ option_map NewObject (method_rule self.now.names.now.classes.tree.now true (constructor_reference class.now parameters.now)) }
     {
-        Some(Operation::NewObject(self.constructor(class, parameters)?))
+        self.constructor(class, parameters)
+            .map(Operation::NewObject)
     }
 
     /// A call of one of these kinds. None where there is no such method.
@@ -248,7 +249,7 @@ impl<'n, 'a> Resolver<'n, 'a> {
     fn load_string(&self, text: &Text) -> Option<Operation>
         ensures { result ≡ option_map LoadString (position_from (same_text text.now) 0 (literals_of self.now.names.now.classes.tree.now)) }
     {
-        Some(Operation::LoadString(self.literals.number(text)?))
+        self.literals.number(text).map(Operation::LoadString)
     }
 
     /// What runs for an instruction of a method with these labels. None where a name of it stands for nothing. Fails for want

@@ -59,10 +59,7 @@ fn numbered_element(names: &NameTables, element: &Element) -> Option<NumberedEle
         Element::Int64 => Some(NumberedElement::Int64),
         Element::Object => Some(NumberedElement::Object),
         Element::String => Some(NumberedElement::String),
-        Element::Class(class) => match class_number(names, class) {
-            None => None,
-            Some(number) => Some(NumberedElement::Class(number)),
-        },
+        Element::Class(class) => class_number(names, class).map(NumberedElement::Class),
     }
 }
 

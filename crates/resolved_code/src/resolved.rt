@@ -83,6 +83,5 @@ pub fn resolve_classes(
         literals,
         identities: &identities,
     };
-    let resolved = resolver.classes(alloc, names.classes.all())?;
-    Ok(resolved)
+    resolver.classes(alloc, names.classes.all())
 }
