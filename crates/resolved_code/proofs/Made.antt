@@ -1,5 +1,5 @@
--- A class from its parts.
-use Rattle.std.proofs.Common.{◌≡◌, ℕ, List, map, option_map, option_and_then, Option, Some, ap, ◌∙◌}
+-- A class from its parts, and what is made of two parts.
+use Rattle.std.proofs.Common.{◌≡◌, ℕ, List, map, option_map, option_and_then, Option, None, Some, refl, ap, ◌∙◌}
 use Rattle.cil_model.specs.declared.trees.Tree.{Tree}
 use Rattle.cil_model.specs.Declarations.{Declaration}
 use Rattle.name_tables.specs.Numbers.{class_number}
@@ -21,3 +21,10 @@ class_made tree d base interfaces fields methods b i f m =
     ap (option_and_then (λ b'. option_and_then (λ i'. option_and_then (λ f'. option_map (make b' i' f') ms) fs) is)) b ∙
     ap (option_and_then (λ i'. option_and_then (λ f'. option_map (make base i' f') ms) fs)) i ∙
     ap (option_and_then (λ f'. option_map (make base interfaces f') ms)) f ∙ ap (option_map (make base interfaces fields)) m
+
+-- made of a pair, or of both its parts, where they are there
+pub made_of_both : {A B C : Type 0} (make : A → B → C) (x : Option A) (y : Option B) →
+    option_map (λ (p : A × B). make p.0 p.1) (option_and_then (λ a. option_map (λ b. (a, b)) y) x) ≡ option_and_then (λ a. option_map (make a) y) x
+made_of_both make None y = refl
+made_of_both make (Some a) None = refl
+made_of_both make (Some a) (Some b) = refl

@@ -7,7 +7,7 @@ ghost use Rattle.cil_model.specs.Mentions.{literals_of};
 ghost use Rattle.cil_model.specs.Same.{same_text};
 ghost use Rattle.resolved_code.specs.declared.operations.Operation.TheVariants.{LoadString, Switch, Call, CallVirtual, NewObject};
 ghost use Rattle.name_tables.specs.Numbers.{field_number, method_number};
-ghost use Rattle.resolved_code.specs.Rules.{all_some, field_rule, method_rule, with_owner, branch_rule, type_operand_rule, field_operand_rule, call_rule, plain_rule, operation_rule};
+ghost use Rattle.resolved_code.specs.Rules.{all_some, field_rule, instance_field_rule, method_rule, with_owner, branch_rule, type_operand_rule, field_operand_rule, call_rule, plain_rule, operation_rule};
 
 use crate::identities::Identities;
 use crate::labels::Labels;
@@ -140,19 +140,28 @@ impl<'n, 'a> Resolver<'n, 'a> {
         self.names.find_field(is_static, reference)
     }
 
+    /// A field of an object, behind the class that the text names.
+    fn instance_field(&self, reference: &FieldReference) -> Option<(usize, MemberNumber)>
+        ensures { result ≡ instance_field_rule self.now.names.now.classes.tree.now reference.now }
+    {
+        let owner = class_number(self.names, &reference.owner)?;
+        let field = self.field(false, reference)?;
+        Some((owner, field))
+    }
+
     /// An instruction on a field (ECMA-335 III.4.10, III.4.14, III.4.28, III.4.30). None where there is no such field.
     fn field_operation(&self, instruction: &Instruction) -> Option<Operation>
         ensures { result ≡ field_operand_rule self.now.names.now.classes.tree.now instruction.now }
     {
         match instruction {
-            Instruction::LoadField(reference) => Some(Operation::LoadField {
-                owner: class_number(self.names, &reference.owner)?,
-                field: self.field(false, reference)?,
-            }),
-            Instruction::StoreField(reference) => Some(Operation::StoreField {
-                owner: class_number(self.names, &reference.owner)?,
-                field: self.field(false, reference)?,
-            }),
+            Instruction::LoadField(reference) => {
+                let (owner, field) = self.instance_field(reference)?;
+                Some(Operation::LoadField { owner, field })
+            }
+            Instruction::StoreField(reference) => {
+                let (owner, field) = self.instance_field(reference)?;
+                Some(Operation::StoreField { owner, field })
+            }
             Instruction::LoadStaticField(reference) => {
                 self.field(true, reference).map(Operation::LoadStaticField)
             }
