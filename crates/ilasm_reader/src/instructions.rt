@@ -7,7 +7,7 @@ ghost use Rattle.ilasm_reader.specs.Parsing.{bare, creation, virtual_call, with_
 
 use crate::lists::{Parse, parentheses};
 use crate::operands::{Target, field_reference, instance_method, method_reference};
-use crate::single::{after_word, any_word, integer, name, quoted};
+use crate::single::{any_word, flag, integer, name, quoted};
 use crate::types::{AnyType, element};
 use cil_model::instructions::{FieldReference, Instruction, MethodName, MethodReference};
 use cil_model::texts::Text;
@@ -105,24 +105,22 @@ fn load_int32(tokens: Tokens<'_>) -> Result<(Instruction, Tokens<'_>), Failure>
     }
 }
 
+/// What stands behind `call`, with the word `instance` or without it.
+fn called_behind(is_instance: bool) -> Expected {
+    if is_instance {
+        Expected::ReturnType
+    } else {
+        Expected::CalledMethod
+    }
+}
+
 /// The instruction `call`, behind its name.
-#[tactic(auto, unfolding(crate::specs::Parsing::operands_at, crate::specs::Parsing::flag_at, ilasm_tokens::specs::Steps::bind, ilasm_tokens::specs::Steps::choice))]
+#[tactic(auto, unfolding(crate::specs::Parsing::operands_at, ilasm_tokens::specs::Steps::bind))]
 fn call(alloc: Global, tokens: Tokens<'_>) -> Result<(Instruction, Tokens<'_>), Failure>
     ensures { Gives (λ x. (x.0, x.1.now)) result (operands_at Call tokens.now) }
 {
-    if let Some(rest) = after_word(tokens, b"instance") {
-        let (method, rest) = method_reference(alloc, rest, Expected::ReturnType)?;
-        let is_instance = true;
-        return Ok((
-            Instruction::Call {
-                is_instance,
-                method,
-            },
-            rest,
-        ));
-    }
-    let (method, rest) = method_reference(alloc, tokens, Expected::CalledMethod)?;
-    let is_instance = false;
+    let (is_instance, rest) = flag(tokens, b"instance");
+    let (method, rest) = method_reference(alloc, rest, called_behind(is_instance))?;
     Ok((
         Instruction::Call {
             is_instance,

@@ -41,8 +41,7 @@ impl<P: Parse, Q: Parse> Parse for (P, Q) {
     #[tactic(auto, unfolding(crate::specs::Parsing::pair_at, ilasm_tokens::specs::Steps::bind))]
     fn parse(alloc: Global, tokens: Tokens<'_>) -> Result<(Self::Tree, Tokens<'_>), Failure> {
         let (first, rest) = P::parse(alloc, tokens)?;
-        let (second, rest) = Q::parse(alloc, rest)?;
-        Ok(((first, second), rest))
+        with::<_, Q>(alloc, first, rest)
     }
 
     ghost consumes = { pair_consumes P.consumes Q.consumes };
