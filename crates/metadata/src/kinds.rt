@@ -253,6 +253,20 @@ fn open_suspect(
     Ok(None)
 }
 
+/// A method that fills a slot with nothing along a chain.
+fn open_along(
+    alloc: Global,
+    slots: &OpenSlots,
+    chain: &[usize],
+) -> Result<Option<MemberNumber>, NoMemory>
+    ensures { IfOk result (λ found. is_some found ≡ list_any (class_leaves_open slots.now.methods.now.names.now.classes.tree.now chain.now) chain.now) }
+{
+    if let Some(open) = open_suspect(alloc, slots, chain)? {
+        return Ok(Some(open));
+    }
+    first_left_open(alloc, slots.methods.names, chain, chain)
+}
+
 /// A method that fills a slot with nothing along the chain of a class that is not known to be settled.
 fn slot_left_open(
     alloc: Global,
@@ -263,11 +277,7 @@ fn slot_left_open(
 {
     let names = slots.methods.names;
     let line = names.line(alloc, class)?;
-    let chain = line.as_slice();
-    if let Some(open) = open_suspect(alloc, slots, chain)? {
-        return Ok(Some(open));
-    }
-    Ok(first_left_open(alloc, names, chain, chain)?)
+    open_along(alloc, slots, line.as_slice())
 }
 
 /// A method that fills a slot of the class with nothing, since it is abstract (ECMA-335 II.15.4.2). Where each abstract method of the
@@ -286,7 +296,7 @@ fn abstract_slot(
     if slots.is_settled(number) {
         return Ok(None);
     }
-    Ok(slot_left_open(alloc, slots, number)?)
+    slot_left_open(alloc, slots, number)
 }
 
 // ---- methods without newslot
@@ -470,7 +480,7 @@ fn kind_fault(
     match &class.kind {
         ClassKind::Interface => Ok(interface_fault(methods.as_slice())),
         ClassKind::Class { is_abstract, .. } => {
-            Ok(class_fault(alloc, slots, class, *is_abstract, methods.as_slice())?)
+            class_fault(alloc, slots, class, *is_abstract, methods.as_slice())
         }
     }
 }
@@ -498,6 +508,5 @@ pub fn misfit(alloc: Global, methods: &MethodTables) -> Result<Option<Misfit>, N
 {
     let slots = OpenSlots::new(alloc, methods)?;
     let names = methods.names;
-    let classes = names.classes.tree.classes.as_slice();
-    Ok(first_misfit(alloc, &slots, classes)?)
+    first_misfit(alloc, &slots, names.classes.tree.classes.as_slice())
 }

@@ -1,12 +1,14 @@
 use Rattle.std.proofs.Common.{◌≡◌, List, [], ℕ, Some, sym, ap, ◌∙◌}
 use Rattle.std.specs.List.{list_any}
 use Rattle.cil_model.specs.Chains.{longest_chain}
+use Rattle.cil_model.specs.Legality.{has_abstract_slot}
 use Rattle.name_tables.specs.Keys.{class_of_key}
 use Rattle.name_tables.specs.Methods.{line_of}
 use Rattle.name_tables.specs.Numbers.{chain_numbers}
 use Rattle.name_tables.proofs.NumberLaws.{numbers_of_unknown}
 use Rattle.name_tables.proofs.MemberLaws.{line_of_class}
 use Rattle.programs.specs.Found.{class_leaves_open}
+use Rattle.programs.proofs.Repeats.{if_ok_then}
 use Rattle.programs.proofs.SlotLaws.{abstract_slot}
 use Rattle.metadata.proofs.OpenLaws.{none_left_open}
 use Rattle.metadata.proofs.kinds.abstract_slot.Goals as goal
@@ -30,4 +32,6 @@ pub returns : goal.returns
 returns c =
     let t = c.args.slots.now.methods.now.names.now.classes.tree.now in
     let k = class_of_key c.args.class in
-    c.in_ok-slot_left_open.ensures ∙ ap (λ (xs : List ℕ). list_any (class_leaves_open t xs) xs) (line_of_class t k c.in-Some.number (sym c.number.ensures ∙ c.in-Some.is)) ∙ abstract_slot t k
+    let same : list_any (class_leaves_open t (line_of t (Some c.in-Some.number))) (line_of t (Some c.in-Some.number)) ≡ has_abstract_slot t k =
+    ap (λ (xs : List ℕ). list_any (class_leaves_open t xs) xs) (line_of_class t k c.in-Some.number (sym c.number.ensures ∙ c.in-Some.is)) ∙ abstract_slot t k in
+    if_ok_then c.slot_left_open.result _ _ (λ found e. e ∙ same) c.slot_left_open.ensures
