@@ -445,6 +445,24 @@ fn unknown_by_method(
     Ok(unknown_by_lines(names, &labels, method, lines_of(declared)))
 }
 
+/// What the code of these methods of a class names that is not there.
+fn unknown_in_methods(
+    alloc: Global,
+    names: &NameTables,
+    class: usize,
+    methods: &[&Method],
+) -> Result<Option<Unknown>, NoMemory>
+    ensures { IfOk result (λ u. is_none u ≡ list_all (knows_names names.now.classes.tree.now) (map (λ m. m.now) methods.now)) }
+{
+    for (place, method) in methods.iter().enumerate() {
+        let site = SourceMember { class, place };
+        if let Some(unknown) = unknown_by_method(alloc, names, site, method)? {
+            return Ok(Some(unknown));
+        }
+    }
+    Ok(None)
+}
+
 fn unknown_by_methods(
     alloc: Global,
     names: &NameTables,
@@ -454,13 +472,7 @@ fn unknown_by_methods(
     ensures { IfOk result (λ u. is_none u ≡ list_all (knows_names names.now.classes.tree.now) (method_members declared.now)) }
 {
     let methods = method_members(alloc, declared)?;
-    for (place, method) in methods.as_slice().iter().enumerate() {
-        let site = SourceMember { class, place };
-        if let Some(unknown) = unknown_by_method(alloc, names, site, method)? {
-            return Ok(Some(unknown));
-        }
-    }
-    Ok(None)
+    unknown_in_methods(alloc, names, class, methods.as_slice())
 }
 
 // ---- the whole tree
