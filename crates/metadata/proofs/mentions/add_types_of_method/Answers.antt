@@ -4,8 +4,13 @@ use Rattle.std.proofs.Math.Seq.{take-length}
 use Rattle.cil_model.specs.declared.trees.Line.{Line}
 use Rattle.cil_model.specs.declared.types.DeclaredType.{DeclaredType}
 use Rattle.cil_model.specs.Mentions.{types_of_instruction}
-use Rattle.metadata.proofs.MentionLaws.{method_types}
+use Rattle.metadata.proofs.MentionLaws.{more_named, method_types}
 use Rattle.metadata.proofs.mentions.add_types_of_method.Goals as goal
+
+pub loop-line-preserved : goal.loop-line-preserved
+loop-line-preserved c =
+    more_named (λ (x : Line). types_of_instruction x.instruction) c.lines_of-code-items.result.now c.loop-line.line c.code-item.result _ _ _ (omega arith) c.code-item.is
+    c.loop-line.invariant (c.in_ok-add_to-3.ensures ∙ ap (λ (ts : List DeclaredType). map (λ t. t.declared.now) c.loop-line.types.items ++ ts) c.of_instruction-named.ensures)
 
 pub returns : goal.returns
 returns c =

@@ -1,4 +1,4 @@
-use Rattle.std.proofs.Common.{◌≡◌, ◌++◌, List, map, take, length, ap, ◌∙◌, arith}
+use Rattle.std.proofs.Common.{◌≡◌, ◌++◌, List, [], map, take, length, ap, ◌∙◌, arith}
 use Rattle.std.specs.Prelude.{flat_map}
 use Rattle.std.proofs.Math.Seq.{take-length}
 use Rattle.cil_model.specs.declared.trees.Class.{Class}
@@ -6,8 +6,18 @@ use Rattle.cil_model.specs.declared.trees.Field.{Field}
 use Rattle.cil_model.specs.declared.types.DeclaredType.{DeclaredType}
 use Rattle.cil_model.specs.Declarations.{field_members, method_members}
 use Rattle.cil_model.specs.Mentions.{types_of_method}
-use Rattle.metadata.proofs.MentionLaws.{types_by_class}
+use Rattle.metadata.proofs.MentionLaws.{more_named, types_by_class}
 use Rattle.metadata.proofs.mentions.types_of_tree.Goals as goal
+
+pub loop-class-preserved : goal.loop-class-preserved
+loop-class-preserved c =
+    more_named (λ (k : Class). map (λ (f : Field). f.field_type) (field_members k)) c.as_slice-declared-items.result.now c.loop-class.class c.declared-item.result [] _ _ (omega arith) c.declared-item.is
+    c.loop-class.invariant c.in_ok-add_types_of_fields.ensures
+
+pub loop-class-2-preserved : goal.loop-class-2-preserved
+loop-class-2-preserved c =
+    more_named (λ (k : Class). flat_map types_of_method (method_members k)) c.as_slice-declared-items-2.result.now c.loop-class-2.class c.declared-item-in-loop-class-2.result _ _ _ (omega arith) c.declared-item-in-loop-class-2.is
+    c.loop-class-2.invariant c.in_ok-add_types_of_methods.ensures
 
 pub returns : goal.returns
 returns c =

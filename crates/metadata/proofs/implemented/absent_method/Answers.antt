@@ -1,0 +1,31 @@
+use Rattle.std.proofs.Common.{Bool, Bor, refl, sym, ap, ◌∙◌, arith}
+use Rattle.std.specs.List.{list_any, list_all}
+use Rattle.cil_model.specs.declared.trees.Method.{Method}
+use Rattle.name_tables.specs.Methods.{line_of}
+use Rattle.name_tables.specs.Sameness.{MethodIdentity, identity_of}
+use Rattle.programs.specs.Found.{is_virtual_found}
+use Rattle.metadata.proofs.WalkLaws.{all_fail_in, all_after_in, none_left_in}
+use Rattle.metadata.proofs.implemented.absent_method.Goals as goal
+
+pub loop-place-init : goal.loop-place-init
+loop-place-init c = refl
+
+pub loop-place-preserved : goal.loop-place-preserved
+loop-place-preserved c =
+    let t = c.args.methods.now.names.now.classes.tree.now in
+    let has : MethodIdentity → Bool = λ k. list_any (is_virtual_found t k) (line_of t c.args.class) in
+    all_after_in (λ (m : Bor Method). m.now) (λ m. has (identity_of m)) c.args.wanted.now c.loop-place.place c.index-wanted-place.result (omega arith) c.index-wanted-place.is
+    (sym (c.implements_method.ensures ∙ ap has c.new-key.ensures) ∙ c.if-not-implements_method.false) ∙ c.loop-place.invariant
+
+pub returns-then-not-implements_method : goal.returns-then-not-implements_method
+returns-then-not-implements_method c =
+    let t = c.args.methods.now.names.now.classes.tree.now in
+    let has : MethodIdentity → Bool = λ k. list_any (is_virtual_found t k) (line_of t c.args.class) in
+    sym (all_fail_in (λ (m : Bor Method). m.now) (λ m. has (identity_of m)) c.args.wanted.now c.loop-place.place c.index-wanted-place.result (omega arith) c.index-wanted-place.is
+    (sym (c.implements_method.ensures ∙ ap has c.new-key.ensures) ∙ c.if-not-implements_method.true)) ∙ c.loop-place.invariant
+
+pub returns : goal.returns
+returns c =
+    let t = c.args.methods.now.names.now.classes.tree.now in
+    let has : MethodIdentity → Bool = λ k. list_any (is_virtual_found t k) (line_of t c.args.class) in
+    sym (none_left_in (λ (m : Bor Method). m.now) (list_all (λ m. has (identity_of m))) c.args.wanted.now c.loop-place.place (omega arith)) ∙ c.loop-place.invariant
