@@ -120,7 +120,7 @@ pub fn least_broken(alloc: Global, names: &NameTables) -> Result<Option<Violatio
     ensures { IfOk result (λ v. option_map violation_number v ≡ least_broken names.now.classes.tree.now) }
 {
     match broken_by_names(alloc, names)? {
-        None => Ok(broken_further(alloc, names)?),
+        None => broken_further(alloc, names),
         Some(violation) => Ok(Some(violation)),
     }
 }
