@@ -1,4 +1,4 @@
-use Rattle.std.proofs.Common.{Bool, is_some, refl, sym, ap, ◌∙◌, arith, Bor}
+use Rattle.std.proofs.Common.{Bool, refl, sym, ◌∙◌, arith, Bor}
 use Rattle.std.specs.List.{list_any}
 use Rattle.cil_model.specs.declared.trees.Method.{Method}
 use Rattle.programs.specs.Found.{method_leaves_open}

@@ -1,4 +1,4 @@
-use Rattle.std.proofs.Common.{◌≡◌, is_some, sym, ap, ◌∙◌}
+use Rattle.std.proofs.Common.{is_some, sym, ap}
 use Rattle.metadata.proofs.kinds.open_along.Goals as goal
 
 pub returns-in-Some : goal.returns-in-Some

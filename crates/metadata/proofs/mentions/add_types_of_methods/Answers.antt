@@ -1,4 +1,4 @@
-use Rattle.std.proofs.Common.{◌≡◌, Bor, ◌∙◌, arith}
+use Rattle.std.proofs.Common.{Bor, arith}
 use Rattle.cil_model.specs.declared.trees.Method.{Method}
 use Rattle.cil_model.specs.Mentions.{types_of_method}
 use Rattle.metadata.proofs.MentionLaws.{more_named_in}
