@@ -49,22 +49,40 @@ fn push_note<B: Breach>(
     }
 }
 
-/// What was found of a rule that is broken, in words; the rule's own sentence where nothing was.
-fn told<B: Breach + Copy + Drop>(
+/// A source that breaks a rule, to a person.
+#[derive(Clone, Copy)]
+struct Telling<'a> {
     alloc: Global,
-    named: Named,
+    named: Named<'a>,
     violation: Violation,
-    found: Option<Found<B>>,
-) -> Result<String, NoMemory> {
-    let Some((breach, sites)) = found else {
-        return broken(alloc, named, violation);
-    };
-    let mut message = sentence_at(alloc, named, &breach, sites.place)?;
-    push_note(alloc, &mut message, named, &breach, sites.other)?;
-    if let Some(advice) = breach.advice() {
-        writeln!(message, "{advice}")?;
+}
+
+impl Telling<'_> {
+    /// What was found of the rule that is broken, in words; the rule's own sentence where nothing was.
+    fn told<B: Breach + Copy + Drop>(&self, found: Option<Found<B>>) -> Result<String, NoMemory> {
+        let Some((breach, sites)) = found else {
+            return broken(self.alloc, self.named, self.violation);
+        };
+        let mut message = sentence_at(self.alloc, self.named, &breach, sites.place)?;
+        push_note(self.alloc, &mut message, self.named, &breach, sites.other)?;
+        if let Some(advice) = breach.advice() {
+            writeln!(message, "{advice}")?;
+        }
+        Ok(message)
     }
-    Ok(message)
+
+    fn told_violation(&self, names: &NameTables) -> Result<String, NoMemory> {
+        let tree = names.classes.tree;
+        match self.violation {
+            Violation::Doubled(doubled) => self.told(doubled_name(tree, doubled)),
+            Violation::Unknown(unknown) => self.told(unknown_name(names, unknown)),
+            Violation::OwnBase { class } => self.told(own_base(names, class)),
+            Violation::NotImplemented(absent) => self.told(not_implemented(names, absent)),
+            Violation::Misfit(misfit) => self.told(misfit_of(names, misfit)),
+            Violation::BadEntry(entry) => self.told(bad_entry(tree, entry)),
+            Violation::Passed(passed) => self.told(passed_limit(names, passed)),
+        }
+    }
 }
 
 /// Why a tree breaks a rule, in words; the rule's own sentence where the tree has no such place. Where that does not agree with something
@@ -78,27 +96,12 @@ pub fn explain_rule(
 ) -> Result<String, NoMemory> {
     let table = BuiltInClass::all(alloc)?;
     let names = NameTables::new(alloc, tree, table.as_slice())?;
-    told_violation(alloc, named, &names, violation)
-}
-
-fn told_violation(
-    alloc: Global,
-    named: Named,
-    names: &NameTables,
-    violation: Violation,
-) -> Result<String, NoMemory> {
-    let tree = names.classes.tree;
-    match violation {
-        Violation::Doubled(doubled) => told(alloc, named, violation, doubled_name(tree, doubled)),
-        Violation::Unknown(unknown) => told(alloc, named, violation, unknown_name(names, unknown)),
-        Violation::OwnBase { class } => told(alloc, named, violation, own_base(names, class)),
-        Violation::NotImplemented(absent) => {
-            told(alloc, named, violation, not_implemented(names, absent))
-        }
-        Violation::Misfit(misfit) => told(alloc, named, violation, misfit_of(names, misfit)),
-        Violation::BadEntry(entry) => told(alloc, named, violation, bad_entry(tree, entry)),
-        Violation::Passed(passed) => told(alloc, named, violation, passed_limit(names, passed)),
-    }
+    let telling = Telling {
+        alloc,
+        named,
+        violation,
+    };
+    telling.told_violation(&names)
 }
 
 /// The sentence of the rule that is broken. Fails for want of memory alone.
