@@ -34,11 +34,7 @@ fn program(rt: &HostRuntime, threads: &(impl Threads + Wait + Sync)) -> Result<u
     let words: Vec<&str> = given.iter().map(|word| word.as_str()).collect(alloc)?;
     match command_line::order(alloc, words.as_slice()) {
         Ok(order) => Ok(carry_out(rt, threads, &order)),
-        Err(LineFault::Help(text)) => {
-            print!(rt; "{text}")?;
-            Ok(0)
-        }
-        Err(LineFault::Version(text)) => {
+        Err(LineFault::Help(text) | LineFault::Version(text)) => {
             print!(rt; "{text}")?;
             Ok(0)
         }
