@@ -7,7 +7,7 @@ use std::alloc::{AllocError, Global};
 use std::thread::{Threads, join, yield_now};
 
 /// No waiting loop takes more turns than this.
-const MOST_TURNS: u32 = 1_000_000;
+const MOST_TURNS: u32 = 50_000_000;
 
 /// Polls and acknowledges until it has seen `last`, and gives back what it saw then, or 0.
 fn follow(epochs: &Epochs, mut seat: Seat, last: u64) -> u64

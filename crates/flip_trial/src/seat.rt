@@ -9,7 +9,7 @@ use std::thread::yield_now;
 use word_flip::{Flip, Writer};
 
 /// No waiting loop takes more turns than this.
-pub(crate) const MOST_TURNS: u32 = 1_000_000;
+pub(crate) const MOST_TURNS: u32 = 50_000_000;
 
 /// The last stage.
 const RECLAIM: u64 = 2;
