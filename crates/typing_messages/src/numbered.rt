@@ -7,6 +7,7 @@ use name_tables::keys::ClassKey;
 use resolved_code::types::{NumberedElement, NumberedType};
 use source_map::ClassText;
 use std::fmt;
+use std::fmt::Display;
 
 /// The names of classes by their numbers: the built-in ones first, and then those of the source.
 #[derive(Clone, Copy)]
@@ -31,11 +32,8 @@ pub(crate) struct NumberedClass<'a>(pub ClassNames<'a>, pub usize);
 impl fmt::Display for NumberedClass<'_> {
     fn fmt<W: fmt::Write>(&self, f: &mut fmt::Formatter<W>) -> fmt::Result {
         match self.0.name(self.1) {
-            None => write!(f, "?"),
-            Some(class) => {
-                let class = ClassText(class);
-                write!(f, "{class}")
-            }
+            None => f.write_str("?"),
+            Some(class) => ClassText(class).fmt(f),
         }
     }
 }
@@ -44,20 +42,24 @@ impl fmt::Display for NumberedClass<'_> {
 #[derive(Clone, Copy)]
 pub(crate) struct TypeOf<'a>(pub ClassNames<'a>, pub NumberedType);
 
+impl TypeOf<'_> {
+    /// The type without its brackets.
+    fn tell_element<W: fmt::Write>(&self, f: &mut fmt::Formatter<W>) -> fmt::Result {
+        match &self.1.element {
+            NumberedElement::Int32 => f.write_str("int32"),
+            NumberedElement::Int64 => f.write_str("int64"),
+            NumberedElement::Object => f.write_str("object"),
+            NumberedElement::String => f.write_str("string"),
+            NumberedElement::Class(number) => NumberedClass(self.0, *number).fmt(f),
+        }
+    }
+}
+
 impl fmt::Display for TypeOf<'_> {
     fn fmt<W: fmt::Write>(&self, f: &mut fmt::Formatter<W>) -> fmt::Result {
-        match self.1.element {
-            NumberedElement::Int32 => write!(f, "int32")?,
-            NumberedElement::Int64 => write!(f, "int64")?,
-            NumberedElement::Object => write!(f, "object")?,
-            NumberedElement::String => write!(f, "string")?,
-            NumberedElement::Class(number) => {
-                let class = NumberedClass(self.0, number);
-                write!(f, "{class}")?;
-            }
-        }
+        self.tell_element(f)?;
         for _ in 0..self.1.brackets {
-            write!(f, "[]")?;
+            f.write_str("[]")?;
         }
         Ok(())
     }
@@ -69,13 +71,10 @@ pub(crate) struct EntryOf<'a>(pub ClassNames<'a>, pub StackEntry);
 
 impl fmt::Display for EntryOf<'_> {
     fn fmt<W: fmt::Write>(&self, f: &mut fmt::Formatter<W>) -> fmt::Result {
-        match self.1 {
-            StackEntry::Declared(declared) => {
-                let declared = TypeOf(self.0, declared);
-                write!(f, "{declared}")
-            }
-            StackEntry::NativeInt => write!(f, "native int"),
-            StackEntry::Null => write!(f, "null"),
+        match &self.1 {
+            StackEntry::Declared(declared) => TypeOf(self.0, *declared).fmt(f),
+            StackEntry::NativeInt => f.write_str("native int"),
+            StackEntry::Null => f.write_str("null"),
         }
     }
 }
@@ -87,10 +86,9 @@ pub(crate) struct StackOf<'a>(pub ClassNames<'a>, pub &'a [StackEntry]);
 impl fmt::Display for StackOf<'_> {
     fn fmt<W: fmt::Write>(&self, f: &mut fmt::Formatter<W>) -> fmt::Result {
         let Some((deepest, others)) = self.1.split_last() else {
-            return write!(f, "empty");
+            return f.write_str("empty");
         };
-        let deepest = EntryOf(self.0, *deepest);
-        write!(f, "{deepest}")?;
+        EntryOf(self.0, *deepest).fmt(f)?;
         for entry in others.iter().rev() {
             let entry = EntryOf(self.0, *entry);
             write!(f, ", {entry}")?;

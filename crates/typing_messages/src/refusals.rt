@@ -1,11 +1,13 @@
 //! Why a method has no typing (number 301), in words.
 
-use crate::numbered::{EntryOf, NumberedClass, TypeOf};
+use crate::numbered::{EntryOf, NumberedClass};
 use crate::wanted::Scene;
 use flow_rules::entries::StackEntry;
 use flow_rules::mismatches::Mismatch;
 use resolved_code::operations::Operation;
+use resolved_code::types::NumberedType;
 use std::fmt;
+use std::fmt::Display;
 use typing_search::merging::StackMismatch;
 use typing_search::refusals::Reason;
 
@@ -21,15 +23,15 @@ pub(crate) struct Refusal<'a> {
 impl fmt::Display for Refusal<'_> {
     fn fmt<W: fmt::Write>(&self, f: &mut fmt::Formatter<W>) -> fmt::Result {
         let names = self.scene.names;
-        match self.reason {
+        match &self.reason {
             Reason::NoResult(mismatch) => self.tell_operands(f, mismatch),
             Reason::NoMerge(StackMismatch::Heights(one, other)) => write!(
                 f,
                 "ways meet here with stacks of {one} and of {other} values"
             ),
             Reason::NoMerge(StackMismatch::Types(one, other)) => {
-                let one = EntryOf(names, one);
-                let other = EntryOf(names, other);
+                let one = EntryOf(names, *one);
+                let other = EntryOf(names, *other);
                 write!(
                     f,
                     "ways meet here with {one} and with {other} at one place of the stack, and no type is above both"
@@ -42,10 +44,9 @@ impl fmt::Display for Refusal<'_> {
                     "the stack gets {height} high, and `.maxstack` allows {most}"
                 )
             }
-            Reason::NoInstruction => write!(
-                f,
-                "no instruction follows: control runs off the end of the method"
-            ),
+            Reason::NoInstruction => {
+                f.write_str("no instruction follows: control runs off the end of the method")
+            }
         }
     }
 }
@@ -65,39 +66,76 @@ impl Refusal<'_> {
         }
     }
 
+    /// The instruction, and what it does with a value on the stack.
+    fn tell_entry<W: fmt::Write>(
+        &self,
+        f: &mut fmt::Formatter<W>,
+        verb: &str,
+        entry: StackEntry,
+        behind: &str,
+    ) -> fmt::Result {
+        let name = self.name;
+        let entry = EntryOf(self.scene.names, entry);
+        write!(f, "`{name}` {verb} {entry}{behind}")
+    }
+
+    /// The instruction wants a type of references, and this one is none.
+    fn tell_no_reference<W: fmt::Write>(
+        &self,
+        f: &mut fmt::Formatter<W>,
+        declared: NumberedType,
+    ) -> fmt::Result {
+        let declared = StackEntry::Declared(declared);
+        self.tell_entry(f, "wants a reference type, and", declared, " is none")
+    }
+
+    /// The instruction, and what it does with a class that is as it must not be.
+    fn tell_class<W: fmt::Write>(
+        &self,
+        f: &mut fmt::Formatter<W>,
+        verb: &str,
+        class: usize,
+        fault: &str,
+    ) -> fmt::Result {
+        let name = self.name;
+        let class = NumberedClass(self.scene.names, class);
+        write!(f, "`{name}` {verb} `{class}`, which {fault}")
+    }
+
+    /// The instruction, and what it does.
+    fn tell_verb<W: fmt::Write>(&self, f: &mut fmt::Formatter<W>, verb: &str) -> fmt::Result {
+        let name = self.name;
+        write!(f, "`{name}` {verb}")
+    }
+
+    /// A value that stands where the instruction wants one of another type.
+    fn tell_unassignable<W: fmt::Write>(
+        &self,
+        f: &mut fmt::Formatter<W>,
+        found: StackEntry,
+        wanted: NumberedType,
+    ) -> fmt::Result {
+        EntryOf(self.scene.names, found).fmt(f)?;
+        f.write_str(" stands where ")?;
+        self.tell_entry(f, "wants", StackEntry::Declared(wanted), "")
+    }
+
     /// Why an instruction has no result on a stack.
     fn tell_operands<W: fmt::Write>(
         &self,
         f: &mut fmt::Formatter<W>,
-        mismatch: Mismatch,
+        mismatch: &Mismatch,
     ) -> fmt::Result {
-        let names = self.scene.names;
-        let name = self.name;
         match mismatch {
-            Mismatch::OperandMissing => {
-                write!(f, "`{name}` takes more values than the stack holds")
-            }
-            Mismatch::OperandType(found) => {
-                if self.is_cast_of(found) {
-                    return self.tell_cast(f);
-                }
-                let found = EntryOf(names, found);
-                write!(f, "`{name}` does not take {found}")
-            }
+            Mismatch::OperandMissing => self.tell_verb(f, "takes more values than the stack holds"),
+            Mismatch::OperandType(found) if self.is_cast_of(*found) => self.tell_cast(f),
+            Mismatch::OperandType(found) => self.tell_entry(f, "does not take", *found, ""),
             Mismatch::OperandTypes(one, other) => {
-                let one = EntryOf(names, one);
-                let other = EntryOf(names, other);
-                write!(f, "`{name}` does not take {one} together with {other}")
+                self.tell_entry(f, "does not take", *one, " together with ")?;
+                EntryOf(self.scene.names, *other).fmt(f)
             }
-            Mismatch::NotAssignable(found, wanted) => {
-                let found = EntryOf(names, found);
-                let wanted = TypeOf(names, wanted);
-                write!(f, "{found} stands where `{name}` wants {wanted}")
-            }
-            Mismatch::LeftOnStack(found) => {
-                let found = EntryOf(names, found);
-                write!(f, "`{name}` leaves {found} on the stack")
-            }
+            Mismatch::NotAssignable(found, wanted) => self.tell_unassignable(f, *found, *wanted),
+            Mismatch::LeftOnStack(found) => self.tell_entry(f, "leaves", *found, " on the stack"),
             _ => self.tell_members(f, mismatch),
         }
     }
@@ -112,13 +150,11 @@ impl Refusal<'_> {
 
     /// A cast of a reference to a type that is none.
     fn tell_cast<W: fmt::Write>(&self, f: &mut fmt::Formatter<W>) -> fmt::Result {
-        let name = self.name;
         match self.operation {
             Some(Operation::CastClass(declared) | Operation::IsInstance(declared)) => {
-                let declared = TypeOf(self.scene.names, *declared);
-                write!(f, "`{name}` wants a reference type, and {declared} is none")
+                self.tell_no_reference(f, *declared)
             }
-            _ => write!(f, "`{name}` wants a reference type"),
+            _ => self.tell_verb(f, "wants a reference type"),
         }
     }
 
@@ -126,31 +162,21 @@ impl Refusal<'_> {
     fn tell_members<W: fmt::Write>(
         &self,
         f: &mut fmt::Formatter<W>,
-        mismatch: Mismatch,
+        mismatch: &Mismatch,
     ) -> fmt::Result {
-        let names = self.scene.names;
-        let name = self.name;
         match mismatch {
-            Mismatch::NoSuchPlace(number) => self.tell_place(f, number),
-            Mismatch::NoReference(declared) => {
-                let declared = TypeOf(names, declared);
-                write!(f, "`{name}` wants a reference type, and {declared} is none")
-            }
-            Mismatch::AbstractMethod(method) => {
-                let class = NumberedClass(names, method.class);
-                write!(
-                    f,
-                    "`{name}` names an abstract method of `{class}`, which has no code: `callvirt` runs that of the object"
-                )
-            }
+            Mismatch::NoSuchPlace(number) => self.tell_place(f, *number),
+            Mismatch::NoReference(declared) => self.tell_no_reference(f, *declared),
+            Mismatch::AbstractMethod(method) => self.tell_class(
+                f,
+                "names an abstract method of",
+                method.class,
+                "has no code: `callvirt` runs that of the object",
+            ),
             Mismatch::AbstractClass(class) => {
-                let class = NumberedClass(names, class);
-                write!(
-                    f,
-                    "`{name}` makes no object of `{class}`, which is abstract"
-                )
+                self.tell_class(f, "makes no object of", *class, "is abstract")
             }
-            _ => write!(f, "`{name}` names a member that is not there"),
+            _ => self.tell_verb(f, "names a member that is not there"),
         }
     }
 

@@ -8,6 +8,7 @@ use programs::Program;
 use resolved_code::operations::Operation;
 use resolved_code::types::NumberedType;
 use std::fmt;
+use std::fmt::Display;
 use std::slice::from_ref;
 
 /// What a method is made of, with the names of all classes.
@@ -37,8 +38,7 @@ fn tell_types<W: fmt::Write>(
 ) -> fmt::Result {
     let mut comma = "";
     if let Some(first) = first {
-        let first = TypeOf(names, first);
-        write!(f, "{first}")?;
+        TypeOf(names, first).fmt(f)?;
         comma = ", ";
     }
     for other in others {
@@ -47,7 +47,7 @@ fn tell_types<W: fmt::Write>(
         comma = ", ";
     }
     if comma.is_empty() {
-        write!(f, "nothing")
+        f.write_str("nothing")
     } else {
         Ok(())
     }
@@ -166,10 +166,7 @@ impl fmt::Display for Wanted<'_> {
     fn fmt<W: fmt::Write>(&self, f: &mut fmt::Formatter<W>) -> fmt::Result {
         match self.0.declared(self.1) {
             Some((first, others)) => tell_types(f, self.0.names, first, others),
-            None => {
-                let kinds = kinds_wanted(self.1);
-                write!(f, "{kinds}")
-            }
+            None => f.write_str(kinds_wanted(self.1)),
         }
     }
 }
