@@ -48,7 +48,7 @@ impl<'a> Instead<'a> {
 
 impl fmt::Display for Instead<'_> {
     fn fmt<W: fmt::Write>(&self, f: &mut fmt::Formatter<W>) -> fmt::Result {
-        match *self {
+        match self {
             Instead::Advice(advice) => f.write_str(advice),
             Instead::Named { before, name } => write!(f, "{before}{name}`"),
             Instead::Member { class, member } => write!(f, "write `{class}::{member}`"),
@@ -96,18 +96,23 @@ fn instead_of_instruction(name: &str) -> Option<Instead<'_>> {
         .or(signed(long))
 }
 
+/// What is said of the digits of what begins like a number.
+fn advice_on_digits(digits: &str) -> Option<&'static str> {
+    if digits.starts_with("0x") || digits.starts_with("0X") {
+        Some("write the number in decimal digits")
+    } else if digits.ends_with("...") {
+        Some("write the brackets with nothing between")
+    } else if digits.contains('.') {
+        Some("write an integer: there are no floating-point numbers")
+    } else {
+        None
+    }
+}
+
 /// What to write in the place of what begins like a number.
 fn instead_of_number(number: &str) -> Option<Instead<'_>> {
-    match number.strip_prefix("-").unwrap_or(number).as_bytes() {
-        [b'0', b'x' | b'X', ..] => Some(Instead::Advice("write the number in decimal digits")),
-        [.., b'.', b'.', b'.'] => {
-            Some(Instead::Advice("write the brackets with nothing between"))
-        }
-        digits if digits.contains(&b'.') => Some(Instead::Advice(
-            "write an integer: there are no floating-point numbers",
-        )),
-        _ => None,
-    }
+    let digits = number.strip_prefix("-").unwrap_or(number);
+    Some(Instead::Advice(advice_on_digits(digits)?))
 }
 
 /// What to write in the place of bytes with which no token begins.

@@ -40,13 +40,14 @@ struct Found<'a>(&'a [u8]);
 
 impl fmt::Display for Found<'_> {
     fn fmt<W: fmt::Write>(&self, f: &mut fmt::Formatter<W>) -> fmt::Result {
+        let quote = match self.0 {
+            [] => return f.write_str("the end of the source"),
+            [b'"' | b'-' | b'0'..=b'9', ..] => "",
+            _ => "`",
+        };
         let kind = kind_of(self.0);
         let token = text_of(self.0);
-        match self.0 {
-            [] => f.write_str("the end of the source"),
-            [b'"' | b'-' | b'0'..=b'9', ..] => write!(f, "{kind}{token}"),
-            _ => write!(f, "{kind}`{token}`"),
-        }
+        write!(f, "{kind}{quote}{token}{quote}")
     }
 }
 
@@ -79,7 +80,7 @@ enum Unread<'a> {
 
 impl fmt::Display for Unread<'_> {
     fn fmt<W: fmt::Write>(&self, f: &mut fmt::Formatter<W>) -> fmt::Result {
-        match *self {
+        match self {
             Unread::TooLong(length) => {
                 write!(
                     f,
@@ -87,7 +88,7 @@ impl fmt::Display for Unread<'_> {
                 )
             }
             Unread::Foreign(byte) => {
-                let byte = ByteText(byte);
+                let byte = ByteText(*byte);
                 write!(f, "{byte} is above 127, and a source is ASCII text")
             }
             Unread::NoToken { rest, token } => tell_no_token(f, rest, token),
@@ -100,7 +101,7 @@ impl fmt::Display for Unread<'_> {
             }
             Unread::NoTree { token, expected } => {
                 let found = Found(token);
-                let expected = ExpectedText(expected);
+                let expected = ExpectedText(*expected);
                 write!(f, "{found} stands where {expected} is wanted")
             }
         }

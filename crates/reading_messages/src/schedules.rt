@@ -59,7 +59,7 @@ impl fmt::Display for ItemText<'_> {
             Ok(text) if is_short && self.0.iter().all(|byte| byte.is_ascii_graphic()) => {
                 write!(f, "`{text}`")
             }
-            _ => write!(f, "what stands here"),
+            _ => f.write_str("what stands here"),
         }
     }
 }
@@ -73,8 +73,8 @@ struct BadItem<'a> {
 
 impl fmt::Display for BadItem<'_> {
     fn fmt<W: fmt::Write>(&self, f: &mut fmt::Formatter<W>) -> fmt::Result {
-        let item = self.item;
-        match self.error {
+        let item = &self.item;
+        match &self.error {
             ScheduleError::NoItem => write!(
                 f,
                 "{item} is no item: an item is g, sN or aN, with *COUNT behind it or without, and no number has a leading zero"
@@ -85,7 +85,7 @@ impl fmt::Display for BadItem<'_> {
             ScheduleError::TooLong => {
                 write!(f, "with {item} there are more than {MOST_EVENTS} events")
             }
-            ScheduleError::OutOfMemory => write!(f, "memory ran out for the events"),
+            ScheduleError::OutOfMemory => f.write_str("memory ran out for the events"),
         }
     }
 }
