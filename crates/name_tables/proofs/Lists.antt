@@ -1,9 +1,9 @@
 -- Lists as a loop goes along them.
-use Rattle.std.proofs.Common.{◌≡◌, ◌<◌, ◌≤◌, ◌+◌, ℕ, Bool, true, false, cond, List, [], ◌∷◌, ◌++◌, length, take, get_or, map, flat_map, option_map, slice_get, Option, Some, None, refl, sym, ap, ◌∙◌, arith}
-use Rattle.std.proofs.Math.Seq.{take_all}
-use Rattle.std.specs.List.{filter, filter_map}
+use Rattle.std.proofs.Common.{◌≡◌, ◌<◌, ◌≤◌, ◌+◌, ℕ, suc, Bool, true, false, ◌&&◌, cond, List, [], ◌∷◌, ◌++◌, length, take, drop, get_or, map, flat_map, option_map, slice_get, Option, Some, None, refl, sym, ap, ◌∙◌, arith}
+use Rattle.std.proofs.Math.Seq.{take_all, drop-cons, take-append_seam, drop-append_seam}
+use Rattle.std.specs.List.{filter, filter_map, list_all}
 use Rattle.std.proofs.lemmas.Grind.{flat_map-append}
-use Rattle.std.proofs.lemmas.List.{take_more, map-append, append-nil, length-map, get_or-map}
+use Rattle.std.proofs.lemmas.List.{take_more, map-append, append-nil, length-append, length-map, get_or-map}
 use Rattle.std.proofs.lemmas.Option.{none-some, same_Some, slice_get_within, get_or_from_slice_get}
 use Rattle.std.proofs.lemmas.List.Elements.{filter-append, filter_map-append}
 
@@ -22,6 +22,42 @@ map-take_more f xs i x l e = ap (map f) (take_more xs i x l) ∙ map-append f (t
 pub flat_map-take_more : {X Y : Type 0} (f : X → List Y) (xs : List X) (i : ℕ) (x : X) → i < length xs → x ≡ get_or xs i x → flat_map f (take (i + 1) xs) ≡ flat_map f (take i xs) ++ f x
 flat_map-take_more f xs i x l e = ap (flat_map f) (take_one_more xs i x l e) ∙ flat_map-append f (take i xs) (x ∷ []) ∙ ap (λ ys. flat_map f (take i xs) ++ ys) (append-nil (f x))
 
+-- the lists that are left, one after the other, begin with that at its place
+pub flat_map-left : {X Y : Type 0} (f : X → List Y) (xs : List X) (i : ℕ) (x : X) → i < length xs → x ≡ get_or xs i x → flat_map f (drop i xs) ≡ f x ++ flat_map f (drop (i + 1) xs)
+flat_map-left f xs i x l e =
+    let next : suc i ≡ i + 1 = omega arith in
+    ap (flat_map f) (drop-cons xs i x l) ∙ ap (λ y. f y ++ flat_map f (drop (suc i) xs)) (sym e) ∙ ap (λ n. f x ++ flat_map f (drop n xs)) next
+
+-- of what all lists that are left stand for, that of the list at its place, and that of the others
+module _ {X Y Z : Type 0} (f : X → List Y) (view : Y → Z) (xs : List X) (i : ℕ) (x : X) (rest : List Z) (l : i < length xs) (e : x ≡ get_or xs i x) (h : rest ≡ map view (flat_map f (drop i xs))) where
+  abbrev pub own : List Z
+  own = map view (f x)
+
+  abbrev pub others : List Z
+  others = map view (flat_map f (drop (i + 1) xs))
+
+  parts : rest ≡ own ++ others
+  parts = h ∙ ap (map view) (flat_map-left f xs i x l e) ∙ map-append view (f x) (flat_map f (drop (i + 1) xs))
+
+  pub own_within : length (f x) ≤ length rest
+  own_within = omega (arith, ap length parts, length-append own others, length-map (f x) view)
+
+  pub own_first : take (length (f x)) rest ≡ own
+  own_first = ap (λ n. take n rest) (sym (length-map (f x) view)) ∙ ap (take (length own)) parts ∙ take-append_seam own others
+
+  pub others_behind : drop (length (f x)) rest ≡ others
+  others_behind = ap (λ n. drop n rest) (sym (length-map (f x) view)) ∙ ap (drop (length own)) parts ∙ drop-append_seam own others
+
+-- an item that fails decides a test of all that are left
+pub all_fail : {X : Type 0} (test : X → Bool) (xs : List X) (i : ℕ) (d : X) → i < length xs → test (get_or xs i d) ≡ false → list_all test (drop i xs) ≡ false
+all_fail test xs i d l h = ap (list_all test) (drop-cons xs i d l) ∙ ap (λ b. b && list_all test (drop (suc i) xs)) h
+
+-- one that passes changes no test of what is left
+pub all_after : {X : Type 0} (test : X → Bool) (xs : List X) (i : ℕ) (d : X) → i < length xs → test (get_or xs i d) ≡ true → list_all test (drop (i + 1) xs) ≡ list_all test (drop i xs)
+all_after test xs i d l h =
+    let next : i + 1 ≡ suc i = omega arith in
+    ap (λ n. list_all test (drop n xs)) next ∙ sym (ap (list_all test) (drop-cons xs i d l) ∙ ap (λ b. b && list_all test (drop (suc i) xs)) h)
+
 -- as many of the first items as there are: all
 pub at_end : {X Y : Type 0} (f : List X → Y) (xs : List X) (i : ℕ) {y : Y} → length xs ≤ i → y ≡ f (take i xs) → y ≡ f xs
 at_end f xs i past h = h ∙ ap f (take_all i xs past)
@@ -39,6 +75,10 @@ pub alike_at : {X Y Z : Type 0} (f : X → Z) (g : Y → Z) (xs : List X) (ys : 
 alike_at f g xs ys i x y e l h k =
     let inside : i < length xs = omega (arith, l, length-map xs f, length-map ys g, ap length e) in
     ap f h ∙ sym (get_or-map f xs i x (f x) inside) ∙ ap (λ zs. get_or zs i (f x)) e ∙ get_or-map g ys i y (f x) l ∙ ap g (sym k)
+
+-- what the item at a place stands for
+pub row_of : {X Y : Type 0} (f : X → Y) (xs : List X) (i : ℕ) (x : X) (d : Y) → i < length xs → x ≡ get_or xs i x → get_or (map f xs) i d ≡ f x
+row_of f xs i x d l e = get_or-map f xs i x d l ∙ ap f (sym e)
 
 -- one more row, made of one more item
 pub one_more_row : {R Y Z : Type 0} (view : R → Z) (f : Y → Z) (rows more : List R) (ys : List Y) (i : ℕ) (r : R) (y : Y) → i < length ys → y ≡ get_or ys i y → map view rows ≡ map f (take i ys) → more ≡ rows ++ r ∷ [] → view r ≡ f y → map view more ≡ map f (take (i + 1) ys)

@@ -1,5 +1,5 @@
-use Rattle.std.proofs.Common.{◌∙◌, flat_map}
-use Rattle.name_tables.proofs.Lists.{at_end}
+use Rattle.std.proofs.Common.{◌++◌, flat_map, ap, sym, ◌∙◌}
+use Rattle.name_tables.proofs.Lists.{at_end, flat_map-take_more}
 use Rattle.name_tables.proofs.inherited.all_keys.Goals as goal
 
 pub returns : goal.returns
@@ -7,3 +7,8 @@ returns g c = c.in_ok-places.ensures ∙ at_end (flat_map (λ row. row.now)) c.a
 
 pub loop-row-init : goal.loop-row-init
 loop-row-init g c = c.new-keys.ensures.items
+
+pub loop-row-preserved : goal.loop-row-preserved
+loop-row-preserved g c =
+    c.in_ok-extend_from_slice.ensures.items ∙ ap (λ keys. keys ++ c.row-item.result.now) c.loop-row.invariant ∙
+    sym (flat_map-take_more (λ row. row.now) c.args.rows.now c.loop-row.row-index c.row-item.result c.loop-row-test.true c.row-item.is)

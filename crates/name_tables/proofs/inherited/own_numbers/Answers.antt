@@ -1,7 +1,25 @@
-use Rattle.std.proofs.Common.{map}
+use Rattle.std.proofs.Common.{map, ap, ◌∙◌}
 use Rattle.name_tables.specs.Inherited.{number_in}
-use Rattle.name_tables.proofs.Lists.{at_end}
+use Rattle.name_tables.proofs.Lists.{at_end, one_more_row, own_within, own_first, others_behind}
 use Rattle.name_tables.proofs.inherited.own_numbers.Goals as goal
 
 pub returns : goal.returns
 returns g c = at_end (map (λ row. map (number_in g.K.PartialEq.eq c.args.keys.now) row.now)) c.args.rows.now c.loop-row.row-index c.loop-row-test.false c.loop-row.invariant.0
+
+pub loop-row-init : goal.loop-row-init
+loop-row-init g c = (ap (map (λ r. r.items)) c.in_ok-numbers.ensures.items, c.numbers-rest.ensures ∙ ap (map (number_in g.K.PartialEq.eq c.args.keys.now)) c.requires)
+
+pub split_at-requires : goal.split_at-requires
+split_at-requires g c =
+    own_within (λ row. row.now) (number_in g.K.PartialEq.eq c.args.keys.now) c.args.rows.now c.loop-row.row-index c.row-item.result c.loop-row.rest.now c.loop-row-test.true c.row-item.is c.loop-row.invariant.1
+
+pub loop-row-preserved : goal.loop-row-preserved
+loop-row-preserved g c =
+    let number = number_in g.K.PartialEq.eq c.args.keys.now in
+    let rows = c.args.rows.now in
+    let place = c.loop-row.row-index in
+    let row = c.row-item.result in
+    let own = c.in_ok-to_vec.ensures.items_if_clones_equal (λ x y same. same) ∙ c.split_at.ensures.front ∙ own_first (λ row. row.now) number rows place row c.loop-row.rest.now c.loop-row-test.true c.row-item.is c.loop-row.invariant.1 in (
+      one_more_row (λ r. r.items) (λ row. map number row.now) c.loop-row.numbers.items c.push.new.self.items rows place c.in_ok-to_vec.field-0 row c.loop-row-test.true c.row-item.is c.loop-row.invariant.0 c.in_ok-push.ensures.items own,
+      c.split_at.ensures.back ∙ others_behind (λ row. row.now) number rows place row c.loop-row.rest.now c.loop-row-test.true c.row-item.is c.loop-row.invariant.1,
+    )

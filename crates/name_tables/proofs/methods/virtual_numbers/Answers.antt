@@ -1,11 +1,11 @@
-use Rattle.std.proofs.Common.{◌≡◌, ◌+◌, ◌++◌, ◌∷◌, [], Bool, true, false, cond, Some, map, take, get_or, option_map, slice_get, sym, ap, ◌∙◌}
+use Rattle.std.proofs.Common.{◌≡◌, ◌≤◌, ◌+◌, ◌++◌, ◌∷◌, [], Bool, true, false, cond, Some, length, map, take, get_or, option_map, slice_get, sym, ap, ◌∙◌, arith}
 use Rattle.std.specs.List.{filter}
 use Rattle.std.proofs.lemmas.Option.{slice_get-map}
-use Rattle.std.proofs.lemmas.List.{append-nil}
+use Rattle.std.proofs.lemmas.List.{append-nil, length-map}
 use Rattle.name_tables.specs.Entries.{declaration_in}
 use Rattle.name_tables.specs.Methods.{has_virtual}
 use Rattle.name_tables.specs.Sameness.{identity_of}
-use Rattle.name_tables.proofs.Lists.{map-filter-take_more, map_of_map, option_map_of_map}
+use Rattle.name_tables.proofs.Lists.{at_end, map-filter-take_more, map_of_map, option_map_of_map}
 use Rattle.name_tables.proofs.methods.virtual_numbers.Goals.{then-is_virtual_at+in_ok-push, else-is_virtual_at}
 use Rattle.name_tables.proofs.methods.virtual_numbers.Goals as goal
 
@@ -28,3 +28,12 @@ loop-place-preserved c = λ number e.
 
 pub loop-place-init : goal.loop-place-init
 loop-place-init c = λ number e. c.new-chosen.ensures.items
+
+pub is_virtual_at-requires : goal.is_virtual_at-requires
+is_virtual_at-requires c = omega (arith, c.loop-place-test.true, c.requires)
+
+pub returns : goal.returns
+returns c = λ number e.
+    let d = declaration_in c.args.table.now.class in
+    let counted : length (map identity_of d.methods) ≤ c.loop-place.place = omega (arith, c.loop-place-test.false, c.requires, length-map d.methods identity_of) in
+    at_end (λ ms. map number (filter (has_virtual d) ms)) (map identity_of d.methods) c.loop-place.place counted (c.loop-place.invariant number e)
