@@ -70,6 +70,10 @@ pub option_map_of_map : {X Y Z : Type 0} (f : X → Y) (g : Y → Z) (o : Option
 option_map_of_map f g None = refl
 option_map_of_map f g (Some x) = refl
 
+-- where two maps make the same list, there are as many items
+pub as_many : {X Y Z : Type 0} (f : X → Z) (g : Y → Z) (xs : List X) (ys : List Y) → map f xs ≡ map g ys → length xs ≡ length ys
+as_many f g xs ys e = sym (length-map xs f) ∙ ap length e ∙ length-map ys g
+
 -- where two maps make the same list, what they make of the items at one place
 pub alike_at : {X Y Z : Type 0} (f : X → Z) (g : Y → Z) (xs : List X) (ys : List Y) (i : ℕ) (x : X) (y : Y) → map f xs ≡ map g ys → i < length ys → x ≡ get_or xs i x → y ≡ get_or ys i y → f x ≡ g y
 alike_at f g xs ys i x y e l h k =

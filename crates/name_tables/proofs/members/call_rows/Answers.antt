@@ -5,7 +5,7 @@ use Rattle.name_tables.specs.declared.class_tables.ClassTable.{ClassTable}
 use Rattle.name_tables.specs.Entries.{declaration_in}
 use Rattle.name_tables.specs.Methods.{call_of}
 use Rattle.name_tables.specs.Sameness.{identity_of, called_of}
-use Rattle.name_tables.proofs.Lists.{alike_at, one_more_row, map_of_map, at_end}
+use Rattle.name_tables.proofs.Lists.{as_many, alike_at, one_more_row, map_of_map, at_end}
 use Rattle.name_tables.proofs.members.call_rows.Goals as goal
 
 pub call_numbers-requires : goal.call_numbers-requires
@@ -33,3 +33,6 @@ loop-place-init c = λ number e. ap (map (λ r. r.items)) c.in_ok-rows.ensures.i
 
 pub returns : goal.returns
 returns c = λ number e. at_end (map (λ (t : ClassTable). map (λ m. call_of number (called_of m)) (declaration_in t.class).methods)) c.args.tables.now c.loop-place.place c.loop-place-test.false (c.loop-place.invariant number e)
+
+pub bounds-numbers-place : goal.bounds-numbers-place
+bounds-numbers-place c = omega (arith, c.loop-place-test.true, as_many (λ r. length r.items) (λ (t : ClassTable). length (declaration_in t.class).methods) c.args.numbers.now c.args.tables.now c.requires)

@@ -3,7 +3,7 @@ use Rattle.name_tables.specs.declared.class_tables.ClassTable.{ClassTable}
 use Rattle.name_tables.specs.Entries.{declaration_in}
 use Rattle.name_tables.specs.Methods.{virtuals_of}
 use Rattle.name_tables.specs.Sameness.{identity_of}
-use Rattle.name_tables.proofs.Lists.{alike_at, one_more_row, at_end}
+use Rattle.name_tables.proofs.Lists.{as_many, alike_at, one_more_row, at_end}
 use Rattle.name_tables.proofs.methods.virtual_rows.Goals as goal
 
 pub virtual_numbers-requires : goal.virtual_numbers-requires
@@ -24,3 +24,6 @@ loop-place-init c = λ number e. ap (map (λ r. r.items)) c.in_ok-rows.ensures.i
 
 pub returns : goal.returns
 returns c = λ number e. at_end (map (λ (t : ClassTable). map number (virtuals_of (declaration_in t.class)))) c.args.tables.now c.loop-place.place c.loop-place-test.false (c.loop-place.invariant number e)
+
+pub bounds-numbers-place : goal.bounds-numbers-place
+bounds-numbers-place c = omega (arith, c.loop-place-test.true, as_many (λ r. length r.items) (λ (t : ClassTable). length (declaration_in t.class).methods) c.args.numbers.now c.args.tables.now c.requires)
