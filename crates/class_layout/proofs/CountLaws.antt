@@ -1,6 +1,6 @@
 -- The numbers and slots of a legal tree's fields are few enough to be counted.
-use Rattle.std.proofs.Common.{◌≡◌, ◌≤◌, ◌<◌, ◌+◌, ◌^◌, ℕ, zero, suc, Bool, true, false, List, [], ◌∷◌, length, map, drop, get_or, cond, Some, option_map, slice_get, unwrap_or, sym, ap, ◌∙◌, arith, length-append}
-use Rattle.std.specs.Prelude.{flat_map}
+use Rattle.std.proofs.Common.{◌≡◌, ◌≤◌, ◌<◌, ◌+◌, ◌^◌, ℕ, zero, suc, Bool, true, false, List, [], ◌∷◌, ◌++◌, length, map, drop, get_or, cond, Some, option_map, slice_get, unwrap_or, sym, ap, ◌∙◌, arith, length-append, append_assoc}
+use Rattle.std.specs.Prelude.{flat_map, if◌then◌else◌}
 use Rattle.std.proofs.Math.Seq.{drop-cons}
 use Rattle.std.proofs.lemmas.List.{length-map}
 use Rattle.std.proofs.lemmas.Option.{none-some, slice_get-map}
@@ -21,7 +21,7 @@ use Rattle.programs.proofs.Limits.{static_fields_few}
 use Rattle.class_layout.specs.declared.kinds.SlotKind.{SlotKind}
 use Rattle.class_layout.specs.ByClass.{by_class}
 use Rattle.class_layout.specs.Kinds.{own_kinds}
-use Rattle.class_layout.specs.FieldSlots.{number_after, slot_after, statics_after, statics_by_flag, slots_by_flag, class_names}
+use Rattle.class_layout.specs.FieldSlots.{number_after, slot_after, statics_after, numbered_by_flag, statics_by_flag, slots_by_flag, class_names}
 use Rattle.class_layout.proofs.SlotLaws.{of_flag, key_in, own_counted, statics_counted, all_statics}
 use Rattle.class_layout.proofs.ResolvedLaws.{IsClass, answer_given, declared_at, flags_alike, statics_alike}
 
@@ -34,6 +34,28 @@ drop_at (y ∷ ys) zero x h =
 drop_at (y ∷ ys) (suc i) x h =
     let next : suc i + 1 ≡ suc (i + 1) = omega arith in
     drop_at ys i x h ∙ ap (λ n. x ∷ drop n (y ∷ ys)) (sym next)
+
+-- ---- one more field of a class
+
+module _ {X : Type 0} (flag : X → Bool) (xs : List X) (i : ℕ) (d : X) (l : i < length xs) where
+  left : map flag (drop i xs) ≡ flag (get_or xs i d) ∷ map flag (drop (i + 1) xs)
+  left =
+      let next : suc i ≡ i + 1 = omega arith in
+      ap (map flag) (drop-cons xs i d l) ∙ ap (λ n. flag (get_or xs i d) ∷ map flag (drop n xs)) next
+
+  pub one_numbered : (s k t m own : ℕ) (before after all : List ℕ) → own ≡ (if flag (get_or xs i d) then s else k) → t ≡ number_after (flag (get_or xs i d)) s → m ≡ slot_after (flag (get_or xs i d)) k → after ≡ before ++ own ∷ [] →
+      before ++ numbered_by_flag s k (map flag (drop i xs)) ≡ all → after ++ numbered_by_flag t m (map flag (drop (i + 1) xs)) ≡ all
+  one_numbered s k t m own before after all o es ek a h =
+      let b = flag (get_or xs i d) in
+      let rest = map flag (drop (i + 1) xs) in
+      ap (λ ns. ns ++ numbered_by_flag t m rest) a ∙ append_assoc before (own ∷ []) (numbered_by_flag t m rest) ∙ ap (λ n. before ++ n ∷ numbered_by_flag t m rest) o ∙
+      ap (λ n. before ++ (if b then s else k) ∷ numbered_by_flag n m rest) es ∙ ap (λ n. before ++ (if b then s else k) ∷ numbered_by_flag (number_after b s) n rest) ek ∙ ap (λ bs. before ++ numbered_by_flag s k bs) (sym left) ∙ h
+
+  pub one_static : (s t all : ℕ) → t ≡ number_after (flag (get_or xs i d)) s → statics_by_flag s (map flag (drop i xs)) ≡ all → statics_by_flag t (map flag (drop (i + 1) xs)) ≡ all
+  one_static s t all e h = ap (λ n. statics_by_flag n (map flag (drop (i + 1) xs))) e ∙ ap (statics_by_flag s) (sym left) ∙ h
+
+  pub one_slot : (k m all : ℕ) → m ≡ slot_after (flag (get_or xs i d)) k → slots_by_flag k (map flag (drop i xs)) ≡ all → slots_by_flag m (map flag (drop (i + 1) xs)) ≡ all
+  one_slot k m all e h = ap (λ n. slots_by_flag n (map flag (drop (i + 1) xs))) e ∙ ap (slots_by_flag k) (sym left) ∙ h
 
 -- ---- counts never fall
 
