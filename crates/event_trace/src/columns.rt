@@ -5,6 +5,7 @@ use cil_model::phases::Phase;
 use cil_model::reports::{End, Report};
 use interleaving_core::Position;
 use std::fmt;
+use std::fmt::Display;
 
 /// An event as a schedule writes it: `s0`, `a1` or `g`.
 #[derive(Clone, Copy)]
@@ -20,7 +21,7 @@ impl fmt::Display for EventText {
         match self.0 {
             Event::Step(thread) => write!(f, "s{thread}"),
             Event::Ack(thread) => write!(f, "a{thread}"),
-            Event::Gc => write!(f, "g"),
+            Event::Gc => f.write_str("g"),
         }
     }
 }
@@ -36,18 +37,18 @@ impl fmt::Display for ReportText {
     ghost output = { λ report. Some (report_text report.0) };
 
     fn fmt<W: fmt::Write>(&self, f: &mut fmt::Formatter<W>) -> fmt::Result {
-        match self.0 {
-            Report::Ran => write!(f, "ran"),
-            Report::Blocked => write!(f, "blocked"),
-            Report::Ended(End::Done) => write!(f, "done"),
-            Report::Ended(End::Budget) => write!(f, "budget"),
-            Report::Ended(End::Fault(fault)) => write!(f, "{fault}"),
-            Report::Absent => write!(f, "absent"),
-            Report::Acked => write!(f, "acked"),
-            Report::NothingPosted => write!(f, "nothing-posted"),
-            Report::Worked => write!(f, "worked"),
-            Report::Waiting => write!(f, "waiting"),
-            Report::CycleDone => write!(f, "cycle-done"),
+        match &self.0 {
+            Report::Ran => f.write_str("ran"),
+            Report::Blocked => f.write_str("blocked"),
+            Report::Ended(End::Done) => f.write_str("done"),
+            Report::Ended(End::Budget) => f.write_str("budget"),
+            Report::Ended(End::Fault(fault)) => fault.fmt(f),
+            Report::Absent => f.write_str("absent"),
+            Report::Acked => f.write_str("acked"),
+            Report::NothingPosted => f.write_str("nothing-posted"),
+            Report::Worked => f.write_str("worked"),
+            Report::Waiting => f.write_str("waiting"),
+            Report::CycleDone => f.write_str("cycle-done"),
         }
     }
 }
@@ -87,7 +88,7 @@ impl fmt::Display for SizeColumns {
 
     fn fmt<W: fmt::Write>(&self, f: &mut fmt::Formatter<W>) -> fmt::Result {
         match self.0 {
-            None => write!(f, "-\t-"),
+            None => f.write_str("-\t-"),
             Some(position) => write!(f, "{}\t{}", position.frames, position.height),
         }
     }
@@ -104,15 +105,15 @@ impl fmt::Display for PhaseText {
     ghost output = { λ phase. Some (phase_text phase.0) };
 
     fn fmt<W: fmt::Write>(&self, f: &mut fmt::Formatter<W>) -> fmt::Result {
-        match self.0 {
-            Phase::Idle => write!(f, "idle"),
-            Phase::Mark => write!(f, "mark"),
-            Phase::Allocate => write!(f, "allocate"),
-            Phase::Copy => write!(f, "copy"),
-            Phase::PreFlip => write!(f, "pre-flip"),
-            Phase::HeapFlip => write!(f, "heap-flip"),
-            Phase::ThreadFlip => write!(f, "thread-flip"),
-            Phase::Reclaim => write!(f, "reclaim"),
+        match &self.0 {
+            Phase::Idle => f.write_str("idle"),
+            Phase::Mark => f.write_str("mark"),
+            Phase::Allocate => f.write_str("allocate"),
+            Phase::Copy => f.write_str("copy"),
+            Phase::PreFlip => f.write_str("pre-flip"),
+            Phase::HeapFlip => f.write_str("heap-flip"),
+            Phase::ThreadFlip => f.write_str("thread-flip"),
+            Phase::Reclaim => f.write_str("reclaim"),
         }
     }
 }
@@ -128,12 +129,9 @@ impl fmt::Display for OwnColumn {
     ghost output = { λ column. Some (own_column column.0) };
 
     fn fmt<W: fmt::Write>(&self, f: &mut fmt::Formatter<W>) -> fmt::Result {
-        match self.0 {
-            None => write!(f, "-"),
-            Some(phase) => {
-                let phase = PhaseText(phase);
-                write!(f, "{phase}")
-            }
+        match &self.0 {
+            None => f.write_str("-"),
+            Some(phase) => PhaseText(*phase).fmt(f),
         }
     }
 }

@@ -4,6 +4,7 @@ use crate::columns::{EventColumns, HeapColumns, SizeColumns};
 use crate::owned_methods::InstructionPlace;
 use interleaving_core::Position;
 use std::fmt;
+use std::fmt::Display;
 
 /// What is written of an event.
 #[derive(Clone, Copy)]
@@ -45,9 +46,9 @@ impl<'a> fmt::Display for InstructionColumn<'a> {
     ghost output = { λ column. Some (instruction_column (option_map seen column.0)) };
 
     fn fmt<W: fmt::Write>(&self, f: &mut fmt::Formatter<W>) -> fmt::Result {
-        match self.0 {
-            None => write!(f, "-"),
-            Some(at) => write!(f, "{at}"),
+        match &self.0 {
+            None => f.write_str("-"),
+            Some(at) => at.fmt(f),
         }
     }
 }

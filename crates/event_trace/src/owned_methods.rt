@@ -9,6 +9,7 @@ use cil_model::types::ClassName;
 use instruction_text::{CharactersText, ClassText, InstructionText, MethodNameText};
 use name_tables::bodies::lines_of;
 use std::fmt;
+use std::fmt::Display;
 
 /// The class that declares a method: a built-in one, by its name, or one of the source.
 #[derive(Clone, Copy)]
@@ -27,8 +28,8 @@ impl<'a> fmt::Display for Owner<'a> {
 
     fn fmt<W: fmt::Write>(&self, f: &mut fmt::Formatter<W>) -> fmt::Result {
         match self {
-            Owner::BuiltIn(name) => write!(f, "{}", ClassText(*name)),
-            Owner::Source(class) => write!(f, "{}", CharactersText(&class.name)),
+            Owner::BuiltIn(name) => ClassText(*name).fmt(f),
+            Owner::Source(class) => CharactersText(&class.name).fmt(f),
         }
     }
 }
