@@ -1,6 +1,7 @@
 -- What is written is printable.
 use Rattle.std.proofs.Common.{◌≡◌, ◌/◌, ◌%◌, ◌<◌, ◌==◌, ◌∷◌, ◌++◌, ◌∙◌, [], ℕ, ℤ, pos, negsuc, zero, suc, Bool, true, false, List, Option, Some, None, codes, refl, ap, arith}
-use Rattle.std.specs.Prelude.{◌&&◌, if◌then◌else◌, decimal, flat_map}
+use Rattle.std.specs.Prelude.{⊤, ◌&&◌, if◌then◌else◌, decimal, flat_map}
+use Rattle.std.specs.Option.{option_map_or}
 use Rattle.std.specs.Fmt.{digit_glyph, digits, digits_onto, signed_decimal}
 use Rattle.std.specs.List.{list_all}
 use Rattle.std.proofs.lemmas.Bool.Decides.{nat_tests}
@@ -28,7 +29,7 @@ use Rattle.cil_model.specs.declared.instructions.MethodReference.{MethodReferenc
 use Rattle.cil_model.specs.declared.instructions.Instruction.{Instruction}
 use Rattle.cil_model.specs.declared.instructions.Instruction.TheVariants as named
 use Rattle.instruction_text.specs.Characters.{IsPrintable, character_text, characters_text, is_printable, octal_text}
-use Rattle.instruction_text.specs.Texts.{assembly_text, brackets_text, class_text, constructor_text, element_text, field_text, instruction_text, labels_text, listed, method_name_text, method_text, return_text, type_text, types_text, virtual_text}
+use Rattle.instruction_text.specs.Texts.{assembly_text, brackets_text, class_text, constructor_text, element_text, field_text, instruction_text, labels_text, listed, method_name_text, method_text, operand_text, return_text, type_text, types_text, virtual_text, word_text}
 
 -- a text of printable characters
 pub record Printable (cs : List ℕ) : Type 0 where
@@ -190,45 +191,99 @@ printable_branch branch.Greater = word (branch_word branch.Greater) refl
 printable_branch branch.LessOrEqual = word (branch_word branch.LessOrEqual) refl
 printable_branch branch.Less = word (branch_word branch.Less) refl
 
+printable_word : (i : Instruction) → Printable (word_text i)
+printable_word (named.Binary op) = printable_binary op
+printable_word (named.Unary op) = printable_unary op
+printable_word (named.Shift op) = printable_shift op
+printable_word (named.Compare op) = printable_comparison op
+printable_word (named.BranchCompare op label) = printable_branch op
+printable_word named.NoOperation = word (codes "nop") refl
+printable_word (named.LoadInt32 z) = word (codes "ldc.i4") refl
+printable_word (named.LoadInt64 z) = word (codes "ldc.i8") refl
+printable_word named.LoadNull = word (codes "ldnull") refl
+printable_word (named.LoadString cs) = word (codes "ldstr") refl
+printable_word (named.LoadArgument n) = word (codes "ldarg") refl
+printable_word (named.StoreArgument n) = word (codes "starg") refl
+printable_word (named.LoadLocal n) = word (codes "ldloc") refl
+printable_word (named.StoreLocal n) = word (codes "stloc") refl
+printable_word named.Duplicate = word (codes "dup") refl
+printable_word named.Pop = word (codes "pop") refl
+printable_word named.ConvertInt32 = word (codes "conv.i4") refl
+printable_word named.ConvertInt64 = word (codes "conv.i8") refl
+printable_word (named.Branch l) = word (codes "br") refl
+printable_word (named.BranchTrue l) = word (codes "brtrue") refl
+printable_word (named.BranchFalse l) = word (codes "brfalse") refl
+printable_word (named.Switch ls) = word (codes "switch") refl
+printable_word (named.LoadField r) = word (codes "ldfld") refl
+printable_word (named.StoreField r) = word (codes "stfld") refl
+printable_word (named.LoadStaticField r) = word (codes "ldsfld") refl
+printable_word (named.StoreStaticField r) = word (codes "stsfld") refl
+printable_word (named.NewArray t) = word (codes "newarr") refl
+printable_word named.LoadLength = word (codes "ldlen") refl
+printable_word named.LoadElementInt32 = word (codes "ldelem.i4") refl
+printable_word named.LoadElementInt64 = word (codes "ldelem.i8") refl
+printable_word named.LoadElementReference = word (codes "ldelem.ref") refl
+printable_word named.StoreElementInt32 = word (codes "stelem.i4") refl
+printable_word named.StoreElementInt64 = word (codes "stelem.i8") refl
+printable_word named.StoreElementReference = word (codes "stelem.ref") refl
+printable_word (named.CastClass t) = word (codes "castclass") refl
+printable_word (named.IsInstance t) = word (codes "isinst") refl
+printable_word (named.Call true r) = word (codes "call instance") refl
+printable_word (named.Call false r) = word (codes "call") refl
+printable_word (named.CallVirtual owner name g) = word (codes "callvirt instance") refl
+printable_word (named.NewObject owner ts) = word (codes "newobj instance") refl
+printable_word named.Return = word (codes "ret") refl
+
+-- every text that there is, is printable
+abbrev AllPrintable : Option (List ℕ) → Type 0
+AllPrintable None = ⊤
+AllPrintable (Some text) = Printable text
+
+printable_operand : (i : Instruction) → AllPrintable (operand_text i)
+printable_operand (named.LoadInt32 z) = printable_signed z
+printable_operand (named.LoadInt64 z) = printable_signed z
+printable_operand (named.LoadString cs) = both (both (word (codes "\"") refl) (printable_characters cs)) (word (codes "\"") refl)
+printable_operand (named.LoadArgument n) = printable_signed n
+printable_operand (named.StoreArgument n) = printable_signed n
+printable_operand (named.LoadLocal n) = printable_signed n
+printable_operand (named.StoreLocal n) = printable_signed n
+printable_operand (named.Branch l) = printable_characters l
+printable_operand (named.BranchTrue l) = printable_characters l
+printable_operand (named.BranchFalse l) = printable_characters l
+printable_operand (named.BranchCompare op l) = printable_characters l
+printable_operand (named.Switch ls) = printable_labels ls
+printable_operand (named.LoadField r) = printable_field r
+printable_operand (named.StoreField r) = printable_field r
+printable_operand (named.LoadStaticField r) = printable_field r
+printable_operand (named.StoreStaticField r) = printable_field r
+printable_operand (named.NewArray t) = printable_type t
+printable_operand (named.CastClass t) = printable_type t
+printable_operand (named.IsInstance t) = printable_type t
+printable_operand (named.Call is_instance r) = printable_method r
+printable_operand (named.CallVirtual owner name g) = printable_virtual owner name g
+printable_operand (named.NewObject owner ts) = printable_constructor owner ts
+printable_operand named.NoOperation = tt
+printable_operand named.LoadNull = tt
+printable_operand named.Duplicate = tt
+printable_operand named.Pop = tt
+printable_operand named.ConvertInt32 = tt
+printable_operand named.ConvertInt64 = tt
+printable_operand named.LoadLength = tt
+printable_operand named.LoadElementInt32 = tt
+printable_operand named.LoadElementInt64 = tt
+printable_operand named.LoadElementReference = tt
+printable_operand named.StoreElementInt32 = tt
+printable_operand named.StoreElementInt64 = tt
+printable_operand named.StoreElementReference = tt
+printable_operand named.Return = tt
+printable_operand (named.Binary op) = tt
+printable_operand (named.Unary op) = tt
+printable_operand (named.Shift op) = tt
+printable_operand (named.Compare op) = tt
+
+printable_behind : (text : Option (List ℕ)) → AllPrintable text → Printable (option_map_or (λ operand. codes " " ++ operand) text [])
+printable_behind None h = word [] refl
+printable_behind (Some text) h = both (word (codes " ") refl) h
+
 pub printable_instruction : (i : Instruction) → Printable (instruction_text i)
-printable_instruction (named.LoadInt32 z) = both (word (codes "ldc.i4 ") refl) (printable_signed z)
-printable_instruction (named.LoadInt64 z) = both (word (codes "ldc.i8 ") refl) (printable_signed z)
-printable_instruction (named.LoadString cs) = both (both (word (codes "ldstr \"") refl) (printable_characters cs)) (word (codes "\"") refl)
-printable_instruction (named.LoadArgument n) = both (word (codes "ldarg ") refl) (printable_signed n)
-printable_instruction (named.StoreArgument n) = both (word (codes "starg ") refl) (printable_signed n)
-printable_instruction (named.LoadLocal n) = both (word (codes "ldloc ") refl) (printable_signed n)
-printable_instruction (named.StoreLocal n) = both (word (codes "stloc ") refl) (printable_signed n)
-printable_instruction (named.Branch l) = both (word (codes "br ") refl) (printable_characters l)
-printable_instruction (named.BranchTrue l) = both (word (codes "brtrue ") refl) (printable_characters l)
-printable_instruction (named.BranchFalse l) = both (word (codes "brfalse ") refl) (printable_characters l)
-printable_instruction (named.BranchCompare op l) = both (both (printable_branch op) (word (codes " ") refl)) (printable_characters l)
-printable_instruction (named.Switch ls) = both (word (codes "switch ") refl) (printable_labels ls)
-printable_instruction (named.LoadField r) = both (word (codes "ldfld ") refl) (printable_field r)
-printable_instruction (named.StoreField r) = both (word (codes "stfld ") refl) (printable_field r)
-printable_instruction (named.LoadStaticField r) = both (word (codes "ldsfld ") refl) (printable_field r)
-printable_instruction (named.StoreStaticField r) = both (word (codes "stsfld ") refl) (printable_field r)
-printable_instruction (named.NewArray t) = both (word (codes "newarr ") refl) (printable_type t)
-printable_instruction (named.CastClass t) = both (word (codes "castclass ") refl) (printable_type t)
-printable_instruction (named.IsInstance t) = both (word (codes "isinst ") refl) (printable_type t)
-printable_instruction (named.Call true r) = both (word (codes "call instance ") refl) (printable_method r)
-printable_instruction (named.Call false r) = both (word (codes "call ") refl) (printable_method r)
-printable_instruction (named.CallVirtual owner name g) = both (word (codes "callvirt instance ") refl) (printable_virtual owner name g)
-printable_instruction (named.NewObject owner ts) = both (word (codes "newobj instance ") refl) (printable_constructor owner ts)
-printable_instruction (named.Binary op) = printable_binary op
-printable_instruction (named.Unary op) = printable_unary op
-printable_instruction (named.Shift op) = printable_shift op
-printable_instruction (named.Compare op) = printable_comparison op
-printable_instruction named.NoOperation = word (instruction_text named.NoOperation) refl
-printable_instruction named.LoadNull = word (instruction_text named.LoadNull) refl
-printable_instruction named.Duplicate = word (instruction_text named.Duplicate) refl
-printable_instruction named.Pop = word (instruction_text named.Pop) refl
-printable_instruction named.ConvertInt32 = word (instruction_text named.ConvertInt32) refl
-printable_instruction named.ConvertInt64 = word (instruction_text named.ConvertInt64) refl
-printable_instruction named.LoadLength = word (instruction_text named.LoadLength) refl
-printable_instruction named.LoadElementInt32 = word (instruction_text named.LoadElementInt32) refl
-printable_instruction named.LoadElementInt64 = word (instruction_text named.LoadElementInt64) refl
-printable_instruction named.LoadElementReference = word (instruction_text named.LoadElementReference) refl
-printable_instruction named.StoreElementInt32 = word (instruction_text named.StoreElementInt32) refl
-printable_instruction named.StoreElementInt64 = word (instruction_text named.StoreElementInt64) refl
-printable_instruction named.StoreElementReference = word (instruction_text named.StoreElementReference) refl
-printable_instruction named.Return = word (instruction_text named.Return) refl
+printable_instruction i = both (printable_word i) (printable_behind (operand_text i) (printable_operand i))

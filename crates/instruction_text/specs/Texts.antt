@@ -1,5 +1,6 @@
 -- How ilasm writes instructions and what they name (II.7.1, II.15, III; the words are those of this profile's grammar).
 use Rattle.std.specs.Prelude.{◌++◌, ℕ, zero, suc, false, true, List, [], ◌∷◌, Option, Some, None, codes, flat_map}
+use Rattle.std.specs.Option.{option_map_or}
 use Rattle.std.specs.Fmt.{signed_decimal}
 use Rattle.cil_model.specs.Grammar.{binary_word, unary_word, shift_word, comparison_word, branch_word}
 use Rattle.cil_model.specs.declared.types.ClassName.{ClassName}
@@ -121,29 +122,36 @@ word_text (CallVirtual owner name signature) = codes "callvirt instance"
 word_text (NewObject owner parameters) = codes "newobj instance"
 word_text Return = codes "ret"
 
--- an instruction in its long form, with one space before its operand
+-- a string literal in quotes
+abbrev pub quoted_text : List ℕ → List ℕ
+quoted_text characters = codes "\"" ++ characters_text characters ++ codes "\""
+
+-- how the operand of an instruction is written, if it has one
+abbrev pub operand_text : Instruction → Option (List ℕ)
+operand_text (LoadInt32 z) = Some (signed_decimal z)
+operand_text (LoadInt64 z) = Some (signed_decimal z)
+operand_text (LoadString characters) = Some (quoted_text characters)
+operand_text (LoadArgument n) = Some (signed_decimal n)
+operand_text (StoreArgument n) = Some (signed_decimal n)
+operand_text (LoadLocal n) = Some (signed_decimal n)
+operand_text (StoreLocal n) = Some (signed_decimal n)
+operand_text (Branch label) = Some (characters_text label)
+operand_text (BranchTrue label) = Some (characters_text label)
+operand_text (BranchFalse label) = Some (characters_text label)
+operand_text (BranchCompare op label) = Some (characters_text label)
+operand_text (Switch labels) = Some (labels_text labels)
+operand_text (LoadField r) = Some (field_text r)
+operand_text (StoreField r) = Some (field_text r)
+operand_text (LoadStaticField r) = Some (field_text r)
+operand_text (StoreStaticField r) = Some (field_text r)
+operand_text (NewArray t) = Some (type_text t)
+operand_text (CastClass t) = Some (type_text t)
+operand_text (IsInstance t) = Some (type_text t)
+operand_text (Call is_instance r) = Some (method_text r)
+operand_text (CallVirtual owner name signature) = Some (virtual_text owner name signature)
+operand_text (NewObject owner parameters) = Some (constructor_text owner parameters)
+operand_text _ = None
+
+-- an instruction in its long form: its word, and behind a space its operand, if it has one
 abbrev pub instruction_text : Instruction → List ℕ
-instruction_text (LoadInt32 z) = codes "ldc.i4 " ++ signed_decimal z
-instruction_text (LoadInt64 z) = codes "ldc.i8 " ++ signed_decimal z
-instruction_text (LoadString characters) = codes "ldstr \"" ++ characters_text characters ++ codes "\""
-instruction_text (LoadArgument n) = codes "ldarg " ++ signed_decimal n
-instruction_text (StoreArgument n) = codes "starg " ++ signed_decimal n
-instruction_text (LoadLocal n) = codes "ldloc " ++ signed_decimal n
-instruction_text (StoreLocal n) = codes "stloc " ++ signed_decimal n
-instruction_text (Branch label) = codes "br " ++ characters_text label
-instruction_text (BranchTrue label) = codes "brtrue " ++ characters_text label
-instruction_text (BranchFalse label) = codes "brfalse " ++ characters_text label
-instruction_text (BranchCompare op label) = branch_word op ++ codes " " ++ characters_text label
-instruction_text (Switch labels) = codes "switch " ++ labels_text labels
-instruction_text (LoadField r) = codes "ldfld " ++ field_text r
-instruction_text (StoreField r) = codes "stfld " ++ field_text r
-instruction_text (LoadStaticField r) = codes "ldsfld " ++ field_text r
-instruction_text (StoreStaticField r) = codes "stsfld " ++ field_text r
-instruction_text (NewArray t) = codes "newarr " ++ type_text t
-instruction_text (CastClass t) = codes "castclass " ++ type_text t
-instruction_text (IsInstance t) = codes "isinst " ++ type_text t
-instruction_text (Call true r) = codes "call instance " ++ method_text r
-instruction_text (Call false r) = codes "call " ++ method_text r
-instruction_text (CallVirtual owner name signature) = codes "callvirt instance " ++ virtual_text owner name signature
-instruction_text (NewObject owner parameters) = codes "newobj instance " ++ constructor_text owner parameters
-instruction_text instruction = word_text instruction
+instruction_text instruction = word_text instruction ++ option_map_or (λ operand. codes " " ++ operand) (operand_text instruction) []

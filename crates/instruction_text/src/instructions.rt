@@ -3,8 +3,8 @@
 ghost use Rattle.std.specs.Prelude.{◌≡◌};
 ghost use Rattle.std.specs.Option.{option_map};
 ghost use Rattle.cil_model.specs.Grammar.{binary_word, branch_word, comparison_word, shift_word, unary_word};
-ghost use Rattle.instruction_text.specs.Operands.{operand_text, text_of};
-ghost use Rattle.instruction_text.specs.Texts.{word_text};
+ghost use Rattle.instruction_text.specs.Operands.{text_of};
+ghost use Rattle.instruction_text.specs.Texts.{operand_text, word_text};
 
 use crate::characters::CharactersText;
 use crate::references::{ConstructorText, FieldText, MethodText, VirtualText};

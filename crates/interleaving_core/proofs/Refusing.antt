@@ -2,7 +2,7 @@
 use Rattle.std.proofs.Common.{◌≡◌, ◌<◌, ◌+◌, ℕ, List, [], ◌∷◌, ◌++◌, length, Option, Some, None, option_map, slice_get, Result, Ok, Err, refl, inl, inr, sym, ap, ◌∙◌, subst, arith}
 use Rattle.std.proofs.lemmas.List.{length-append, length-set}
 use Rattle.std.specs.Option.{option_map_or}
-use Rattle.std.specs.Prelude.{IsSome, OnErr}
+use Rattle.std.specs.Prelude.{IsErr, IsSome, OnErr, OnOk}
 use Rattle.cil_model.specs.declared.events.Event.TheVariants.{Step}
 use Rattle.cil_model.specs.declared.reports.Fault.{Fault}
 use Rattle.cil_model.specs.declared.reports.Report.{Report}
@@ -27,6 +27,11 @@ use Rattle.step_simulation.proofs.Finished.{finished_printed}
 pub on_err : {T E P : Type 0} (r : Result T E) → P → OnErr r P
 on_err (Ok x) h = tt
 on_err (Err e) h = h
+
+-- an error answers nothing that is said of a value
+pub none_on_err : {T E : Type 0} (P : Type 0) (r : Result T E) → IsErr r → OnOk r P
+none_on_err P (Ok x) e = absurd cc
+none_on_err P (Err e) is = tt
 
 there_mapped : {X Y : Type 0} (f : X → Y) (o : Option X) → IsSome o → (x : X) × (o ≡ Some x) × (option_map f o ≡ Some (f x))
 there_mapped f (Some x) h = (x, refl, refl)

@@ -38,6 +38,8 @@ use Rattle.name_tables.specs.Sameness.{same_field, same_called, called_of}
 use Rattle.name_tables.specs.Numbers.{class_number, place_in, nearest_number, field_number, method_number, field_at, method_at, declarations, source_entry}
 use Rattle.name_tables.proofs.FirstPlaces.{is_some-position_from}
 use Rattle.name_tables.proofs.NumberLaws.{declared_at_none, field_is_numbered, method_is_numbered, numbers_of_unknown}
+use Rattle.name_tables.specs.declared.lookups.MemberNumber.{MemberNumber}
+use Rattle.resolved_code.specs.declared.operations.Operation.{Operation}
 use Rattle.resolved_code.specs.Rules.{all_some, if_named, element_rule, type_rule, types_rule, member_of, with_owner, operation_rule, operations_rule, body_rule, kind_rule, resolved_method_rule, resolved_field_rule, class_rule, classes_rule}
 use Rattle.resolved_code.proofs.LiteralNumbers.{all_among_once}
 
@@ -184,12 +186,12 @@ module _ (tree : Tree) where
   abbrev operand_test : Instruction → Bool
   operand_test i = list_all is_type_found (types_of_instruction i)
 
-  on_field : (lines : List Line) (make : ℕ → _) (r : FieldReference) (is_static : Bool) → is_some (find_field tree is_static r) ≡ true → is_some (with_owner tree r.owner make (option_map member_of (field_number tree is_static r))) ≡ true
+  on_field : (lines : List Line) (make : ℕ → MemberNumber → Operation) (r : FieldReference) (is_static : Bool) → is_some (find_field tree is_static r) ≡ true → is_some (with_owner tree r.owner make (option_map member_of (field_number tree is_static r))) ≡ true
   on_field lines make r is_static h =
       let n = field_there is_static r h in
       then_kept _ (class_number tree r.owner) (field_owner is_static r n) (λ owner. kept _ (option_map member_of (field_number tree is_static r)) (kept _ (field_number tree is_static r) n))
 
-  on_method : (make : ℕ → _) (r : MethodReference) (is_instance : Bool) → is_some (find_method tree is_instance r) ≡ true → is_some (with_owner tree r.owner make (option_map member_of (method_number tree is_instance r))) ≡ true
+  on_method : (make : ℕ → MemberNumber → Operation) (r : MethodReference) (is_instance : Bool) → is_some (find_method tree is_instance r) ≡ true → is_some (with_owner tree r.owner make (option_map member_of (method_number tree is_instance r))) ≡ true
   on_method make r is_instance h =
       let n = method_there is_instance r h in
       then_kept _ (class_number tree r.owner) (method_owner is_instance r n) (λ owner. kept _ (option_map member_of (method_number tree is_instance r)) (kept _ (method_number tree is_instance r) n))

@@ -75,17 +75,13 @@ member_of n = record { class = n.0; place = n.1 }
 abbrev pub field_rule : Tree → Bool → FieldReference → Option MemberNumber
 field_rule tree is_static r = option_map member_of (field_number tree is_static r)
 
--- a field of an object, behind the class that the text names
-abbrev pub instance_field_rule : Tree → FieldReference → Option (ℕ × MemberNumber)
-instance_field_rule tree r = option_and_then (λ owner. option_map (λ field. (owner, field)) (field_rule tree false r)) (class_number tree r.owner)
-
 -- a method that a reference finds (II.15.1.3)
 abbrev pub method_rule : Tree → Bool → MethodReference → Option MemberNumber
 method_rule tree is_instance r = option_map member_of (method_number tree is_instance r)
 
--- a member with the class that the text names
-abbrev pub with_owner : Tree → ClassName → (ℕ → MemberNumber → Operation) → Option MemberNumber → Option Operation
-with_owner tree c operation member = option_and_then (λ owner. option_map (operation owner) member) (class_number tree c)
+-- what is made of a member and the class that the text names
+abbrev pub with_owner : {A : Type 0} → Tree → ClassName → (ℕ → MemberNumber → A) → Option MemberNumber → Option A
+with_owner tree c make member = option_and_then (λ owner. option_map (make owner) member) (class_number tree c)
 
 -- ---- instructions
 

@@ -1,13 +1,13 @@
 // Instructions with their operands looked up, one group after the other.
 
-ghost use Rattle.std.specs.Prelude.{◌≡◌, IfOk, Some, option_map, map, true};
+ghost use Rattle.std.specs.Prelude.{◌≡◌, IfOk, Some, option_map, map, false, true};
 ghost use Rattle.std.specs.List.{position_from};
 ghost use Rattle.cil_model.specs.Bodies.{place_of, virtual_reference, constructor_reference};
 ghost use Rattle.cil_model.specs.Mentions.{literals_of};
 ghost use Rattle.cil_model.specs.Same.{same_text};
 ghost use Rattle.resolved_code.specs.declared.operations.Operation.TheVariants.{LoadString, Switch, Call, CallVirtual, NewObject};
 ghost use Rattle.name_tables.specs.Numbers.{field_number, method_number};
-ghost use Rattle.resolved_code.specs.Rules.{all_some, field_rule, instance_field_rule, method_rule, with_owner, branch_rule, type_operand_rule, field_operand_rule, call_rule, plain_rule, operation_rule};
+ghost use Rattle.resolved_code.specs.Rules.{all_some, field_rule, method_rule, with_owner, branch_rule, type_operand_rule, field_operand_rule, call_rule, plain_rule, operation_rule};
 
 use crate::identities::Identities;
 use crate::labels::Labels;
@@ -142,7 +142,7 @@ impl<'n, 'a> Resolver<'n, 'a> {
 
     /// A field of an object, behind the class that the text names.
     fn instance_field(&self, reference: &FieldReference) -> Option<(usize, MemberNumber)>
-        ensures { result ≡ instance_field_rule self.now.names.now.classes.tree.now reference.now }
+        ensures { result ≡ with_owner self.now.names.now.classes.tree.now reference.now.owner (λ owner field. (owner, field)) (field_rule self.now.names.now.classes.tree.now false reference.now) }
     {
         let owner = class_number(self.names, &reference.owner)?;
         let field = self.field(false, reference)?;

@@ -2,8 +2,8 @@ use Rattle.std.proofs.Common.{◌≡◌, ◌+◌, ◌++◌, ◌∷◌, ◌∙◌
 use Rattle.std.proofs.lemmas.List.{append-nil, take_all}
 use Rattle.step_simulation.specs.simulation.Runs.{AreTurns}
 use Rattle.interleaving_core.proofs.Doing.{does_more}
-use Rattle.interleaving_core.proofs.Following.{RunSoFar, SameProgram, all_reported, run_begun, run_follows, run_program, run_step, run_turns, turns_follow}
-use Rattle.interleaving_core.proofs.Refusing.{on_err}
+use Rattle.interleaving_core.proofs.Following.{RunSoFar, SameProgram, all_reported, run_begun, run_follows, run_kept, run_program, run_step, run_turns, turns_follow}
+use Rattle.interleaving_core.proofs.Refusing.{none_on_err, on_err}
 use Rattle.interleaving_core.proofs.machine.Machine.run.Goals as goal
 
 pub loop-event-init : goal.loop-event-init
@@ -57,3 +57,38 @@ returns-in_err-step-clause-stopped c =
     let own = subst (λ x. AreTurns c.args.self.now events x (drop (length c.args.reports.now.items) c.reserve.new.self.items)) (sym c.in_err-step.ensures.refused)
     (subst (λ rs. AreTurns c.args.self.now events c.loop-event.self (drop (length c.args.reports.now.items) rs)) (sym c.in_ok-reserve.ensures.items) turns) in
     on_err c.from_residual-in_err-step.result (c.loop-event.event-index, omega arith, own, turns_follow _ _ events _ own, does_more _ _ events _ own)
+
+pub returns-clause-appended : goal.returns-clause-appended
+returns-clause-appended c = run_kept c.args.self.now c.loop-event.self c.args.reports.now.items c.loop-event.reports.items (take c.loop-event.event-index c.args.events.now) c.loop-event.invariant
+
+pub returns-in_err-reserve-clause-appended : goal.returns-in_err-reserve-clause-appended
+returns-in_err-reserve-clause-appended c =
+    ap (take (length c.args.reports.now.items)) c.in_err-reserve.ensures.items ∙ run_kept c.args.self.now c.loop-event.self c.args.reports.now.items c.loop-event.reports.items (take c.loop-event.event-index c.args.events.now) c.loop-event.invariant
+
+pub returns-in_err-step-clause-appended : goal.returns-in_err-step-clause-appended
+returns-in_err-step-clause-appended c =
+    ap (take (length c.args.reports.now.items)) c.in_ok-reserve.ensures.items ∙ run_kept c.args.self.now c.loop-event.self c.args.reports.now.items c.loop-event.reports.items (take c.loop-event.event-index c.args.events.now) c.loop-event.invariant
+
+pub returns-in_err-reserve-clause-turns : goal.returns-in_err-reserve-clause-turns
+returns-in_err-reserve-clause-turns c = none_on_err _ c.from_residual.result c.from_residual.ensures.0
+
+pub returns-in_err-reserve-clause-each : goal.returns-in_err-reserve-clause-each
+returns-in_err-reserve-clause-each c = none_on_err _ c.from_residual.result c.from_residual.ensures.0
+
+pub returns-in_err-reserve-clause-follows : goal.returns-in_err-reserve-clause-follows
+returns-in_err-reserve-clause-follows c = none_on_err _ c.from_residual.result c.from_residual.ensures.0
+
+pub returns-in_err-reserve-clause-does : goal.returns-in_err-reserve-clause-does
+returns-in_err-reserve-clause-does c = none_on_err _ c.from_residual.result c.from_residual.ensures.0
+
+pub returns-in_err-step-clause-turns : goal.returns-in_err-step-clause-turns
+returns-in_err-step-clause-turns c = none_on_err _ c.from_residual-in_err-step.result c.from_residual-in_err-step.ensures.0
+
+pub returns-in_err-step-clause-each : goal.returns-in_err-step-clause-each
+returns-in_err-step-clause-each c = none_on_err _ c.from_residual-in_err-step.result c.from_residual-in_err-step.ensures.0
+
+pub returns-in_err-step-clause-follows : goal.returns-in_err-step-clause-follows
+returns-in_err-step-clause-follows c = none_on_err _ c.from_residual-in_err-step.result c.from_residual-in_err-step.ensures.0
+
+pub returns-in_err-step-clause-does : goal.returns-in_err-step-clause-does
+returns-in_err-step-clause-does c = none_on_err _ c.from_residual-in_err-step.result c.from_residual-in_err-step.ensures.0
