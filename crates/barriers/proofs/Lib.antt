@@ -1,3 +1,2 @@
 pub mod Keeping
-mod Trial
 pub mod Twins

@@ -1,2 +1,1 @@
 pub mod Barriers
-pub mod TrialHeap

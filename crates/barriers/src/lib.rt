@@ -5,8 +5,6 @@
 mod births;
 mod references;
 mod stores;
-#[cfg(test)]
-mod tests;
 
 pub use births::birth;
 pub use references::same;

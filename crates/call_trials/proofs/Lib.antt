@@ -1,1 +1,2 @@
+mod BarrierTrial
 pub mod Tickets

@@ -1,6 +1,8 @@
-//! Calls that no command makes: sources that are too long, lists that no text writes, and threads that share.
+//! Calls that no command makes: sources that are too long, lists that no text writes, barriers over a heap made by hand, and
+//! threads that share.
 #![tactic(auto)]
 
+mod barrier_calls;
 mod epochs;
 mod library_calls;
 mod two_workers;

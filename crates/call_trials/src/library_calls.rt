@@ -4,6 +4,7 @@ ghost use Rattle.std.specs.Prelude.{◌≡◌, map};
 ghost use Rattle.cil_model.specs.Declarations.{built_ins};
 ghost use Rattle.name_tables.specs.BuiltInTable.{built_in_entry};
 
+use crate::barrier_calls::barriers_do_as_shown;
 use crate::epochs::{counts_in_turn, threads_see_every_epoch};
 use cil_model::events::Event;
 use cil_model::limits::Limits;
@@ -56,7 +57,7 @@ pub fn came_to(name: &'static str, is_as_expected: bool) -> Call
 }
 
 /// Makes the calls. One that wants memory counts as one that came to something else.
-pub fn calls(threads: &(impl Threads + Sync), alloc: Global) -> [Call; 8] {
+pub fn calls(threads: &(impl Threads + Sync), alloc: Global) -> [Call; 9] {
     [
         came_to(
             "a source that is too long",
@@ -84,6 +85,10 @@ pub fn calls(threads: &(impl Threads + Sync), alloc: Global) -> [Call; 8] {
             counts_in_turn(alloc).unwrap_or(false),
         ),
         came_to("the plain machine", runs_plainly(alloc).unwrap_or(false)),
+        came_to(
+            "barriers in each phase",
+            barriers_do_as_shown(alloc).unwrap_or(false),
+        ),
     ]
 }
 

@@ -1,24 +1,20 @@
-// The barriers as they run, in each phase, over a heap that is made by hand.
+//! The barriers as they run, in each phase, over a heap that is made by hand.
 
 ghost use Rattle.std.specs.Prelude.{◌≡◌, ◌<◌, true, IfOk, IfSome, IsSome, length};
 ghost use Rattle.object_memory.specs.Objects.{object_cell, object_slots};
 ghost use Rattle.barriers.specs.Barriers.{is_other_there};
-ghost use Rattle.barriers.specs.TrialHeap.{IsSeen, address_of, after_birth, after_ints, fields, trial_objects};
+ghost use Rattle.call_trials.specs.TrialHeap.{IsSeen, address_of, after_birth, after_ints, fields, trial_objects};
 
-use crate::births::birth;
-use crate::references::same;
-use crate::stores::{store_int, store_monitor, store_ref, store_static, store_value};
+use barriers::{birth, same, store_int, store_monitor, store_ref, store_static, store_value};
 use cil_model::memory::NoMemory;
 use cil_model::phases::Phase;
 use object_memory::{Addr, Heap, Kind, Monitor, Value, ValueKind};
 use space_block::Block;
 use std::alloc::Global;
-use std::process::Abort;
-use std::test::Fail;
 
 /// What is seen of the heap and the static fields in a phase, once each barrier was called. References are told by their words, and
 /// 0 is null or none.
-#[derive(Clone, Copy)]
+#[derive(Clone, Copy, PartialEq)]
 struct Row {
     phase: Phase,
     /// The slots of the old copy of the object that is stored to, and those of the new copy.
@@ -172,44 +168,23 @@ const ROWS: [Row; 8] = [
     },
 ];
 
-#[test]
-fn each_barrier_in_each_phase(rt: HostRuntime) -> Result<(), Fail> {
+/// Whether each barrier does in each phase what the row of the phase shows.
+pub fn barriers_do_as_shown(alloc: Global) -> Result<bool, NoMemory> {
     for row in ROWS {
-        in_phase(&rt, rt.alloc(), &row)?;
+        if !is_as_shown(alloc, &row)? {
+            return Ok(false);
+        }
     }
-    Ok(())
+    Ok(true)
 }
 
 /// Calls each barrier in a row's phase, over a heap of its own, and compares what is seen then.
-fn in_phase(rt: &impl Abort, alloc: Global, row: &Row) -> Result<(), NoMemory> {
+fn is_as_shown(alloc: Global, row: &Row) -> Result<bool, NoMemory> {
     let mut heap = trial_heap(alloc)?;
     let mut statics = [Value::Ref(Addr::null()), Value::Ref(Addr::null())];
     store_slots(&mut heap, row.phase);
     let born = store_others(&mut heap, row.phase, &mut statics);
-    compare(rt, row, &seen(&mut heap, row.phase, &statics, born));
-    Ok(())
-}
-
-fn compare(rt: &impl Abort, row: &Row, seen: &Row) {
-    let phase = row.phase;
-    assert_eq!(rt; seen.old, row.old, "old copy in {phase:?}");
-    assert_eq!(rt; seen.new, row.new, "new copy in {phase:?}");
-    assert_eq!(rt; seen.marks, row.marks, "marks in {phase:?}");
-    assert_eq!(rt;
-        seen.has_marked,
-        row.has_marked,
-        "marks since the round in {phase:?}"
-    );
-    assert_eq!(rt; seen.grey, row.grey, "grey list in {phase:?}");
-    assert_eq!(rt; seen.monitors, row.monitors, "monitors in {phase:?}");
-    assert_eq!(rt; seen.statics, row.statics, "static fields in {phase:?}");
-    assert_eq!(rt; seen.same, row.same, "comparisons in {phase:?}");
-    assert_eq!(rt; seen.born, row.born, "birth in {phase:?}");
-    assert_eq!(rt;
-        seen.born_marks,
-        row.born_marks,
-        "marks of the birth in {phase:?}"
-    );
+    Ok(seen(&mut heap, row.phase, &statics, born) == *row)
 }
 
 /// Stores to the slots of both copies of an object.

@@ -1,5 +1,5 @@
-use Rattle.barriers.proofs.Trial.{first_int, first_int_done, first_ref_done, first_value, first_value_done, int_inside, second_inside, second_int, second_int_done, second_ref, second_ref_done, second_value, second_value_done}
-use Rattle.barriers.proofs.tests.store_slots.Goals as goal
+use Rattle.call_trials.proofs.BarrierTrial.{first_int, first_int_done, first_ref_done, first_value, first_value_done, int_inside, second_inside, second_int, second_int_done, second_ref, second_ref_done, second_value, second_value_done}
+use Rattle.call_trials.proofs.barrier_calls.store_slots.Goals as goal
 
 pub store_ref-requires-2-clause-ready : goal.store_ref-requires-2-clause-ready
 store_ref-requires-2-clause-ready c =

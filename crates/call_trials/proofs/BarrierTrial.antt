@@ -12,7 +12,7 @@ use Rattle.object_memory.specs.declared.values.Value.TheVariants.{Ref}
 use Rattle.object_memory.specs.Cells.{literal}
 use Rattle.object_memory.specs.Objects.{Objects, monitor_at, object_slots}
 use Rattle.barriers.specs.Barriers.{can_bear, is_monitor_storable, is_static_storable, is_storable, is_word_storable, object_born, stored_int, stored_monitor, stored_ref, stored_static, stored_value}
-use Rattle.barriers.specs.TrialHeap.{IsSeen, after_birth, after_guest, after_host, after_int, after_ints, after_monitors, after_ref, after_refs, after_static, after_statics, after_value, after_values, fields, guest, guest_copied, host, host_copied, pale, trial_objects, white}
+use Rattle.call_trials.specs.TrialHeap.{IsSeen, after_birth, after_guest, after_host, after_int, after_ints, after_monitors, after_ref, after_refs, after_static, after_statics, after_value, after_values, fields, guest, guest_copied, host, host_copied, pale, trial_objects, white}
 
 -- what is so in each of the eight phases
 in_all : (p : Phase → Bool) → p Idle ≡ true → p Mark ≡ true → p Allocate ≡ true → p Copy ≡ true → p PreFlip ≡ true → p HeapFlip ≡ true → p ThreadFlip ≡ true → p Reclaim ≡ true → (f : Phase) → p f ≡ true

@@ -1,5 +1,5 @@
-use Rattle.barriers.proofs.Trial.{bears, born, first_static, first_static_done, guest_done, guest_ready, guest_there, host_done, host_ready, host_there, second_static, second_static_done, text_done, text_ready}
-use Rattle.barriers.proofs.tests.store_others.Goals as goal
+use Rattle.call_trials.proofs.BarrierTrial.{bears, born, first_static, first_static_done, guest_done, guest_ready, guest_there, host_done, host_ready, host_there, second_static, second_static_done, text_done, text_ready}
+use Rattle.call_trials.proofs.barrier_calls.store_others.Goals as goal
 
 pub store_monitor-requires-clause-there : goal.store_monitor-requires-clause-there
 store_monitor-requires-clause-there c = host_there c.args.phase c.requires.heap c.address.ensures
