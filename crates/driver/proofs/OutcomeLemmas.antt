@@ -1,25 +1,25 @@
 -- What a run that is shown, whole or in part, shows of its source.
 use Rattle.std.proofs.Common.{◌≡◌, ◌++◌, ℕ, Bool, true, false, List, [], map, Option, Result, Ok, Err, refl, ap, sym, ◌∙◌, subst, inl, inr}
 use Rattle.std.specs.Prelude.{IfErr}
-use Rattle.threaded_runs.proofs.source_runs.simulation.StandsLaws.{ends_stand, printed_stands}
-use Rattle.threaded_runs.specs.source_runs.simulation.MachineContents.{Content}
-use Rattle.threaded_runs.specs.source_runs.simulation.Runs.{StandsAfter}
-use Rattle.threaded_runs.specs.source_runs.simulation.StandsFor.{Represents}
-use Rattle.threaded_runs.specs.source_runs.simulation.threads_monitors.Threads.{end_of}
-use Rattle.threaded_runs.specs.source_runs.reference_machine.States.{State}
+use Rattle.source_runs.proofs.simulation.StandsLaws.{ends_stand, printed_stands}
+use Rattle.source_runs.specs.simulation.MachineContents.{Content}
+use Rattle.source_runs.specs.simulation.Runs.{StandsAfter}
+use Rattle.source_runs.specs.simulation.StandsFor.{Represents}
+use Rattle.source_runs.specs.simulation.threads_monitors.Threads.{end_of}
+use Rattle.source_runs.specs.reference_machine.States.{State}
 use Rattle.cil_model.specs.declared.events.Event.{Event}
 use Rattle.cil_model.specs.declared.limits.Limits.{Limits}
 use Rattle.cil_model.specs.declared.reports.Report.{Report}
-use Rattle.threaded_runs.specs.source_runs.Failures.{IsOfWriting, is_refusal}
-use Rattle.threaded_runs.specs.source_runs.declared.failure.Failure.{Failure}
+use Rattle.source_runs.specs.Failures.{IsOfWriting, is_refusal}
+use Rattle.source_runs.specs.declared.failure.Failure.{Failure}
 use Rattle.deadlocks.specs.event_trace.Traces.{IsTraced}
-use Rattle.threaded_runs.specs.source_runs.Runs.{IsReady, IsRunBy}
+use Rattle.source_runs.specs.Runs.{IsReady, IsRunBy}
 use Rattle.driver.specs.Outcomes.{AreThreadsExplained, HasRun, HasTraced, IsExplanation, IsMachineShown, IsMachineShownInPart, IsRunInPart, IsShown, IsThreadText, IsTracedThenInPart}
 use Rattle.driver.specs.Threads.{ends_of, lines_from}
 use Rattle.outputs.specs.Beginnings.{AppendsBeginning}
 use Rattle.outputs.proofs.BeginningLaws.{begins_nothing}
-use Rattle.threaded_runs.proofs.source_runs.RunLemmas.{comes_to}
-use Rattle.threaded_runs.proofs.source_runs.interleaving_core.Doing.{has_done}
+use Rattle.source_runs.proofs.RunLemmas.{comes_to}
+use Rattle.source_runs.proofs.interleaving_core.Doing.{has_done}
 
 pub for_err : {T E : Type 0} {P : Type 0} (r : Result T E) → P → IfErr r (λ _. P)
 for_err (Ok x) p = tt

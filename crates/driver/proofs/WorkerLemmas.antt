@@ -15,16 +15,16 @@ use Rattle.cil_model.specs.declared.reports.End.{End}
 use Rattle.schedule_text.specs.Items.{is_numbered}
 use Rattle.outputs.specs.Beginnings.{AppendsBeginning}
 use Rattle.outputs.proofs.BeginningLaws.{begins_first, begins_second, begins_whole}
-use Rattle.threaded_runs.proofs.source_runs.simulation.StandsLaws.{ends_stand, printed_stands}
-use Rattle.threaded_runs.specs.source_runs.Runs.{HasRunTo}
-use Rattle.threaded_runs.proofs.source_runs.RunLemmas.{comes_to}
-use Rattle.threaded_runs.specs.source_runs.shared_machine.Histories.{events_of, reports_of}
-use Rattle.threaded_runs.specs.source_runs.shared_machine.declared.history.Entry.{Entry}
-use Rattle.threaded_runs.specs.source_runs.simulation.MachineContents.{Content}
-use Rattle.threaded_runs.specs.source_runs.simulation.Runs.{StandsAfter}
-use Rattle.threaded_runs.specs.source_runs.simulation.threads_monitors.Threads.{end_of, is_live as is_live_thread}
-use Rattle.threaded_runs.specs.source_runs.simulation.threads_monitors.declared.threads.Thread.{Thread}
-use Rattle.threaded_runs.specs.workers.Work.{IsOwn, IsOwnOf}
+use Rattle.source_runs.proofs.simulation.StandsLaws.{ends_stand, printed_stands}
+use Rattle.source_runs.specs.Runs.{HasRunTo}
+use Rattle.source_runs.proofs.RunLemmas.{comes_to}
+use Rattle.source_runs.specs.shared_machine.Histories.{events_of, reports_of}
+use Rattle.source_runs.specs.shared_machine.declared.history.Entry.{Entry}
+use Rattle.source_runs.specs.simulation.MachineContents.{Content}
+use Rattle.source_runs.specs.simulation.Runs.{StandsAfter}
+use Rattle.source_runs.specs.simulation.threads_monitors.Threads.{end_of, is_live as is_live_thread}
+use Rattle.source_runs.specs.simulation.threads_monitors.declared.threads.Thread.{Thread}
+use Rattle.source_runs.specs.workers.Work.{IsOwn, IsOwnOf}
 use Rattle.orders.specs.Orders.{record_file_of}
 use Rattle.orders.specs.declared.order.Order.{Order}
 use Rattle.orders.specs.declared.order.Order.TheVariants.{Check, Run, Replay, Trace, Threads, Flip}

@@ -10,30 +10,30 @@ use Rattle.deadlocks.specs.Texts.{threads_text}
 use Rattle.deadlocks.specs.event_trace.Traces.{IsTraced, IsTracedInPart}
 use Rattle.deadlocks.specs.event_trace.declared.errors.TraceError.{TraceError}
 use Rattle.deadlocks.specs.event_trace.declared.errors.TraceError.TheVariants.{Memory as WantsMemory, Device as CantWrite}
-use Rattle.threaded_runs.specs.source_runs.simulation.Owed.{LeavesWhatIsOwed}
-use Rattle.threaded_runs.specs.source_runs.simulation.StandsFor.{Represents}
-use Rattle.threaded_runs.specs.source_runs.simulation.threads_monitors.Threads.{end_of}
+use Rattle.source_runs.specs.simulation.Owed.{LeavesWhatIsOwed}
+use Rattle.source_runs.specs.simulation.StandsFor.{Represents}
+use Rattle.source_runs.specs.simulation.threads_monitors.Threads.{end_of}
 use Rattle.cil_model.specs.declared.events.Event.{Event}
 use Rattle.cil_model.specs.declared.limits.Limits.{Limits}
-use Rattle.threaded_runs.specs.source_runs.reference_machine.States.{State}
+use Rattle.source_runs.specs.reference_machine.States.{State}
 use Rattle.cil_model.specs.declared.reports.End.{End}
 use Rattle.cil_model.specs.declared.reports.Report.{Report}
-use Rattle.threaded_runs.specs.source_runs.simulation.MachineContents.{Content}
-use Rattle.threaded_runs.specs.source_runs.Failures.{is_refusal, message_of}
-use Rattle.threaded_runs.specs.source_runs.Failures.{IsOfWriting, status_of_failure}
+use Rattle.source_runs.specs.simulation.MachineContents.{Content}
+use Rattle.source_runs.specs.Failures.{is_refusal, message_of}
+use Rattle.source_runs.specs.Failures.{IsOfWriting, status_of_failure}
 use Rattle.outputs.specs.Beginnings.{AppendsBeginning}
 use Rattle.orders.specs.Orders.{is_explained}
 use Rattle.driver.specs.Records.{IsRecordOf, refusal_of, status_with, text_of}
 use Rattle.driver.specs.Threads.{ends_of, is_live, lines_from, status_of}
 use Rattle.driver.specs.declared.recording.Record.{Record}
-use Rattle.threaded_runs.specs.source_runs.shared_machine.Histories.{events_of, reports_of}
-use Rattle.threaded_runs.specs.source_runs.shared_machine.declared.history.Entry.{Entry}
-use Rattle.threaded_runs.specs.workers.Work.{IsOwnOf}
-use Rattle.threaded_runs.specs.source_runs.declared.failure.Failure.{Failure}
-use Rattle.threaded_runs.specs.source_runs.declared.failure.Failure.TheVariants.{Memory, Device}
+use Rattle.source_runs.specs.shared_machine.Histories.{events_of, reports_of}
+use Rattle.source_runs.specs.shared_machine.declared.history.Entry.{Entry}
+use Rattle.source_runs.specs.workers.Work.{IsOwnOf}
+use Rattle.source_runs.specs.declared.failure.Failure.{Failure}
+use Rattle.source_runs.specs.declared.failure.Failure.TheVariants.{Memory, Device}
 use Rattle.orders.specs.declared.order.Order.{Order}
 use Rattle.orders.specs.declared.order.Order.TheVariants.{Check, Run, Replay, Trace, Threads, Flip}
-use Rattle.threaded_runs.specs.source_runs.Runs.{IsLetIn, IsNotAccepted, IsNotRun, IsNotRunBy, ComesTo, ComesToBy, IsOpened, IsReady}
+use Rattle.source_runs.specs.Runs.{IsLetIn, IsNotAccepted, IsNotRun, IsNotRunBy, ComesTo, ComesToBy, IsOpened, IsReady}
 
 -- the lines of each live thread of a machine, and of those that are deadlocked
 abbrev pub AreThreadsExplained : Content → List ℕ → Type 0

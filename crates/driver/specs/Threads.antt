@@ -5,7 +5,7 @@ use Rattle.std.specs.List.{list_all, list_any}
 use Rattle.cil_model.specs.ExceptionNames.{name_of}
 use Rattle.cil_model.specs.declared.reports.End.{End}
 use Rattle.cil_model.specs.declared.reports.End.TheVariants.{Done, Budget, Fault}
-use Rattle.threaded_runs.specs.source_runs.reference_machine.States.{State, Thread}
+use Rattle.source_runs.specs.reference_machine.States.{State, Thread}
 
 -- how each thread that was started stands, in the order of their numbers
 abbrev pub ends_of : State → List (Option End)

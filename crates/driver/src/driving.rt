@@ -6,10 +6,10 @@ ghost use Rattle.deadlocks.specs.event_trace.Traces.{IsTraced, IsTracedInPart};
 ghost use Rattle.flip_trial.specs.Trial.{place_count};
 ghost use Rattle.outputs.specs.Beginnings.{AppendsBeginning};
 ghost use Rattle.schedule_text.specs.Items.{events_of};
-ghost use Rattle.threaded_runs.specs.source_runs.Failures.{IsOfWriting, is_refusal};
+ghost use Rattle.source_runs.specs.Failures.{IsOfWriting, is_refusal};
 ghost use Rattle.orders.specs.Orders.{record_file_of};
 ghost use Rattle.driver.specs.Outcomes.{HasNotRun, HasRun, HasTraced, IsChecked, IsDone, IsNotChecked, failure_of_tracing};
-ghost use Rattle.threaded_runs.specs.source_runs.Runs.{IsLetIn};
+ghost use Rattle.source_runs.specs.Runs.{IsLetIn};
 ghost use Rattle.driver.specs.Outcomes.{IsNotDone, IsDoneInPart, IsOutcome, IsOutcomeOrCut};
 ghost use Rattle.driver.specs.Outcomes.{IsRunInPart, IsTellingCut, IsTraceInPart, IsTracedThenInPart, IsTried, trial_text};
 
@@ -25,7 +25,7 @@ use schedule_text::Item;
 use std::alloc::Global;
 use std::sync::Wait;
 use std::thread::Threads;
-use threaded_runs::{Failure, Machine, accept, open, run_source};
+use source_runs::{Failure, Machine, accept, open, run_source};
 
 /// Does a command on the bytes of its files, and answers the status: a replay and a trace take their schedule
 /// from `schedule`, which the others pass over. Faults are looked for in this order: the source, the limits,

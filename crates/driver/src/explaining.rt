@@ -3,7 +3,7 @@
 ghost use Rattle.std.specs.Prelude.{◌≡◌, ◌++◌, IfErr, IfOk, List, ℕ, OnErr, OnOk, true};
 ghost use Rattle.std.specs.Io.KnownBytes.{Appends};
 ghost use Rattle.outputs.specs.Beginnings.{AppendsBeginning};
-ghost use Rattle.threaded_runs.specs.source_runs.Failures.{message_of, status_of_failure};
+ghost use Rattle.source_runs.specs.Failures.{message_of, status_of_failure};
 ghost use Rattle.driver.specs.Outcomes.{IsExplanation, is_told_why};
 
 use cil_model::limits::Limits;
@@ -13,7 +13,7 @@ use orders::Order;
 use outputs::{NotWritten, Output};
 use schedule_text::read_schedule;
 use std::alloc::Global;
-use threaded_runs::{Failure, status_of_failure, tell};
+use source_runs::{Failure, status_of_failure, tell};
 
 /// Writes a failure to the standard error, and behind a refusal a text that explains it, where the order asks for one. It answers the
 /// failure's status. An error is a write that failed, and a beginning of the telling is written then. Where the explanation wants memory,

@@ -9,4 +9,4 @@ mod showing;
 
 pub use driving::drive;
 pub use outputs::Device;
-pub use threaded_runs::{Failure, Run, report, run_events};
+pub use source_runs::{Failure, Run, report, run_events};

@@ -5,15 +5,15 @@ ghost use Rattle.std.specs.List.{list_all};
 ghost use Rattle.std.specs.Io.KnownBytes.{Appends};
 ghost use Rattle.outputs.specs.Beginnings.{AppendsBeginning};
 ghost use Rattle.schedule_text.specs.Items.{is_numbered};
-ghost use Rattle.threaded_runs.specs.source_runs.Failures.{IsOfWriting};
-ghost use Rattle.threaded_runs.specs.source_runs.shared_machine.Histories.{events_of};
+ghost use Rattle.source_runs.specs.Failures.{IsOfWriting};
+ghost use Rattle.source_runs.specs.shared_machine.Histories.{events_of};
 ghost use Rattle.driver.specs.Records.{IsKept, IsRecordOf, refusal_of};
 
 use cil_model::memory::NoMemory;
 use outputs::Output;
 use schedule_text::ScheduleError;
 use std::alloc::Global;
-use threaded_runs::{Failure, History, status_of_failure, tell, write_record};
+use source_runs::{Failure, History, status_of_failure, tell, write_record};
 
 /// What comes of the record of a run.
 #[derive(Debug, Drop)]

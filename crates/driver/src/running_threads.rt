@@ -1,7 +1,7 @@
 //! Has workers run a source.
 
 ghost use Rattle.std.specs.Prelude.{◌≡◌, ◌⊎◌, IfErr, IfOk, OnErr, true};
-ghost use Rattle.threaded_runs.specs.source_runs.Failures.{is_refusal};
+ghost use Rattle.source_runs.specs.Failures.{is_refusal};
 ghost use Rattle.driver.specs.Outcomes.{HasNotRunThreads, HasRunThreads, IsRunByWorkersInPart};
 
 use crate::recording::{keep, record_of};
@@ -12,7 +12,7 @@ use outputs::Output;
 use std::alloc::Global;
 use std::sync::Wait;
 use std::thread::Threads;
-use threaded_runs::{Failure, OpenGate, run_threads};
+use source_runs::{Failure, OpenGate, run_threads};
 
 /// Runs a source by workers, prints what the run leaves, puts its record behind what is kept where one is asked for, and answers the status.
 pub(crate) fn show_threads<W: Output, E: Output>(

@@ -4,7 +4,7 @@ ghost use Rattle.std.specs.Prelude.{◌≡◌, ◌++◌, ◌∷◌, [], ℕ, cod
 ghost use Rattle.std.specs.List.{list_all, list_any};
 ghost use Rattle.std.specs.Io.KnownBytes.{Appends};
 ghost use Rattle.outputs.specs.Beginnings.{AppendsBeginning};
-ghost use Rattle.threaded_runs.specs.source_runs.Failures.{IsOfWriting};
+ghost use Rattle.source_runs.specs.Failures.{IsOfWriting};
 ghost use Rattle.driver.specs.Outcomes.{IsMachineShown, IsMachineShownInPart, IsThreadText, trial_text};
 ghost use Rattle.driver.specs.Threads.{is_done, is_live, line_of, lines_from, status_of};
 
@@ -15,7 +15,7 @@ use outputs::{NotWritten, Output};
 use std::alloc::Global;
 use std::io;
 use std::io::Write;
-use threaded_runs::{Failure, Machine};
+use source_runs::{Failure, Machine};
 
 /// Writes the one line of a check.
 pub(crate) fn say_accepted<W: Output>(out: &mut W) -> Result<(), NotWritten>

@@ -10,7 +10,7 @@ use std::sync::Wait;
 use std::sync::atomic::AtomicU64;
 use std::sync::atomic::Ordering::SeqCst;
 use std::thread::{Threads, yield_now};
-use threaded_runs::{Failure, Gate, Machine, Run, open, run_threads};
+use source_runs::{Failure, Gate, Machine, Run, open, run_threads};
 
 /// The first thread starts another one, in its first 20 steps, and then both go round until their budgets end them.
 static ROUND: &str = ".assembly extern mscorlib {} .assembly extern cilvm {}

@@ -12,7 +12,7 @@ use std::io::{ErrorKind, Read};
 use std::marker::Brand;
 use std::sync::Wait;
 use std::thread::Threads;
-use threaded_runs::{Failure, Machine, Outcome, accept, run_events};
+use source_runs::{Failure, Machine, Outcome, accept, run_events};
 use worker_counts::Blank;
 
 /// Makes the calls. One that wants memory counts as one that came to something else.

@@ -4,7 +4,10 @@
 mod failure;
 pub mod laws;
 mod running;
+mod threads;
 
 pub use failure::{Failure, report, status_of_failure, tell};
 pub use running::{accept, open, run_events, run_source};
 pub use shared_machine::{Answer, History, Machine, Opening, Outcome, Run, Shared, stop};
+pub use threads::run_threads;
+pub use workers::{Gate, OpenGate, write_record};

@@ -1,6 +1,6 @@
 use Rattle.std.proofs.Common.{refl, subst}
 use Rattle.std.specs.Prelude.{IfErr, IfOk}
-use Rattle.threaded_runs.proofs.source_runs.RunLemmas.{if_ok}
+use Rattle.source_runs.proofs.RunLemmas.{if_ok}
 use Rattle.driver.specs.Outcomes.{HasNotRun, HasRun}
 use Rattle.driver.proofs.driving.perform.Goals as goal
 

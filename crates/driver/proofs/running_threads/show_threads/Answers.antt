@@ -1,7 +1,7 @@
 use Rattle.std.proofs.Common.{inl, inr, subst, sym}
 use Rattle.driver.specs.Outcomes.{HasNotRunThreads}
-use Rattle.threaded_runs.specs.source_runs.Failures.{IsOfWriting}
-use Rattle.threaded_runs.proofs.source_runs.RunLemmas.{handed_on, if_err, if_ok, on_err, on_err_of}
+use Rattle.source_runs.specs.Failures.{IsOfWriting}
+use Rattle.source_runs.proofs.RunLemmas.{handed_on, if_err, if_ok, on_err, on_err_of}
 use Rattle.driver.proofs.OutcomeLemmas.{no_refusal}
 use Rattle.driver.proofs.WorkerLemmas.{all_numbered, has_run_threads, threads_in_part, threads_then_in_part}
 use Rattle.driver.proofs.running_threads.show_threads.Goals as goal

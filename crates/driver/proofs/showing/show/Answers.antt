@@ -2,9 +2,9 @@ use Rattle.std.proofs.Common.{◌≡◌, ◌++◌, ◌∙◌, ap, map, subst}
 use Rattle.std.specs.Io.KnownBytes.{Appends}
 use Rattle.outputs.specs.Beginnings.{AppendsBeginning}
 use Rattle.outputs.proofs.BeginningLaws.{begins_nothing, begins_whole}
-use Rattle.threaded_runs.specs.source_runs.simulation.threads_monitors.Threads.{end_of}
+use Rattle.source_runs.specs.simulation.threads_monitors.Threads.{end_of}
 use Rattle.driver.specs.Threads.{lines_from, status_of}
-use Rattle.threaded_runs.proofs.source_runs.RunLemmas.{on_err}
+use Rattle.source_runs.proofs.RunLemmas.{on_err}
 use Rattle.driver.proofs.OutcomeLemmas.{none_shown}
 use Rattle.driver.proofs.showing.show.Goals as goal
 

@@ -1,4 +1,4 @@
-use Rattle.threaded_runs.proofs.threads.run.Given as goal
+use Rattle.source_runs.proofs.threads.run.Given as goal
 
 -- the machine that is opened, for so many workers
 abbrev pub ghosts-run_together-M-Opening : goal.ghosts-run_together-M-Opening

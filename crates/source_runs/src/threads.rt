@@ -1,16 +1,18 @@
-//! From the bytes of a source to what workers leave of its run.
+//! From the bytes of a source to what workers leave of its run, each of them in a thread of its own.
 
 ghost use Rattle.std.specs.Prelude.{◌≡◌, ◌≤◌, All, IfErr, IfOk};
 ghost use Rattle.std.specs.List.{count_by};
 ghost use Rattle.source_runs.specs.Runs.{HasRunTo, IsNotRun, IsNotRunWithin};
-ghost use Rattle.workers.specs.shared_machine.simulation.threads_monitors.Threads.{is_live};
-ghost use Rattle.workers.specs.shared_machine.Histories.{events_of, reports_of};
-ghost use Rattle.workers.specs.shared_machine.interleaving_core.Histories.{HasDone};
-ghost use Rattle.workers.specs.shared_machine.declared.shared.TheConstants.{MOST_WORKERS};
+ghost use Rattle.shared_machine.specs.simulation.threads_monitors.Threads.{is_live};
+ghost use Rattle.shared_machine.specs.Histories.{events_of, reports_of};
+ghost use Rattle.shared_machine.specs.interleaving_core.Histories.{HasDone};
+ghost use Rattle.shared_machine.specs.declared.shared.TheConstants.{MOST_WORKERS};
 ghost use Rattle.workers.specs.Work.{IsOwnOf};
 
+use crate::failure::Failure;
+use crate::running::accept;
 use cil_model::limits::Limits;
-use source_runs::{Failure, Machine, Outcome, accept};
+use shared_machine::{Machine, Outcome};
 use std::alloc::Global;
 use std::marker::Brand;
 use std::sync::Wait;

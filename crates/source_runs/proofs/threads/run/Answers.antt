@@ -1,5 +1,5 @@
 use Rattle.std.proofs.Common.{[]}
-use Rattle.threaded_runs.proofs.threads.run.Goals as goal
+use Rattle.source_runs.proofs.threads.run.Goals as goal
 
 pub returns-clause-ran : goal.returns-clause-ran
 returns-clause-ran g c = c.in_ok-run_together.ensures.ran.does c.args.program c.args.limits [] [] c.in_ok-machine.ensures.done

@@ -1,1 +1,0 @@
-pub use Rattle.source_runs.proofs as source_runs
