@@ -11,11 +11,11 @@ use Rattle.event_trace.specs.interleaving_core.simulation.reference_machine.Effe
 use Rattle.event_trace.specs.interleaving_core.simulation.reference_machine.States.{Monitor as StateMonitor, Free as IsFree, Held as IsHeld, HeapObject, Frame as StateFrame, Thread as StateThread, State, is_live, monitor_of, object_at}
 use Rattle.event_trace.specs.interleaving_core.simulation.reference_machine.Steps.{instruction_at}
 use Rattle.event_trace.specs.interleaving_core.simulation.reference_machine.Values.{ObjectName, Value as StateValue, Null, Reference}
-use Rattle.event_trace.specs.interleaving_core.simulation.reference_laws.TypedStates.{AreTypedFrames}
-use Rattle.event_trace.proofs.interleaving_core.simulation.reference_laws.Running.{IsTypedEffect}
-use Rattle.event_trace.specs.interleaving_core.simulation.reference_laws.Waits.{ForMonitor, ForEnd, called_action, top_object, wait_of, wait_of_thread}
-use Rattle.event_trace.specs.interleaving_core.simulation.reference_laws.Waits.{Wait as StateWait, wait_by as state_wait_by, wait_in as state_wait_in, held_by_another as state_held, end_awaited as state_awaited}
-use Rattle.event_trace.proofs.interleaving_core.simulation.reference_laws.Waiting.{calling_acts}
+use Rattle.event_trace.specs.interleaving_core.simulation.reference_machine.TypedStates.{AreTypedFrames}
+use Rattle.event_trace.proofs.interleaving_core.simulation.reference_machine.Running.{IsTypedEffect}
+use Rattle.event_trace.specs.interleaving_core.simulation.reference_machine.Waits.{ForMonitor, ForEnd, called_action, top_object, wait_of, wait_of_thread}
+use Rattle.event_trace.specs.interleaving_core.simulation.reference_machine.Waits.{Wait as StateWait, wait_by as state_wait_by, wait_in as state_wait_in, held_by_another as state_held, end_awaited as state_awaited}
+use Rattle.event_trace.proofs.interleaving_core.simulation.reference_machine.Waiting.{calling_acts}
 use Rattle.event_trace.specs.interleaving_core.simulation.object_memory.declared.addresses.Addr.{Addr}
 use Rattle.event_trace.specs.interleaving_core.simulation.object_memory.declared.monitors.Monitor.{Monitor as AnyMonitor}
 use Rattle.event_trace.specs.interleaving_core.simulation.object_memory.declared.monitors.Monitor.TheVariants.{Free, Held}

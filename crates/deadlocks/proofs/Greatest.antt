@@ -7,10 +7,10 @@ use Rattle.cil_model.proofs.Lists.{none_is_some}
 use Rattle.cil_model.proofs.SameLaws.{not_both}
 use Rattle.event_trace.specs.interleaving_core.simulation.reference_machine.States.{Held, HeapObject, Thread as StateThread, State, is_live_thread}
 use Rattle.event_trace.specs.interleaving_core.simulation.reference_machine.Values.{Born, Literal}
-use Rattle.event_trace.specs.interleaving_core.simulation.reference_laws.Waits.{Wait as StateWait, ForMonitor, ForEnd, wait_of}
-use Rattle.event_trace.specs.interleaving_core.simulation.reference_laws.Blocking.{HasEnded, HoldersWereStarted, IsBlockedSet, IsHeldUp, IsIn}
-use Rattle.event_trace.proofs.interleaving_core.simulation.reference_laws.Going.{IsTrueWait, waits_truly}
-use Rattle.event_trace.proofs.interleaving_core.simulation.reference_laws.Lasting.{waiting_lives}
+use Rattle.event_trace.specs.interleaving_core.simulation.reference_machine.Waits.{Wait as StateWait, ForMonitor, ForEnd, wait_of}
+use Rattle.event_trace.specs.interleaving_core.simulation.reference_machine.Blocking.{HasEnded, HoldersWereStarted, IsBlockedSet, IsHeldUp, IsIn}
+use Rattle.event_trace.proofs.interleaving_core.simulation.reference_machine.Going.{IsTrueWait, waits_truly}
+use Rattle.event_trace.proofs.interleaving_core.simulation.reference_machine.Lasting.{waiting_lives}
 use Rattle.event_trace.specs.interleaving_core.simulation.threads_monitors.Threads.{is_live_at}
 use Rattle.event_trace.specs.interleaving_core.simulation.MachineContents.{Content}
 use Rattle.event_trace.specs.interleaving_core.simulation.StandsFor.{IsThread, Represents}

@@ -3,7 +3,7 @@ use Rattle.std.specs.Prelude.{◌≡◌, Bool, List, length}
 use Rattle.event_trace.specs.interleaving_core.simulation.reference_machine.States.{State}
 use Rattle.event_trace.specs.interleaving_core.simulation.MachineContents.{Content}
 use Rattle.event_trace.specs.interleaving_core.simulation.StandsFor.{Represents}
-use Rattle.event_trace.specs.interleaving_core.simulation.reference_laws.Blocking.{AreDeadlocked}
+use Rattle.event_trace.specs.interleaving_core.simulation.reference_machine.Blocking.{AreDeadlocked}
 
 -- Of each thread that was started it is told whether it is deadlocked: so it is in every state that the machine represents.
 pub record IsDeadlockOf (c : Content) (set : List Bool) : Type 0 where

@@ -9,7 +9,7 @@ ghost use Rattle.event_trace.specs.interleaving_core.simulation.reference_machin
 ghost use Rattle.event_trace.specs.interleaving_core.simulation.MachineContents.{Content};
 ghost use Rattle.event_trace.specs.interleaving_core.simulation.Runs.{AreTurns};
 ghost use Rattle.event_trace.specs.interleaving_core.simulation.StandsFor.{Represents};
-ghost use Rattle.event_trace.specs.interleaving_core.simulation.reference_laws.Blocking.{GoesOnUnlessAll, StaysBlocked};
+ghost use Rattle.event_trace.specs.interleaving_core.simulation.reference_machine.Blocking.{GoesOnUnlessAll, StaysBlocked};
 ghost use Rattle.deadlocks.specs.Deadlocks.{IsDeadlockOf};
 
 /// Whatever events follow, each step of a deadlocked thread is blocked, up to the first that uses up the budget of one.

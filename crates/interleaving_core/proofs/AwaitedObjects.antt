@@ -20,9 +20,9 @@ use Rattle.cil_model.proofs.Lists.{none_is_some}
 use Rattle.cil_model.proofs.SameLaws.{not_both}
 use Rattle.reference_machine.specs.BuiltIn.{Action, Enter, Join, action_of}
 use Rattle.reference_machine.proofs.MethodLaws.{IsDeclared, found_is_declared}
-use Rattle.step_simulation.proofs.simulation.reference_laws.BuiltInMembers.{acts_as_member}
-use Rattle.step_simulation.specs.simulation.reference_laws.Waits.{action_found, called_action}
-use Rattle.step_simulation.proofs.simulation.reference_laws.ActingMembers.{acting_is_not_virtual}
+use Rattle.step_simulation.proofs.simulation.reference_machine.BuiltInMembers.{acts_as_member}
+use Rattle.step_simulation.specs.simulation.reference_machine.Waits.{action_found, called_action}
+use Rattle.step_simulation.proofs.simulation.reference_machine.ActingMembers.{acting_is_not_virtual}
 use Rattle.name_tables.specs.declared.lookups.MemberNumber.{MemberNumber}
 use Rattle.name_tables.specs.Numbers.{method_at}
 use Rattle.resolved_code.specs.Numbered.{class_name}

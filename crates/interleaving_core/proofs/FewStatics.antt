@@ -5,7 +5,7 @@ use Rattle.cil_model.specs.declared.types.DeclaredType.{DeclaredType}
 use Rattle.cil_model.specs.Fields.{FieldKey, static_fields}
 use Rattle.reference_machine.specs.States.{State}
 use Rattle.reference_machine.specs.Values.{Value as StateValue}
-use Rattle.step_simulation.specs.simulation.reference_laws.TypedStates.{HaveFieldTypes}
+use Rattle.step_simulation.specs.simulation.reference_machine.TypedStates.{HaveFieldTypes}
 use Rattle.step_simulation.specs.simulation.MachineContents.{Content}
 use Rattle.step_simulation.specs.simulation.StandsFor.{IsValue, Represents}
 use Rattle.step_simulation.proofs.simulation.AgreeLaws.{agree_length}

@@ -3,7 +3,7 @@ use Rattle.std.specs.Prelude.{◌≡◌, ◌≢◌, ◌<◌, ℕ, ◌==◌, if�
 use Rattle.cil_model.specs.declared.trees.Line.{Line}
 use Rattle.cil_model.specs.declared.trees.Tree.{Tree}
 use Rattle.reference_machine.specs.BuiltIn.{Action, Enter, Join as JoinAction}
-use Rattle.step_simulation.specs.simulation.reference_laws.Waits.{called_action}
+use Rattle.step_simulation.specs.simulation.reference_machine.Waits.{called_action}
 use Rattle.name_tables.specs.declared.lookups.MemberNumber.{MemberNumber}
 use Rattle.resolved_code.specs.declared.operations.Operation.{Operation}
 use Rattle.resolved_code.specs.declared.operations.Operation.TheVariants.{Call, CallVirtual}

@@ -12,3 +12,6 @@ pub mod Runs
 pub mod Reachable
 pub mod OwedWords
 pub mod Outcomes
+pub mod TypedStates
+pub mod Waits
+pub mod Blocking

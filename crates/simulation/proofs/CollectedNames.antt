@@ -16,7 +16,7 @@ use Rattle.interpreter.specs.object_memory.Cells.{cell_in, literal, literal_numb
 use Rattle.interpreter.specs.object_memory.Objects.{Objects}
 use Rattle.interpreter.specs.object_memory.Spaces.{Spaces, other_of}
 use Rattle.interpreter.proofs.object_memory.Spaces.{slots_few}
-use Rattle.reference_laws.specs.TypedStates.{IsTyped}
+use Rattle.reference_machine.specs.TypedStates.{IsTyped}
 use Rattle.collector.specs.phase_handshake.Handshakes.{Handshakes}
 use Rattle.collector.specs.phase_handshake.declared.posts.Seat.{Seat}
 use Rattle.collector.specs.References.{SlotsPass, ValuePasses, is_permanent, reference_in}

@@ -12,7 +12,7 @@ use Rattle.interpreter.specs.cil_model.Typings.{IsAccepted}
 use Rattle.interpreter.specs.reference_machine.States.{State}
 use Rattle.interpreter.specs.object_memory.declared.values.Value.{Value}
 use Rattle.interpreter.specs.object_memory.Objects.{Objects}
-use Rattle.reference_laws.specs.TypedStates.{IsTyped}
+use Rattle.reference_machine.specs.TypedStates.{IsTyped}
 use Rattle.collector.specs.Marking.{is_closed, marked_on, statics_scanned}
 use Rattle.collector.specs.Copying.{copied_on, looked_on}
 use Rattle.collector.specs.Flips.{cleared_on, flipped_on}

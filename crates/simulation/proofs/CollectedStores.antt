@@ -41,7 +41,7 @@ use Rattle.collector.proofs.Stores.{IsHeldObject, IsHeldValue, monitor_keeps, ob
 use Rattle.collector.proofs.StoreWays.{changed_by, close_is_beside}
 use Rattle.collector.proofs.TagChanges.{monitor_keeps_tags, slot_keeps_tags}
 use Rattle.collector.proofs.Views.{is_new_live, live_is_late, old_is}
-use Rattle.reference_laws.specs.TypedStates.{IsTyped}
+use Rattle.reference_machine.specs.TypedStates.{IsTyped}
 use Rattle.simulation.specs.StandsFor.{IsCell, IsValue, IsWord, Names, int32, int64, native, null_reference, reference}
 use Rattle.simulation.proofs.ChangedEntries.{set_or_stays}
 use Rattle.simulation.proofs.Extending.{cell_extends, value_extends}

@@ -15,7 +15,7 @@ use Rattle.interpreter.specs.cil_model.Typings.{AreBelow}
 use Rattle.interpreter.specs.reference_machine.Values.{Value as StateValue}
 use Rattle.interpreter.specs.reference_machine.States.{Frame as StateFrame, State}
 use Rattle.interpreter.specs.reference_machine.Effects.{Setting, Goes, after, onward as onward_frame}
-use Rattle.reference_laws.specs.TypedStates.{HaveTypes, HaveStackTypes, IsTypedFrame}
+use Rattle.reference_machine.specs.TypedStates.{HaveTypes, HaveStackTypes, IsTypedFrame}
 use Rattle.interpreter.specs.resolved_code.declared.operations.Operation.{Operation}
 use Rattle.interpreter.specs.object_memory.declared.values.Value.{Value}
 use Rattle.interpreter.specs.object_memory.Objects.{Objects}

@@ -12,7 +12,7 @@ use Rattle.simulation.specs.Counts.{IsCounted}
 use Rattle.interpreter.specs.reference_machine.Effects.{Setting, Effect as StateEffect, Goes, Blocks as StateBlocks, Raises as StateRaises}
 use Rattle.interpreter.specs.reference_machine.BuiltIn.{Action, Start, Join, act}
 use Rattle.interpreter.specs.reference_machine.Steps.{execute}
-use Rattle.reference_laws.proofs.Running.{IsRunning}
+use Rattle.reference_machine.proofs.Running.{IsRunning}
 use Rattle.interpreter.specs.resolved_code.Resolved.{IsOperation}
 use Rattle.interpreter.specs.resolved_code.declared.operations.Operation.{Operation}
 use Rattle.interpreter.specs.object_memory.declared.addresses.Addr.{Addr}

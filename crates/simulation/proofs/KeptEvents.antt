@@ -29,7 +29,7 @@ use Rattle.interpreter.specs.threads_monitors.Roots.{roots}
 use Rattle.interpreter.specs.threads_monitors.declared.threads.Standing.{Standing}
 use Rattle.interpreter.specs.threads_monitors.declared.threads.Standing.TheVariants.{Ended, Live}
 use Rattle.interpreter.specs.threads_monitors.declared.threads.Thread.{Thread}
-use Rattle.reference_laws.specs.TypedStates.{IsTyped}
+use Rattle.reference_machine.specs.TypedStates.{IsTyped}
 use Rattle.collector.specs.phase_handshake.Handshakes.{Handshakes, all_answered, all_seen}
 use Rattle.collector.specs.Copying.{address_behind, copied_on, looked_on}
 use Rattle.collector.specs.Flips.{cleared_at, cleared_on, flipped_on}

@@ -1,6 +1,5 @@
 pub use Rattle.interpreter.proofs.cil_model as cil_model
 pub use Rattle.interpreter.proofs.reference_machine as reference_machine
-pub use Rattle.reference_laws.proofs as reference_laws
 pub use Rattle.interpreter.proofs.name_tables as name_tables
 pub use Rattle.interpreter.proofs.resolved_code as resolved_code
 pub use Rattle.interpreter.proofs.object_memory as object_memory

@@ -20,7 +20,7 @@ use Rattle.interpreter.specs.object_memory.Spaces.{room_for}
 use Rattle.interpreter.specs.instructions.barriers.Barriers.{are_comparable, are_same, can_bear, is_monitor_storable, is_static_storable, is_storable, is_word_storable, object_born, stored_int, stored_monitor, stored_static, stored_value}
 use Rattle.interpreter.specs.object_memory.Values.{value_word}
 use Rattle.interpreter.specs.threads_monitors.declared.mutators.Mutator.{Mutator}
-use Rattle.reference_laws.specs.TypedStates.{IsTyped}
+use Rattle.reference_machine.specs.TypedStates.{IsTyped}
 use Rattle.collector.specs.References.{holds_reference, is_reference_value}
 use Rattle.simulation.specs.Agreement.{Agree}
 use Rattle.simulation.specs.StandsFor.{Names, Extends, IsValue, IsMonitor, IsOfContents, IsCell, IsBornAt, IsLiteralAt}

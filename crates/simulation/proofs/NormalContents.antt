@@ -15,7 +15,7 @@ use Rattle.interpreter.specs.threads_monitors.declared.threads.Standing.{Standin
 use Rattle.interpreter.specs.threads_monitors.declared.threads.Standing.TheVariants.{Live}
 use Rattle.interpreter.specs.threads_monitors.declared.threads.Thread.{Thread}
 use Rattle.interpreter.proofs.cil_model.SameLaws.{never}
-use Rattle.reference_laws.specs.TypedStates.{IsTyped}
+use Rattle.reference_machine.specs.TypedStates.{IsTyped}
 use Rattle.collector.specs.References.{ValuePasses}
 use Rattle.collector.specs.Phases.{is_live as is_live_address}
 use Rattle.collector.specs.Soundness.{IsListed, IsSoundHeap}

@@ -22,7 +22,7 @@ use Rattle.interpreter.specs.instructions.barriers.Barriers.{forwarded}
 use Rattle.interpreter.proofs.object_memory.TwoBlocks.{apart, forward_bare, forward_copy, forward_else, forward_null, new_is_cell, no_literal, old_is_cell, told_apart}
 use Rattle.interpreter.proofs.cil_model.Lists.{none_is_some}
 use Rattle.interpreter.proofs.cil_model.SameLaws.{never}
-use Rattle.reference_laws.specs.TypedStates.{IsTyped}
+use Rattle.reference_machine.specs.TypedStates.{IsTyped}
 use Rattle.collector.specs.References.{holds_reference, is_permanent, reference_in}
 use Rattle.collector.specs.Phases.{is_live, is_live_object, is_new}
 use Rattle.collector.specs.Soundness.{IsSoundHeap}

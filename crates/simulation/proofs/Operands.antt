@@ -6,8 +6,8 @@ use Rattle.interpreter.specs.reference_machine.Values.{Value as StateValue}
 use Rattle.interpreter.specs.reference_machine.States.{Frame as StateFrame, State}
 use Rattle.interpreter.specs.reference_machine.Effects.{Setting, Effect as StateEffect, Sticks}
 use Rattle.interpreter.specs.reference_machine.Steps.{execute}
-use Rattle.reference_laws.proofs.Running.{IsTypedEffect}
-use Rattle.reference_laws.proofs.AllSteps.{instruction_typed}
+use Rattle.reference_machine.proofs.Running.{IsTypedEffect}
+use Rattle.reference_machine.proofs.AllSteps.{instruction_typed}
 use Rattle.interpreter.specs.resolved_code.declared.operations.Operation.{Operation}
 use Rattle.interpreter.specs.object_memory.declared.values.Value.{Value}
 use Rattle.interpreter.specs.object_memory.Objects.{Objects}

@@ -16,9 +16,9 @@ use Rattle.interpreter.specs.reference_machine.OwedWords.{IsOwed, OwesWords, wor
 use Rattle.interpreter.specs.reference_machine.Reachable.{IsReachable, from_member, from_root, members_of, roots}
 use Rattle.interpreter.specs.reference_machine.States.{State, object_at}
 use Rattle.interpreter.specs.reference_machine.Values.{Born, Int32, Int64, Literal, Native, Null, ObjectName, Reference, Value}
-use Rattle.reference_laws.specs.TypedStates.{IsTyped}
-use Rattle.reference_laws.proofs.ReachedObjects.{reachable_is_there}
-use Rattle.reference_laws.proofs.ReachedValues.{AreWithin, IsWithin, contained_within}
+use Rattle.reference_machine.specs.TypedStates.{IsTyped}
+use Rattle.reference_machine.proofs.ReachedObjects.{reachable_is_there}
+use Rattle.reference_machine.proofs.ReachedValues.{AreWithin, IsWithin, contained_within}
 use Rattle.simulation.proofs.NameSums.{distinct_sum, is_listed}
 
 -- ---- the first object that is not on a list

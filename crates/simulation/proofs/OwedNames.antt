@@ -21,8 +21,8 @@ use Rattle.interpreter.specs.threads_monitors.Frames.{Frame}
 use Rattle.interpreter.specs.threads_monitors.declared.threads.Standing.{Standing}
 use Rattle.interpreter.specs.threads_monitors.declared.threads.Standing.TheVariants.{Ended, Live}
 use Rattle.interpreter.specs.threads_monitors.declared.threads.Thread.{Thread}
-use Rattle.reference_laws.proofs.ReachedStates.{AreFramesWithin, HoldsWithin, IsClosed, IsFrameWithin}
-use Rattle.reference_laws.proofs.ReachedValues.{AreWithin, IsWithin, values_of}
+use Rattle.reference_machine.proofs.ReachedStates.{AreFramesWithin, HoldsWithin, IsClosed, IsFrameWithin}
+use Rattle.reference_machine.proofs.ReachedValues.{AreWithin, IsWithin, values_of}
 use Rattle.simulation.specs.Agreement.{Agree}
 use Rattle.simulation.specs.MachineContents.{Content}
 use Rattle.simulation.specs.StandsFor.{IsBornAt, IsFrame, IsHeap, IsObject, IsOfContents, IsThread, IsValue, IsWord, Names, StandsAlike, StandsBy, int32, int64, native, null_reference, reference}

@@ -18,7 +18,7 @@ use Rattle.interpreter.specs.object_memory.Spaces.{room_for}
 use Rattle.interpreter.specs.object_memory.Values.{value_word}
 use Rattle.interpreter.specs.instructions.barriers.Barriers.{object_born, stored_int, stored_monitor, stored_static, stored_value}
 use Rattle.interpreter.proofs.object_memory.TwoBlocks.{slot_keeps}
-use Rattle.reference_laws.specs.TypedStates.{IsTyped}
+use Rattle.reference_machine.specs.TypedStates.{IsTyped}
 use Rattle.collector.specs.Phases.{is_before_copies}
 use Rattle.simulation.specs.StandsFor.{IsCell, IsOfContents, Names}
 use Rattle.simulation.proofs.MarkingLeft.{LeavesNoMore, leaves_itself, leaves_then}

@@ -13,7 +13,7 @@ use Rattle.interpreter.specs.object_memory.declared.kinds.ArrayElement.{ArrayEle
 use Rattle.interpreter.specs.object_memory.declared.kinds.Kind.{Kind}
 use Rattle.interpreter.specs.object_memory.declared.kinds.Kind.TheVariants.{Instance, Array}
 use Rattle.interpreter.specs.object_memory.declared.values.Value.{Value}
-use Rattle.reference_laws.specs.TypedStates.{AllHaveType, HasType, HaveFieldTypes, IsTypedContents}
+use Rattle.reference_machine.specs.TypedStates.{AllHaveType, HasType, HaveFieldTypes, IsTypedContents}
 use Rattle.collector.specs.References.{holds_reference}
 use Rattle.simulation.specs.Agreement.{Agree}
 use Rattle.simulation.specs.StandsFor.{Names, IsValue, int32, int64, native, null_reference, reference, IsWord, IsInstanceCell, IsOfContents, hidden_words, thread_word}

@@ -7,7 +7,7 @@ use Rattle.interpreter.specs.cil_model.Bodies.{argument_types}
 use Rattle.interpreter.specs.reference_machine.States.{Frame as StateFrame, State}
 use Rattle.interpreter.specs.reference_machine.Effects.{Setting}
 use Rattle.interpreter.specs.reference_machine.Steps.{run_method}
-use Rattle.reference_laws.proofs.Running.{IsTypedEffect}
+use Rattle.reference_machine.proofs.Running.{IsTypedEffect}
 use Rattle.interpreter.specs.name_tables.Numbers.{method_at}
 use Rattle.interpreter.specs.resolved_code.declared.operations.Operation.{Operation}
 use Rattle.interpreter.specs.object_memory.declared.values.Value.{Value}

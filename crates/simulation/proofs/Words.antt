@@ -11,9 +11,9 @@ use Rattle.interpreter.specs.cil_model.Assignable.{is_reference_element}
 use Rattle.interpreter.specs.cil_model.Legality.{IsLegal}
 use Rattle.interpreter.specs.reference_machine.Values.{Value as StateValue, Int32 as Int32Value, Int64 as Int64Value, Native as NativeValue, Null, Reference, ObjectName, integer_zero, zero_of, same_kind}
 use Rattle.interpreter.specs.reference_machine.States.{State}
-use Rattle.reference_laws.specs.TypedStates.{HasType}
-use Rattle.reference_laws.proofs.Operands.{kinds_agree}
-use Rattle.reference_laws.proofs.Openings.{zero_typed}
+use Rattle.reference_machine.specs.TypedStates.{HasType}
+use Rattle.reference_machine.proofs.Operands.{kinds_agree}
+use Rattle.reference_machine.proofs.Openings.{zero_typed}
 use Rattle.interpreter.specs.object_memory.declared.addresses.TheConstants.{ADDRESSES}
 use Rattle.interpreter.specs.object_memory.declared.values.Value.{Value}
 use Rattle.interpreter.specs.object_memory.declared.values.Value.TheVariants.{Int32, Int64, Native, Ref}

@@ -1,6 +1,5 @@
 pub use Rattle.interpreter.specs.cil_model as cil_model
 pub use Rattle.interpreter.specs.reference_machine as reference_machine
-pub use Rattle.reference_laws.specs as reference_laws
 pub use Rattle.interpreter.specs.name_tables as name_tables
 pub use Rattle.interpreter.specs.resolved_code as resolved_code
 pub use Rattle.programs.specs as programs

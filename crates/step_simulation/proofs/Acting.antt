@@ -7,7 +7,7 @@ use Rattle.simulation.specs.reference_machine.Values.{Value as StateValue}
 use Rattle.simulation.specs.reference_machine.States.{Frame as StateFrame, State}
 use Rattle.simulation.specs.reference_machine.Effects.{Setting, Effect as StateEffect, given as given_there, onward as onward_frame}
 use Rattle.simulation.specs.reference_machine.BuiltIn.{Action, Construct, Write, Enter, Exit, Start, Join, act, line_of as state_line_of}
-use Rattle.simulation.proofs.reference_laws.Running.{IsTypedEffect}
+use Rattle.simulation.proofs.reference_machine.Running.{IsTypedEffect}
 use Rattle.simulation.specs.resolved_code.declared.operations.Operation.{Operation}
 use Rattle.simulation.specs.object_memory.declared.addresses.Addr.{Addr}
 use Rattle.simulation.specs.object_memory.declared.values.Value.{Value}

@@ -15,8 +15,8 @@ use Rattle.simulation.specs.reference_machine.Values.{ObjectName, Born, Value as
 use Rattle.simulation.specs.reference_machine.States.{Array as IsArray, HeapObject, Frame as StateFrame, State, same_kind_or_none, replaced_at, elements_of_contents, array_at, with_object, with_element}
 use Rattle.simulation.specs.reference_machine.Effects.{Setting, given as state_given, onward as onward_frame}
 use Rattle.simulation.specs.reference_machine.Steps.{execute, next, element, load_element, store_element}
-use Rattle.simulation.proofs.reference_laws.Running.{IsTypedEffect}
-use Rattle.simulation.proofs.reference_laws.StateChanges.{element_typed, array_typed}
+use Rattle.simulation.proofs.reference_machine.Running.{IsTypedEffect}
+use Rattle.simulation.proofs.reference_machine.StateChanges.{element_typed, array_typed}
 use Rattle.simulation.specs.resolved_code.declared.operations.Operation.{Operation}
 use Rattle.simulation.specs.resolved_code.declared.operations.Operation.TheVariants as Resolved
 use Rattle.simulation.specs.object_memory.declared.addresses.Addr.{Addr}

@@ -13,8 +13,8 @@ use Rattle.simulation.specs.reference_machine.Values.{Value as StateValue}
 use Rattle.simulation.specs.reference_machine.States.{Frame as StateFrame, State}
 use Rattle.simulation.specs.reference_machine.Effects.{Setting, Effect as StateEffect, Sticks, given as given_there, are_of_kinds}
 use Rattle.simulation.specs.reference_machine.Steps.{run_method, operands, execute}
-use Rattle.simulation.proofs.reference_laws.FoundMethods.{IsFound, found}
-use Rattle.simulation.proofs.reference_laws.Running.{IsTypedEffect}
+use Rattle.simulation.proofs.reference_machine.FoundMethods.{IsFound, found}
+use Rattle.simulation.proofs.reference_machine.Running.{IsTypedEffect}
 use Rattle.simulation.specs.name_tables.declared.lookups.MemberNumber.{MemberNumber}
 use Rattle.simulation.specs.resolved_code.Numbered.{class_name}
 use Rattle.simulation.specs.resolved_code.Resolved.{IsMethod}

@@ -8,7 +8,7 @@ use Rattle.simulation.specs.reference_machine.Values.{Value as StateValue, Null}
 use Rattle.simulation.specs.reference_machine.States.{Frame as StateFrame, State}
 use Rattle.simulation.specs.reference_machine.Effects.{Setting, Effect as StateEffect, Raises as StateRaises, given as given_state}
 use Rattle.simulation.specs.reference_machine.Steps.{execute, next, cast, may_hold}
-use Rattle.simulation.proofs.reference_laws.Running.{IsTypedEffect}
+use Rattle.simulation.proofs.reference_machine.Running.{IsTypedEffect}
 use Rattle.simulation.specs.resolved_code.Numbered.{type_at}
 use Rattle.simulation.specs.resolved_code.declared.types.NumberedType.{NumberedType}
 use Rattle.simulation.specs.resolved_code.declared.operations.Operation.{Operation}

@@ -19,7 +19,7 @@ use Rattle.simulation.proofs.cil_model.CompleteLaws.{chain_of_base}
 use Rattle.simulation.proofs.cil_model.Lists.{none_is_some}
 use Rattle.simulation.proofs.cil_model.SameLaws.{either, same_class_equal, same_class_itself, same_text_itself, class_equivalence, never}
 use Rattle.simulation.specs.reference_machine.States.{entry_at}
-use Rattle.simulation.proofs.reference_laws.DeclaredFields.{entry_behind}
+use Rattle.simulation.proofs.reference_machine.DeclaredFields.{entry_behind}
 
 -- ---- lists
 

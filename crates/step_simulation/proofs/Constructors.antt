@@ -19,8 +19,8 @@ use Rattle.simulation.specs.cil_model.Chains.{is_static, methods_declared, find_
 use Rattle.simulation.specs.cil_model.Fields.{slot_types}
 use Rattle.simulation.specs.cil_model.Legality.{IsLegal}
 use Rattle.simulation.specs.reference_machine.BuiltIn.{Action, action_of}
-use Rattle.simulation.proofs.reference_laws.BuiltInMembers.{IsMember, acts_as_member}
-use Rattle.simulation.proofs.reference_laws.FoundMethods.{IsFound, found}
+use Rattle.simulation.proofs.reference_machine.BuiltInMembers.{IsMember, acts_as_member}
+use Rattle.simulation.proofs.reference_machine.FoundMethods.{IsFound, found}
 use Rattle.simulation.specs.name_tables.declared.lookups.MemberNumber.{MemberNumber}
 use Rattle.simulation.specs.name_tables.Numbers.{declarations, method_at}
 use Rattle.simulation.specs.resolved_code.Numbered.{class_name}

@@ -19,7 +19,7 @@ use Rattle.simulation.specs.cil_model.Typings.{IsAccepted}
 use Rattle.simulation.specs.reference_machine.Cycles.{ends_cycle, most_working, work_of, work_of_newest, work_since, working_in_cycle}
 use Rattle.simulation.specs.reference_machine.States.{State}
 use Rattle.simulation.specs.reference_machine.Values.{Value as StateValue}
-use Rattle.simulation.specs.reference_laws.TypedStates.{HaveFieldTypes}
+use Rattle.simulation.specs.reference_machine.TypedStates.{HaveFieldTypes}
 use Rattle.simulation.specs.collector.declared.progress.Progress.{Progress}
 use Rattle.simulation.specs.loaded_program.MethodNumbers.{number_of}
 use Rattle.simulation.specs.object_memory.declared.values.Value.{Value}

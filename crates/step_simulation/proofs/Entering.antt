@@ -12,8 +12,8 @@ use Rattle.simulation.specs.cil_model.Bodies.{argument_types, code_of}
 use Rattle.simulation.specs.reference_machine.States.{Frame as StateFrame, State}
 use Rattle.simulation.specs.reference_machine.Effects.{Setting, Effect as StateEffect, Goes, Raises as StateRaises, given as given_there, new_frame as new_state_frame, after}
 use Rattle.simulation.specs.reference_machine.Steps.{is_too_deep, frame_for}
-use Rattle.simulation.specs.reference_laws.TypedStates.{IsTypedFrame}
-use Rattle.simulation.proofs.reference_laws.Running.{IsTypedEffect}
+use Rattle.simulation.specs.reference_machine.TypedStates.{IsTypedFrame}
+use Rattle.simulation.proofs.reference_machine.Running.{IsTypedEffect}
 use Rattle.simulation.specs.resolved_code.declared.operations.Operation.{Operation}
 use Rattle.simulation.specs.object_memory.declared.values.Value.{Value}
 use Rattle.simulation.specs.object_memory.Objects.{Objects}

@@ -20,9 +20,9 @@ use Rattle.simulation.specs.name_tables.declared.lookups.MemberNumber.{MemberNum
 use Rattle.simulation.specs.reference_machine.Values.{Born, Value as StateValue}
 use Rattle.simulation.specs.reference_machine.States.{Free, Instance, HeapObject, State, entry_at, with_entry, class_of_contents}
 use Rattle.simulation.specs.reference_machine.Steps.{key_of}
-use Rattle.simulation.specs.reference_laws.TypedStates.{HasType, HaveFieldTypes}
-use Rattle.simulation.proofs.reference_laws.DeclaredFields.{HasField, field_there, found_type}
-use Rattle.simulation.proofs.reference_laws.StateChanges.{entry_typed}
+use Rattle.simulation.specs.reference_machine.TypedStates.{HasType, HaveFieldTypes}
+use Rattle.simulation.proofs.reference_machine.DeclaredFields.{HasField, field_there, found_type}
+use Rattle.simulation.proofs.reference_machine.StateChanges.{entry_typed}
 use Rattle.simulation.proofs.FieldSizes.{instance_slot_small}
 use Rattle.simulation.specs.resolved_code.Numbered.{class_name}
 use Rattle.simulation.specs.resolved_code.Resolved.{IsField}

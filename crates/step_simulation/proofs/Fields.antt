@@ -13,8 +13,8 @@ use Rattle.simulation.specs.reference_machine.Values.{ObjectName, Value as State
 use Rattle.simulation.specs.reference_machine.States.{Contents, Instance as IsInstance, Array as IsArray, HeapObject, Frame as StateFrame, State, entry_at, with_entry, same_kind_or_none, replaced_entry, object_at, with_object, fields_of_contents, with_fields, field_value, with_field}
 use Rattle.simulation.specs.reference_machine.Effects.{Setting, given as state_given, not_null, onward as onward_frame}
 use Rattle.simulation.specs.reference_machine.Steps.{execute, key_of, next}
-use Rattle.simulation.specs.reference_laws.TypedStates.{IsTypedContents}
-use Rattle.simulation.proofs.reference_laws.StateChanges.{contents_typed}
+use Rattle.simulation.specs.reference_machine.TypedStates.{IsTypedContents}
+use Rattle.simulation.proofs.reference_machine.StateChanges.{contents_typed}
 use Rattle.simulation.specs.resolved_code.Numbered.{class_name}
 use Rattle.simulation.specs.resolved_code.Resolved.{IsField}
 use Rattle.simulation.specs.resolved_code.declared.operations.Operation.{Operation}

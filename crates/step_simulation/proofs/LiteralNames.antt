@@ -13,7 +13,7 @@ use Rattle.simulation.proofs.cil_model.Lists.{none_is_some}
 use Rattle.simulation.proofs.cil_model.SameLaws.{never, if_true, is_not, same_text_itself}
 use Rattle.simulation.specs.reference_machine.Values.{ObjectName, Literal}
 use Rattle.simulation.specs.reference_machine.States.{Free, entry_at}
-use Rattle.simulation.proofs.reference_laws.SourceLaws.{kept_from}
+use Rattle.simulation.proofs.reference_machine.SourceLaws.{kept_from}
 use Rattle.simulation.proofs.MethodSizes.{literals_few}
 use Rattle.simulation.specs.object_memory.declared.addresses.TheConstants.{ADDRESSES, FIRST_LITERAL}
 use Rattle.simulation.specs.object_memory.Cells.{literal, literal_number}

@@ -12,7 +12,7 @@ use Rattle.simulation.specs.reference_machine.Values.{ObjectName, Value as State
 use Rattle.simulation.specs.reference_machine.States.{Monitor as StateMonitor, Free as IsFree, Held as IsHeld, Frame as StateFrame, State, with_monitor as with_state_monitor}
 use Rattle.simulation.specs.reference_machine.Effects.{Setting, Effect as StateEffect, Blocks as StateBlocks, Raises as StateRaises, given as given_there, onward as onward_frame}
 use Rattle.simulation.specs.reference_machine.BuiltIn.{Enter, Exit, act, enter, exit}
-use Rattle.simulation.proofs.reference_laws.Running.{IsTypedEffect}
+use Rattle.simulation.proofs.reference_machine.Running.{IsTypedEffect}
 use Rattle.simulation.specs.Counts.{IsCountedMonitor}
 use Rattle.simulation.specs.resolved_code.declared.operations.Operation.{Operation}
 use Rattle.simulation.specs.object_memory.declared.addresses.Addr.{Addr}

@@ -16,7 +16,7 @@ use Rattle.simulation.specs.instructions.barriers.Barriers.{stored_monitor}
 use Rattle.simulation.specs.StandsFor.{Names, IsMonitor, IsBornAt, IsLiteralAt}
 use Rattle.simulation.proofs.ReferenceSlots.{IsLinked, typed_is_linked}
 use Rattle.simulation.specs.cil_model.Legality.{IsLegal}
-use Rattle.simulation.specs.reference_laws.TypedStates.{IsTyped}
+use Rattle.simulation.specs.reference_machine.TypedStates.{IsTyped}
 use Rattle.simulation.proofs.MemoryModels.{MemoryModel, IsModelled, IsReadable}
 
 -- the monitors of an object under a name, which are alike

@@ -15,7 +15,7 @@ use Rattle.simulation.specs.reference_machine.States.{Contents, Frame as StateFr
 use Rattle.simulation.specs.reference_machine.Effects.{Setting, Effect as StateEffect, Goes, Sticks, Raises as StateRaises, given as state_given, are_of_kinds, after, new_frame, onward as state_onward}
 use Rattle.simulation.specs.reference_machine.BuiltIn.{Action, action_of}
 use Rattle.simulation.specs.reference_machine.Steps.{birth as state_birth, frame_for, is_too_deep, operands, construct, execute}
-use Rattle.simulation.proofs.reference_laws.Running.{IsTypedEffect}
+use Rattle.simulation.proofs.reference_machine.Running.{IsTypedEffect}
 use Rattle.simulation.specs.name_tables.declared.lookups.MemberNumber.{MemberNumber}
 use Rattle.simulation.specs.name_tables.Numbers.{method_at}
 use Rattle.simulation.specs.resolved_code.Resolved.{IsMethod}

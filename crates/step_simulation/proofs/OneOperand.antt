@@ -7,7 +7,7 @@ use Rattle.simulation.specs.reference_machine.Values.{Value as StateValue}
 use Rattle.simulation.specs.reference_machine.States.{Frame as StateFrame, State}
 use Rattle.simulation.specs.reference_machine.Effects.{Setting}
 use Rattle.simulation.specs.reference_machine.BuiltIn.{Action, Construct, Write, Enter, Exit, Start, Join, act}
-use Rattle.simulation.proofs.reference_laws.Running.{IsTypedEffect}
+use Rattle.simulation.proofs.reference_machine.Running.{IsTypedEffect}
 
 -- where the uppermost values are one, it is the topmost
 pub one_taken : {X : Type 0} (n : ℕ) (xs : List X) (x : X) → nat_le n (length xs) ≡ true → reverse (take n xs) ≡ x ∷ [] → xs ≡ x ∷ drop n xs

@@ -16,8 +16,8 @@ use Rattle.simulation.proofs.cil_model.Legal.{entry_alone}
 use Rattle.simulation.specs.reference_machine.Values.{ObjectName}
 use Rattle.simulation.specs.reference_machine.States.{Frame as StateFrame, Free as IsFree, State}
 use Rattle.simulation.specs.reference_machine.Runs.{opening, opening_at}
-use Rattle.simulation.proofs.reference_laws.Openings.{opens, opening_typed}
-use Rattle.simulation.proofs.reference_laws.SourceLaws.{kept_from, source_is_declared}
+use Rattle.simulation.proofs.reference_machine.Openings.{opens, opening_typed}
+use Rattle.simulation.proofs.reference_machine.SourceLaws.{kept_from, source_is_declared}
 use Rattle.simulation.proofs.CountedOpenings.{opening_counted}
 use Rattle.simulation.specs.loaded_program.AllMethods.{all_methods}
 use Rattle.simulation.specs.loaded_program.MethodNumbers.{number_of}

@@ -26,7 +26,7 @@ use Rattle.simulation.specs.Owed.{OwesAfter}
 use Rattle.simulation.specs.Runs.{IsNext, IsRunOf}
 use Rattle.simulation.specs.StandsFor.{Represents}
 use Rattle.simulation.specs.Turns.{IsTurn}
-use Rattle.simulation.specs.reference_laws.TypedStates.{IsTyped}
+use Rattle.simulation.specs.reference_machine.TypedStates.{IsTyped}
 use Rattle.simulation.proofs.CollectedReports.{IsCollected, ends, waits, works}
 use Rattle.simulation.proofs.Instructions.{InstructionsAreAlike}
 use Rattle.simulation.proofs.NameSums.{distinct_sum, is_listed}

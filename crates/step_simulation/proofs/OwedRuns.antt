@@ -23,7 +23,7 @@ use Rattle.simulation.specs.reference_machine.States.{State}
 use Rattle.simulation.specs.reference_machine.Values.{Born}
 use Rattle.simulation.proofs.reference_machine.RunLaws.{same_state}
 use Rattle.simulation.proofs.cil_model.SameLaws.{never}
-use Rattle.simulation.proofs.reference_laws.Enclosing.{IsReachedOrUnborn, reached_is_closed}
+use Rattle.simulation.proofs.reference_machine.Enclosing.{IsReachedOrUnborn, reached_is_closed}
 use Rattle.simulation.specs.object_memory.Cells.{used_words}
 use Rattle.simulation.specs.object_memory.Objects.{used_space}
 use Rattle.simulation.specs.object_memory.Spaces.{Spaces, closed}

@@ -9,8 +9,8 @@ use Rattle.simulation.specs.reference_machine.Steps.{Answers, step}
 use Rattle.simulation.specs.reference_machine.Values.{Born, ObjectName}
 use Rattle.simulation.proofs.reference_machine.StepLaws.{same_after}
 use Rattle.simulation.proofs.cil_model.SameLaws.{never}
-use Rattle.simulation.proofs.reference_laws.ReachedRuns.{step_within}
-use Rattle.simulation.proofs.reference_laws.ReachedStates.{IsClosed}
+use Rattle.simulation.proofs.reference_machine.ReachedRuns.{step_within}
+use Rattle.simulation.proofs.reference_machine.ReachedStates.{IsClosed}
 use Rattle.simulation.specs.object_memory.declared.addresses.Addr.{Addr}
 use Rattle.simulation.specs.MachineContents.{Content}
 use Rattle.simulation.specs.Collecting.{collected, with_acknowledgement}

@@ -13,7 +13,7 @@ use Rattle.simulation.specs.reference_machine.States.{HeapObject, Frame as State
 use Rattle.simulation.specs.reference_machine.Arithmetic.{as_index}
 use Rattle.simulation.specs.reference_machine.Effects.{Setting, Effect as StateEffect, Raises as StateRaises, Sticks, given as state_given, not_null, onward as onward_frame}
 use Rattle.simulation.specs.reference_machine.Steps.{element, in_range as state_in_range}
-use Rattle.simulation.proofs.reference_laws.Running.{IsTypedEffect}
+use Rattle.simulation.proofs.reference_machine.Running.{IsTypedEffect}
 use Rattle.simulation.specs.resolved_code.declared.operations.Operation.{Operation}
 use Rattle.simulation.specs.object_memory.declared.addresses.Addr.{Addr}
 use Rattle.simulation.specs.object_memory.declared.values.Value.{Value}

@@ -9,7 +9,7 @@ use Rattle.simulation.proofs.cil_model.Lists.{none_is_some}
 use Rattle.simulation.proofs.cil_model.SameLaws.{if_true, if_false, never}
 use Rattle.simulation.specs.reference_machine.Values.{Value as StateValue, same_kind}
 use Rattle.simulation.specs.reference_machine.States.{State, entry_at, with_entry, same_kind_or_none, replaced_entry}
-use Rattle.simulation.specs.reference_laws.TypedStates.{HaveFieldTypes}
+use Rattle.simulation.specs.reference_machine.TypedStates.{HaveFieldTypes}
 use Rattle.step_simulation.proofs.Chains.{has_key}
 
 -- ---- positions

@@ -9,8 +9,8 @@ use Rattle.simulation.specs.reference_machine.Values.{ObjectName, Born, Value as
 use Rattle.simulation.specs.reference_machine.States.{HeapObject, Frame as StateFrame, State}
 use Rattle.simulation.specs.reference_machine.Effects.{Setting, Effect as StateEffect, Raises as StateRaises, after, not_null}
 use Rattle.simulation.specs.reference_machine.BuiltIn.{Action, act, thread_object}
-use Rattle.simulation.proofs.reference_laws.Running.{IsTypedEffect}
-use Rattle.simulation.proofs.reference_laws.AllSteps.{instruction_typed}
+use Rattle.simulation.proofs.reference_machine.Running.{IsTypedEffect}
+use Rattle.simulation.proofs.reference_machine.AllSteps.{instruction_typed}
 use Rattle.simulation.specs.resolved_code.declared.operations.Operation.{Operation}
 use Rattle.simulation.specs.object_memory.declared.addresses.Addr.{Addr}
 use Rattle.simulation.specs.object_memory.declared.values.Value.TheVariants.{Ref}

@@ -11,8 +11,8 @@ use Rattle.simulation.specs.reference_machine.Values.{ObjectName, Value as State
 use Rattle.simulation.specs.reference_machine.States.{Frame as StateFrame, State}
 use Rattle.simulation.specs.reference_machine.Effects.{Setting, Effect as StateEffect, Goes, Sticks, returned as returned_frames}
 use Rattle.simulation.specs.reference_machine.Steps.{leave, leave_value, execute}
-use Rattle.simulation.specs.reference_laws.TypedStates.{AreWaiting, gives as type_gives}
-use Rattle.simulation.proofs.reference_laws.Running.{IsTypedEffect}
+use Rattle.simulation.specs.reference_machine.TypedStates.{AreWaiting, gives as type_gives}
+use Rattle.simulation.proofs.reference_machine.Running.{IsTypedEffect}
 use Rattle.simulation.specs.resolved_code.declared.operations.Operation.TheVariants as Resolved
 use Rattle.simulation.specs.object_memory.declared.addresses.Addr.{Addr}
 use Rattle.simulation.specs.object_memory.declared.values.Value.{Value}

@@ -8,7 +8,7 @@ use Rattle.simulation.specs.reference_machine.Values.{Value as StateValue}
 use Rattle.simulation.specs.reference_machine.Effects.{Effect as StateEffect, Raises as StateRaises}
 use Rattle.simulation.specs.reference_machine.BuiltIn.{Action, action_of, act}
 use Rattle.simulation.specs.reference_machine.Steps.{is_too_deep, frame_for}
-use Rattle.simulation.proofs.reference_laws.Running.{IsTypedEffect}
+use Rattle.simulation.proofs.reference_machine.Running.{IsTypedEffect}
 use Rattle.simulation.specs.loaded_program.MethodNumbers.{number_of}
 use Rattle.simulation.specs.instructions.Frames.{given}
 use Rattle.simulation.specs.instructions.ObjectTurns.{beside}

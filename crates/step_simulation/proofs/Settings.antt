@@ -11,8 +11,8 @@ use Rattle.simulation.specs.cil_model.Bodies.{lines_of}
 use Rattle.simulation.specs.reference_machine.States.{Frame as StateFrame, Thread as StateThread, State}
 use Rattle.simulation.specs.reference_machine.Effects.{Setting}
 use Rattle.simulation.specs.reference_machine.Steps.{instruction_at, execute}
-use Rattle.simulation.proofs.reference_laws.Running.{IsRunning, runs_at}
-use Rattle.simulation.specs.reference_laws.TypedStates.{AreTypedFrames}
+use Rattle.simulation.proofs.reference_machine.Running.{IsRunning, runs_at}
+use Rattle.simulation.specs.reference_machine.TypedStates.{AreTypedFrames}
 use Rattle.simulation.specs.resolved_code.Resolved.{IsOperation}
 use Rattle.simulation.specs.resolved_code.declared.operations.Operation.{Operation}
 use Rattle.simulation.specs.threads_monitors.Frames.{Frames}

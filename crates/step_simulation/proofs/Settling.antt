@@ -12,9 +12,9 @@ use Rattle.simulation.specs.reference_machine.States.{Frame as StateFrame, Threa
 use Rattle.simulation.specs.reference_machine.Effects.{Effect as StateEffect, Goes, Blocks as StateBlocks, Raises as StateRaises, given}
 use Rattle.simulation.specs.reference_machine.Steps.{Outcome, Answers, execute, effect_of, with_thread_at, ended_as, goes_on, settled as state_settled, step_of, step}
 use Rattle.simulation.specs.reference_machine.Runs.{is_refusal}
-use Rattle.simulation.specs.reference_laws.TypedStates.{IsTyped}
-use Rattle.simulation.proofs.reference_laws.WholeSteps.{step_typed}
-use Rattle.simulation.proofs.reference_laws.AllSteps.{instruction_typed}
+use Rattle.simulation.specs.reference_machine.TypedStates.{IsTyped}
+use Rattle.simulation.proofs.reference_machine.WholeSteps.{step_typed}
+use Rattle.simulation.proofs.reference_machine.AllSteps.{instruction_typed}
 use Rattle.simulation.proofs.CountedSteps.{step_counted}
 use Rattle.simulation.specs.object_memory.declared.values.Value.{Value}
 use Rattle.simulation.specs.object_memory.Objects.{Objects}

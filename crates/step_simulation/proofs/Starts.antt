@@ -16,8 +16,8 @@ use Rattle.simulation.specs.reference_machine.Values.{Born, Value as StateValue,
 use Rattle.simulation.specs.reference_machine.States.{Thread as StateThread, State, class_of}
 use Rattle.simulation.specs.reference_machine.Effects.{Effect as StateEffect, Raises as StateRaises, Sticks, given, new_frame, onward}
 use Rattle.simulation.specs.reference_machine.BuiltIn.{with_thread, begin, start}
-use Rattle.simulation.specs.reference_laws.TypedStates.{AreTypedFrames}
-use Rattle.simulation.proofs.reference_laws.Running.{IsTypedEffect}
+use Rattle.simulation.specs.reference_machine.TypedStates.{AreTypedFrames}
+use Rattle.simulation.proofs.reference_machine.Running.{IsTypedEffect}
 use Rattle.simulation.specs.loaded_program.AllMethods.{all_methods}
 use Rattle.simulation.specs.loaded_program.MethodNumbers.{number_of}
 use Rattle.simulation.proofs.loaded_program.NumberLaws.{declared_is_numbered}

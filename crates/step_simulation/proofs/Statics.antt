@@ -22,9 +22,9 @@ use Rattle.simulation.specs.reference_machine.Values.{Value as StateValue}
 use Rattle.simulation.specs.reference_machine.States.{Frame as StateFrame, State, entry_at, replaced_entry}
 use Rattle.simulation.specs.reference_machine.Effects.{Setting, given as state_given, onward as onward_frame}
 use Rattle.simulation.specs.reference_machine.Steps.{execute, key_of, next}
-use Rattle.simulation.specs.reference_laws.TypedStates.{HaveFieldTypes}
-use Rattle.simulation.proofs.reference_laws.DeclaredFields.{static_field_there}
-use Rattle.simulation.proofs.reference_laws.Targets.{nearest_at}
+use Rattle.simulation.specs.reference_machine.TypedStates.{HaveFieldTypes}
+use Rattle.simulation.proofs.reference_machine.DeclaredFields.{static_field_there}
+use Rattle.simulation.proofs.reference_machine.Targets.{nearest_at}
 use Rattle.simulation.proofs.FieldSizes.{static_slot_small}
 use Rattle.simulation.specs.resolved_code.Resolved.{IsField}
 use Rattle.simulation.specs.resolved_code.declared.operations.Operation.{Operation}

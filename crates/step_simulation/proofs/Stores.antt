@@ -15,7 +15,7 @@ use Rattle.simulation.specs.reference_machine.Arithmetic.{as_index}
 use Rattle.simulation.specs.reference_machine.States.{Array as IsArray, HeapObject, Frame as StateFrame, State, array_at, elements_of_contents, replaced_at, same_kind_or_none, with_element, with_object}
 use Rattle.simulation.specs.reference_machine.Effects.{Setting, Effect as StateEffect, Raises as StateRaises, Sticks, given as given_state, onward as onward_frame}
 use Rattle.simulation.specs.reference_machine.Steps.{execute, in_range as in_range_state, element, may_hold}
-use Rattle.simulation.proofs.reference_laws.Running.{IsTypedEffect}
+use Rattle.simulation.proofs.reference_machine.Running.{IsTypedEffect}
 use Rattle.simulation.specs.resolved_code.declared.operations.Operation.TheVariants as Resolved
 use Rattle.simulation.specs.object_memory.declared.addresses.Addr.{Addr}
 use Rattle.simulation.specs.object_memory.declared.kinds.Kind.{Kind}
@@ -43,8 +43,8 @@ use Rattle.simulation.proofs.Memories.{named_is_not_null}
 use Rattle.simulation.proofs.cil_model.SameLaws.{never}
 use Rattle.simulation.proofs.cil_model.Lists.{none_is_some}
 use Rattle.simulation.proofs.MemoryModels.{MemoryModel, IsModelled, mutator_in}
-use Rattle.simulation.specs.reference_laws.TypedStates.{IsTypedContents}
-use Rattle.simulation.proofs.reference_laws.StateChanges.{element_typed, array_typed}
+use Rattle.simulation.specs.reference_machine.TypedStates.{IsTypedContents}
+use Rattle.simulation.proofs.reference_machine.StateChanges.{element_typed, array_typed}
 use Rattle.simulation.specs.collector.References.{holds_reference, is_reference_value}
 use Rattle.simulation.proofs.ReferenceSlots.{IsLinked, element_linked, element_says, is_reference_kind, same_kinds, typed_is_linked, value_says}
 use Rattle.simulation.proofs.Words.{kind_fits}

@@ -15,7 +15,7 @@ use Rattle.simulation.specs.reference_machine.Values.{Value as StateValue, same_
 use Rattle.simulation.specs.reference_machine.States.{Frame as StateFrame, State, same_kind_or_none}
 use Rattle.simulation.specs.reference_machine.Effects.{Setting, Effect as StateEffect, Goes, Raises as StateRaises, Sticks, given as given_value, unless_fault, after}
 use Rattle.simulation.specs.reference_machine.Steps.{next, jump as jump_to, branch_if as branch_to, stored as stored_value, to_label}
-use Rattle.simulation.proofs.reference_laws.Running.{IsTypedEffect}
+use Rattle.simulation.proofs.reference_machine.Running.{IsTypedEffect}
 use Rattle.simulation.specs.resolved_code.declared.operations.Operation.{Operation}
 use Rattle.simulation.specs.object_memory.declared.values.Value.{Value}
 use Rattle.simulation.specs.object_memory.Objects.{Objects}

@@ -21,7 +21,7 @@ use Rattle.simulation.proofs.cil_model.Lists.{none_is_some}
 use Rattle.simulation.proofs.MemoryModels.{IsReadable}
 use Rattle.simulation.proofs.ReferenceSlots.{IsLinked, typed_is_linked}
 use Rattle.simulation.specs.cil_model.Legality.{IsLegal}
-use Rattle.simulation.specs.reference_laws.TypedStates.{IsTyped}
+use Rattle.simulation.specs.reference_machine.TypedStates.{IsTyped}
 
 module _ (tree : Tree) (name : Names) (o : Objects) (s : State) (h : IsReadable tree name o s) where
   -- ---- the object of a name

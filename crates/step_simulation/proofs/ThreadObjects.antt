@@ -11,7 +11,7 @@ use Rattle.simulation.specs.reference_machine.Values.{ObjectName, Born, Literal,
 use Rattle.simulation.specs.reference_machine.States.{Contents, Instance as IsInstance, Array as IsArray, HeapObject, Frame as StateFrame, State, object_at, class_of, class_of_contents}
 use Rattle.simulation.specs.reference_machine.Effects.{Setting, Effect as StateEffect, Sticks, given}
 use Rattle.simulation.specs.reference_machine.BuiltIn.{thread_object}
-use Rattle.simulation.proofs.reference_laws.Running.{IsTypedEffect}
+use Rattle.simulation.proofs.reference_machine.Running.{IsTypedEffect}
 use Rattle.simulation.specs.resolved_code.Numbered.{class_name}
 use Rattle.simulation.specs.object_memory.declared.addresses.Addr.{Addr}
 use Rattle.simulation.specs.object_memory.declared.kinds.Kind.{Kind}

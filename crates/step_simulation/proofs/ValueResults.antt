@@ -25,7 +25,7 @@ use Rattle.step_simulation.proofs.Fitting.{FitsResult, binary_fits, unary_fits, 
 use Rattle.step_simulation.proofs.Meeting.{Meets, IsResult, Same, meets_itself}
 use Rattle.simulation.proofs.Memories.{named_is_not_null}
 use Rattle.simulation.proofs.MemoryModels.{MemoryModel, IsReference}
-use Rattle.simulation.specs.reference_laws.TypedStates.{IsTyped}
+use Rattle.simulation.specs.reference_machine.TypedStates.{IsTyped}
 
 module _ (tree : Tree) (model : MemoryModel tree) (name : Names) (o : Objects) (statics : List Value) (s : State) (fits : model.Fits name o statics s) where
   -- ---- tests

@@ -13,8 +13,8 @@ use Rattle.simulation.specs.reference_machine.Values.{ObjectName, Value as State
 use Rattle.simulation.specs.reference_machine.States.{Frame as StateFrame, State, class_of}
 use Rattle.simulation.specs.reference_machine.Effects.{Setting, Effect as StateEffect, Sticks, given as given_state, are_of_kinds}
 use Rattle.simulation.specs.reference_machine.Steps.{execute, run_method, run_virtual, operands}
-use Rattle.simulation.proofs.reference_laws.FoundMethods.{IsFound, found}
-use Rattle.simulation.proofs.reference_laws.Running.{IsTypedEffect}
+use Rattle.simulation.proofs.reference_machine.FoundMethods.{IsFound, found}
+use Rattle.simulation.proofs.reference_machine.Running.{IsTypedEffect}
 use Rattle.simulation.specs.name_tables.declared.lookups.MemberNumber.{MemberNumber}
 use Rattle.simulation.specs.resolved_code.Numbered.{class_name}
 use Rattle.simulation.specs.resolved_code.Resolved.{IsMethod}

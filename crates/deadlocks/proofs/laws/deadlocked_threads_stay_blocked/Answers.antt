@@ -1,7 +1,7 @@
 use Rattle.std.specs.List.{zip}
 use Rattle.event_trace.specs.interleaving_core.simulation.reference_machine.Runs.{step_reports, thread_part}
 use Rattle.event_trace.proofs.interleaving_core.Following.{turns_follow}
-use Rattle.event_trace.proofs.interleaving_core.simulation.reference_laws.Lasting.{runs_last}
+use Rattle.event_trace.proofs.interleaving_core.simulation.reference_machine.Lasting.{runs_last}
 use Rattle.deadlocks.proofs.laws.deadlocked_threads_stay_blocked.Goals as goal
 
 pub returns : goal.returns

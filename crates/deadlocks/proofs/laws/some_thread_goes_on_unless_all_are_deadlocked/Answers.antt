@@ -1,4 +1,4 @@
-use Rattle.event_trace.proofs.interleaving_core.simulation.reference_laws.Going.{goes_on_unless_all}
+use Rattle.event_trace.proofs.interleaving_core.simulation.reference_machine.Going.{goes_on_unless_all}
 use Rattle.deadlocks.proofs.Greatest.{holders_started}
 use Rattle.deadlocks.proofs.laws.some_thread_goes_on_unless_all_are_deadlocked.Goals as goal
 

@@ -1,5 +1,0 @@
-use Rattle.reference_laws.proofs.AllSteps.{accepted_never_stuck}
-use Rattle.reference_laws.proofs.soundness.accepted_programs_are_never_stuck.Goals as goal
-
-pub returns : goal.returns
-returns c = accepted_never_stuck

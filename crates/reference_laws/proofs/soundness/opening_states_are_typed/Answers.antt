@@ -1,5 +1,0 @@
-use Rattle.reference_laws.proofs.Openings.{opens}
-use Rattle.reference_laws.proofs.soundness.opening_states_are_typed.Goals as goal
-
-pub returns : goal.returns
-returns c = opens

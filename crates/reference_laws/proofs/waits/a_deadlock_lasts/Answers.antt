@@ -1,8 +1,0 @@
-use Rattle.reference_laws.proofs.Lasting.{lasts, runs_last}
-use Rattle.reference_laws.proofs.waits.a_deadlock_lasts.Goals as goal
-
-pub returns-clause-step : goal.returns-clause-step
-returns-clause-step c = lasts
-
-pub returns-clause-run : goal.returns-clause-run
-returns-clause-run c = runs_last

@@ -1,3 +1,0 @@
-pub mod TypedStates
-pub mod Waits
-pub mod Blocking

@@ -1,0 +1,15 @@
+use Rattle.reference_machine.proofs.ReachedObjects.{reachable_is_there}
+use Rattle.reference_machine.proofs.ReachedRuns.{reached_was_reached, run_reaches, reached_is_owed}
+use Rattle.reference_machine.proofs.soundness.what_is_reached_was_reached_or_is_new.Goals as goal
+
+pub returns-clause-step : goal.returns-clause-step
+returns-clause-step c = reached_was_reached
+
+pub returns-clause-run : goal.returns-clause-run
+returns-clause-run c = run_reaches
+
+pub returns-clause-there : goal.returns-clause-there
+returns-clause-there c = reachable_is_there
+
+pub returns-clause-owed : goal.returns-clause-owed
+returns-clause-owed c = reached_is_owed
