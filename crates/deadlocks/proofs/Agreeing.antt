@@ -40,9 +40,9 @@ use Rattle.event_trace.proofs.interleaving_core.simulation.AgreeLaws.{agree_beyo
 use Rattle.event_trace.proofs.interleaving_core.simulation.Memories.{named_is_not_null}
 use Rattle.event_trace.proofs.interleaving_core.simulation.MemoryModels.{IsReadable}
 use Rattle.event_trace.proofs.interleaving_core.simulation.object_memory.Spaces.{slots_few}
-use Rattle.event_trace.proofs.interleaving_core.step_simulation.Monitors.{AreMonitors, monitors_there}
-use Rattle.event_trace.proofs.interleaving_core.step_simulation.Joins.{lives_alike}
-use Rattle.event_trace.proofs.interleaving_core.step_simulation.ThreadObjects.{IsThreadObject, thread_object_is, thread_on_is}
+use Rattle.event_trace.proofs.interleaving_core.simulation.Monitors.{AreMonitors, monitors_there}
+use Rattle.event_trace.proofs.interleaving_core.simulation.Joins.{lives_alike}
+use Rattle.event_trace.proofs.interleaving_core.simulation.ThreadObjects.{IsThreadObject, thread_object_is, thread_on_is}
 
 -- a machine's wait is for the same thread
 abbrev pub IsWaitAlike : Wait → StateWait → Type 0

@@ -19,7 +19,7 @@ use Rattle.event_trace.specs.interleaving_core.declared.waits.Wait.{Wait}
 use Rattle.event_trace.specs.interleaving_core.declared.waits.Wait.TheVariants.{Monitor, Join}
 use Rattle.event_trace.proofs.interleaving_core.simulation.AgreeLaws.{agree_length}
 use Rattle.event_trace.specs.interleaving_core.simulation.Counts.{IsCountedMonitor}
-use Rattle.event_trace.proofs.interleaving_core.step_simulation.Joins.{lives_alike}
+use Rattle.event_trace.proofs.interleaving_core.simulation.Joins.{lives_alike}
 use Rattle.deadlocks.specs.Deadlocks.{IsDeadlockOf}
 use Rattle.deadlocks.specs.Rounds.{after_round, is_held_up, is_in, stays}
 use Rattle.deadlocks.proofs.Agreeing.{AreWaitsAlike, IsWaitAlike, waits_alike}

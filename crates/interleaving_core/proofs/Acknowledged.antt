@@ -3,11 +3,11 @@ use Rattle.std.proofs.Common.{◌≡◌, ℕ, Some, slice_get}
 use Rattle.threads_monitors.specs.Frames.{Frames}
 use Rattle.threads_monitors.specs.Roots.{roots}
 use Rattle.threads_monitors.specs.declared.threads.Standing.TheVariants.{Live}
-use Rattle.step_simulation.specs.simulation.MachineContents.{Content}
-use Rattle.step_simulation.specs.simulation.Sound.{IsSound}
-use Rattle.step_simulation.proofs.simulation.NormalContents.{has_seat, sound_is_held}
-use Rattle.step_simulation.proofs.simulation.collector.HeldValues.{live_is_there}
-use Rattle.step_simulation.proofs.simulation.collector.Views.{may_hold_live}
+use Rattle.simulation.specs.MachineContents.{Content}
+use Rattle.simulation.specs.Sound.{IsSound}
+use Rattle.simulation.proofs.NormalContents.{has_seat, sound_is_held}
+use Rattle.simulation.proofs.collector.HeldValues.{live_is_there}
+use Rattle.simulation.proofs.collector.Views.{may_hold_live}
 use Rattle.interleaving_core.specs.Acknowledging.{AreAllThere}
 
 pub held_there : (c : Content) (t : ℕ) → IsSound c → (left : ℕ) (m : Frames) → slice_get c.threads t ≡ Some (record { standing = Live m; steps_left = left }) → AreAllThere c.objects (roots m)

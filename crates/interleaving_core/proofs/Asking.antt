@@ -17,20 +17,20 @@ use Rattle.resolved_code.specs.declared.operations.Operation.TheVariants.{NoOper
 use Rattle.object_memory.specs.declared.addresses.Addr.{Addr}
 use Rattle.object_memory.specs.declared.values.Value.{Value}
 use Rattle.object_memory.specs.Objects.{Objects}
-use Rattle.step_simulation.specs.simulation.loaded_program.MethodNumbers.{number_of}
+use Rattle.simulation.specs.loaded_program.MethodNumbers.{number_of}
 use Rattle.threads_monitors.specs.Frames.{Frames}
 use Rattle.threads_monitors.specs.declared.mutators.Mutator.{Mutator}
 use Rattle.threads_monitors.specs.declared.effects.Effect.{Effect}
 use Rattle.threads_monitors.specs.declared.effects.Effect.TheVariants.{Raises}
-use Rattle.step_simulation.specs.simulation.instructions.Frames.{Turn, given, onward, top_of}
-use Rattle.step_simulation.specs.simulation.instructions.ObjectTurns.{ObjectTurn, beside, StaticTurn}
-use Rattle.step_simulation.specs.simulation.instructions.Calls.{call_turn}
-use Rattle.step_simulation.specs.simulation.instructions.BuiltInTurns.{enter_turn, exit_turn, write_turn}
-use Rattle.step_simulation.specs.simulation.interpreter.Operations.{constant_rule, stack_rule, arithmetic_rule, branch_rule, field_rule, array_rule, type_rule, static_rule}
-use Rattle.step_simulation.specs.simulation.interpreter.Instructions.{IsDone, MachineTurn, of_frames, of_objects, of_statics, of_calls, operation_turn, Answer, answer_of}
-use Rattle.step_simulation.specs.simulation.interpreter.Calls.{CallTurn, act_turn, beside_console, called_as, call_rule, chosen_at, new_at, receiver, return_rule, run_chosen, run_turn, top_reference, virtual_at, CallAnswer, call_answer}
-use Rattle.step_simulation.specs.simulation.interpreter.declared.outcomes.Outcome.{Outcome}
-use Rattle.step_simulation.specs.simulation.interpreter.declared.outcomes.Outcome.TheVariants.{Comes, Starts, Joins}
+use Rattle.simulation.specs.instructions.Frames.{Turn, given, onward, top_of}
+use Rattle.simulation.specs.instructions.ObjectTurns.{ObjectTurn, beside, StaticTurn}
+use Rattle.simulation.specs.instructions.Calls.{call_turn}
+use Rattle.simulation.specs.instructions.BuiltInTurns.{enter_turn, exit_turn, write_turn}
+use Rattle.simulation.specs.interpreter.Operations.{constant_rule, stack_rule, arithmetic_rule, branch_rule, field_rule, array_rule, type_rule, static_rule}
+use Rattle.simulation.specs.interpreter.Instructions.{IsDone, MachineTurn, of_frames, of_objects, of_statics, of_calls, operation_turn, Answer, answer_of}
+use Rattle.simulation.specs.interpreter.Calls.{CallTurn, act_turn, beside_console, called_as, call_rule, chosen_at, new_at, receiver, return_rule, run_chosen, run_turn, top_reference, virtual_at, CallAnswer, call_answer}
+use Rattle.simulation.specs.interpreter.declared.outcomes.Outcome.{Outcome}
+use Rattle.simulation.specs.interpreter.declared.outcomes.Outcome.TheVariants.{Comes, Starts, Joins}
 use Rattle.cil_model.proofs.Lists.{none_is_some}
 
 -- an outcome for the thread itself, or a wait, is no start

@@ -20,9 +20,9 @@ use Rattle.cil_model.proofs.Lists.{none_is_some}
 use Rattle.cil_model.proofs.SameLaws.{not_both}
 use Rattle.reference_machine.specs.BuiltIn.{Action, Enter, Join, action_of}
 use Rattle.reference_machine.proofs.MethodLaws.{IsDeclared, found_is_declared}
-use Rattle.step_simulation.proofs.simulation.reference_machine.BuiltInMembers.{acts_as_member}
-use Rattle.step_simulation.specs.simulation.reference_machine.Waits.{action_found, called_action}
-use Rattle.step_simulation.proofs.simulation.reference_machine.ActingMembers.{acting_is_not_virtual}
+use Rattle.simulation.proofs.reference_machine.BuiltInMembers.{acts_as_member}
+use Rattle.simulation.specs.reference_machine.Waits.{action_found, called_action}
+use Rattle.simulation.proofs.reference_machine.ActingMembers.{acting_is_not_virtual}
 use Rattle.name_tables.specs.declared.lookups.MemberNumber.{MemberNumber}
 use Rattle.name_tables.specs.Numbers.{method_at}
 use Rattle.resolved_code.specs.Numbered.{class_name}
@@ -35,21 +35,21 @@ use Rattle.object_memory.specs.declared.values.Value.{Value}
 use Rattle.object_memory.specs.declared.values.Value.TheVariants.{Int32, Int64, Native, Ref}
 use Rattle.object_memory.specs.Cells.{Cell, literal_number, null}
 use Rattle.object_memory.specs.Objects.{Objects, monitor_at, object_cell, object_slots}
-use Rattle.step_simulation.specs.simulation.loaded_program.MethodNumbers.{number_of}
+use Rattle.simulation.specs.loaded_program.MethodNumbers.{number_of}
 use Rattle.threads_monitors.specs.Frames.{Frames, with_stack}
 use Rattle.threads_monitors.specs.declared.mutators.Mutator.{Mutator}
-use Rattle.step_simulation.specs.simulation.instructions.barriers.Barriers.{is_monitor_storable}
+use Rattle.simulation.specs.instructions.barriers.Barriers.{is_monitor_storable}
 use Rattle.threads_monitors.specs.Monitors.{with_entry}
 use Rattle.threads_monitors.specs.declared.effects.Effect.TheVariants.{Raises}
-use Rattle.step_simulation.specs.simulation.instructions.Calls.{call_turn}
-use Rattle.step_simulation.specs.simulation.instructions.Frames.{given}
-use Rattle.step_simulation.specs.simulation.instructions.ObjectTurns.{ObjectTurn, beside}
-use Rattle.step_simulation.specs.simulation.instructions.BuiltInTurns.{carried, is_countable, reference_from}
-use Rattle.step_simulation.specs.simulation.interpreter.Calls.{CallTurn, act_turn, beside_console, call_answer, called_as, chosen, chosen_by, class_at, class_of_kind, receiver, run_chosen, run_turn, top_reference, virtual_at}
-use Rattle.step_simulation.specs.simulation.interpreter.Instructions.{Answer, HasSmallConstant, IsAt, IsDone, MachineTurn, answer_of, line_at, of_calls, operation_turn}
-use Rattle.step_simulation.specs.simulation.interpreter.declared.outcomes.Outcome.TheVariants.{Comes, Joins}
-use Rattle.step_simulation.specs.simulation.MachineContents.{Content, mutator_of}
-use Rattle.step_simulation.specs.simulation.Ready.{IsAnswerable, IsReady}
+use Rattle.simulation.specs.instructions.Calls.{call_turn}
+use Rattle.simulation.specs.instructions.Frames.{given}
+use Rattle.simulation.specs.instructions.ObjectTurns.{ObjectTurn, beside}
+use Rattle.simulation.specs.instructions.BuiltInTurns.{carried, is_countable, reference_from}
+use Rattle.simulation.specs.interpreter.Calls.{CallTurn, act_turn, beside_console, call_answer, called_as, chosen, chosen_by, class_at, class_of_kind, receiver, run_chosen, run_turn, top_reference, virtual_at}
+use Rattle.simulation.specs.interpreter.Instructions.{Answer, HasSmallConstant, IsAt, IsDone, MachineTurn, answer_of, line_at, of_calls, operation_turn}
+use Rattle.simulation.specs.interpreter.declared.outcomes.Outcome.TheVariants.{Comes, Joins}
+use Rattle.simulation.specs.MachineContents.{Content, mutator_of}
+use Rattle.simulation.specs.Ready.{IsAnswerable, IsReady}
 use Rattle.interleaving_core.specs.Waits.{HasObject, action_at, called_member}
 
 -- ---- what an instruction calls

@@ -18,15 +18,15 @@ use Rattle.threads_monitors.specs.declared.threads.Standing.{Standing}
 use Rattle.threads_monitors.specs.declared.threads.Standing.TheVariants.{Live, Ended}
 use Rattle.threads_monitors.specs.declared.threads.Thread.{Thread}
 use Rattle.phase_handshake.specs.Handshakes.{Handshakes, acknowledged, left as without_seat}
-use Rattle.step_simulation.specs.simulation.interpreter.declared.outcomes.Outcome.{Outcome}
-use Rattle.step_simulation.specs.simulation.Budgets.{KeepsBudgets, made_step, steps_left_of, steps_made}
-use Rattle.step_simulation.specs.simulation.MachineContents.{Content}
-use Rattle.step_simulation.specs.simulation.Collecting.{acknowledgement, collected, flips_frames, objects_after, standing_flipped, thread_flipped, with_acknowledgement, with_flipped}
-use Rattle.step_simulation.specs.simulation.Turns.{IsStandingTurn, IsThreadTurn, IsTurn, counted, finished, left_by, live_thread, seats_after}
-use Rattle.step_simulation.proofs.simulation.CollectedRests.{collected_keeps}
-use Rattle.step_simulation.proofs.Finished.{HasBegun, finished_by}
+use Rattle.simulation.specs.interpreter.declared.outcomes.Outcome.{Outcome}
+use Rattle.simulation.specs.Budgets.{KeepsBudgets, made_step, steps_left_of, steps_made}
+use Rattle.simulation.specs.MachineContents.{Content}
+use Rattle.simulation.specs.Collecting.{acknowledgement, collected, flips_frames, objects_after, standing_flipped, thread_flipped, with_acknowledgement, with_flipped}
+use Rattle.simulation.specs.Turns.{IsStandingTurn, IsThreadTurn, IsTurn, counted, finished, left_by, live_thread, seats_after}
+use Rattle.simulation.proofs.CollectedRests.{collected_keeps}
+use Rattle.simulation.proofs.Finished.{HasBegun, finished_by}
 use Rattle.cil_model.proofs.Lists.{none_is_some, get_before, set_is_there}
-use Rattle.step_simulation.specs.simulation.interpreter.Instructions.{Answer}
+use Rattle.simulation.specs.interpreter.Instructions.{Answer}
 
 -- ---- one thread among others
 

@@ -8,16 +8,16 @@ use Rattle.object_memory.specs.declared.values.Value.{Value}
 use Rattle.object_memory.specs.declared.values.Value.TheVariants.{Int32}
 use Rattle.object_memory.specs.Cells.{Cell}
 use Rattle.object_memory.specs.Objects.{Objects}
-use Rattle.step_simulation.specs.simulation.instructions.barriers.Barriers.{is_value_there}
-use Rattle.step_simulation.specs.simulation.collector.Conditions.{AreThere}
-use Rattle.step_simulation.specs.simulation.collector.Marking.{mark_step, marked_on, oldest_cell, statics_scanned}
-use Rattle.step_simulation.specs.simulation.collector.declared.progress.Progress.{Progress}
-use Rattle.step_simulation.specs.simulation.Collecting.{marked, mark_work, rounds}
-use Rattle.step_simulation.specs.simulation.MachineContents.{Content}
-use Rattle.step_simulation.specs.simulation.Sound.{IsSound}
-use Rattle.step_simulation.proofs.simulation.NormalContents.{sound_is_held, static_is_live}
-use Rattle.step_simulation.proofs.simulation.collector.HeldValues.{live_value_is_there}
-use Rattle.step_simulation.proofs.simulation.collector.Views.{never}
+use Rattle.simulation.specs.instructions.barriers.Barriers.{is_value_there}
+use Rattle.simulation.specs.collector.Conditions.{AreThere}
+use Rattle.simulation.specs.collector.Marking.{mark_step, marked_on, oldest_cell, statics_scanned}
+use Rattle.simulation.specs.collector.declared.progress.Progress.{Progress}
+use Rattle.simulation.specs.Collecting.{marked, mark_work, rounds}
+use Rattle.simulation.specs.MachineContents.{Content}
+use Rattle.simulation.specs.Sound.{IsSound}
+use Rattle.simulation.proofs.NormalContents.{sound_is_held, static_is_live}
+use Rattle.simulation.proofs.collector.HeldValues.{live_value_is_there}
+use Rattle.simulation.proofs.collector.Views.{never}
 
 -- what the static fields of a sound machine hold is there
 pub statics_there : (c : Content) → IsSound c → AreThere c.objects c.statics

@@ -12,9 +12,9 @@ use Rattle.cil_model.specs.Legality.{IsLegal}
 use Rattle.name_tables.specs.Numbers.{declarations, method_at}
 use Rattle.name_tables.proofs.NumberLaws.{declared_at_number}
 use Rattle.resolved_code.proofs.ClassNumbers.{number_of_place}
-use Rattle.step_simulation.specs.simulation.loaded_program.Prepared.{local_kinds}
-use Rattle.step_simulation.proofs.simulation.MethodSizes.{locals_few}
-use Rattle.step_simulation.proofs.simulation.Zeros.{locals_low}
+use Rattle.simulation.specs.loaded_program.Prepared.{local_kinds}
+use Rattle.simulation.proofs.MethodSizes.{locals_few}
+use Rattle.simulation.proofs.Zeros.{locals_low}
 use Rattle.cil_model.proofs.Lists.{none_is_some}
 
 module _ (tree : Tree) (legal : IsLegal tree) (class place : ℕ) where

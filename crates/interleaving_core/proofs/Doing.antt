@@ -6,14 +6,14 @@ use Rattle.cil_model.specs.declared.events.Event.{Event}
 use Rattle.cil_model.specs.declared.limits.Limits.{Limits}
 use Rattle.cil_model.specs.declared.reports.Report.{Report}
 use Rattle.cil_model.specs.declared.trees.Tree.{Tree}
-use Rattle.step_simulation.specs.simulation.MachineContents.{Content}
-use Rattle.step_simulation.specs.simulation.Runs.{AreTurns, StandsAfter}
-use Rattle.step_simulation.specs.simulation.Turns.{IsTurn, opening_content}
-use Rattle.step_simulation.proofs.CycleWork.{cycles_bounded}
-use Rattle.step_simulation.proofs.OpenCycles.{opened_is}
-use Rattle.step_simulation.proofs.OwedRuns.{leaves_owed}
-use Rattle.step_simulation.proofs.Whole.{each_alike}
-use Rattle.step_simulation.proofs.simulation.StandsLaws.{stands_after}
+use Rattle.simulation.specs.MachineContents.{Content}
+use Rattle.simulation.specs.Runs.{AreTurns, StandsAfter}
+use Rattle.simulation.specs.Turns.{IsTurn, opening_content}
+use Rattle.simulation.proofs.CycleWork.{cycles_bounded}
+use Rattle.simulation.proofs.OpenCycles.{opened_is}
+use Rattle.simulation.proofs.OwedRuns.{leaves_owed}
+use Rattle.simulation.proofs.Whole.{each_alike}
+use Rattle.simulation.proofs.StandsLaws.{stands_after}
 use Rattle.interleaving_core.specs.Histories.{DoesMore, HasDone}
 use Rattle.interleaving_core.proofs.Following.{turns_follow, turns_length, turns_program}
 use Rattle.interleaving_core.proofs.LiveThreads.{some_budget}

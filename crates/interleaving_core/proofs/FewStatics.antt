@@ -5,11 +5,11 @@ use Rattle.cil_model.specs.declared.types.DeclaredType.{DeclaredType}
 use Rattle.cil_model.specs.Fields.{FieldKey, static_fields}
 use Rattle.reference_machine.specs.States.{State}
 use Rattle.reference_machine.specs.Values.{Value as StateValue}
-use Rattle.step_simulation.specs.simulation.reference_machine.TypedStates.{HaveFieldTypes}
-use Rattle.step_simulation.specs.simulation.MachineContents.{Content}
-use Rattle.step_simulation.specs.simulation.StandsFor.{IsValue, Represents}
-use Rattle.step_simulation.proofs.simulation.AgreeLaws.{agree_length}
-use Rattle.step_simulation.proofs.simulation.FieldSizes.{static_fields_small}
+use Rattle.simulation.specs.reference_machine.TypedStates.{HaveFieldTypes}
+use Rattle.simulation.specs.MachineContents.{Content}
+use Rattle.simulation.specs.StandsFor.{IsValue, Represents}
+use Rattle.simulation.proofs.AgreeLaws.{agree_length}
+use Rattle.simulation.proofs.FieldSizes.{static_fields_small}
 
 same_length : (tree : Tree) (s : State) (es : List (FieldKey × StateValue)) (fs : List (FieldKey × DeclaredType)) → HaveFieldTypes tree s es fs → length es ≡ length fs
 same_length tree s [] [] h = refl

@@ -11,13 +11,13 @@ use Rattle.reference_machine.specs.Runs.{RunsTo, is_refusal, run, request_of, re
 use Rattle.reference_machine.specs.States.{State}
 use Rattle.reference_machine.specs.Steps.{Answers, step}
 use Rattle.reference_machine.proofs.RunLaws.{behind_run, runs_on, same_state}
-use Rattle.step_simulation.specs.simulation.MachineContents.{Content}
-use Rattle.step_simulation.specs.simulation.Budgets.{KeepsBudgets, steps_left_of}
-use Rattle.step_simulation.specs.simulation.StandsFor.{Represents}
-use Rattle.step_simulation.specs.simulation.Turns.{IsTurn}
-use Rattle.step_simulation.proofs.Whole.{acknowledgement_keeps, collection_keeps, step_is_followed, step_is_refused}
-use Rattle.step_simulation.specs.simulation.Runs.{AreTurns, FollowsReference, RefusesBeyondRoom, RunsAlike}
-use Rattle.step_simulation.proofs.Finished.{same_program}
+use Rattle.simulation.specs.MachineContents.{Content}
+use Rattle.simulation.specs.Budgets.{KeepsBudgets, steps_left_of}
+use Rattle.simulation.specs.StandsFor.{Represents}
+use Rattle.simulation.specs.Turns.{IsTurn}
+use Rattle.simulation.proofs.Whole.{acknowledgement_keeps, collection_keeps, step_is_followed, step_is_refused}
+use Rattle.simulation.specs.Runs.{AreTurns, FollowsReference, RefusesBeyondRoom, RunsAlike}
+use Rattle.simulation.proofs.Finished.{same_program}
 use Rattle.interleaving_core.proofs.Budgets.{keeps_behind, turn_keeps}
 use Rattle.interleaving_core.proofs.LiveThreads.{some_budget, live_have_steps}
 

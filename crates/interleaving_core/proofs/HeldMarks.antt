@@ -11,12 +11,12 @@ use Rattle.object_memory.specs.Objects.{Objects}
 use Rattle.object_memory.specs.Spaces.{is_there}
 use Rattle.threads_monitors.specs.Frames.{Frame}
 use Rattle.threads_monitors.specs.Roots.{frame_roots, reference_in, values_of}
-use Rattle.step_simulation.specs.simulation.instructions.barriers.Barriers.{is_value_there, with_marked}
-use Rattle.step_simulation.specs.simulation.collector.Conditions.{AreThere}
-use Rattle.step_simulation.specs.simulation.collector.Marking.{with_all_marked}
-use Rattle.step_simulation.specs.simulation.collector.Soundness.{IsListed}
-use Rattle.step_simulation.specs.simulation.Collecting.{with_roots_marked}
-use Rattle.step_simulation.proofs.simulation.collector.Marked.{all_kept, open_kept}
+use Rattle.simulation.specs.instructions.barriers.Barriers.{is_value_there, with_marked}
+use Rattle.simulation.specs.collector.Conditions.{AreThere}
+use Rattle.simulation.specs.collector.Marking.{with_all_marked}
+use Rattle.simulation.specs.collector.Soundness.{IsListed}
+use Rattle.simulation.specs.Collecting.{with_roots_marked}
+use Rattle.simulation.proofs.collector.Marked.{all_kept, open_kept}
 use Rattle.interleaving_core.specs.Acknowledging.{AreAllThere}
 
 -- ---- lists

@@ -20,11 +20,11 @@ use Rattle.threads_monitors.specs.declared.threads.Standing.TheVariants.{Live}
 use Rattle.threads_monitors.specs.declared.threads.Thread.{Thread}
 use Rattle.resolved_code.specs.declared.operations.Operation.{Operation}
 use Rattle.threads_monitors.specs.declared.mutators.Mutator.{Mutator}
-use Rattle.step_simulation.specs.simulation.Ready.{IsReady}
-use Rattle.step_simulation.specs.simulation.interpreter.Instructions.{IsDone, answer_of, HasSmallConstant, IsAt, operation_turn}
-use Rattle.step_simulation.specs.simulation.interpreter.declared.outcomes.Outcome.{Outcome}
-use Rattle.step_simulation.specs.simulation.MachineContents.{Content, mutator_of}
-use Rattle.step_simulation.specs.simulation.Turns.{after_request, answered, counted, live_thread, started, thread_for, seats_after}
+use Rattle.simulation.specs.Ready.{IsReady}
+use Rattle.simulation.specs.interpreter.Instructions.{IsDone, answer_of, HasSmallConstant, IsAt, operation_turn}
+use Rattle.simulation.specs.interpreter.declared.outcomes.Outcome.{Outcome}
+use Rattle.simulation.specs.MachineContents.{Content, mutator_of}
+use Rattle.simulation.specs.Turns.{after_request, answered, counted, live_thread, started, thread_for, seats_after}
 use Rattle.interleaving_core.specs.Finishing.{IsInstructed}
 use Rattle.interleaving_core.proofs.Stepping.{live_there, thread_is}
 

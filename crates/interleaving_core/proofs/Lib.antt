@@ -1,5 +1,5 @@
-pub use Rattle.step_simulation.proofs.simulation as simulation
-pub use Rattle.step_simulation.proofs as step_simulation
+pub use Rattle.simulation.proofs as simulation
+pub use Rattle.simulation.proofs as simulation
 pub mod Declared
 pub mod OpeningLaws
 pub mod Budgets

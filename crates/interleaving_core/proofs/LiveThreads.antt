@@ -7,11 +7,11 @@ use Rattle.threads_monitors.specs.Threads.{is_live}
 use Rattle.threads_monitors.specs.declared.threads.Thread.{Thread}
 use Rattle.threads_monitors.specs.declared.threads.Standing.{Standing}
 use Rattle.threads_monitors.specs.declared.threads.Standing.TheVariants.{Live, Ended}
-use Rattle.step_simulation.specs.simulation.MachineContents.{Content}
-use Rattle.step_simulation.specs.simulation.StandsFor.{IsThread, Names, Represents, StandsAlike}
-use Rattle.step_simulation.proofs.simulation.AgreeLaws.{agree_at}
+use Rattle.simulation.specs.MachineContents.{Content}
+use Rattle.simulation.specs.StandsFor.{IsThread, Names, Represents, StandsAlike}
+use Rattle.simulation.proofs.AgreeLaws.{agree_at}
 use Rattle.interleaving_core.proofs.Budgets.{LiveHaveSteps}
-use Rattle.step_simulation.proofs.simulation.LimitRanges.{budget_is_some as budget_of}
+use Rattle.simulation.proofs.LimitRanges.{budget_is_some as budget_of}
 
 module _ (c : Content) (s : State) (r : Represents c s) where
   pub some_budget : 1 ≤ c.limits.budget

@@ -25,24 +25,24 @@ use Rattle.name_tables.specs.declared.lookups.MemberNumber.{MemberNumber}
 use Rattle.name_tables.specs.Numbers.{declarations, method_at, source_entry}
 use Rattle.resolved_code.proofs.ClassNumbers.{FoundAt, found_at, number_of_place as class_of_place}
 use Rattle.phase_handshake.specs.Handshakes.{Handshakes, first_handshakes}
-use Rattle.step_simulation.specs.simulation.collector.Phases.{no_progress}
-use Rattle.step_simulation.specs.simulation.collector.declared.progress.Progress.{Progress}
-use Rattle.step_simulation.specs.simulation.programs.Contents.{IsEntryPoint}
+use Rattle.simulation.specs.collector.Phases.{no_progress}
+use Rattle.simulation.specs.collector.declared.progress.Progress.{Progress}
+use Rattle.simulation.specs.programs.Contents.{IsEntryPoint}
 use Rattle.object_memory.specs.declared.addresses.Addr.{Addr}
 use Rattle.object_memory.specs.declared.values.Value.{Value}
 use Rattle.object_memory.specs.declared.values.Value.TheVariants.{Ref}
 use Rattle.object_memory.specs.Objects.{Objects, no_objects}
-use Rattle.step_simulation.specs.simulation.loaded_program.AllMethods.{all_methods}
-use Rattle.step_simulation.specs.simulation.loaded_program.MethodNumbers.{number_of}
-use Rattle.step_simulation.specs.simulation.loaded_program.Prepared.{kind_of_type}
-use Rattle.step_simulation.proofs.simulation.loaded_program.NumberLaws.{number_of_place}
+use Rattle.simulation.specs.loaded_program.AllMethods.{all_methods}
+use Rattle.simulation.specs.loaded_program.MethodNumbers.{number_of}
+use Rattle.simulation.specs.loaded_program.Prepared.{kind_of_type}
+use Rattle.simulation.proofs.loaded_program.NumberLaws.{number_of_place}
 use Rattle.threads_monitors.specs.Frames.{zero_value}
 use Rattle.threads_monitors.specs.declared.threads.Thread.{Thread}
-use Rattle.step_simulation.specs.simulation.interpreter.Calls.{chosen, chosen_at, chosen_by, class_at}
-use Rattle.step_simulation.proofs.simulation.interpreter.Running.{there_is}
-use Rattle.step_simulation.specs.simulation.loaded_program.Loaded.{target_in}
-use Rattle.step_simulation.proofs.simulation.loaded_program.OperandLaws.{then_some}
-use Rattle.step_simulation.specs.simulation.Turns.{content_at, opening_content, run_member, thread_at, thread_for}
+use Rattle.simulation.specs.interpreter.Calls.{chosen, chosen_at, chosen_by, class_at}
+use Rattle.simulation.proofs.interpreter.Running.{there_is}
+use Rattle.simulation.specs.loaded_program.Loaded.{target_in}
+use Rattle.simulation.proofs.loaded_program.OperandLaws.{then_some}
+use Rattle.simulation.specs.Turns.{content_at, opening_content, run_member, thread_at, thread_for}
 use Rattle.interleaving_core.specs.Statics.{declared_fields, zeros_of}
 
 -- the zero of a field by its type

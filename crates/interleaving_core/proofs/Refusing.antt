@@ -8,20 +8,20 @@ use Rattle.cil_model.specs.declared.reports.Fault.{Fault}
 use Rattle.cil_model.specs.declared.reports.Report.{Report}
 use Rattle.object_memory.specs.declared.addresses.Addr.{Addr}
 use Rattle.object_memory.specs.Objects.{Objects}
-use Rattle.step_simulation.specs.simulation.instructions.barriers.Barriers.{stored_int}
+use Rattle.simulation.specs.instructions.barriers.Barriers.{stored_int}
 use Rattle.threads_monitors.specs.Frames.{Frames}
 use Rattle.threads_monitors.specs.Threads.{join_effect, start_fault, with_start}
 use Rattle.threads_monitors.specs.declared.effects.Effect.{Effect}
 use Rattle.threads_monitors.specs.declared.effects.Effect.TheVariants.{GoesOn, Raises}
 use Rattle.threads_monitors.specs.declared.threads.Thread.{Thread}
-use Rattle.step_simulation.specs.simulation.interpreter.Instructions.{IsDone, Prints, Answer}
-use Rattle.step_simulation.specs.simulation.interpreter.declared.outcomes.Outcome.{Outcome}
-use Rattle.step_simulation.specs.simulation.interpreter.declared.outcomes.Outcome.TheVariants.{Comes, Starts, Joins}
-use Rattle.step_simulation.specs.simulation.MachineContents.{Content, mutator_of}
-use Rattle.step_simulation.specs.simulation.Turns.{IsThreadTurn, IsTurn, TakesMemory, after_request, counted, finished, left_by, live_thread, started, thread_for, seated}
-use Rattle.step_simulation.specs.simulation.Ready.{IsAnswerable}
+use Rattle.simulation.specs.interpreter.Instructions.{IsDone, Prints, Answer}
+use Rattle.simulation.specs.interpreter.declared.outcomes.Outcome.{Outcome}
+use Rattle.simulation.specs.interpreter.declared.outcomes.Outcome.TheVariants.{Comes, Starts, Joins}
+use Rattle.simulation.specs.MachineContents.{Content, mutator_of}
+use Rattle.simulation.specs.Turns.{IsThreadTurn, IsTurn, TakesMemory, after_request, counted, finished, left_by, live_thread, started, thread_for, seated}
+use Rattle.simulation.specs.Ready.{IsAnswerable}
 use Rattle.interleaving_core.specs.Finishing.{IsInstructed}
-use Rattle.step_simulation.proofs.Finished.{finished_printed}
+use Rattle.simulation.proofs.Finished.{finished_printed}
 
 -- what holds anyway holds of an error
 pub on_err : {T E P : Type 0} (r : Result T E) → P → OnErr r P

@@ -10,11 +10,11 @@ use Rattle.threads_monitors.specs.Frames.{Frames}
 use Rattle.threads_monitors.specs.Threads.{is_live_at, join_effect}
 use Rattle.threads_monitors.specs.declared.effects.Effect.{Effect}
 use Rattle.threads_monitors.specs.declared.threads.Thread.{Thread}
-use Rattle.step_simulation.specs.simulation.interpreter.declared.outcomes.Outcome.{Outcome}
-use Rattle.step_simulation.specs.simulation.interpreter.declared.outcomes.Outcome.TheVariants.{Starts, Joins}
-use Rattle.step_simulation.specs.simulation.Ready.{CanFinish}
-use Rattle.step_simulation.specs.simulation.MachineContents.{Content, mutator_of}
-use Rattle.step_simulation.specs.simulation.Turns.{answered, finish, live_thread, started, seated}
+use Rattle.simulation.specs.interpreter.declared.outcomes.Outcome.{Outcome}
+use Rattle.simulation.specs.interpreter.declared.outcomes.Outcome.TheVariants.{Starts, Joins}
+use Rattle.simulation.specs.Ready.{CanFinish}
+use Rattle.simulation.specs.MachineContents.{Content, mutator_of}
+use Rattle.simulation.specs.Turns.{answered, finish, live_thread, started, seated}
 use Rattle.interleaving_core.proofs.Stepping.{live_by, live_there, started_keeps}
 
 -- what is known of a live thread's frames

@@ -12,13 +12,13 @@ use Rattle.cil_model.specs.Ranges.{are_in_range}
 use Rattle.cil_model.specs.Typings.{IsAccepted}
 use Rattle.reference_machine.specs.Runs.{opening}
 use Rattle.reference_machine.specs.States.{State}
-use Rattle.step_simulation.specs.simulation.MachineContents.{Content}
-use Rattle.step_simulation.specs.simulation.StandsFor.{Represents}
-use Rattle.step_simulation.specs.simulation.Turns.{IsTurn, opening_content}
-use Rattle.step_simulation.proofs.Whole.{asked_is_answerable, opening_is_represented, thread_is_ready}
+use Rattle.simulation.specs.MachineContents.{Content}
+use Rattle.simulation.specs.StandsFor.{Represents}
+use Rattle.simulation.specs.Turns.{IsTurn, opening_content}
+use Rattle.simulation.proofs.Whole.{asked_is_answerable, opening_is_represented, thread_is_ready}
 use Rattle.interleaving_core.specs.Views.{CanGoOn, IsSound, content_of}
 use Rattle.interleaving_core.specs.declared.engine.Engine.{Engine}
-use Rattle.step_simulation.proofs.Finished.{same_program, turn_few}
+use Rattle.simulation.proofs.Finished.{same_program, turn_few}
 use Rattle.interleaving_core.proofs.FewStatics.{statics_few}
 use Rattle.interleaving_core.proofs.Following.{SameProgram, turn_follows}
 

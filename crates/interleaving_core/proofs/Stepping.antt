@@ -10,7 +10,7 @@ use Rattle.cil_model.specs.declared.reports.Report.{Report}
 use Rattle.cil_model.specs.declared.trees.Tree.{Tree}
 use Rattle.object_memory.specs.declared.addresses.Addr.{Addr}
 use Rattle.object_memory.specs.Objects.{Objects}
-use Rattle.step_simulation.specs.simulation.instructions.barriers.Barriers.{stored_int}
+use Rattle.simulation.specs.instructions.barriers.Barriers.{stored_int}
 use Rattle.threads_monitors.specs.Frames.{Frames}
 use Rattle.threads_monitors.specs.Threads.{is_live, is_live_at, start_fault, with_start}
 use Rattle.threads_monitors.specs.declared.effects.Effect.{Effect}
@@ -18,11 +18,11 @@ use Rattle.threads_monitors.specs.declared.effects.Effect.TheVariants.{GoesOn, R
 use Rattle.threads_monitors.specs.declared.threads.Standing.{Standing}
 use Rattle.threads_monitors.specs.declared.threads.Standing.TheVariants.{Live, Ended}
 use Rattle.threads_monitors.specs.declared.threads.Thread.{Thread}
-use Rattle.step_simulation.specs.simulation.interpreter.declared.outcomes.Outcome.{Outcome}
-use Rattle.step_simulation.specs.simulation.interpreter.declared.outcomes.Outcome.TheVariants.{Starts}
-use Rattle.step_simulation.specs.simulation.MachineContents.{Content, mutator_of}
-use Rattle.step_simulation.specs.simulation.Turns.{IsStandingTurn, IsThreadTurn, IsTurn, finish, finished, left_by, live_thread, started, thread_for}
-use Rattle.step_simulation.specs.simulation.Ready.{CanFinish, IsAnswerable}
+use Rattle.simulation.specs.interpreter.declared.outcomes.Outcome.{Outcome}
+use Rattle.simulation.specs.interpreter.declared.outcomes.Outcome.TheVariants.{Starts}
+use Rattle.simulation.specs.MachineContents.{Content, mutator_of}
+use Rattle.simulation.specs.Turns.{IsStandingTurn, IsThreadTurn, IsTurn, finish, finished, left_by, live_thread, started, thread_for}
+use Rattle.simulation.specs.Ready.{CanFinish, IsAnswerable}
 use Rattle.interleaving_core.specs.Finishing.{IsInstructed}
 use Rattle.interleaving_core.proofs.Asking.{start_changes_nothing}
 use Rattle.cil_model.proofs.Lists.{none_is_some, get_before, set_is_there, set_itself}

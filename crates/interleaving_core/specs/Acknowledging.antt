@@ -3,7 +3,7 @@ use Rattle.std.specs.Prelude.{◌≡◌, true, List}
 use Rattle.object_memory.specs.declared.addresses.Addr.{Addr}
 use Rattle.object_memory.specs.Objects.{Objects}
 use Rattle.object_memory.specs.Spaces.{is_there}
-use Rattle.step_simulation.specs.simulation.collector.Soundness.{IsListed}
+use Rattle.simulation.specs.collector.Soundness.{IsListed}
 
 -- each address on a list is null, a literal's, or that of an object
 abbrev pub AreAllThere : Objects → List Addr → Type 0

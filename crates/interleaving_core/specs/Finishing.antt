@@ -1,10 +1,10 @@
 -- A step of a thread in two halves: its instruction, and what that comes to. This is where the first one ends.
 use Rattle.std.specs.Prelude.{◌≡◌, ℕ, Some, slice_get}
 use Rattle.threads_monitors.specs.Frames.{Frames}
-use Rattle.step_simulation.specs.simulation.interpreter.Instructions.{IsDone, Answer}
-use Rattle.step_simulation.specs.simulation.interpreter.declared.outcomes.Outcome.{Outcome}
-use Rattle.step_simulation.specs.simulation.MachineContents.{Content, mutator_of}
-use Rattle.step_simulation.specs.simulation.Turns.{left_by, live_thread}
+use Rattle.simulation.specs.interpreter.Instructions.{IsDone, Answer}
+use Rattle.simulation.specs.interpreter.declared.outcomes.Outcome.{Outcome}
+use Rattle.simulation.specs.MachineContents.{Content, mutator_of}
+use Rattle.simulation.specs.Turns.{left_by, live_thread}
 
 -- the thread's instruction is done and came to this, and its step isn't counted yet
 pub record IsInstructed (c : Content) (t : ℕ) (outcome : Outcome) (after : Content) : Type 0 where

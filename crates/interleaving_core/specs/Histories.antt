@@ -7,10 +7,10 @@ use Rattle.cil_model.specs.declared.events.Event.{Event}
 use Rattle.cil_model.specs.declared.limits.Limits.{Limits}
 use Rattle.cil_model.specs.declared.reports.Report.{Report}
 use Rattle.cil_model.specs.declared.trees.Tree.{Tree}
-use Rattle.step_simulation.specs.simulation.MachineContents.{Content}
-use Rattle.step_simulation.specs.simulation.Owed.{AreCyclesBounded, LeavesWhatIsOwed}
-use Rattle.step_simulation.specs.simulation.Runs.{AreTurns, StandsAfter}
-use Rattle.step_simulation.specs.simulation.Turns.{opening_content}
+use Rattle.simulation.specs.MachineContents.{Content}
+use Rattle.simulation.specs.Owed.{AreCyclesBounded, LeavesWhatIsOwed}
+use Rattle.simulation.specs.Runs.{AreTurns, StandsAfter}
+use Rattle.simulation.specs.Turns.{opening_content}
 
 -- A machine that was made for an accepted program has done these events, with these reports, and it stands after them. Its cycles had few working events, and
 -- where the last event ends one, no more words are in use than are owed.

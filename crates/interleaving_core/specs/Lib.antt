@@ -1,4 +1,4 @@
-pub use Rattle.step_simulation.specs.simulation as simulation
+pub use Rattle.simulation.specs as simulation
 pub mod Acknowledging
 pub mod Views
 pub mod Finishing

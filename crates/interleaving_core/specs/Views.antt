@@ -11,11 +11,11 @@ use Rattle.threads_monitors.specs.Frames.{Frames}
 use Rattle.threads_monitors.specs.Threads.{end_of}
 use Rattle.threads_monitors.specs.declared.threads.Standing.TheVariants.{Live}
 use Rattle.threads_monitors.specs.declared.threads.Thread.{Thread}
-use Rattle.step_simulation.specs.simulation.interpreter.Instructions.{IsDone, Answer}
-use Rattle.step_simulation.specs.simulation.MachineContents.{Content, mutator_of}
-use Rattle.step_simulation.specs.simulation.StandsFor.{Represents}
-use Rattle.step_simulation.specs.simulation.Sound.{IsSound as IsSoundContent}
-use Rattle.step_simulation.specs.simulation.Ready.{IsReady, IsAnswerable}
+use Rattle.simulation.specs.interpreter.Instructions.{IsDone, Answer}
+use Rattle.simulation.specs.MachineContents.{Content, mutator_of}
+use Rattle.simulation.specs.StandsFor.{Represents}
+use Rattle.simulation.specs.Sound.{IsSound as IsSoundContent}
+use Rattle.simulation.specs.Ready.{IsReady, IsAnswerable}
 use Rattle.interleaving_core.specs.declared.engine.Engine.{Engine}
 
 -- the content of an engine

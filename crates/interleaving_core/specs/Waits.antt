@@ -3,7 +3,7 @@ use Rattle.std.specs.Prelude.{◌≡◌, ◌≢◌, ◌<◌, ℕ, ◌==◌, if�
 use Rattle.cil_model.specs.declared.trees.Line.{Line}
 use Rattle.cil_model.specs.declared.trees.Tree.{Tree}
 use Rattle.reference_machine.specs.BuiltIn.{Action, Enter, Join as JoinAction}
-use Rattle.step_simulation.specs.simulation.reference_machine.Waits.{called_action}
+use Rattle.simulation.specs.reference_machine.Waits.{called_action}
 use Rattle.name_tables.specs.declared.lookups.MemberNumber.{MemberNumber}
 use Rattle.resolved_code.specs.declared.operations.Operation.{Operation}
 use Rattle.resolved_code.specs.declared.operations.Operation.TheVariants.{Call, CallVirtual}
@@ -18,9 +18,9 @@ use Rattle.threads_monitors.specs.Threads.{is_live_at, thread_on}
 use Rattle.threads_monitors.specs.declared.threads.Standing.{Standing}
 use Rattle.threads_monitors.specs.declared.threads.Standing.TheVariants.{Live, Ended}
 use Rattle.threads_monitors.specs.declared.threads.Thread.{Thread}
-use Rattle.step_simulation.specs.simulation.interpreter.Calls.{class_at, top_reference}
-use Rattle.step_simulation.specs.simulation.interpreter.Instructions.{IsAt, line_at}
-use Rattle.step_simulation.specs.simulation.MachineContents.{Content}
+use Rattle.simulation.specs.interpreter.Calls.{class_at, top_reference}
+use Rattle.simulation.specs.interpreter.Instructions.{IsAt, line_at}
+use Rattle.simulation.specs.MachineContents.{Content}
 use Rattle.interleaving_core.specs.declared.waits.Wait.{Wait}
 use Rattle.interleaving_core.specs.declared.waits.Wait.TheVariants.{Monitor, Join}
 

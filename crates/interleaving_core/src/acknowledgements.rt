@@ -4,9 +4,9 @@ ghost use Rattle.std.specs.Prelude.{◌≡◌, ◌≤◌, true, length, Some, sl
 ghost use Rattle.threads_monitors.specs.Frames.{Frame};
 ghost use Rattle.object_memory.specs.Spaces.{IsThere, forward};
 ghost use Rattle.threads_monitors.specs.Roots.{frame_roots, frames_upward, roots, with_references};
-ghost use Rattle.step_simulation.specs.simulation.Collecting.{answers_round, flips_frames, with_flipped, with_roots_marked, with_thread_marked};
-ghost use Rattle.step_simulation.specs.simulation.Sound.{IsSound as IsSoundContent};
-ghost use Rattle.step_simulation.specs.simulation.Turns.{IsTurn};
+ghost use Rattle.simulation.specs.Collecting.{answers_round, flips_frames, with_flipped, with_roots_marked, with_thread_marked};
+ghost use Rattle.simulation.specs.Sound.{IsSound as IsSoundContent};
+ghost use Rattle.simulation.specs.Turns.{IsTurn};
 ghost use Rattle.cil_model.specs.declared.events.Event.TheVariants.{Ack as AckOf};
 ghost use Rattle.interleaving_core.specs.Acknowledging.{AreAllThere};
 ghost use Rattle.interleaving_core.specs.Views.{content_of};
@@ -15,7 +15,7 @@ use crate::engine::Engine;
 use cil_model::phases::Phase;
 use cil_model::reports::Report;
 use object_memory::{Addr, Heap, Value};
-use step_simulation::collector_code::mark_values;
+use simulation::collector_code::mark_values;
 use threads_monitors::{FrameMemory, Standing};
 
 impl Engine {

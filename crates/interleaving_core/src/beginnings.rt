@@ -4,21 +4,21 @@ ghost use Rattle.std.specs.Prelude.{◌≡◌, ◌≤◌, ◌<◌, ◌+◌, ◌*
 ghost use Rattle.cil_model.specs.Ranges.{are_in_range};
 ghost use Rattle.cil_model.specs.declared.types.ClassName.{ClassName};
 ghost use Rattle.cil_model.specs.declared.trees.Method.{Method as NamedMethod};
-ghost use Rattle.step_simulation.specs.simulation.loaded_program.AllMethods.{all_methods};
-ghost use Rattle.step_simulation.specs.simulation.loaded_program.Prepared.{local_kinds};
+ghost use Rattle.simulation.specs.loaded_program.AllMethods.{all_methods};
+ghost use Rattle.simulation.specs.loaded_program.Prepared.{local_kinds};
 ghost use Rattle.object_memory.specs.declared.values.Value.{Value as AnyValue};
 ghost use Rattle.object_memory.specs.declared.values.Value.TheVariants.{Ref};
-ghost use Rattle.step_simulation.specs.simulation.MachineContents.{frame_room};
-ghost use Rattle.step_simulation.specs.simulation.Turns.{run_member, thread_at, thread_for};
-ghost use Rattle.step_simulation.specs.simulation.interpreter.Calls.{chosen_at};
+ghost use Rattle.simulation.specs.MachineContents.{frame_room};
+ghost use Rattle.simulation.specs.Turns.{run_member, thread_at, thread_for};
+ghost use Rattle.simulation.specs.interpreter.Calls.{chosen_at};
 ghost use Rattle.threads_monitors.specs.Threads.{new_thread};
 
 use cil_model::limits::{Limits, MOST_ARGUMENTS, MOST_LOCALS, MOST_STACK};
 use name_tables::lookups::MemberNumber;
 use name_tables::numbers::THREAD;
 use object_memory::{Addr, Heap};
-use step_simulation::interpreter_code::calls::class_number;
-use step_simulation::interpreter_code::loaded_code::LoadedProgram;
+use simulation::interpreter_code::calls::class_number;
+use simulation::interpreter_code::loaded_code::LoadedProgram;
 use threads_monitors::Beginning;
 
 /// How many values a frame may hold: arguments, locals, the stack, and a new object beneath the operands of its constructor.

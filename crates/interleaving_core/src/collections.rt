@@ -7,9 +7,9 @@ ghost use Rattle.cil_model.specs.declared.phases.Phase.TheVariants.{Idle as Idle
 ghost use Rattle.cil_model.specs.declared.reports.Report.TheVariants.{Worked as WorkedOf};
 ghost use Rattle.reference_machine.specs.Cycles.{phase_after};
 ghost use Rattle.phase_handshake.specs.Handshakes.{all_seen};
-ghost use Rattle.step_simulation.specs.simulation.Collecting.{cycle_opened, mark_work, rounds, with_next_phase, work};
-ghost use Rattle.step_simulation.specs.simulation.Sound.{IsSound as IsSoundContent};
-ghost use Rattle.step_simulation.specs.simulation.Turns.{IsTurn, TakesMemory};
+ghost use Rattle.simulation.specs.Collecting.{cycle_opened, mark_work, rounds, with_next_phase, work};
+ghost use Rattle.simulation.specs.Sound.{IsSound as IsSoundContent};
+ghost use Rattle.simulation.specs.Turns.{IsTurn, TakesMemory};
 ghost use Rattle.interleaving_core.specs.Views.{content_of};
 
 use crate::engine::Engine;
@@ -19,7 +19,7 @@ use cil_model::phases::Phase;
 use cil_model::reports::Report;
 use space_block::Block;
 use std::alloc::Global;
-use step_simulation::collector_code::{
+use simulation::collector_code::{
     Progress, clear_step, copy_step, flip_static_step, is_closed, mark_step, retire, scan_statics,
     shell_step,
 };

@@ -13,10 +13,10 @@ ghost use Rattle.interleaving_core.specs.Histories.{DoesMore, HasDone};
 ghost use Rattle.interleaving_core.specs.Views.{end_at, phase_at};
 ghost use Rattle.interleaving_core.specs.Positions.{position_at};
 ghost use Rattle.interleaving_core.specs.Waits.{wait_at};
-ghost use Rattle.step_simulation.specs.simulation.StandsFor.{Represents};
-ghost use Rattle.step_simulation.specs.simulation.Turns.{IsTurn, TakesMemory, opening_content};
+ghost use Rattle.simulation.specs.StandsFor.{Represents};
+ghost use Rattle.simulation.specs.Turns.{IsTurn, TakesMemory, opening_content};
 ghost use Rattle.interleaving_core.specs.Refusals.{number_of};
-ghost use Rattle.step_simulation.specs.simulation.Runs.{AreTurns, FollowsReference};
+ghost use Rattle.simulation.specs.Runs.{AreTurns, FollowsReference};
 ghost use Rattle.interleaving_core.specs.declared.machine.Refused.TheVariants.{Limits as BadLimits, OutOfMemory};
 
 use crate::engine::Engine;
@@ -71,7 +71,7 @@ pub struct Machine {
 }
 
 impl Model for Machine {
-    ghost use Rattle.step_simulation.specs.simulation.MachineContents.{Content};
+    ghost use Rattle.simulation.specs.MachineContents.{Content};
     ghost use Rattle.interleaving_core.specs.Views.{IsSound, content_of};
 
     ghost Value = { Content };

@@ -6,7 +6,7 @@ ghost use Rattle.cil_model.specs.Ranges.{are_in_range};
 ghost use Rattle.cil_model.specs.Typings.{IsAccepted};
 ghost use Rattle.cil_model.specs.Fields.{static_fields};
 ghost use Rattle.object_memory.specs.Objects.{no_objects};
-ghost use Rattle.step_simulation.specs.simulation.Turns.{opening_content};
+ghost use Rattle.simulation.specs.Turns.{opening_content};
 ghost use Rattle.interleaving_core.specs.Views.{content_of};
 ghost use Rattle.interleaving_core.specs.Statics.{declared_fields, zeros_of};
 
@@ -20,9 +20,9 @@ use object_memory::{Heap, Value};
 use phase_handshake::Posts;
 use space_block::Block;
 use std::alloc::Global;
-use step_simulation::collector_code::Progress;
-use step_simulation::interpreter_code::loaded_code::{LoadedProgram, value_kind};
-use step_simulation::interpreter_code::stores::Store;
+use simulation::collector_code::Progress;
+use simulation::interpreter_code::loaded_code::{LoadedProgram, value_kind};
+use simulation::interpreter_code::stores::Store;
 use threads_monitors::{Thread, zero_value};
 use verifier::Verified;
 

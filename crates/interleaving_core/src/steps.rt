@@ -6,17 +6,17 @@ ghost use Rattle.resolved_code.specs.declared.operations.Operation.{Operation as
 ghost use Rattle.threads_monitors.specs.Frames.{Frames};
 ghost use Rattle.threads_monitors.specs.Threads.{is_live, settled};
 ghost use Rattle.threads_monitors.specs.declared.threads.Standing.TheVariants.{Live};
-ghost use Rattle.step_simulation.specs.simulation.interpreter.Instructions.{HasSmallConstant, IsAt, IsDone, Prints, line_at, operation_turn, answer_of};
-ghost use Rattle.step_simulation.specs.simulation.interpreter.Stores.{HoldSame};
-ghost use Rattle.step_simulation.specs.simulation.Turns.{after_request, seated, seats_after};
+ghost use Rattle.simulation.specs.interpreter.Instructions.{HasSmallConstant, IsAt, IsDone, Prints, line_at, operation_turn, answer_of};
+ghost use Rattle.simulation.specs.interpreter.Stores.{HoldSame};
+ghost use Rattle.simulation.specs.Turns.{after_request, seated, seats_after};
 
 use cil_model::memory::NoMemory;
 use cil_model::reports::Report;
 use phase_handshake::Posts;
-use step_simulation::interpreter_code::loaded_code::LoadedProgram;
-use step_simulation::interpreter_code::outcomes::Outcome;
-use step_simulation::interpreter_code::places::instruction;
-use step_simulation::interpreter_code::stores::Store;
+use simulation::interpreter_code::loaded_code::LoadedProgram;
+use simulation::interpreter_code::outcomes::Outcome;
+use simulation::interpreter_code::places::instruction;
+use simulation::interpreter_code::stores::Store;
 use threads_monitors::{Effect, FrameMemory, Mutator, Standing, Thread};
 
 /// The instruction at a live thread's place. `NoMemory` of a print alone, where nothing is changed.

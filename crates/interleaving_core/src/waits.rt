@@ -5,9 +5,9 @@ ghost use Rattle.cil_model.specs.declared.limits.TheConstants.{MOST_THREADS};
 ghost use Rattle.resolved_code.specs.declared.operations.Operation.{Operation as AnyOperation};
 ghost use Rattle.object_memory.specs.Cells.{null};
 ghost use Rattle.object_memory.specs.Objects.{monitor_at, object_slots};
-ghost use Rattle.step_simulation.specs.simulation.loaded_program.Prepared.{action_named};
-ghost use Rattle.step_simulation.specs.simulation.interpreter.Calls.{top_reference};
-ghost use Rattle.step_simulation.specs.simulation.interpreter.Instructions.{IsAt, line_at};
+ghost use Rattle.simulation.specs.loaded_program.Prepared.{action_named};
+ghost use Rattle.simulation.specs.interpreter.Calls.{top_reference};
+ghost use Rattle.simulation.specs.interpreter.Instructions.{IsAt, line_at};
 ghost use Rattle.interleaving_core.specs.Views.{content_of};
 ghost use Rattle.interleaving_core.specs.Waits.{HasObject, action_at, called_member, join_wait, monitor_wait, wait_in};
 
@@ -15,9 +15,9 @@ use crate::engine::Engine;
 use name_tables::lookups::MemberNumber;
 use object_memory::{Addr, Heap, Monitor, Value};
 use resolved_code::operations::Operation;
-use step_simulation::interpreter_code::calls::class_number;
-use step_simulation::interpreter_code::loaded_code::{Action, LoadedProgram};
-use step_simulation::interpreter_code::places::operation_at;
+use simulation::interpreter_code::calls::class_number;
+use simulation::interpreter_code::loaded_code::{Action, LoadedProgram};
+use simulation::interpreter_code::places::operation_at;
 use threads_monitors::{FrameMemory, Thread, is_live, thread_on};
 
 /// What a live thread waits for whose next step is blocked.

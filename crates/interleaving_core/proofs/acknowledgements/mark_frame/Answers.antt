@@ -6,11 +6,11 @@ use Rattle.object_memory.specs.declared.values.Value.TheVariants.{Ref}
 use Rattle.object_memory.specs.Objects.{Objects}
 use Rattle.object_memory.specs.Spaces.{is_there}
 use Rattle.threads_monitors.specs.Roots.{frames_upward, reference_in, values_of}
-use Rattle.step_simulation.specs.simulation.instructions.barriers.Barriers.{is_value_there}
-use Rattle.step_simulation.specs.simulation.collector.Conditions.{AreThere}
-use Rattle.step_simulation.specs.simulation.collector.Marking.{with_all_marked}
-use Rattle.step_simulation.specs.simulation.collector.Soundness.{IsListed}
-use Rattle.step_simulation.specs.simulation.Collecting.{with_roots_marked}
+use Rattle.simulation.specs.instructions.barriers.Barriers.{is_value_there}
+use Rattle.simulation.specs.collector.Conditions.{AreThere}
+use Rattle.simulation.specs.collector.Marking.{with_all_marked}
+use Rattle.simulation.specs.collector.Soundness.{IsListed}
+use Rattle.simulation.specs.Collecting.{with_roots_marked}
 use Rattle.interleaving_core.proofs.HeldMarks.{cycle_kept, frame_marked, frame_of, listed_first, listed_second, object_is, there_kept, values_are, values_marked, values_there}
 use Rattle.interleaving_core.proofs.acknowledgements.mark_frame.Goals as goal
 

@@ -1,7 +1,7 @@
 use Rattle.std.proofs.Common.{◌≡◌, true, drop}
 use Rattle.std.specs.Prelude.{flat_map}
 use Rattle.threads_monitors.specs.Roots.{frame_roots, frames_upward, roots}
-use Rattle.step_simulation.specs.simulation.Collecting.{with_roots_marked}
+use Rattle.simulation.specs.Collecting.{with_roots_marked}
 use Rattle.interleaving_core.specs.Acknowledging.{AreAllThere}
 use Rattle.interleaving_core.proofs.acknowledgements.mark_frames.Given as goal
 

@@ -3,13 +3,13 @@ use Rattle.std.specs.Prelude.{slice_get}
 use Rattle.cil_model.specs.Legality.{IsLegal}
 use Rattle.cil_model.specs.declared.limits.TheConstants.{MOST_LOCALS}
 use Rattle.object_memory.specs.declared.values.ValueKind.{ValueKind}
-use Rattle.step_simulation.specs.simulation.loaded_program.AllMethods.{all_methods}
-use Rattle.step_simulation.specs.simulation.loaded_program.Prepared.{IsTableMethod, local_kinds}
+use Rattle.simulation.specs.loaded_program.AllMethods.{all_methods}
+use Rattle.simulation.specs.loaded_program.Prepared.{IsTableMethod, local_kinds}
 use Rattle.threads_monitors.specs.Frames.{new_frame}
 use Rattle.threads_monitors.specs.declared.threads.Standing.TheVariants.{Live}
 use Rattle.threads_monitors.specs.declared.threads.Thread.{Thread}
-use Rattle.step_simulation.specs.simulation.MachineContents.{frame_room}
-use Rattle.step_simulation.proofs.simulation.interpreter.Running.{there_is}
+use Rattle.simulation.specs.MachineContents.{frame_room}
+use Rattle.simulation.proofs.interpreter.Running.{there_is}
 use Rattle.interleaving_core.proofs.Declared.{locals_fit}
 use Rattle.interleaving_core.proofs.beginnings.beginning.Goals as goal
 

@@ -2,7 +2,7 @@ use Rattle.std.proofs.Common.{◌≡◌, Some, [], ◌∷◌, ap, sym, ◌∙◌
 use Rattle.std.specs.Prelude.{is_some}
 use Rattle.cil_model.specs.Legality.{IsLegal}
 use Rattle.object_memory.specs.declared.values.Value.TheVariants.{Ref}
-use Rattle.step_simulation.specs.simulation.loaded_program.AllMethods.{all_methods}
+use Rattle.simulation.specs.loaded_program.AllMethods.{all_methods}
 use Rattle.interleaving_core.proofs.OpeningLaws.{begun, target_of_run, thread_for_chosen}
 use Rattle.interleaving_core.proofs.beginnings.beginning_on.Goals as goal
 

@@ -4,12 +4,12 @@ use Rattle.cil_model.specs.declared.trees.Class.{Class}
 use Rattle.cil_model.specs.declared.trees.Tree.{Tree}
 use Rattle.cil_model.specs.Legality.{IsLegal}
 use Rattle.cil_model.specs.Mentions.{literals_of}
-use Rattle.step_simulation.specs.simulation.programs.Contents.{IsEntryPoint}
+use Rattle.simulation.specs.programs.Contents.{IsEntryPoint}
 use Rattle.object_memory.specs.Objects.{no_objects}
-use Rattle.step_simulation.specs.simulation.loaded_program.AllMethods.{all_methods}
-use Rattle.step_simulation.specs.simulation.loaded_program.class_layout.Laid.{IsLayout}
+use Rattle.simulation.specs.loaded_program.AllMethods.{all_methods}
+use Rattle.simulation.specs.loaded_program.class_layout.Laid.{IsLayout}
 use Rattle.threads_monitors.specs.declared.threads.Thread.{Thread}
-use Rattle.step_simulation.specs.simulation.Turns.{opening_content, thread_at}
+use Rattle.simulation.specs.Turns.{opening_content, thread_at}
 use Rattle.interleaving_core.specs.Statics.{declared_fields, zeros_of}
 use Rattle.interleaving_core.proofs.OpeningLaws.{entry_there, opened_as}
 use Rattle.interleaving_core.proofs.openings.opened.Goals as goal

@@ -1,5 +1,5 @@
 use Rattle.interleaving_core.specs.Views.{content_of}
-use Rattle.step_simulation.specs.simulation.interpreter.declared.outcomes.Outcome.TheVariants.{Joins}
+use Rattle.simulation.specs.interpreter.declared.outcomes.Outcome.TheVariants.{Joins}
 use Rattle.interleaving_core.proofs.Requests.{join_finished, of_live}
 use Rattle.interleaving_core.proofs.engine.Engine.finish_join.Goals as goal
 

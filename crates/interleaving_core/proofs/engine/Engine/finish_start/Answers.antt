@@ -1,7 +1,7 @@
 use Rattle.phase_handshake.specs.Handshakes.{own_phase}
-use Rattle.step_simulation.specs.simulation.Turns.{live_thread}
+use Rattle.simulation.specs.Turns.{live_thread}
 use Rattle.interleaving_core.specs.Views.{content_of}
-use Rattle.step_simulation.specs.simulation.interpreter.declared.outcomes.Outcome.TheVariants.{Starts}
+use Rattle.simulation.specs.interpreter.declared.outcomes.Outcome.TheVariants.{Starts}
 use Rattle.interleaving_core.proofs.Stepping.{started_keeps}
 use Rattle.interleaving_core.proofs.Requests.{live_after, of_live, start_finished, started_back}
 use Rattle.interleaving_core.proofs.engine.Engine.finish_start.Goals as goal

@@ -1,6 +1,6 @@
 use Rattle.std.proofs.Common.{◌≡◌, ℕ, List, Some, slice_get, slice_set, refl, sym, ap, ◌∙◌}
-use Rattle.step_simulation.specs.simulation.Collecting.{standing_flipped, thread_flipped, with_flipped}
-use Rattle.step_simulation.specs.simulation.MachineContents.{Content}
+use Rattle.simulation.specs.Collecting.{standing_flipped, thread_flipped, with_flipped}
+use Rattle.simulation.specs.MachineContents.{Content}
 use Rattle.threads_monitors.specs.Frames.{Frames}
 use Rattle.threads_monitors.specs.declared.threads.Standing.{Standing}
 use Rattle.threads_monitors.specs.declared.threads.Standing.TheVariants.{Live}

@@ -1,5 +1,5 @@
 use Rattle.std.proofs.Common.{sym, subst}
-use Rattle.step_simulation.specs.simulation.collector.Conditions.{AreThere}
+use Rattle.simulation.specs.collector.Conditions.{AreThere}
 use Rattle.interleaving_core.specs.Views.{content_of}
 use Rattle.interleaving_core.proofs.Collecting.{statics_there}
 use Rattle.interleaving_core.proofs.engine.Engine.flip_on.Goals as goal

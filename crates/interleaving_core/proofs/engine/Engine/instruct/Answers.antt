@@ -1,7 +1,7 @@
 use Rattle.std.proofs.Common.{ap, subst}
 use Rattle.std.proofs.lemmas.Result.{IfOk-weaker, on_err_weaker}
-use Rattle.step_simulation.specs.simulation.interpreter.Instructions.{Prints}
-use Rattle.step_simulation.specs.simulation.Turns.{live_thread}
+use Rattle.simulation.specs.interpreter.Instructions.{Prints}
+use Rattle.simulation.specs.Turns.{live_thread}
 use Rattle.threads_monitors.specs.declared.mutators.Mutator.{Mutator}
 use Rattle.threads_monitors.specs.declared.threads.Thread.{Thread}
 use Rattle.interleaving_core.specs.Views.{content_of}

@@ -1,5 +1,5 @@
 use Rattle.std.proofs.Common.{Some, sym, ap, ◌∙◌}
-use Rattle.step_simulation.specs.simulation.Collecting.{with_standing_marked, with_thread_marked}
+use Rattle.simulation.specs.Collecting.{with_standing_marked, with_thread_marked}
 use Rattle.object_memory.specs.Objects.{Objects}
 use Rattle.interleaving_core.specs.Views.{content_of}
 use Rattle.interleaving_core.proofs.Acknowledged.{held_there}

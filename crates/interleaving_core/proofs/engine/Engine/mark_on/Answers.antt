@@ -1,7 +1,7 @@
 use Rattle.std.proofs.Common.{Bool, sym, ap, ◌∙◌, subst}
 use Rattle.object_memory.specs.Objects.{Objects}
-use Rattle.step_simulation.specs.simulation.collector.Conditions.{AreThere}
-use Rattle.step_simulation.specs.simulation.collector.declared.progress.Progress.{Progress}
+use Rattle.simulation.specs.collector.Conditions.{AreThere}
+use Rattle.simulation.specs.collector.declared.progress.Progress.{Progress}
 use Rattle.interleaving_core.specs.Views.{content_of}
 use Rattle.interleaving_core.proofs.Collecting.{none_marked, statics_there}
 use Rattle.interleaving_core.proofs.engine.Engine.mark_on.Goals as goal

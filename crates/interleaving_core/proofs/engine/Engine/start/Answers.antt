@@ -4,7 +4,7 @@ use Rattle.object_memory.specs.declared.values.Value.TheVariants.{Ref}
 use Rattle.threads_monitors.specs.Threads.{new_thread, start_fault}
 use Rattle.threads_monitors.specs.declared.threads.Thread.{Thread}
 use Rattle.std.specs.Prelude.{List}
-use Rattle.step_simulation.specs.simulation.Turns.{started}
+use Rattle.simulation.specs.Turns.{started}
 use Rattle.interleaving_core.proofs.Indexed.{started_is}
 use Rattle.interleaving_core.proofs.engine.Engine.start.Goals as goal
 

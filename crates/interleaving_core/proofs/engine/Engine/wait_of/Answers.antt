@@ -1,6 +1,6 @@
 use Rattle.std.proofs.Common.{◌≡◌, sym, ap, ◌∙◌, Some, option_and_then, slice_get}
 use Rattle.threads_monitors.specs.declared.threads.Thread.{Thread}
-use Rattle.step_simulation.specs.simulation.Turns.{live_thread}
+use Rattle.simulation.specs.Turns.{live_thread}
 use Rattle.interleaving_core.specs.Views.{content_of}
 use Rattle.interleaving_core.specs.Waits.{standing_wait}
 use Rattle.interleaving_core.proofs.AwaitedObjects.{has_object}

@@ -1,0 +1,20 @@
+use Rattle.std.proofs.Common.{◌≡◌, ◌↔◌, ℕ, true, false, sym, ◌∙◌, subst}
+use Rattle.std.specs.Prelude.{is_some}
+use Rattle.interpreter.specs.cil_model.declared.reports.Report.{Report}
+use Rattle.interpreter.specs.cil_model.declared.reports.Report.TheVariants.{Acked}
+use Rattle.collector.specs.phase_handshake.Handshakes.{is_open, own_phase, seat_of}
+use Rattle.interpreter.specs.threads_monitors.Threads.{is_live_at}
+use Rattle.simulation.specs.MachineContents.{Content}
+use Rattle.simulation.specs.Sound.{AreSeated}
+use Rattle.simulation.proofs.CollectorTurns.{acked_where_open, acknowledges_phase, answers_once}
+use Rattle.simulation.proofs.laws.an_acknowledgement_is_answered_once.Goals as goal
+
+has_seat : (c : Content) → AreSeated c.posts c.threads → (t : ℕ) → is_live_at c.threads t ≡ true → is_some (seat_of c.posts t) ≡ true
+has_seat c seated t lives = sym (seated.live t) ∙ lives
+
+pub returns : goal.returns
+returns c = record {
+  counts = λ here t after r turn. subst (λ (x : Content × Report). (x.1 ≡ Acked) ↔ (is_open here.posts t ≡ true)) (sym turn) (acked_where_open here t);
+  phase = λ here seated t lives after r turn late. subst (λ (x : Content × Report). own_phase x.0.posts t ≡ x.0.posts.posted) (sym turn) (acknowledges_phase here.posts t (has_seat here seated t lives) late);
+  round = λ here seated t lives after r turn now. subst (λ (x : Content × Report). is_open x.0.posts t ≡ false) (sym turn) (answers_once here.posts t (has_seat here seated t lives) now);
+}

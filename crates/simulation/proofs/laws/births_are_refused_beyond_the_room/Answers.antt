@@ -1,0 +1,5 @@
+use Rattle.simulation.proofs.Whole.{step_is_refused}
+use Rattle.simulation.proofs.laws.births_are_refused_beyond_the_room.Goals as goal
+
+pub returns : goal.returns
+returns c = step_is_refused

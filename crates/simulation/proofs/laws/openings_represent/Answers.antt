@@ -1,0 +1,5 @@
+use Rattle.simulation.proofs.Whole.{opening_is_represented}
+use Rattle.simulation.proofs.laws.openings_represent.Goals as goal
+
+pub returns : goal.returns
+returns c = opening_is_represented

@@ -1,0 +1,138 @@
+// Laws of machines. Each function has an empty body, and its contract is the law.
+
+ghost use Rattle.std.specs.Prelude.{◌≡◌, ◌≢◌, ◌↔◌, ◌≤◌, ◌++◌, ℕ, true, false, IsTrue, List, [], ◌∷◌, Some, length, slice_get};
+ghost use Rattle.std.specs.List.{zip};
+ghost use Rattle.interpreter.specs.cil_model.declared.trees.Tree.{Tree};
+ghost use Rattle.interpreter.specs.cil_model.declared.limits.Limits.{Limits};
+ghost use Rattle.interpreter.specs.cil_model.declared.events.Event.{Event};
+ghost use Rattle.interpreter.specs.cil_model.declared.events.Event.TheVariants.{Step, Ack, Gc};
+ghost use Rattle.interpreter.specs.cil_model.declared.phases.Phase.TheVariants.{Idle, Mark};
+ghost use Rattle.interpreter.specs.cil_model.declared.reports.Report.{Report};
+ghost use Rattle.interpreter.specs.cil_model.declared.reports.Report.TheVariants.{Acked, CycleDone, Waiting, Worked};
+ghost use Rattle.interpreter.specs.cil_model.Legality.{IsLegal};
+ghost use Rattle.interpreter.specs.cil_model.Ranges.{are_in_range};
+ghost use Rattle.interpreter.specs.cil_model.Typings.{IsAccepted};
+ghost use Rattle.interpreter.specs.reference_machine.Cycles.{BeginsNewestCycle};
+ghost use Rattle.interpreter.specs.reference_machine.States.{State};
+ghost use Rattle.interpreter.specs.reference_machine.Steps.{step, Answers};
+ghost use Rattle.interpreter.specs.reference_machine.Runs.{IsStateAfter, is_refusal, opening};
+ghost use Rattle.interpreter.specs.object_memory.declared.addresses.Addr.{Addr as AnyAddr};
+ghost use Rattle.collector.specs.Marking.{is_closed};
+ghost use Rattle.collector.specs.Phases.{is_marked_address};
+ghost use Rattle.collector.specs.phase_handshake.Handshakes.{IsWaiting, all_seen, is_open, own_phase};
+ghost use Rattle.interpreter.specs.threads_monitors.Frames.{Frames};
+ghost use Rattle.interpreter.specs.threads_monitors.Threads.{is_live_at};
+ghost use Rattle.interpreter.specs.threads_monitors.declared.threads.Standing.TheVariants.{Live};
+ghost use Rattle.interpreter.specs.Instructions.{IsDone, Answer};
+ghost use Rattle.simulation.specs.MachineContents.{Content, mutator_of};
+ghost use Rattle.simulation.specs.Owed.{AreCyclesBounded, LeavesWhatIsOwed, OwesAfter};
+ghost use Rattle.simulation.specs.Reached.{IsReached};
+ghost use Rattle.simulation.specs.Rooms.{ExceedsRoom};
+ghost use Rattle.simulation.specs.Runs.{AreSteps, IsRunOf, StandsAfter};
+ghost use Rattle.simulation.specs.Sound.{AreSeated, IsSound};
+ghost use Rattle.simulation.specs.StandsFor.{Represents};
+ghost use Rattle.simulation.specs.Turns.{IsTurn, opening_content};
+ghost use Rattle.simulation.specs.Ready.{IsReady, IsAnswerable};
+
+/// What a machine holds before its first event represents the opening state of its program.
+pub fn openings_represent()
+    ensures { (tree : Tree) (limits : Limits) → IsAccepted tree → IsTrue (are_in_range limits) →
+        (c : Content) × (s : State) × (opening_content tree limits ≡ Some c) × (opening tree limits ≡ Some s) × Represents c s }
+{}
+
+/// Where a machine represents a state, each live thread is at an instruction whose rule has an answer: no operand is missing or of
+/// another kind, and no frame, slot or object.
+pub fn live_threads_are_ready()
+    ensures { (c : Content) (s : State) → Represents c s → (t left : ℕ) (m : Frames) → slice_get c.threads t ≡ Some (record { standing = Live m; steps_left = left }) → IsReady c t m }
+{}
+
+/// And what the instruction asks of other threads can be answered.
+pub fn what_is_asked_can_be_answered()
+    ensures { (c : Content) (s : State) → Represents c s → (t left : ℕ) (m : Frames) → slice_get c.threads t ≡ Some (record { standing = Live m; steps_left = left }) →
+        (a : Answer) → IsDone c.tree (mutator_of c t) m c.objects c.statics c.printed a → IsAnswerable c t left a a.outcome }
+{}
+
+/// Each step of a machine has the report of the reference machine's, with the same births refused, and represents its state.
+pub fn steps_follow_the_reference_machine()
+    ensures { (c : Content) (s : State) → Represents c s → (t : ℕ) (after : Content × Report) → IsTurn c (Step t) after →
+        (s' : State) × (step c.tree c.limits s t (is_refusal after.1) ≡ Answers after.1 s') × Represents after.0 s' }
+{}
+
+/// What is no step of a thread keeps the state: after an acknowledgement, and after an event of the collector, a machine represents
+/// the states of the reference machine that it represented before.
+pub fn collector_events_keep_the_state()
+    ensures acknowledgements { (c : Content) (s : State) → Represents c s → (t : ℕ) (after : Content × Report) → IsTurn c (Ack t) after → Represents after.0 s }
+    ensures collections { (c : Content) (s : State) → Represents c s → (after : Content × Report) → IsTurn c Gc after → Represents after.0 s }
+{}
+
+/// Where marking is closed, all is marked that the frames of live threads and the static fields reach, through whatever objects: what is
+/// left unmarked can be left behind (`is_closed` of `collector` is this test).
+pub fn closed_marking_has_reached_all()
+    ensures { (c : Content) → IsSound c → c.posts.posted ≡ Mark → is_closed c.progress c.objects c.posts ≡ true → (a : AnyAddr) → IsReached c a → is_marked_address c.objects.spaces a ≡ true }
+{}
+
+/// A cycle of the collector takes a bounded number of working events, whatever the threads do meanwhile: after any of a run's events the newest one has
+/// no more of them than 16 for each word of a space, one for each static field, and 64.
+pub fn cycles_are_bounded()
+    ensures { (tree : Tree) → IsAccepted tree → (limits : Limits) → IsTrue (are_in_range limits) → (events : List Event) (reports : List Report) (s : State) →
+        IsRunOf tree limits events reports s → AreCyclesBounded tree limits (zip events reports) }
+{}
+
+/// The collector waits only for threads: its event is answered Waiting only where not all live threads have acknowledged the posted phase, or not all have
+/// answered a posted round. Then nothing changes.
+pub fn the_collector_waits_only_for_threads()
+    ensures { (c after : Content) → IsTurn c Gc (after, Waiting) → IsWaiting c.posts × (after ≡ c) }
+{}
+
+/// Between cycles the collector opens the next one, once all live threads have acknowledged that the last one is over.
+pub fn the_next_cycle_opens()
+    ensures { (c : Content) → c.posts.posted ≡ Idle → all_seen c.posts ≡ true → (after : Content) (r : Report) → IsTurn c Gc (after, r) → (r ≡ Worked) × (after.posts.posted ≡ Mark) }
+{}
+
+/// An acknowledgement counts exactly where a post is open to its thread. It acknowledges the posted phase, where the thread had not done so; else it answers
+/// the round, and nothing is open to the thread afterwards.
+pub fn an_acknowledgement_is_answered_once()
+    ensures counts { (c : Content) (t : ℕ) (after : Content) (r : Report) → IsTurn c (Ack t) (after, r) → (r ≡ Acked) ↔ (is_open c.posts t ≡ true) }
+    ensures phase { (c : Content) → AreSeated c.posts c.threads → (t : ℕ) → is_live_at c.threads t ≡ true → (after : Content) (r : Report) → IsTurn c (Ack t) (after, r) →
+        own_phase c.posts t ≢ c.posts.posted → own_phase after.posts t ≡ after.posts.posted }
+    ensures round { (c : Content) → AreSeated c.posts c.threads → (t : ℕ) → is_live_at c.threads t ≡ true → (after : Content) (r : Report) → IsTurn c (Ack t) (after, r) →
+        own_phase c.posts t ≡ c.posts.posted → is_open after.posts t ≡ false }
+{}
+
+/// A step is refused memory exactly where the object that it would make has more words than the machine's spaces have left for it, where
+/// the phase of the thread has it born.
+pub fn births_are_refused_beyond_the_room()
+    ensures { (c : Content) (s : State) → Represents c s → (t : ℕ) (after : Content × Report) → IsTurn c (Step t) after → IsTrue (is_refusal after.1) ↔ ExceedsRoom c s t }
+{}
+
+/// In a run of steps alone, without a collector, a birth is refused exactly where its cell has more words than the limit less those of all
+/// births so far: what the machine does then is what a machine with one space does that collects nothing.
+pub fn steps_alone_refuse_beyond_all_births()
+    ensures { (tree : Tree) → IsAccepted tree → (limits : Limits) → IsTrue (are_in_range limits) → (events : List Event) (reports : List Report) (s : State) →
+        AreSteps events → IsRunOf tree limits events reports s → IsStateAfter tree limits (zip events reports) s }
+{}
+
+/// A legal program has one run by the same events within the same limits: each event has one turn of its machine, so all reports are the
+/// same, and so is the state that the reference machine comes to.
+pub fn the_run_is_one()
+    ensures { (tree : Tree) → IsLegal tree → (limits : Limits) (events : List Event) (reports reports' : List Report) (s s' : State) →
+        IsRunOf tree limits events reports s → IsRunOf tree limits events reports' s' → (reports ≡ reports') × (s ≡ s') }
+{}
+
+/// At the end of a cycle no more words are in use than are owed: those of the objects that were reachable in the state of the reference machine when the
+/// cycle began, or were born since. They are all in one space.
+pub fn a_cycle_leaves_what_is_owed()
+    ensures { (tree : Tree) → IsAccepted tree → (limits : Limits) → IsTrue (are_in_range limits) → (events : List Event) (reports : List Report) (c : Content) → StandsAfter tree limits events reports c →
+        LeavesWhatIsOwed tree limits events reports c }
+{}
+
+/// There are words that are owed from the beginning of a run's newest cycle on, whatever comes later; where a run ends a cycle, it has a newest one; and no
+/// other number of words is owed.
+pub fn cycles_have_what_they_owe()
+    ensures begun { (tree : Tree) → IsAccepted tree → (limits : Limits) → IsTrue (are_in_range limits) → (events : List Event) (reports : List Report) (s : State) → IsRunOf tree limits events reports s →
+        (earlier later : List (Event × Report)) → BeginsNewestCycle (zip events reports) earlier later → (words : ℕ) × OwesAfter tree limits events reports words }
+    ensures ended { (tree : Tree) → IsAccepted tree → (limits : Limits) → IsTrue (are_in_range limits) → (events : List Event) (reports : List Report) (s : State) → IsRunOf tree limits events reports s →
+        (most : List (Event × Report)) → zip events reports ≡ most ++ (Gc, CycleDone) ∷ [] → (words : ℕ) × OwesAfter tree limits events reports words }
+    ensures one { (tree : Tree) (limits : Limits) (events : List Event) (reports : List Report) (words words' : ℕ) →
+        OwesAfter tree limits events reports words → OwesAfter tree limits events reports words' → words ≡ words' }
+{}

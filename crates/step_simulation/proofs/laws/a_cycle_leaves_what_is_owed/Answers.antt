@@ -1,6 +1,0 @@
-use Rattle.step_simulation.proofs.OwedRuns.{leaves_owed}
-use Rattle.step_simulation.proofs.Whole.{each_alike}
-use Rattle.step_simulation.proofs.laws.a_cycle_leaves_what_is_owed.Goals as goal
-
-pub returns : goal.returns
-returns c = λ tree accepted limits in_range events reports content stands. leaves_owed each_alike tree accepted limits in_range events reports content stands

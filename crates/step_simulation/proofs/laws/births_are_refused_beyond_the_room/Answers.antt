@@ -1,5 +1,0 @@
-use Rattle.step_simulation.proofs.Whole.{step_is_refused}
-use Rattle.step_simulation.proofs.laws.births_are_refused_beyond_the_room.Goals as goal
-
-pub returns : goal.returns
-returns c = step_is_refused

@@ -1,5 +1,0 @@
-use Rattle.simulation.proofs.ClosedMarks.{reached_is_marked}
-use Rattle.step_simulation.proofs.laws.closed_marking_has_reached_all.Goals as goal
-
-pub returns : goal.returns
-returns c = reached_is_marked

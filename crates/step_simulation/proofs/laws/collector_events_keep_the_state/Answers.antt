@@ -1,5 +1,0 @@
-use Rattle.step_simulation.proofs.Whole.{acknowledgement_keeps, collection_keeps}
-use Rattle.step_simulation.proofs.laws.collector_events_keep_the_state.Goals as goal
-
-pub returns : goal.returns
-returns c = record { acknowledgements = acknowledgement_keeps; collections = collection_keeps }

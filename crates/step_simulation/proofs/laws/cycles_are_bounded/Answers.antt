@@ -1,5 +1,0 @@
-use Rattle.step_simulation.proofs.CycleWork.{cycles_bounded}
-use Rattle.step_simulation.proofs.laws.cycles_are_bounded.Goals as goal
-
-pub returns : goal.returns
-returns c = λ tree accepted limits in_range events reports s h done rest split. cycles_bounded tree limits accepted in_range events reports s h done rest split

@@ -1,5 +1,0 @@
-use Rattle.step_simulation.proofs.Whole.{thread_is_ready}
-use Rattle.step_simulation.proofs.laws.live_threads_are_ready.Goals as goal
-
-pub returns : goal.returns
-returns c = thread_is_ready

@@ -1,5 +1,0 @@
-use Rattle.step_simulation.proofs.Whole.{opening_is_represented}
-use Rattle.step_simulation.proofs.laws.openings_represent.Goals as goal
-
-pub returns : goal.returns
-returns c = opening_is_represented

@@ -1,6 +1,0 @@
-use Rattle.step_simulation.proofs.StepRuns.{steps_refuse}
-use Rattle.step_simulation.proofs.Whole.{each_alike}
-use Rattle.step_simulation.proofs.laws.steps_alone_refuse_beyond_all_births.Goals as goal
-
-pub returns : goal.returns
-returns c = λ tree accepted limits in_range events reports s steps h. steps_refuse tree limits each_alike accepted in_range events reports s steps h

@@ -1,5 +1,0 @@
-use Rattle.step_simulation.proofs.Whole.{step_is_followed}
-use Rattle.step_simulation.proofs.laws.steps_follow_the_reference_machine.Goals as goal
-
-pub returns : goal.returns
-returns c = step_is_followed

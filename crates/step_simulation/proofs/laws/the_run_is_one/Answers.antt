@@ -1,6 +1,0 @@
-use Rattle.simulation.proofs.resolved_code.OneOperation.{one_operation}
-use Rattle.step_simulation.proofs.OneRun.{runs_are_one}
-use Rattle.step_simulation.proofs.laws.the_run_is_one.Goals as goal
-
-pub returns : goal.returns
-returns c = λ tree legal limits. runs_are_one tree limits (one_operation tree legal)

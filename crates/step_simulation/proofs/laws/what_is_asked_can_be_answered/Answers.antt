@@ -1,5 +1,0 @@
-use Rattle.step_simulation.proofs.Whole.{asked_is_answerable}
-use Rattle.step_simulation.proofs.laws.what_is_asked_can_be_answered.Goals as goal
-
-pub returns : goal.returns
-returns c = asked_is_answerable

@@ -1,1 +1,0 @@
-pub use Rattle.simulation.specs as simulation
