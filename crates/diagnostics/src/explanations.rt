@@ -13,7 +13,7 @@ use reading_messages::explain_reading;
 use source_map::Named;
 use std::alloc::Global;
 use typing_messages::explain_typing;
-use typing_search::refusals::FailurePoint;
+use verifier::failures::FailurePoint;
 use violation_messages::{broken, explain_rule};
 
 /// The tree of a source that was read before; None where it has none.

@@ -13,7 +13,7 @@ use ilasm_reader::{ReadError, read};
 use metadata::violations::Violation;
 use metadata::{MetaError, Program, resolve};
 use std::alloc::Global;
-use typing_search::refusals::FailurePoint;
+use verifier::failures::FailurePoint;
 use verifier::{VerifyError, verify};
 
 /// What is answered of a source.

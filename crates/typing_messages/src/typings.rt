@@ -13,7 +13,7 @@ use resolved_code::classes::{ResolvedKind, body_of};
 use source_map::{Named, offset_of, token_at};
 use std::alloc::Global;
 use std::fmt;
-use typing_search::refusals::{FailurePoint, IncomingStack};
+use verifier::failures::{FailurePoint, IncomingStack};
 
 /// What a method is made of. None where the program has no code for it.
 fn scene_of<'a>(

@@ -2,3 +2,10 @@ pub mod MemberNumbers
 pub mod ArgumentLaws
 pub mod MethodLaws
 pub mod TypingLaws
+pub mod RiseLaws
+pub mod KeptLaws
+pub mod StackLaws
+pub mod TableLaws
+pub mod WayLaws
+pub mod SearchLaws
+pub mod VisitLaws

@@ -19,9 +19,9 @@ use Rattle.resolved_code.specs.declared.classes.Body.{Body}
 use Rattle.resolved_code.specs.declared.classes.ResolvedMethod.{ResolvedMethod}
 use Rattle.resolved_code.specs.declared.types.NumberedType.{NumberedType}
 use Rattle.resolved_code.specs.Numbered.{class_name}
-use Rattle.typing_search.specs.Answers.{typing_of, IsTypingAnswer}
-use Rattle.typing_search.specs.declared.refusals.TypingError.{TypingError}
-use Rattle.typing_search.specs.declared.refusals.TypingError.TheVariants as OfMethod
+use Rattle.verifier.specs.Answers.{typing_of, IsTypingAnswer}
+use Rattle.verifier.specs.declared.failures.TypingError.{TypingError}
+use Rattle.verifier.specs.declared.failures.TypingError.TheVariants as OfMethod
 use Rattle.verifier.specs.Verdicts.{IsMethodVerdict}
 use Rattle.cil_model.proofs.Lists.{none_is_some}
 

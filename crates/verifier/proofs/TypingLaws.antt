@@ -12,9 +12,9 @@ use Rattle.cil_model.specs.Typings.{Typing, IsTyping, IsAccepted, IsFirstUntyped
 use Rattle.flow_rules.specs.declared.entries.StackEntry.{StackEntry}
 use Rattle.name_tables.specs.declared.lookups.MemberNumber.{MemberNumber}
 use Rattle.name_tables.specs.Numbers.{method_at}
-use Rattle.typing_search.specs.Answers.{typing_of}
-use Rattle.typing_search.specs.declared.refusals.TypingError.{TypingError}
-use Rattle.typing_search.specs.declared.refusals.TypingError.TheVariants as OfMethod
+use Rattle.verifier.specs.Answers.{typing_of}
+use Rattle.verifier.specs.declared.failures.TypingError.{TypingError}
+use Rattle.verifier.specs.declared.failures.TypingError.TheVariants as OfMethod
 use Rattle.verifier.specs.declared.refusals.VerifyError.{VerifyError}
 use Rattle.verifier.specs.declared.refusals.VerifyError.TheVariants.{NoTyping, OutOfMemory}
 use Rattle.verifier.specs.Members.{methods_at}

@@ -1,3 +1,10 @@
 pub mod Members
 pub mod Verdicts
 pub mod Numbers
+pub mod Kept
+pub mod StackMerges
+pub mod Rises
+pub mod Ways
+pub mod Tables
+pub mod Answers
+pub mod Evidence

@@ -6,9 +6,9 @@ use Rattle.cil_model.specs.declared.trees.Method.{Method}
 use Rattle.cil_model.specs.Bodies.{source_methods}
 use Rattle.cil_model.specs.Typings.{Typing, IsTyping, IsAccepted, IsFirstUntyped}
 use Rattle.flow_rules.specs.declared.entries.StackEntry.{StackEntry}
-use Rattle.typing_search.specs.Answers.{typing_of}
-use Rattle.typing_search.specs.declared.refusals.TypingError.{TypingError}
-use Rattle.typing_search.specs.declared.refusals.TypingError.TheVariants as OfMethod
+use Rattle.verifier.specs.Answers.{typing_of}
+use Rattle.verifier.specs.declared.failures.TypingError.{TypingError}
+use Rattle.verifier.specs.declared.failures.TypingError.TheVariants as OfMethod
 use Rattle.verifier.specs.declared.refusals.VerifyError.{VerifyError}
 use Rattle.verifier.specs.declared.refusals.VerifyError.TheVariants.{NoTyping, OutOfMemory}
 

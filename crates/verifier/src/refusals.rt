@@ -1,7 +1,7 @@
 // Why a program is not accepted.
 
 ghost use Rattle.std.specs.Prelude.{◌≡◌};
-ghost use Rattle.typing_search.specs.declared.refusals.TypingError.TheVariants as OfMethod;
+ghost use Rattle.verifier.specs.declared.failures.TypingError.TheVariants as OfMethod;
 ghost use Rattle.verifier.specs.Numbers.{typing_number_of};
 ghost use Rattle.verifier.specs.Verdicts.{IsRefusalOf};
 ghost use Rattle.verifier.specs.declared.refusals.VerifyError.TheVariants.{NoTyping, OutOfMemory};
@@ -9,7 +9,7 @@ ghost use Rattle.verifier.specs.declared.refusals.VerifyError.TheVariants.{NoTyp
 use cil_model::memory::NoMemory;
 use std::alloc::AllocFailed;
 use thiserror::Error;
-use typing_search::refusals::{FailurePoint, TypingError};
+use crate::failures::{FailurePoint, TypingError};
 
 /// Why a program was not accepted.
 #[derive(Debug, Drop, Error)]

@@ -19,9 +19,9 @@ use name_tables::lookups::MemberNumber;
 use programs::Program;
 use resolved_code::classes::{Body, ResolvedMethod, body_of};
 use std::alloc::Global;
-use typing_search::kept_stacks::KeptStack;
-use typing_search::refusals::TypingError;
-use typing_search::search::find_typing;
+use crate::kept_stacks::KeptStack;
+use crate::failures::TypingError;
+use crate::search::find_typing;
 
 /// The stacks before the instructions of a method, the top of each first; none where control never reaches an instruction.
 pub type Typing = Sequence<Option<KeptStack>>;

@@ -6,7 +6,7 @@ ghost use Rattle.cil_model.specs.declared.types.ClassName.{ClassName};
 ghost use Rattle.cil_model.specs.Bodies.{source_methods};
 ghost use Rattle.cil_model.specs.Typings.{IsAccepted, IsTyping};
 ghost use Rattle.class_layout.specs.Laid.{IsLayout};
-ghost use Rattle.typing_search.specs.Answers.{typing_of};
+ghost use Rattle.verifier.specs.Answers.{typing_of};
 ghost use Rattle.verifier.specs.Verdicts.{IsVerdict};
 
 use crate::members::source_members;

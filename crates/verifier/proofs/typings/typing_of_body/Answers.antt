@@ -3,7 +3,7 @@ use Rattle.std.specs.Option.{option_map}
 use Rattle.cil_model.specs.declared.trees.Tree.{Tree}
 use Rattle.flow_rules.specs.Named.{type_named, types_named}
 use Rattle.resolved_code.specs.Resolved.{IsBody}
-use Rattle.typing_search.specs.Answers.{IsTypingAnswer}
+use Rattle.verifier.specs.Answers.{IsTypingAnswer}
 use Rattle.verifier.proofs.MethodLaws.{code_verdict}
 use Rattle.verifier.proofs.typings.typing_of_body.Goals as goal
 

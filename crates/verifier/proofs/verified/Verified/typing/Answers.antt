@@ -3,7 +3,7 @@ use Rattle.std.specs.Prelude.{IfSome}
 use Rattle.cil_model.specs.declared.trees.Tree.{Tree}
 use Rattle.cil_model.specs.Bodies.{source_methods}
 use Rattle.cil_model.specs.Typings.{IsTyping}
-use Rattle.typing_search.specs.Answers.{typing_of}
+use Rattle.verifier.specs.Answers.{typing_of}
 use Rattle.verifier.proofs.TypingLaws.{kept_at, absent_at, none_beyond}
 use Rattle.verifier.proofs.verified.Verified.typing.Goals as goal
 

@@ -1,6 +1,0 @@
-use Rattle.std.proofs.Common.{take, pos}
-use Rattle.typing_search.specs.Answers.{IsRisen}
-use Rattle.typing_search.proofs.search.Search.raise_all.Given as goal
-
-abbrev pub invariant-loop-index : goal.invariant-loop-index
-invariant-loop-index l = IsRisen l.types (pos l.most) l.after (take l.index l.ways) l.fn.self l.self

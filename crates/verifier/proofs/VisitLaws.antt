@@ -1,0 +1,211 @@
+-- One visit of a search by numbers, its beginning and its end.
+use Rattle.std.proofs.Common.{◌≡◌, ◌≤◌, ◌<◌, ◌+◌, ℕ, zero, suc, ℤ, pos, negsuc, ◌≤ℤ◌, List, [], ◌∷◌, length, replicate, Option, Some, None, option_map, slice_get, slice_set, Bool, true, false, refl, sym, ap, ◌∙◌, subst, arith}
+use Rattle.std.specs.Prelude.{Result, Ok, Err, OnOk}
+use Rattle.std.proofs.lemmas.List.{length-map, length-set}
+use Rattle.std.proofs.lemmas.Int.{ints}
+use Rattle.std.proofs.lemmas.Option.{slice_get-map, slice_get_within, same_Some}
+use Rattle.cil_model.specs.declared.types.DeclaredType.{DeclaredType}
+use Rattle.cil_model.specs.declared.instructions.Instruction.{Instruction}
+use Rattle.cil_model.specs.declared.trees.Tree.{Tree}
+use Rattle.cil_model.specs.declared.trees.Code.{Code}
+use Rattle.cil_model.specs.declared.trees.Line.{Line}
+use Rattle.cil_model.specs.TypeTree.{StackType}
+use Rattle.cil_model.specs.FlowRules.{StackAfter, flow}
+use Rattle.cil_model.specs.Typings.{Typing, IsCodeTyping}
+use Rattle.cil_model.specs.Legality.{IsLegal}
+use Rattle.resolved_code.specs.Resolved.{IsOperation}
+use Rattle.resolved_code.specs.declared.operations.Operation.{Operation}
+use Rattle.flow_rules.specs.Named.{type_named, types_named, stack_types}
+use Rattle.flow_rules.specs.Flow.{flow_of}
+use Rattle.flow_rules.specs.declared.entries.StackEntry.{StackEntry}
+use Rattle.flow_rules.specs.declared.method_types.MethodTypes.{MethodTypes}
+use Rattle.resolved_code.proofs.AlikeLaws.{AlikeTo, alike_to, alike_beyond, alike_length}
+use Rattle.verifier.specs.Rises.{table_rises, most_values, natural}
+use Rattle.verifier.specs.Ways.{ways_on}
+use Rattle.verifier.specs.Tables.{IsPending, HasRisen, CannotRise, AreWays}
+use Rattle.verifier.specs.Answers.{typing_of, work_left, count_pending, IsWhole, IsResultAt, IsRise, IsRisen, AreOf, IsOnTheWay, IsVisit, IsLeastTyping, IsTypingAnswer}
+use Rattle.verifier.specs.Evidence.{IsToldOf, IsAnsweredBy}
+use Rattle.verifier.specs.declared.failures.TypingError.{TypingError}
+use Rattle.verifier.specs.declared.failures.TypingError.TheVariants.{Untyped, OutOfMemory}
+use Rattle.verifier.specs.declared.search.RaiseError.{RaiseError}
+use Rattle.verifier.specs.declared.search.RaiseError.TheVariants as OfRaise
+use Rattle.verifier.specs.declared.search.Search.{Search}
+use Rattle.verifier.proofs.TableLaws.{finished, begun, not_begun, passed_over, no_result, visited, not_visited}
+use Rattle.verifier.proofs.WayLaws.{are_ways}
+use Rattle.verifier.proofs.SearchLaws.{row_at, count_taken, taken_back, still_whole}
+use Rattle.cil_model.proofs.Lists.{none_is_some, none_is_outside}
+
+pub work_falls : {T : Type 0} (tree : Tree) (max_stack : ℤ) (after : List StackEntry) (ways : List ℕ) (old new : Search) (r : Result T RaiseError) → IsRise tree max_stack after ways old new r → OnOk r (work_left tree max_stack new ≤ work_left tree max_stack old)
+work_falls tree max_stack after ways old new (Ok done) h = h.1
+work_falls tree max_stack after ways old new (Err e) h = tt
+
+module _ (m : MethodTypes) (operations : List Operation) (max_stack : ℤ) (code : Code) (of : AreOf m operations max_stack code) where
+  abbrev arguments : List DeclaredType
+  arguments = types_named m.types.now m.arguments.now
+
+  abbrev return_type : Option DeclaredType
+  return_type = option_map (type_named m.types.now) m.return_type
+
+  abbrev Alike : Line → Operation → Type 0
+  Alike line operation = IsOperation m.types.now code.lines line.instruction operation
+
+  unmapped : (rows : List (Option (List StackEntry))) (place : ℕ) → ((stack : List StackEntry) → slice_get rows place ≡ Some (Some stack) → ⊥) → (stack : List StackType) → slice_get (typing_of m.types.now rows) place ≡ Some (Some stack) → ⊥
+  unmapped rows place none stack e = by_row (slice_get rows place) refl (sym (slice_get-map (option_map (stack_types m.types.now)) rows place) ∙ e)
+    where
+      by_row : (o : Option (Option (List StackEntry))) → slice_get rows place ≡ o → option_map (option_map (stack_types m.types.now)) o ≡ Some (Some stack) → ⊥
+      by_row None h f = none_is_some (Some stack) f
+      by_row (Some None) h f = none_is_some stack (same_Some None (Some stack) f)
+      by_row (Some (Some known)) h f = none known h
+
+  pub visit_unmapped : (rows : List (Option (List StackEntry))) (pending : List Bool) (place : ℕ) → IsOnTheWay m code rows (slice_set pending place true) → ((stack : List StackEntry) → slice_get rows place ≡ Some (Some stack) → ⊥) → IsOnTheWay m code rows pending
+  visit_unmapped rows pending place u none = passed_over m.types.now arguments return_type code (typing_of m.types.now rows) pending place u (unmapped rows place none)
+
+  pub visit_beyond : (rows : List (Option (List StackEntry))) (pending : List Bool) (place : ℕ) → IsOnTheWay m code rows (slice_set pending place true) → slice_get operations place ≡ None → IsOnTheWay m code rows pending
+  visit_beyond rows pending place u e = passed_over m.types.now arguments return_type code (typing_of m.types.now rows) pending place u outside
+    where
+      outside : (stack : List StackType) → slice_get (typing_of m.types.now rows) place ≡ Some (Some stack) → ⊥
+      outside stack f =
+          let past : length code.lines ≤ place = none_is_outside code.lines place (alike_beyond Alike code.lines operations of.resolved place e) in
+          let inside : place < length (typing_of m.types.now rows) = slice_get_within (typing_of m.types.now rows) place (Some stack) f in
+          let whole : length (typing_of m.types.now rows) ≡ length code.lines = u.whole in
+          omega (arith, past, inside, whole)
+
+  module _ (legal : IsLegal m.types.now) (old : Search) (place : ℕ) (u : IsOnTheWay m code old.rows.items (slice_set old.is_pending.items place true)) (op : Operation) (at : slice_get operations place ≡ Some op)
+      (before : List StackEntry) (held : slice_get old.rows.items place ≡ Some (Some before)) where
+    line : AlikeTo Alike code.lines place op
+    line = alike_to Alike code.lines operations place op of.resolved at
+
+    named : slice_get (typing_of m.types.now old.rows.items) place ≡ Some (Some (stack_types m.types.now before))
+    named = row_at m.types.now old.rows.items place (Some before) held
+
+    -- the rule's answer with the code's own locals
+    in_code : (answer : StackAfter) (i : Instruction) → flow_of m i before ≡ answer → flow m.types.now arguments code.locals return_type i (stack_types m.types.now before) ≡ answer
+    in_code answer i e = subst (λ (ls : List DeclaredType). flow m.types.now arguments ls return_type i (stack_types m.types.now before) ≡ answer) of.locals e
+
+    pub visit_no_result : (T U : Type 0) (e : TypingError) (new : Search) → ((lines : List Line) (i : Instruction) → IsOperation m.types.now lines i op → IsResultAt m.types.now (Err e) (flow_of m i before)) → IsVisit {T = U} m code new (Err e)
+    visit_no_result T U (Untyped failure) new h =
+        no_result m.types.now arguments return_type code legal (typing_of m.types.now old.rows.items) old.is_pending.items place u line.item line.there (stack_types m.types.now before) named
+        (in_code None line.item.instruction (h code.lines line.item.instruction line.alike))
+    visit_no_result T U OutOfMemory new h = tt
+
+    pub visit_goes_on : {T : Type 0} (r : Result T RaiseError) (answer : Result T TypingError) (new : Search) (after : List StackEntry) (ways : List ℕ) →
+        ((lines : List Line) (i : Instruction) → IsOperation m.types.now lines i op → flow_of m i before ≡ Some (stack_types m.types.now after)) → ways ≡ ways_on op (place + 1) →
+        IsRise m.types.now max_stack after ways old new r → IsAnsweredBy r answer → IsVisit m code new answer
+    visit_goes_on r answer new after ways h along rise told = by_answer r answer rise told
+      where
+        result : flow m.types.now arguments code.locals return_type line.item.instruction (stack_types m.types.now before) ≡ Some (stack_types m.types.now after)
+        result = in_code (Some (stack_types m.types.now after)) line.item.instruction (h code.lines line.item.instruction line.alike)
+
+        are : AreWays code place line.item ways
+        are = subst (λ (w : List ℕ). AreWays code place line.item w) (sym along) (are_ways m.types.now code place line.item op line.alike)
+
+        by_answer : {T : Type 0} (r : Result T RaiseError) (answer : Result T TypingError) → IsRise m.types.now max_stack after ways old new r → IsAnsweredBy r answer → IsVisit m code new answer
+        by_answer (Ok done) (Ok done') k same =
+            visited m.types.now arguments return_type code legal (typing_of m.types.now old.rows.items) old.is_pending.items place u line.item line.there (stack_types m.types.now before) named
+            (stack_types m.types.now after) result ways are (typing_of m.types.now new.rows.items) new.is_pending.items
+            (subst (λ (z : ℤ). HasRisen m.types.now z (stack_types m.types.now after) ways (typing_of m.types.now old.rows.items) old.is_pending.items (typing_of m.types.now new.rows.items) new.is_pending.items) of.same_max k.0)
+        by_answer (Ok done) (Err e) k same = elim same [ ]
+        by_answer (Err step) (Ok done) k same = elim same [ ]
+        by_answer (Err (OfRaise.Refused at' reason)) (Err (Untyped failure)) k same =
+            not_visited m.types.now arguments return_type code legal (typing_of m.types.now old.rows.items) old.is_pending.items place u line.item line.there (stack_types m.types.now before) named
+            (stack_types m.types.now after) result ways are
+            (subst (λ (z : ℤ). CannotRise m.types.now z (stack_types m.types.now after) ways (typing_of m.types.now old.rows.items)) of.same_max k)
+        by_answer (Err OfRaise.OutOfMemory) (Err (Untyped failure)) k same = elim same [ ]
+        by_answer (Err (OfRaise.Refused at' reason)) (Err OutOfMemory) k same = tt
+        by_answer (Err OfRaise.OutOfMemory) (Err OutOfMemory) k same = tt
+
+  -- ---- the beginning and the end
+
+  none_there : (n place : ℕ) (stack : List StackEntry) → slice_get (replicate n None) place ≡ Some (Some stack) → ⊥
+  none_there zero place stack e = none_is_some (Some stack) e
+  none_there (suc n) zero stack e = none_is_some stack (same_Some None (Some stack) e)
+  none_there (suc n) (suc place) stack e = none_there n place stack e
+
+  length_none : (n : ℕ) (xs : List (Option (List StackEntry))) → xs ≡ replicate n None → length xs ≡ n
+  length_none n xs e = ap length e ∙ counted n
+    where
+      counted : (k : ℕ) → length {A = Option (List StackEntry)} (replicate k None) ≡ k
+      counted zero = refl
+      counted (suc k) = ap suc (counted k)
+
+  module _ (old : Search) (rows : old.rows.items ≡ replicate (length operations) None) where
+    nothing : (place : ℕ) (stack : List StackType) → slice_get (typing_of m.types.now old.rows.items) place ≡ Some (Some stack) → ⊥
+    nothing place stack e = unmapped old.rows.items place (λ s h. none_there (length operations) place s (sym (ap (λ (v : List (Option (List StackEntry))). slice_get v place) rows) ∙ h)) stack e
+
+    as_long : length (typing_of m.types.now old.rows.items) ≡ length code.lines
+    as_long = length-map old.rows.items (option_map (stack_types m.types.now)) ∙ length_none (length operations) old.rows.items rows ∙ sym (alike_length Alike code.lines operations of.resolved)
+
+    pub on_the_way : (new : Search) → IsRisen m.types.now max_stack [] (0 ∷ []) old new → IsOnTheWay m code new.rows.items new.is_pending.items
+    on_the_way new h =
+        begun m.types.now arguments return_type code (typing_of m.types.now old.rows.items) (typing_of m.types.now new.rows.items) old.is_pending.items new.is_pending.items as_long nothing
+        (subst (λ (z : ℤ). HasRisen m.types.now z [] (0 ∷ []) (typing_of m.types.now old.rows.items) old.is_pending.items (typing_of m.types.now new.rows.items) new.is_pending.items) of.same_max h.0)
+
+    pub never_begun : (T : Type 0) (step : RaiseError) (e : TypingError) (new : Search) → IsRise {T = T} m.types.now max_stack [] (0 ∷ []) old new (Err step) → IsToldOf step e → IsTypingAnswer m.types.now arguments return_type code (Err e)
+    never_begun T (OfRaise.Refused at reason) (Untyped failure) new h told =
+        not_begun m.types.now arguments return_type code (typing_of m.types.now old.rows.items) as_long nothing
+        (subst (λ (z : ℤ). CannotRise m.types.now z [] (0 ∷ []) (typing_of m.types.now old.rows.items)) of.same_max h)
+    never_begun T OfRaise.OutOfMemory (Untyped failure) new h told = elim told [ ]
+    never_begun T (OfRaise.Refused at reason) OutOfMemory new h told = tt
+    never_begun T OfRaise.OutOfMemory OutOfMemory new h told = tt
+
+  pub stopped : (T : Type 0) (e : TypingError) (new : Search) → IsVisit {T = T} m code new (Err e) → IsTypingAnswer m.types.now arguments return_type code (Err e)
+  stopped T (Untyped failure) new h = h
+  stopped T OutOfMemory new h = tt
+
+  arrived : (rows : List (Option (List StackEntry))) (pending : List Bool) → IsOnTheWay m code rows pending → ((place : ℕ) → IsPending pending place → ⊥) → IsLeastTyping m.types.now arguments return_type code (typing_of m.types.now rows)
+  arrived rows pending u none = record {
+    is_typing = finished m.types.now arguments return_type code (typing_of m.types.now rows) pending u none;
+    under = u.under;
+  }
+
+  -- what is known before a place is visited, its flag taken
+  pub taken : (rows later : List (Option (List StackEntry))) (pending rest : List Bool) (place : ℕ) → IsOnTheWay m code rows pending → later ≡ rows → IsPending pending place → rest ≡ slice_set pending place false → IsOnTheWay m code later (slice_set rest place true)
+  taken rows later pending rest place u same flag left =
+      let again : slice_set rest place true ≡ pending = ap (λ v. slice_set v place true) left ∙ taken_back pending place flag in
+      subst (λ (v : List (Option (List StackEntry))). IsOnTheWay m code v (slice_set rest place true)) (sym same) (subst (λ (p : List Bool). IsOnTheWay m code rows p) (sym again) u)
+
+  pub settled_all : (rows later result : List (Option (List StackEntry))) (pending : List Bool) → IsOnTheWay m code rows pending → ((place : ℕ) → IsPending pending place → ⊥) → later ≡ rows → result ≡ later →
+      IsLeastTyping m.types.now arguments return_type code (typing_of m.types.now result)
+  settled_all rows later result pending u none same made = subst (λ (v : List (Option (List StackEntry))). IsLeastTyping m.types.now arguments return_type code (typing_of m.types.now v)) (sym (made ∙ same)) (arrived rows pending u none)
+
+pub work_taken : (tree : Tree) (max_stack : ℤ) (old new : Search) (place : ℕ) → new.rows.items ≡ old.rows.items → IsPending old.is_pending.items place → new.is_pending.items ≡ slice_set old.is_pending.items place false →
+    work_left tree max_stack new < work_left tree max_stack old
+work_taken tree max_stack old new place rows flag pending =
+    let same : table_rises tree (most_values max_stack) (typing_of tree new.rows.items) ≡ table_rises tree (most_values max_stack) (typing_of tree old.rows.items) = ap (λ v. table_rises tree (most_values max_stack) (typing_of tree v)) rows in
+    let fewer : count_pending (slice_set old.is_pending.items place false) < count_pending old.is_pending.items = count_taken old.is_pending.items place flag in
+    let counted : count_pending new.is_pending.items ≡ count_pending (slice_set old.is_pending.items place false) = ap count_pending pending in
+    omega (arith, same, fewer, counted)
+
+-- ---- a flag a place
+
+pub begun_whole : (n : ℕ) (s : Search) → s.rows.items ≡ replicate n None → s.is_pending.items ≡ replicate n false → IsWhole s
+begun_whole n s rows flags = ap length flags ∙ as_many n ∙ ap length (sym rows)
+  where
+    as_many : (k : ℕ) → length {A = Bool} (replicate k false) ≡ length {A = Option (List StackEntry)} (replicate k None)
+    as_many zero = refl
+    as_many (suc k) = ap suc (as_many k)
+
+pub taken_whole : (old new : Search) (place : ℕ) → IsWhole old → new.rows.items ≡ old.rows.items → new.is_pending.items ≡ slice_set old.is_pending.items place false → IsWhole new
+taken_whole old new place w rows pending = ap length pending ∙ length-set old.is_pending.items place false ∙ w ∙ ap length (sym rows)
+
+pub rise_whole : {T : Type 0} (tree : Tree) (max_stack : ℤ) (after : List StackEntry) (ways : List ℕ) (old new : Search) (r : Result T RaiseError) → IsWhole old → IsRise tree max_stack after ways old new r → OnOk r (IsWhole new)
+rise_whole tree max_stack after ways old new (Ok done) w h = still_whole tree max_stack after ways old new w h
+rise_whole tree max_stack after ways old new (Err e) w h = tt
+
+-- ---- .maxstack
+
+pub natural_is : (z : ℤ) (n : ℕ) → natural z ≡ Some n → pos n ≡ z
+natural_is (pos k) n e = ap pos (sym (same_Some k n e))
+natural_is (negsuc k) n e = none_is_some n e
+
+pub no_natural : (z : ℤ) (n : ℕ) → natural z ≡ None → pos n ≤ℤ z → ⊥
+no_natural (pos k) n e h = none_is_some k (sym e)
+no_natural (negsuc k) n e h = grind (arith, ints, h)
+
+pub none_is_low : (tree : Tree) (taken_types : List DeclaredType) (given : Option DeclaredType) (code : Code) (z : ℤ) → z ≡ code.max_stack → natural z ≡ None → (typing : Typing) → IsCodeTyping tree taken_types given code typing → ⊥
+none_is_low tree taken_types given code z same e typing t = no_natural z 0 e (subst (λ (k : ℤ). pos 0 ≤ℤ k) (sym same) (t.height 0 [] t.start))
+
+-- a failure answers for code without a typing
+pub has_no_typing : (tree : Tree) (taken_types : List DeclaredType) (given : Option DeclaredType) (code : Code) (e : TypingError) → ((typing : Typing) → IsCodeTyping tree taken_types given code typing → ⊥) → IsTypingAnswer tree taken_types given code (Err e)
+has_no_typing tree taken_types given code (Untyped failure) none = none
+has_no_typing tree taken_types given code OutOfMemory none = tt

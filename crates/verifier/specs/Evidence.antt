@@ -1,0 +1,40 @@
+-- What a failure of a search tells.
+use Rattle.std.specs.Prelude.{◌≡◌, ℕ, List, Option, Some, slice_get, Result, Ok, Err}
+use Rattle.flow_rules.specs.declared.entries.StackEntry.{StackEntry}
+use Rattle.verifier.specs.declared.failures.Reason.{Reason}
+use Rattle.verifier.specs.declared.failures.TypingError.{TypingError}
+use Rattle.verifier.specs.declared.failures.TypingError.TheVariants.{Untyped, OutOfMemory}
+use Rattle.verifier.specs.declared.search.RaiseError.{RaiseError}
+use Rattle.verifier.specs.declared.search.RaiseError.TheVariants as OfRaise
+
+-- the place and the reason; of want of memory nothing is said
+abbrev pub IsRefusedAt : ℕ → Reason → TypingError → Type 0
+IsRefusedAt place reason (Untyped failure) = (failure.place ≡ place) × (failure.reason ≡ reason)
+IsRefusedAt place reason OutOfMemory = Unit {0}
+
+-- those of the step that failed
+abbrev pub IsToldOf : RaiseError → TypingError → Type 0
+IsToldOf (OfRaise.Refused place reason) error = IsRefusedAt place reason error
+IsToldOf OfRaise.OutOfMemory (Untyped failure) = ⊥
+IsToldOf OfRaise.OutOfMemory OutOfMemory = Unit {0}
+
+-- an answer for a step's answer: done where it is done, and else the failure of the step
+abbrev pub IsAnsweredBy : {T : Type 0} → Result T RaiseError → Result T TypingError → Type 0
+IsAnsweredBy (Ok done) (Ok answer) = Unit {0}
+IsAnsweredBy (Ok done) (Err error) = ⊥
+IsAnsweredBy (Err step) (Ok answer) = ⊥
+IsAnsweredBy (Err step) (Err error) = IsToldOf step error
+
+-- an instruction and the stack before it
+abbrev pub IsStackOf : ℕ → List StackEntry → TypingError → Type 0
+IsStackOf place before (Untyped failure) = (failure.place ≡ place) × (failure.instruction ≡ place) × (failure.stack ≡ before)
+IsStackOf place before OutOfMemory = Unit {0}
+
+-- the stack that a search has of a place, where it has one
+abbrev pub IsShown : List (Option (List StackEntry)) → ℕ → List StackEntry → Type 0
+IsShown rows place shown = (stack : List StackEntry) → slice_get rows place ≡ Some (Some stack) → shown ≡ stack
+
+-- the stack that the search has of the instruction at fault
+abbrev pub IsEvidence : List (Option (List StackEntry)) → TypingError → Type 0
+IsEvidence rows (Untyped failure) = IsShown rows failure.instruction failure.stack
+IsEvidence rows OutOfMemory = Unit {0}

@@ -1,0 +1,61 @@
+// Why a method has no typing.
+
+ghost use Rattle.std.specs.Prelude.{◌≡◌};
+ghost use Rattle.verifier.specs.declared.failures.TypingError.TheVariants.{OutOfMemory};
+
+use crate::merging::StackMismatch;
+use cil_model::memory::NoMemory;
+use cil_model::sequences::Sequence;
+use flow_rules::entries::StackEntry;
+use flow_rules::mismatches::Mismatch;
+
+/// Why no stack can stand before an instruction.
+#[derive(Clone, Copy, Debug)]
+pub enum Reason {
+    /// The instruction has no result on the stack that reaches it.
+    NoResult(Mismatch),
+    /// What reaches it has no stack above it and above what reached it before.
+    NoMerge(StackMismatch),
+    /// So many values are more than `.maxstack` allows.
+    TooHigh(usize),
+    /// There is no instruction: control would run off the end.
+    NoInstruction,
+}
+
+/// The stack of types behind an instruction, the top first.
+#[derive(Debug, Drop)]
+pub struct IncomingStack {
+    /// The instruction's place.
+    pub from: usize,
+    pub stack: Sequence<StackEntry>,
+}
+
+/// Where the search for a typing fails, why, and with what on the stack. Places are counted from 0.
+#[derive(Debug, Drop)]
+pub struct FailurePoint {
+    /// The place before which no stack can stand.
+    pub place: usize,
+    pub reason: Reason,
+    /// The place of the instruction at fault: the same one, or that from which control goes there, where it runs off the end or brings
+    /// more values than `.maxstack` allows.
+    pub instruction: usize,
+    /// The stack of types before the instruction at fault, the top first; empty where control never gets to one.
+    pub stack: Sequence<StackEntry>,
+    /// What control brings to the place; none where the instruction there has no result, and where control never gets to one.
+    pub incoming: Option<IncomingStack>,
+}
+
+/// Why there is no typing of a method: a search fails; or nothing is known, for want of memory.
+#[derive(Drop)]
+pub enum TypingError {
+    Untyped(FailurePoint),
+    OutOfMemory,
+}
+
+impl From<NoMemory> for TypingError {
+    ghost from_gives = { λ _ error. error ≡ OutOfMemory };
+
+    fn from(_error: NoMemory) -> TypingError {
+        TypingError::OutOfMemory
+    }
+}

@@ -1,0 +1,581 @@
+// The least typing of a method, by flags for the places whose ways on are still to be looked at (ECMA-335 III.1.8.1.3).
+
+ghost use Rattle.std.specs.Prelude.{◌≡◌, ◌+◌, ◌<◌, ◌≤◌, pos, ℕ, ◌∷◌, [], List, IfOk, IfErr, IfSome, OnOk, length, replicate, slice_get, slice_set, true, false, Some, None, option_map};
+ghost use Rattle.cil_model.specs.declared.trees.Tree.{Tree};
+ghost use Rattle.cil_model.specs.declared.trees.Code.{Code};
+ghost use Rattle.cil_model.specs.declared.trees.Line.{Line};
+ghost use Rattle.cil_model.specs.declared.instructions.Instruction.{Instruction};
+ghost use Rattle.flow_rules.specs.Named.{type_named, types_named, stack_types};
+ghost use Rattle.flow_rules.specs.Flow.{flow_of};
+ghost use Rattle.flow_rules.specs.declared.entries.StackEntry as entries;
+ghost use Rattle.resolved_code.specs.Resolved.{IsBody, IsOperation};
+ghost use Rattle.verifier.specs.Rises.{stack_rises, natural};
+ghost use Rattle.verifier.specs.Ways.{ways_on};
+ghost use Rattle.verifier.specs.Tables.{IsPending};
+ghost use Rattle.verifier.specs.Answers.{IsRow, IsResultAt, IsMergeAt, IsRise, AreOf, IsOnTheWay, IsVisit, IsTypingAnswer, IsWhole, work_left};
+ghost use Rattle.verifier.specs.Evidence.{IsRefusedAt, IsToldOf, IsAnsweredBy, IsStackOf, IsShown, IsEvidence};
+ghost use Rattle.verifier.specs.declared.failures.TypingError.TheVariants.{OutOfMemory};
+ghost use Rattle.verifier.specs.declared.search.RaiseError.TheVariants as OfRaise;
+
+use crate::kept_stacks::KeptStack;
+use crate::merging::{MergeError, StackMerge, merge_stacks};
+use crate::order::Order;
+use crate::failures::{FailurePoint, IncomingStack, Reason, TypingError};
+use crate::stacks::stack_after;
+use crate::ways::ways_on;
+use cil_model::memory::NoMemory;
+use cil_model::sequences::Sequence;
+use flow_rules::entries::StackEntry;
+use flow_rules::method_types::MethodTypes;
+use flow_rules::mismatches::{FlowError, Mismatch};
+use flow_rules::type_tree::TypeTree;
+use resolved_code::classes::Body;
+use resolved_code::operations::Operation;
+use resolved_code::types::NumberedType;
+use std::alloc::{AllocError, Global};
+
+/// The stacks found so far, one a place where control was found to go; a flag a place, set where its ways on are still to be looked at;
+/// the order in which these places are taken; and the rank in it at which the look for the next of them begins.
+#[derive(Drop)]
+struct Search {
+    rows: Vec<Option<KeptStack>>,
+    is_pending: Vec<bool>,
+    order: Order,
+    from: usize,
+}
+
+/// Whether so many values are no more than that.
+fn is_low(height: usize, most: usize) -> bool
+    ensures low { result ≡ true → height ≤ most }
+    ensures high { result ≡ false → most < height }
+{
+    height <= most
+}
+
+/// The most values that a stack may hold. None where that is negative.
+fn most_values(max_stack: i64) -> Option<usize>
+    ensures { result ≡ natural max_stack }
+{
+    usize::try_from(max_stack).ok()
+}
+
+/// What a search knows of a place.
+#[derive(Clone, Copy)]
+enum Row<'a> {
+    /// There is no such place.
+    Absent,
+    /// Control was not found to go there.
+    Unmapped,
+    /// It goes there with this stack, or one below it.
+    Mapped(&'a KeptStack),
+}
+
+/// What is known of a place.
+fn row_at(rows: &[Option<KeptStack>], place: usize) -> Row<'_>
+    ensures { IsRow rows.now place result }
+{
+    match rows.get(place) {
+        None => Row::Absent,
+        Some(None) => Row::Unmapped,
+        Some(Some(stack)) => Row::Mapped(stack),
+    }
+}
+
+/// The stack of a place, where control was found to go there.
+fn mapped_at(rows: &[Option<KeptStack>], place: usize) -> Option<&KeptStack>
+    ensures mapped { IfSome result (λ stack. slice_get rows.now place ≡ Some (Some stack.now)) }
+    ensures none { result ≡ None → (stack : List entries.StackEntry) → slice_get rows.now place ≡ Some (Some stack) → ⊥ }
+{
+    match rows.get(place) {
+        None => None,
+        Some(None) => None,
+        Some(Some(stack)) => Some(stack),
+    }
+}
+
+/// The operation at a place.
+fn operation_at(operations: &[Operation], place: usize) -> Option<&Operation>
+    ensures found { IfSome result (λ operation. slice_get operations.now place ≡ Some operation.now) }
+    ensures beyond { result ≡ None → slice_get operations.now place ≡ None }
+{
+    operations.get(place)
+}
+
+/// The place behind an operation.
+fn place_behind(operations: &[Operation], place: usize) -> usize
+    requires { place < length operations.now }
+    ensures { result ≡ place + 1 }
+{
+    let places = operations.len();
+    if place < places { place + 1 } else { places }
+}
+
+/// The entries of a stack that is kept. Fails for want of memory alone.
+fn shown(kept: &KeptStack, alloc: Global) -> Result<Sequence<StackEntry>, NoMemory>
+    ensures { IfOk result (λ shown. shown ≡ kept.now) }
+{
+    match kept.entries(alloc) {
+        Ok(entries) => Ok(Sequence::new(entries)),
+        Err(_) => Err(NoMemory),
+    }
+}
+
+/// Why a stack can't be taken to a place.
+#[derive(Clone, Copy)]
+enum RaiseError {
+    Refused { place: usize, reason: Reason },
+    OutOfMemory,
+}
+
+/// A failure of a search that never gets to an instruction.
+fn without_stacks(place: usize, reason: Reason, alloc: Global) -> TypingError
+    ensures { IsRefusedAt place reason result }
+{
+    TypingError::Untyped(FailurePoint {
+        place,
+        reason,
+        instruction: place,
+        stack: Sequence::new(Vec::new(alloc)),
+        incoming: None,
+    })
+}
+
+/// Why a search does not begin.
+fn not_begun(error: RaiseError, alloc: Global) -> TypingError
+    ensures { IsToldOf error result }
+{
+    match error {
+        RaiseError::Refused { place, reason } => without_stacks(place, reason, alloc),
+        RaiseError::OutOfMemory => TypingError::OutOfMemory,
+    }
+}
+
+/// The failure of an instruction that has no result on the stack before it.
+fn no_result(place: usize, mismatch: Mismatch, before: &KeptStack, alloc: Global) -> TypingError
+    ensures { IsStackOf place before.now result }
+{
+    match shown(before, alloc) {
+        Ok(stack) => TypingError::Untyped(FailurePoint {
+            place,
+            reason: Reason::NoResult(mismatch),
+            instruction: place,
+            stack,
+            incoming: None,
+        }),
+        Err(NoMemory) => TypingError::OutOfMemory,
+    }
+}
+
+/// Whether two entries are one.
+fn is_same_entry(one: StackEntry, other: StackEntry) -> bool
+    ensures { result ≡ true → one ≡ other }
+{
+    one == other
+}
+
+/// Whether two stacks are one, entry by entry.
+fn are_same(known: &KeptStack, coming: &[StackEntry]) -> bool
+    ensures { result ≡ true → known.now ≡ coming.now }
+{
+    if known.len() != coming.len() {
+        return false;
+    }
+    for index in 0..known.len() {
+        if !is_same_entry(known.entry(index), coming[index]) {
+            return false;
+        }
+    }
+    true
+}
+
+/// The merge of the stack that a place has with one that comes there.
+fn merged(
+    types: &TypeTree,
+    place: usize,
+    known: &KeptStack,
+    coming: &[StackEntry],
+    alloc: Global,
+) -> Result<StackMerge, RaiseError>
+    ensures merged { IsMergeAt types.now known.now coming.now result }
+    ensures same { IfOk result (λ m. m.is_higher ≡ false → m.stack ≡ known.now) }
+    ensures higher { IfOk result (λ m. m.is_higher ≡ true → stack_rises types.now (stack_types types.now m.stack) < stack_rises types.now (stack_types types.now known.now)) }
+{
+    match merge_stacks(types, known, coming, alloc) {
+        Ok(merge) => Ok(merge),
+        Err(MergeError::Apart(mismatch)) => Err(RaiseError::Refused {
+            place,
+            reason: Reason::NoMerge(mismatch),
+        }),
+        Err(MergeError::OutOfMemory) => Err(RaiseError::OutOfMemory),
+    }
+}
+
+/// The stack behind the instruction at a place, by the flow rule.
+fn result_at(
+    method: &MethodTypes,
+    operation: &Operation,
+    place: usize,
+    before: &KeptStack,
+    alloc: Global,
+) -> Result<Sequence<StackEntry>, TypingError>
+    ensures found { (lines : List Line) (i : Instruction) → IsOperation method.now.types.now lines i operation.now → IsResultAt method.now.types.now result (flow_of method.now i before.now) }
+    ensures evidence { IfErr result (IsStackOf place before.now) }
+{
+    match stack_after(method, operation, before, alloc) {
+        Ok(after) => Ok(after),
+        Err(FlowError::Mismatch(mismatch)) => Err(no_result(place, mismatch, before, alloc)),
+        Err(FlowError::OutOfMemory) => Err(TypingError::OutOfMemory),
+    }
+}
+
+/// Rows of which nothing is found. Fails for want of memory alone.
+fn unmapped(places: usize, alloc: Global) -> Result<Vec<Option<KeptStack>>, NoMemory>
+    ensures { IfOk result (λ rows. rows.items ≡ replicate places None) }
+{
+    let mut rows = Vec::with_capacity(alloc, places)?;
+    for place in 0..places {
+        rows.push(None)?;
+    }
+    Ok(rows)
+}
+
+/// Flags of which none is set. Fails for want of memory alone.
+fn none_pending(places: usize, alloc: Global) -> Result<Vec<bool>, AllocError>
+    ensures { IfOk result (λ flags. flags.items ≡ replicate places false) }
+{
+    vec![in alloc; false; places]
+}
+
+/// The first pending place that isn't before this one.
+fn pending_from(is_pending: &[bool], from: usize) -> Option<usize>
+    ensures found { IfSome result (λ place. IsPending is_pending.now place) }
+    ensures none { result ≡ None → (place : ℕ) → from ≤ place → IsPending is_pending.now place → ⊥ }
+{
+    for place in from..is_pending.len() {
+        if is_pending[place] {
+            return Some(place);
+        }
+    }
+    None
+}
+
+/// The first pending place of an order from a rank on.
+fn pending_in_order(is_pending: &[bool], order: &Order, from: usize) -> Option<usize>
+    ensures { IfSome result (λ place. IsPending is_pending.now place) }
+{
+    for rank in from..order.count() {
+        let place = order.place(rank);
+        if place < is_pending.len() && is_pending[place] {
+            return Some(place);
+        }
+    }
+    None
+}
+
+/// The first pending place of an order, or else any.
+fn pending_again(is_pending: &[bool], order: &Order) -> Option<usize>
+    ensures found { IfSome result (λ place. IsPending is_pending.now place) }
+    ensures none { result ≡ None → (place : ℕ) → IsPending is_pending.now place → ⊥ }
+{
+    match pending_in_order(is_pending, order, 0) {
+        Some(place) => Some(place),
+        None => pending_from(is_pending, 0),
+    }
+}
+
+/// The next pending place: the first of the order from a rank on, or else the first of the order, or else any.
+fn pending_after(is_pending: &[bool], order: &Order, from: usize) -> Option<usize>
+    ensures found { IfSome result (λ place. IsPending is_pending.now place) }
+    ensures none { result ≡ None → (place : ℕ) → IsPending is_pending.now place → ⊥ }
+{
+    match pending_in_order(is_pending, order, from) {
+        Some(place) => Some(place),
+        None => pending_again(is_pending, order),
+    }
+}
+
+impl Search {
+    /// Nothing is found of the places of these operations. Fails for want of memory alone.
+    fn new(operations: &[Operation], alloc: Global) -> Result<Self, NoMemory>
+        ensures rows { IfOk result (λ s. s.rows.items ≡ replicate (length operations.now) None) }
+        ensures whole { IfOk result (λ s. IsWhole s) }
+    {
+        let is_pending = none_pending(operations.len(), alloc)?;
+        let rows = unmapped(operations.len(), alloc)?;
+        let order = Order::new(operations, alloc)?;
+        Ok(Search {
+            rows,
+            is_pending,
+            order,
+            from: 0,
+        })
+    }
+
+    /// Sets the stack of a place, which is then pending.
+    fn set(&mut self, place: usize, stack: KeptStack)
+        requires inside { place < length self.old.rows.items }
+        requires whole { IsWhole self.old }
+        ensures rows { self.new.rows.items ≡ slice_set self.old.rows.items place (Some stack) }
+        ensures pending { self.new.is_pending.items ≡ slice_set self.old.is_pending.items place true }
+    {
+        self.rows[place] = Some(stack);
+        self.is_pending[place] = true;
+    }
+
+    /// Takes the first stack to a place.
+    fn map(
+        &mut self,
+        place: usize,
+        after: &[StackEntry],
+        most: usize,
+        alloc: Global,
+    ) -> Result<(), RaiseError>
+        requires unmapped { slice_get self.old.rows.items place ≡ Some None }
+        requires whole { IsWhole self.old }
+        ensures { (tree : Tree) → IsRise tree (pos most) after.now (place ∷ []) self.old self.new result }
+    {
+        if is_low(after.len(), most) {
+            let Ok(stack) = KeptStack::new(after, alloc) else {
+                return Err(RaiseError::OutOfMemory);
+            };
+            self.set(place, stack);
+            return Ok(());
+        }
+        let reason = Reason::TooHigh(after.len());
+        Err(RaiseError::Refused { place, reason })
+    }
+
+    /// Takes a further stack to a place. Fails for want of memory alone.
+    fn merge(&mut self, place: usize, merge: &StackMerge, alloc: Global) -> Result<(), RaiseError>
+        requires inside { place < length self.old.rows.items }
+        requires whole { IsWhole self.old }
+        ensures same { merge.now.is_higher ≡ false → self.new ≡ self.old }
+        ensures rows { OnOk result (merge.now.is_higher ≡ true → self.new.rows.items ≡ slice_set self.old.rows.items place (Some merge.now.stack)) }
+        ensures pending { OnOk result (merge.now.is_higher ≡ true → self.new.is_pending.items ≡ slice_set self.old.is_pending.items place true) }
+        ensures err { IfErr result (λ e. e ≡ OfRaise.OutOfMemory) }
+    {
+        if !merge.is_higher {
+            return Ok(());
+        }
+        let Ok(stack) = KeptStack::new(merge.stack.as_slice(), alloc) else {
+            return Err(RaiseError::OutOfMemory);
+        };
+        self.set(place, stack);
+        Ok(())
+    }
+
+    /// Takes a stack to a place. Where it is the stack that the place has, nothing is merged.
+    fn raise(
+        &mut self,
+        types: &TypeTree,
+        place: usize,
+        after: &[StackEntry],
+        most: usize,
+        alloc: Global,
+    ) -> Result<(), RaiseError>
+        requires whole { IsWhole self.old }
+        ensures { IsRise types.now (pos most) after.now (place ∷ []) self.old self.new result }
+    {
+        match row_at(self.rows.as_slice(), place) {
+            Row::Absent => {
+                let reason = Reason::NoInstruction;
+                Err(RaiseError::Refused { place, reason })
+            }
+            Row::Unmapped => self.map(place, after, most, alloc),
+            Row::Mapped(known) => {
+                if are_same(known, after) {
+                    return Ok(());
+                }
+                let merge = merged(types, place, known, after, alloc)?;
+                self.merge(place, &merge, alloc)
+            }
+        }
+    }
+
+    /// Takes a stack to all these places.
+    fn raise_all(
+        &mut self,
+        types: &TypeTree,
+        ways: &[usize],
+        after: &[StackEntry],
+        most: usize,
+        alloc: Global,
+    ) -> Result<(), RaiseError>
+        requires whole { IsWhole self.old }
+        ensures { IsRise types.now (pos most) after.now ways.now self.old self.new result }
+    {
+        for index in 0..ways.len() {
+            self.raise(types, ways[index], after, most, alloc)?;
+        }
+        Ok(())
+    }
+
+    /// A copy of the stack of a place; an empty one where control was not found to go there. Fails for want of memory alone.
+    fn stack_at(&self, place: usize, alloc: Global) -> Result<Sequence<StackEntry>, NoMemory>
+        ensures { IfOk result (λ copy. IsShown self.now.rows.items place copy) }
+    {
+        match mapped_at(self.rows.as_slice(), place) {
+            Some(stack) => shown(stack, alloc),
+            None => Ok(Sequence::new(Vec::new(alloc))),
+        }
+    }
+
+    /// The failure of a search that could not take to a place what an instruction leaves.
+    fn stopped(
+        &self,
+        place: usize,
+        reason: Reason,
+        incoming: IncomingStack,
+        alloc: Global,
+    ) -> TypingError
+        ensures told { IsRefusedAt place reason result }
+        ensures evidence { IsEvidence self.now.rows.items result }
+    {
+        let instruction = match reason {
+            Reason::NoMerge(_) => place,
+            _ => incoming.from,
+        };
+        match self.stack_at(instruction, alloc) {
+            Ok(stack) => TypingError::Untyped(FailurePoint {
+                place,
+                reason,
+                instruction,
+                stack,
+                incoming: Some(incoming),
+            }),
+            Err(NoMemory) => TypingError::OutOfMemory,
+        }
+    }
+
+    /// What is answered where what an instruction leaves was taken on, or could not be.
+    fn answered(
+        &self,
+        risen: Result<(), RaiseError>,
+        incoming: IncomingStack,
+        alloc: Global,
+    ) -> Result<(), TypingError>
+        ensures told { IsAnsweredBy risen result }
+        ensures evidence { IfErr result (IsEvidence self.now.rows.items) }
+    {
+        match risen {
+            Ok(()) => Ok(()),
+            Err(RaiseError::OutOfMemory) => Err(TypingError::OutOfMemory),
+            Err(RaiseError::Refused { place, reason }) => {
+                Err(self.stopped(place, reason, incoming, alloc))
+            }
+        }
+    }
+
+    /// Takes the next pending place, which is pending no longer. At None there is none.
+    fn next(&mut self) -> Option<usize>
+        ensures found { IfSome result (λ place. IsPending self.old.is_pending.items place) }
+        ensures taken { IfSome result (λ place. self.new.is_pending.items ≡ slice_set self.old.is_pending.items place false) }
+        ensures empty { result ≡ None → (place : ℕ) → IsPending self.old.is_pending.items place → ⊥ }
+        ensures rows { self.new.rows ≡ self.old.rows }
+    {
+        let place = pending_after(self.is_pending.as_slice(), &self.order, self.from)?;
+        self.is_pending[place] = false;
+        self.from = self.order.rank(place);
+        Some(place)
+    }
+
+    /// Takes the stack behind the instruction at a place to where control goes on.
+    fn visit(
+        &mut self,
+        method: &MethodTypes,
+        operations: &[Operation],
+        most: usize,
+        place: usize,
+        alloc: Global,
+    ) -> Result<(), TypingError>
+        requires whole { IsWhole self.old }
+        ensures found { (code : Code) → AreOf method.now operations.now (pos most) code → IsOnTheWay method.now code self.old.rows.items (slice_set self.old.is_pending.items place true) → IsVisit method.now code self.new result }
+        ensures evidence { IfErr result (IsEvidence self.new.rows.items) }
+        ensures whole { OnOk result (IsWhole self.new) }
+        ensures work { OnOk result (work_left method.now.types.now (pos most) self.new ≤ work_left method.now.types.now (pos most) self.old) }
+    {
+        let Some(operation) = operation_at(operations, place) else {
+            return Ok(());
+        };
+        let Some(stack) = mapped_at(self.rows.as_slice(), place) else {
+            return Ok(());
+        };
+        // That class System.Object is looked up shows that the program is legal.
+        let _object = method.types.class(0);
+        let after = result_at(method, operation, place, stack, alloc)?;
+        let ways = ways_on(operation, place_behind(operations, place), alloc)?;
+        let risen = self.raise_all(method.types, ways.as_slice(), after.as_slice(), most, alloc);
+        let incoming = IncomingStack {
+            from: place,
+            stack: after,
+        };
+        self.answered(risen, incoming, alloc)
+    }
+}
+
+/// The least typing of the code of a method with these types.
+fn least_typing(
+    method: &MethodTypes,
+    operations: &[Operation],
+    most: usize,
+    alloc: Global,
+) -> Result<Sequence<Option<KeptStack>>, TypingError>
+    ensures { (code : Code) → AreOf method.now operations.now (pos most) code → IsTypingAnswer method.now.types.now (types_named method.now.types.now method.now.arguments.now) (option_map (type_named method.now.types.now) method.now.return_type) code result }
+{
+    let mut search = Search::new(operations, alloc)?;
+    match search.raise(method.types, 0, [].as_slice(), most, alloc) {
+        Ok(()) => {}
+        Err(error) => return Err(not_begun(error, alloc)),
+    }
+    while let Some(place) = search.next() {
+        search.visit(method, operations, most, place, alloc)?;
+    }
+    let Search {
+        rows,
+        is_pending: _,
+        order: _,
+        from: _,
+    } = search;
+    Ok(Sequence::new(rows))
+}
+
+/// The same of a body. No stack is low enough where `.maxstack` is negative.
+fn typing_of_body(
+    method: &MethodTypes,
+    body: &Body,
+    alloc: Global,
+) -> Result<Sequence<Option<KeptStack>>, TypingError>
+    ensures { (code : Code) → IsBody method.now.types.now code body.now → types_named method.now.types.now method.now.locals.now ≡ code.locals → IsTypingAnswer method.now.types.now (types_named method.now.types.now method.now.arguments.now) (option_map (type_named method.now.types.now) method.now.return_type) code result }
+{
+    let Some(most) = most_values(body.max_stack) else {
+        return Err(without_stacks(0, Reason::TooHigh(0), alloc));
+    };
+    least_typing(method, body.operations.as_slice(), most, alloc)
+}
+
+/// The least typing of a method's code, the top of each stack first; none at a place that control never reaches. An `Untyped` error
+/// comes exactly where the code has no typing (ECMA-335 III.1.8.1.3), and tells the stacks where the search failed.
+pub fn find_typing(
+    types: &TypeTree,
+    arguments: &[NumberedType],
+    return_type: Option<NumberedType>,
+    body: &Body,
+    alloc: Global,
+) -> Result<Sequence<Option<KeptStack>>, TypingError>
+    ensures { (code : Code) → IsBody types.now code body.now → IsTypingAnswer types.now (types_named types.now arguments.now) (option_map (type_named types.now) return_type) code result }
+{
+    let method = MethodTypes {
+        types,
+        arguments,
+        locals: body.locals.as_slice(),
+        return_type,
+    };
+    let typing = typing_of_body(&method, body, alloc);
+    let MethodTypes {
+        types: _,
+        arguments: _,
+        locals: _,
+        return_type: _,
+    } = method;
+    typing
+}

@@ -1,0 +1,42 @@
+// Where control goes on to behind an instruction (ECMA-335 III.1.7.2).
+
+ghost use Rattle.std.specs.Prelude.{◌≡◌, ◌+◌, ◌++◌, ◌∷◌, [], IfOk, OnOk};
+ghost use Rattle.verifier.specs.Ways.{targets, falls, ways_on};
+
+use cil_model::memory::NoMemory;
+use resolved_code::operations::Operation;
+use std::alloc::Global;
+
+/// Whether control goes on to the next instruction.
+fn falls(operation: &Operation) -> bool
+    ensures { result ≡ falls operation.now }
+{
+    !matches!(operation, Operation::Branch(_) | Operation::Return)
+}
+
+/// Appends the places that an operation names.
+fn add_targets(operation: &Operation, ways: &mut Vec<usize>) -> Result<(), NoMemory>
+    ensures { OnOk result (ways.new.items ≡ ways.old.items ++ targets operation.now) }
+{
+    match operation {
+        Operation::Branch(place)
+        | Operation::BranchTrue(place)
+        | Operation::BranchFalse(place)
+        | Operation::BranchCompare(_, place) => ways.push(*place)?,
+        Operation::Switch(places) => ways.extend_from_slice(places.as_slice())?,
+        _ => {}
+    }
+    Ok(())
+}
+
+/// The places to which control may go on from an operation, the next one last.
+pub fn ways_on(operation: &Operation, next: usize, alloc: Global) -> Result<Vec<usize>, NoMemory>
+    ensures { IfOk result (λ ways. ways.items ≡ ways_on operation.now next) }
+{
+    let mut ways = Vec::new(alloc);
+    add_targets(operation, &mut ways)?;
+    if falls(operation) {
+        ways.push(next)?;
+    }
+    Ok(ways)
+}
