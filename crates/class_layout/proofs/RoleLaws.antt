@@ -18,14 +18,14 @@ use Rattle.name_tables.specs.Numbers.{class_number, chain_numbers, declarations,
 use Rattle.name_tables.specs.Sameness.{MethodIdentity, identity_of, same_identity, same_called, called_of}
 use Rattle.name_tables.specs.SamenessLaws.{same_identity_equal, same_identity_itself}
 use Rattle.name_tables.specs.declared.lookups.MemberNumber.{MemberNumber}
-use Rattle.programs.specs.Found.{is_virtual_found, slot_filled_at, slot_over, slot_numbered}
+use Rattle.resolved_code.specs.Found.{is_virtual_found, slot_filled_at, slot_over, slot_numbered}
 use Rattle.resolved_code.specs.Identities.{identities, identity_number}
 use Rattle.resolved_code.specs.Resolved.{AllAlike, AreResolved, IsResolvedKind, IsResolvedMethod, BothAlike}
 use Rattle.resolved_code.specs.declared.classes.ResolvedClass.{ResolvedClass}
 use Rattle.resolved_code.specs.declared.classes.ResolvedMethod.{ResolvedMethod}
 use Rattle.resolved_code.specs.declared.classes.ResolvedKind.{ResolvedKind}
 use Rattle.resolved_code.specs.declared.classes.ResolvedKind.TheVariants as KindOf
-use Rattle.programs.proofs.MemberLaws.{alike_at}
+use Rattle.resolved_code.proofs.MemberLaws.{alike_at}
 use Rattle.class_layout.specs.declared.roles.Role.{Role}
 use Rattle.class_layout.specs.ByClass.{by_class, interface_numbers}
 use Rattle.class_layout.specs.Roles as by_role

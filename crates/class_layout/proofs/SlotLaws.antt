@@ -22,7 +22,7 @@ use Rattle.cil_model.specs.Fields.{FieldKey, same_key, keyed_fields, instance_fi
 use Rattle.cil_model.specs.Legality.{IsLegal, has_repeat, doubles_name, class_doubles, is_own_base}
 use Rattle.cil_model.proofs.Legal.{no_cycle}
 use Rattle.cil_model.proofs.SameLaws.{same_text_itself, same_class_itself, class_equivalence}
-use Rattle.programs.proofs.Repeats.{has_repeat-map}
+use Rattle.resolved_code.proofs.Repeats.{has_repeat-map}
 use Rattle.name_tables.specs.Numbers.{class_number, declarations, field_at, source_entry}
 use Rattle.name_tables.proofs.NumberLaws.{none_is_some}
 use Rattle.class_layout.specs.Kinds.{own_kinds, slot_kinds, kind_of}

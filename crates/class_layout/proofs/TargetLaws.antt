@@ -20,9 +20,9 @@ use Rattle.name_tables.specs.Numbers.{declarations, class_number, chain_numbers,
 use Rattle.name_tables.specs.declared.lookups.MemberNumber.{MemberNumber}
 use Rattle.name_tables.proofs.NumberLaws.{none_is_some, in_present}
 use Rattle.name_tables.proofs.Lists.{option_map_of_map}
-use Rattle.programs.specs.Found.{is_virtual_found, slot_numbered}
-use Rattle.programs.proofs.NumberedMethods.{found_by_number, nothing_found}
-use Rattle.programs.proofs.SlotLaws.{IsTied, tied, same_slot}
+use Rattle.resolved_code.specs.Found.{is_virtual_found, slot_numbered}
+use Rattle.resolved_code.proofs.NumberedMethods.{found_by_number, nothing_found}
+use Rattle.resolved_code.proofs.SlotLaws.{IsTied, tied, same_slot}
 use Rattle.resolved_code.specs.Numbered.{class_name}
 use Rattle.class_layout.specs.ByClass.{by_class, interface_numbers}
 use Rattle.class_layout.specs.declared.targets.Targets.{Targets}

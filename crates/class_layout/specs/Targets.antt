@@ -10,7 +10,7 @@ use Rattle.cil_model.specs.Chains.{methods_declared, is_interface, is_virtual}
 use Rattle.name_tables.specs.Sameness.{MethodIdentity, identity_of, same_called, called_of}
 use Rattle.name_tables.specs.Numbers.{declarations, class_number, chain_numbers, place_in, method_found}
 use Rattle.name_tables.specs.declared.lookups.MemberNumber.{MemberNumber}
-use Rattle.programs.specs.Found.{is_virtual_found, slot_numbered}
+use Rattle.resolved_code.specs.Found.{is_virtual_found, slot_numbered}
 use Rattle.class_layout.specs.ByClass.{by_class, interface_numbers}
 use Rattle.class_layout.specs.declared.targets.Targets.{Targets}
 use Rattle.class_layout.specs.declared.targets.Targets.TheVariants.{Itself, ByClass}

@@ -12,7 +12,7 @@ ghost use Rattle.class_layout.specs.Targets.{chain_at};
 use crate::rows::row_at;
 use cil_model::memory::NoMemory;
 use cil_model::trees::Tree;
-use programs::Program;
+use resolved_code::Program;
 use resolved_code::classes::ResolvedClass;
 use std::alloc::Global;
 

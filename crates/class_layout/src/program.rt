@@ -6,7 +6,7 @@ ghost use Rattle.class_layout.specs.Laid.{IsLayout};
 use crate::classes::Classes;
 use crate::layout::Layout;
 use cil_model::memory::NoMemory;
-use programs::Program;
+use resolved_code::Program;
 use std::alloc::Global;
 
 /// The layout of a program. Fails for want of memory alone.

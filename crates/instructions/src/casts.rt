@@ -12,7 +12,7 @@ use cil_model::phases::Phase;
 use cil_model::reports::Fault;
 use class_layout::Layout;
 use object_memory::{Addr, ArrayElement, Heap, Kind, Value};
-use programs::Program;
+use resolved_code::Program;
 use resolved_code::types::NumberedType;
 use threads_monitors::{Effect, FrameMemory};
 

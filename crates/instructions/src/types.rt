@@ -10,7 +10,7 @@ ghost use Rattle.instructions.specs.TypeTurns.{numbered, type_of_kind, type_of_a
 use class_layout::Layout;
 use flow_rules::type_tree::element_of_class;
 use object_memory::{Addr, ElementType, Heap, Kind, Value};
-use programs::Program;
+use resolved_code::Program;
 use resolved_code::types::{NumberedElement, NumberedType};
 
 /// A type without brackets, with its class's number as the program has it.

@@ -27,7 +27,7 @@ use Rattle.resolved_code.proofs.ClassNumbers.{FoundAt, found_at, number_of_place
 use Rattle.phase_handshake.specs.Handshakes.{Handshakes, first_handshakes}
 use Rattle.simulation.specs.collector.Phases.{no_progress}
 use Rattle.simulation.specs.collector.declared.progress.Progress.{Progress}
-use Rattle.simulation.specs.programs.Contents.{IsEntryPoint}
+use Rattle.simulation.specs.resolved_code.Contents.{IsEntryPoint}
 use Rattle.object_memory.specs.declared.addresses.Addr.{Addr}
 use Rattle.object_memory.specs.declared.values.Value.{Value}
 use Rattle.object_memory.specs.declared.values.Value.TheVariants.{Ref}

@@ -13,7 +13,7 @@ use Rattle.name_tables.specs.Numbers.{source_entry}
 use Rattle.resolved_code.specs.Resolved.{AllAlike, IsResolvedMethod, IsResolvedClass}
 use Rattle.resolved_code.specs.declared.classes.ResolvedClass.{ResolvedClass}
 use Rattle.resolved_code.proofs.AlikeLaws.{alike_length}
-use Rattle.programs.proofs.Limits.{source_methods_few}
+use Rattle.resolved_code.proofs.Limits.{source_methods_few}
 use Rattle.loaded_program.specs.AllMethods.{owned_methods, all_methods}
 use Rattle.loaded_program.specs.Numbered.{running_counts}
 use Rattle.loaded_program.proofs.FlatLaws.{owned_count}

@@ -21,7 +21,7 @@ use cil_model::sequences::Sequence;
 use class_layout::Layout;
 use name_tables::lookups::MemberNumber;
 use object_memory::ValueKind;
-use programs::Program;
+use resolved_code::Program;
 use resolved_code::operations::Operation;
 use std::alloc::Global;
 

@@ -1,4 +1,4 @@
-// Loaded programs.
+// Loaded resolved_code.
 
 ghost use Rattle.std.specs.Prelude.{◌≡◌, ◌<◌, Some, length, IsSome, IfOk, option_and_then, slice_get};
 ghost use Rattle.cil_model.specs.declared.trees.Method.{Method};
@@ -19,7 +19,7 @@ use crate::table::MethodTable;
 use cil_model::memory::NoMemory;
 use class_layout::Layout;
 use name_tables::lookups::MemberNumber;
-use programs::Program;
+use resolved_code::Program;
 use std::alloc::Global;
 use std::marker::Model;
 

@@ -14,7 +14,7 @@ ghost use Rattle.loaded_program.specs.Prepared.{IsTableMethod};
 use crate::methods::{TableMethod, class_methods};
 use cil_model::memory::NoMemory;
 use name_tables::lookups::MemberNumber;
-use programs::Program;
+use resolved_code::Program;
 use resolved_code::classes::ResolvedClass;
 use std::alloc::Global;
 

@@ -11,7 +11,7 @@ use cil_model::memory::NoMemory;
 use cil_model::trees::{Class, Member, Method, Tree};
 use name_tables::kinds::is_static;
 use name_tables::trees::methods_of_tree;
-use programs::entries::{entry_place, is_entry_point};
+use resolved_code::entries::{entry_place, is_entry_point};
 use std::alloc::Global;
 
 /// Whether a method is static and void, without parameters.

@@ -5,7 +5,7 @@ ghost use Rattle.std.specs.List.{list_any, list_all};
 ghost use Rattle.cil_model.specs.Chains.{methods_declared};
 ghost use Rattle.cil_model.specs.Legality.{implements_all, lacks_implementation};
 ghost use Rattle.metadata.specs.Implemented.{has_all, AreTables};
-ghost use Rattle.programs.specs.Found.{is_virtual_found};
+ghost use Rattle.resolved_code.specs.Found.{is_virtual_found};
 ghost use Rattle.name_tables.specs.Keys.{method_of_key};
 ghost use Rattle.name_tables.specs.Methods.{line_of, methods_at};
 ghost use Rattle.name_tables.specs.Sameness.{identity_of};

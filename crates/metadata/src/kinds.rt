@@ -6,7 +6,7 @@ ghost use Rattle.std.specs.Option.{option_map_or};
 ghost use Rattle.cil_model.specs.Chains.{base_of, is_virtual, is_abstract_method};
 ghost use Rattle.cil_model.specs.Declarations.{source_name};
 ghost use Rattle.cil_model.specs.Legality.{is_interface_method, has_abstract_slot, overrides_no_virtual, kinds_fit, misfits_kind};
-ghost use Rattle.programs.specs.Found.{slot_filled_at, slot_over, slot_numbered, open_over, open_numbered, is_left_open, method_leaves_open, entry_leaves_open, class_leaves_open, plain_numbered};
+ghost use Rattle.resolved_code.specs.Found.{slot_filled_at, slot_over, slot_numbered, open_over, open_numbered, is_left_open, method_leaves_open, entry_leaves_open, class_leaves_open, plain_numbered};
 ghost use Rattle.name_tables.specs.Entries.{entry_of};
 ghost use Rattle.name_tables.specs.Keys.{class_of_key, method_of_key};
 ghost use Rattle.name_tables.specs.Methods.{line_of};

@@ -1,4 +1,4 @@
-// Which trees are legal programs.
+// Which trees are legal resolved_code.
 #![tactic(auto)]
 
 mod cycles;
@@ -16,5 +16,5 @@ mod unknown;
 pub mod violations;
 
 pub use program::{MetaError, resolve};
-pub use programs::Program;
+pub use resolved_code::Program;
 pub use rules::Rule;

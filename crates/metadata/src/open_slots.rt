@@ -8,7 +8,7 @@ ghost use Rattle.name_tables.specs.Keys.{method_of_key};
 ghost use Rattle.name_tables.specs.Methods.{line_of};
 ghost use Rattle.name_tables.specs.Numbers.{method_found};
 ghost use Rattle.name_tables.specs.Sameness.{MethodIdentity};
-ghost use Rattle.programs.specs.Found.{top_open, hidden_open, is_override, IsSettled};
+ghost use Rattle.resolved_code.specs.Found.{top_open, hidden_open, is_override, IsSettled};
 ghost use Rattle.metadata.specs.Open.{marks_in, hides_one, AreClear, AreSettled};
 
 use cil_model::memory::NoMemory;

@@ -4,7 +4,7 @@ ghost use Rattle.std.specs.Prelude.{◌≡◌, ◌≢◌, Some, IfOk, IfErr, map
 ghost use Rattle.cil_model.specs.Declarations.{built_ins};
 ghost use Rattle.name_tables.specs.BuiltInTable.{built_in_entry};
 ghost use Rattle.cil_model.specs.Legality.{IsLegal, least_broken};
-ghost use Rattle.programs.specs.Contents.{IsContents};
+ghost use Rattle.resolved_code.specs.Contents.{IsContents};
 ghost use Rattle.metadata.specs.RuleNumbers.{number_of};
 ghost use Rattle.metadata.specs.declared.program.MetaError.TheVariants.{OutOfMemory};
 
@@ -14,7 +14,7 @@ use cil_model::memory::NoMemory;
 use cil_model::trees::Tree;
 use name_tables::built_in::BuiltInClass;
 use name_tables::lookups::NameTables;
-use programs::{Contents, Program};
+use resolved_code::{Contents, Program};
 use std::alloc::Global;
 use thiserror::Error;
 

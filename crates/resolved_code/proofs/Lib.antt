@@ -12,3 +12,10 @@ pub mod ClassNumbers
 pub mod OneOperation
 pub mod BracketLaws
 pub mod TypeTestLaws
+pub mod Repeats
+pub mod Tests
+pub mod EntryNumbers
+pub mod NumberedMethods
+pub mod SlotLaws
+pub mod MemberLaws
+pub mod Limits

@@ -1,6 +1,9 @@
+pub use Rattle.name_tables.specs as name_tables
 pub mod Numbered
 pub mod TypeTests
 pub mod Identities
 pub mod Resolved
 pub mod Rules
 pub mod LabelPlaces
+pub mod Found
+pub mod Contents

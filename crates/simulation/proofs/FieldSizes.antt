@@ -19,7 +19,7 @@ use Rattle.interpreter.proofs.cil_model.SameLaws.{both_first}
 use Rattle.interpreter.specs.name_tables.Numbers.{declarations, source_entry}
 use Rattle.interpreter.specs.resolved_code.Numbered.{class_name}
 use Rattle.simulation.proofs.Lists.{item_passes, all_weaker, found_within}
-use Rattle.programs.proofs.Limits.{source_classes_few, static_fields_few, source_classes_small}
+use Rattle.resolved_code.proofs.Limits.{source_classes_few, static_fields_few, source_classes_small}
 
 module _ (tree : Tree) (legal : IsLegal tree) where
   -- the entry of a class with this number

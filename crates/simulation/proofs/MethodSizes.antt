@@ -25,7 +25,7 @@ use Rattle.interpreter.specs.cil_model.Mentions.{codes_of, instructions_of, meth
 use Rattle.interpreter.specs.cil_model.Legality.{IsLegal, is_small_instruction, is_small_code, is_small_method, is_small_class}
 use Rattle.interpreter.proofs.cil_model.SameLaws.{both_first, both_second, same_class_equal}
 use Rattle.simulation.proofs.Lists.{item_passes, by_find, all_weaker, all_of_parts, whole_length, given_length, once_length}
-use Rattle.programs.proofs.Limits.{source_methods_few, source_classes_small}
+use Rattle.resolved_code.proofs.Limits.{source_methods_few, source_classes_small}
 
 -- what code the method has is small
 abbrev has_small_code : Method → Bool

@@ -2,7 +2,6 @@ pub use Rattle.interpreter.specs.cil_model as cil_model
 pub use Rattle.interpreter.specs.reference_machine as reference_machine
 pub use Rattle.interpreter.specs.name_tables as name_tables
 pub use Rattle.interpreter.specs.resolved_code as resolved_code
-pub use Rattle.programs.specs as programs
 pub use Rattle.interpreter.specs.object_memory as object_memory
 pub use Rattle.collector.specs.phase_handshake as phase_handshake
 pub use Rattle.collector.specs as collector

@@ -8,7 +8,7 @@ use cil_model::memory::NoMemory;
 use flow_rules::type_tree::type_of_class;
 use name_tables::built_in::BuiltInClass;
 use name_tables::lookups::MemberNumber;
-use programs::Program;
+use resolved_code::Program;
 use resolved_code::classes::{ResolvedKind, body_of};
 use source_map::{Named, offset_of, token_at};
 use std::alloc::Global;

@@ -4,7 +4,7 @@ use crate::numbered::{ClassNames, TypeOf};
 use cil_model::instructions::{BranchComparison, Comparison};
 use flow_rules::type_tree::type_of_class;
 use name_tables::lookups::MemberNumber;
-use programs::Program;
+use resolved_code::Program;
 use resolved_code::operations::Operation;
 use resolved_code::types::NumberedType;
 use std::fmt;

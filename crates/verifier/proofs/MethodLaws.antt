@@ -13,7 +13,7 @@ use Rattle.flow_rules.specs.Named.{type_named, types_named}
 use Rattle.flow_rules.proofs.MemberLaws.{return_is_named}
 use Rattle.name_tables.specs.declared.lookups.MemberNumber.{MemberNumber}
 use Rattle.name_tables.specs.Numbers.{declarations, method_at}
-use Rattle.programs.specs.Contents.{IsMethodOf}
+use Rattle.resolved_code.specs.Contents.{IsMethodOf}
 use Rattle.resolved_code.specs.Resolved.{BothAlike, IsBody, IsResolvedMethod}
 use Rattle.resolved_code.specs.declared.classes.Body.{Body}
 use Rattle.resolved_code.specs.declared.classes.ResolvedMethod.{ResolvedMethod}

@@ -16,7 +16,7 @@ use crate::refusals::{VerifyError, refused};
 use cil_model::sequences::Sequence;
 use flow_rules::type_tree::TypeTree;
 use name_tables::lookups::MemberNumber;
-use programs::Program;
+use resolved_code::Program;
 use resolved_code::classes::{Body, ResolvedMethod, body_of};
 use std::alloc::Global;
 use crate::kept_stacks::KeptStack;

@@ -14,7 +14,7 @@ use crate::refusals::VerifyError;
 use crate::typings::{Typing, typing_at, typings_of};
 use cil_model::sequences::Sequence;
 use class_layout::Layout;
-use programs::Program;
+use resolved_code::Program;
 use std::alloc::Global;
 use std::marker::Model;
 

@@ -4,7 +4,7 @@ use Rattle.cil_model.specs.declared.trees.Class.{Class}
 use Rattle.cil_model.specs.declared.trees.Tree.{Tree}
 use Rattle.cil_model.specs.Legality.{IsLegal}
 use Rattle.cil_model.specs.Mentions.{literals_of}
-use Rattle.simulation.specs.programs.Contents.{IsEntryPoint}
+use Rattle.simulation.specs.resolved_code.Contents.{IsEntryPoint}
 use Rattle.object_memory.specs.Objects.{no_objects}
 use Rattle.simulation.specs.loaded_program.AllMethods.{all_methods}
 use Rattle.simulation.specs.loaded_program.class_layout.Laid.{IsLayout}

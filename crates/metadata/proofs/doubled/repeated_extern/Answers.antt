@@ -1,7 +1,7 @@
 use Rattle.std.proofs.Common.{ap, ◌∙◌}
 use Rattle.cil_model.specs.Same.{same_text}
 use Rattle.cil_model.specs.Legality.{has_repeat}
-use Rattle.programs.proofs.Repeats.{if_ok_then}
+use Rattle.resolved_code.proofs.Repeats.{if_ok_then}
 use Rattle.metadata.proofs.doubled.repeated_extern.Goals as goal
 
 pub returns : goal.returns

@@ -1,7 +1,7 @@
 use Rattle.std.proofs.Common.{sym, ◌∙◌}
 use Rattle.cil_model.specs.Same.{same_text}
 use Rattle.name_tables.specs.Keys.{text_of_key}
-use Rattle.programs.proofs.Repeats.{has_repeat-map, if_ok_then}
+use Rattle.resolved_code.proofs.Repeats.{has_repeat-map, if_ok_then}
 use Rattle.metadata.proofs.doubled.repeated_text.Goals as goal
 
 pub returns : goal.returns

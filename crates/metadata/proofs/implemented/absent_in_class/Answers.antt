@@ -8,7 +8,7 @@ use Rattle.name_tables.specs.Methods.{line_of}
 use Rattle.name_tables.specs.Numbers.{class_number, chain_numbers}
 use Rattle.name_tables.specs.Sameness.{identity_of}
 use Rattle.name_tables.proofs.MemberLaws.{line_is_chain}
-use Rattle.programs.specs.Found.{is_virtual_found}
+use Rattle.resolved_code.specs.Found.{is_virtual_found}
 use Rattle.metadata.proofs.ImplementLaws.{implemented}
 use Rattle.metadata.proofs.implemented.absent_in_class.Goals as goal
 

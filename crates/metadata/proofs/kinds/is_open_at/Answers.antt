@@ -2,8 +2,8 @@ use Rattle.std.proofs.Common.{◌≡◌, Some, false, option_map, slice_get, sym
 use Rattle.std.specs.Option.{option_map_or}
 use Rattle.name_tables.specs.Entries.{entry_of}
 use Rattle.name_tables.specs.Numbers.{declarations}
-use Rattle.programs.specs.Found.{entry_leaves_open}
-use Rattle.programs.proofs.Repeats.{if_ok_then}
+use Rattle.resolved_code.specs.Found.{entry_leaves_open}
+use Rattle.resolved_code.proofs.Repeats.{if_ok_then}
 use Rattle.metadata.proofs.kinds.is_open_at.Goals as goal
 
 pub returns-in-Some : goal.returns-in-Some

@@ -3,7 +3,7 @@ use Rattle.std.proofs.lemmas.Option.{slice_get_read, slice_get-map}
 use Rattle.cil_model.specs.declared.trees.Method.{Method}
 use Rattle.name_tables.specs.Keys.{class_of_key}
 use Rattle.name_tables.specs.Numbers.{chain_numbers}
-use Rattle.programs.specs.Found.{method_leaves_open}
+use Rattle.resolved_code.specs.Found.{method_leaves_open}
 use Rattle.metadata.proofs.CycleLaws.{passes_at}
 use Rattle.metadata.proofs.kinds.is_open_in.Goals as goal
 

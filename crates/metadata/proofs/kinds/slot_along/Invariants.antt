@@ -1,6 +1,6 @@
 use Rattle.std.proofs.Common.{◌≡◌, drop}
 use Rattle.name_tables.specs.Keys.{method_of_key}
-use Rattle.programs.specs.Found.{slot_numbered}
+use Rattle.resolved_code.specs.Found.{slot_numbered}
 use Rattle.metadata.proofs.kinds.slot_along.Given as goal
 
 abbrev pub invariant-loop-place : goal.invariant-loop-place

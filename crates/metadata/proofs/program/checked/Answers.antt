@@ -2,7 +2,7 @@ use Rattle.std.proofs.Common.{◌≡◌, ◌≢◌, Some, subst}
 use Rattle.std.specs.Prelude.{IfOk, IfErr}
 use Rattle.cil_model.specs.declared.trees.Tree.{Tree}
 use Rattle.cil_model.specs.Legality.{IsLegal, least_broken}
-use Rattle.programs.specs.Contents.{IsContents}
+use Rattle.resolved_code.specs.Contents.{IsContents}
 use Rattle.metadata.specs.RuleNumbers.{number_of}
 use Rattle.metadata.specs.declared.program.MetaError.TheVariants.{OutOfMemory}
 use Rattle.metadata.proofs.program.checked.Goals as goal

@@ -1,4 +1,4 @@
-use Rattle.programs.proofs.Limits.{static_fields_few}
+use Rattle.resolved_code.proofs.Limits.{static_fields_few}
 use Rattle.simulation.proofs.FieldSizes.{slots_few, instance_slot_small, static_slot_small}
 use Rattle.simulation.proofs.sizes.fields_are_few.Goals as goal
 

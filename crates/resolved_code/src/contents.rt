@@ -1,0 +1,108 @@
+//! A legal tree by numbers.
+
+ghost use Rattle.std.specs.Prelude.{◌≡◌, IfOk, option_map, slice_get, option_and_then};
+ghost use Rattle.cil_model.specs.Legality.{IsLegal};
+ghost use Rattle.resolved_code.specs.Resolved.{AreResolved};
+ghost use Rattle.resolved_code.specs.Contents.{IsContents, IsEntryPoint};
+
+use crate::entries::entry_number;
+use cil_model::memory::NoMemory;
+use cil_model::sequences::Sequence;
+use cil_model::texts::Text;
+use name_tables::lookups::{MemberNumber, NameTables};
+use crate::classes::{ResolvedClass, ResolvedField, ResolvedMethod};
+use crate::literals::Literals;
+use crate::resolved::resolve_classes;
+use std::alloc::Global;
+
+/// The classes of a legal tree by their numbers, its literals by theirs, and the number of its entry point.
+#[derive(Drop)]
+pub struct Contents {
+    pub classes: Sequence<ResolvedClass>,
+    pub literals: Sequence<Text>,
+    pub entry_point: MemberNumber,
+}
+
+/// The entry point of a legal tree.
+fn entry_of_legal(names: &NameTables) -> MemberNumber
+    requires { IsLegal names.now.classes.tree.now }
+    ensures { IsEntryPoint names.now.classes.tree.now result }
+{
+    let Some(entry_point) = entry_number(names.classes.all()) else {
+        unreachable!()
+    };
+    entry_point
+}
+
+/// The classes of a legal tree by their numbers.
+fn classes_of_legal(
+    alloc: Global,
+    names: &NameTables,
+    literals: &Literals,
+) -> Result<Sequence<ResolvedClass>, NoMemory>
+    requires legal { IsLegal names.now.classes.tree.now }
+    requires literals { literals.now.tree.now ≡ names.now.classes.tree.now }
+    ensures { IfOk result (λ classes. AreResolved names.now.classes.tree.now classes) }
+{
+    let Some(classes) = resolve_classes(alloc, names, literals)? else {
+        unreachable!()
+    };
+    Ok(classes)
+}
+
+impl Contents {
+    /// What a legal tree with these literals is by numbers.
+    fn with_literals(
+        alloc: Global,
+        names: &NameTables,
+        literals: &Literals,
+    ) -> Result<Self, NoMemory>
+        requires legal { IsLegal names.now.classes.tree.now }
+        requires literals { literals.now.tree.now ≡ names.now.classes.tree.now }
+        ensures { IfOk result (λ c. IsContents names.now.classes.tree.now c) }
+    {
+        let entry_point = entry_of_legal(names);
+        let texts = literals.texts(alloc)?;
+        let classes = classes_of_legal(alloc, names, literals)?;
+        Ok(Contents {
+            classes,
+            literals: texts,
+            entry_point,
+        })
+    }
+
+    /// What a legal tree is by numbers. Fails for want of memory alone.
+    pub fn of_legal(alloc: Global, names: &NameTables) -> Result<Self, NoMemory>
+        requires { IsLegal names.now.classes.tree.now }
+        ensures { IfOk result (λ c. IsContents names.now.classes.tree.now c) }
+    {
+        let literals = Literals::new(alloc, names.classes.tree)?;
+        Contents::with_literals(alloc, names, &literals)
+    }
+}
+
+fn at<T>(items: &[T], place: usize) -> Option<&T>
+    ensures { option_map (λ x. x.now) result ≡ slice_get items.now place }
+{
+    items.get(place)
+}
+
+/// The field of a number.
+pub(crate) fn field_at(classes: &[ResolvedClass], number: MemberNumber) -> Option<&ResolvedField>
+    ensures { option_map (λ f. f.now) result ≡ option_and_then (λ r. slice_get r.fields number.place) (slice_get classes.now number.class) }
+{
+    match at(classes, number.class) {
+        None => None,
+        Some(class) => at(class.fields.as_slice(), number.place),
+    }
+}
+
+/// The method of a number.
+pub(crate) fn method_at(classes: &[ResolvedClass], number: MemberNumber) -> Option<&ResolvedMethod>
+    ensures { option_map (λ m. m.now) result ≡ option_and_then (λ r. slice_get r.methods number.place) (slice_get classes.now number.class) }
+{
+    match at(classes, number.class) {
+        None => None,
+        Some(class) => at(class.methods.as_slice(), number.place),
+    }
+}

@@ -1,0 +1,111 @@
+//! Legal resolved_code.
+
+ghost use Rattle.std.specs.Prelude.{◌≡◌, option_map};
+ghost use Rattle.cil_model.specs.Legality.{IsLegal};
+ghost use Rattle.cil_model.specs.Mentions.{literals_of};
+ghost use Rattle.resolved_code.specs.Resolved.{AreResolved};
+ghost use Rattle.resolved_code.specs.Contents.{IsContents, IsFieldOf, IsMethodOf, IsEntryPoint};
+
+use crate::contents::{Contents, field_at, method_at};
+use cil_model::texts::Text;
+use cil_model::trees::Tree;
+use name_tables::lookups::MemberNumber;
+use crate::classes::{ResolvedClass, ResolvedField, ResolvedMethod};
+use std::marker::Model;
+
+/// A legal program: the tree, with its classes, literals and entry point by numbers. Classes 0 to 4 are the built-in ones, and
+/// those of the source follow in order.
+pub struct Program {
+    tree: Tree,
+    contents: Contents,
+}
+
+/// Each part gives back its own.
+impl Drop for Program {
+    fn drop(self) {
+        let Program {
+            tree: _tree,
+            contents: _contents,
+        } = self;
+    }
+}
+
+/// Contracts see the tree, which is legal.
+impl Model for Program {
+    ghost use Rattle.cil_model.specs.declared.trees.Tree.{Tree};
+    ghost use Rattle.cil_model.specs.Legality.{IsLegal};
+    ghost use Rattle.resolved_code.specs.Contents.{IsContents};
+
+    ghost Value = { Tree };
+
+    ghost view = { λ p. p.tree };
+
+    ghost invariant = { λ p. IsLegal p.tree × IsContents p.tree p.contents };
+}
+
+impl Program {
+    /// The program of a legal tree, and of what that is by numbers. Takes no memory.
+    pub fn new(tree: Tree, contents: Contents) -> Program
+        requires legal { IsLegal tree }
+        requires contents { IsContents tree contents }
+        ensures { result ≡ tree }
+    {
+        Program { tree, contents }
+    }
+
+    /// The tree that was resolved, as it was given. It is legal.
+    pub fn tree(&self) -> &Tree
+        ensures whole { result.now ≡ self.now }
+        ensures legal { IsLegal self.now }
+    {
+        &self.tree
+    }
+
+    /// The classes by their numbers, with their members in source order (ECMA-335 II.10).
+    pub fn classes(&self) -> &[ResolvedClass]
+        ensures { AreResolved self.now result.now }
+    {
+        self.contents.classes.as_slice()
+    }
+
+    /// The field of a number: of a class, at a place among its fields (ECMA-335 II.16). None where there is no such class or
+    /// place.
+    pub fn field(&self, number: MemberNumber) -> Option<&ResolvedField>
+        ensures { IsFieldOf self.now number (option_map (λ f. f.now) result) }
+    {
+        field_at(self.classes(), number)
+    }
+
+    /// The method of a number: of a class, at a place among its methods (ECMA-335 II.15). None where there is no such class or
+    /// place.
+    pub fn method(&self, number: MemberNumber) -> Option<&ResolvedMethod>
+        ensures { IsMethodOf self.now number (option_map (λ m. m.now) result) }
+    {
+        method_at(self.classes(), number)
+    }
+
+    /// The number of the one method with an entry point (ECMA-335 II.15.4.1.2).
+    pub fn entry_point(&self) -> MemberNumber
+        ensures { IsEntryPoint self.now result }
+    {
+        self.contents.entry_point
+    }
+
+    /// The characters of each string literal by its number: in source order, equal ones once (ECMA-335 III.4.16).
+    pub fn literals(&self) -> &[Text]
+        ensures { result.now ≡ literals_of self.now }
+    {
+        self.contents.literals.as_slice()
+    }
+
+    /// The tree, without the program. Takes no memory.
+    pub fn into_tree(self) -> Tree
+        ensures { result ≡ self }
+    {
+        let Program {
+            tree,
+            contents: _contents,
+        } = self;
+        tree
+    }
+}
