@@ -9,12 +9,12 @@ use cil_model::trees::Tree;
 use ilasm_reader::{ReadError, read};
 use metadata::violations::Violation;
 use metadata::{MetaError, Program, resolve};
-use reading_messages::explain_reading;
+use crate::reading::explain_reading;
 use source_map::Named;
 use std::alloc::Global;
-use typing_messages::explain_typing;
+use crate::typing::explain_typing;
 use verifier::failures::FailurePoint;
-use violation_messages::{broken, explain_rule};
+use crate::legality::{broken, explain_rule};
 
 /// The tree of a source that was read before; None where it has none.
 fn tree_of(alloc: Global, source: &[u8]) -> Result<Option<Tree>, NoMemory> {

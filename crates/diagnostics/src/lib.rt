@@ -2,9 +2,12 @@
 #![tactic(auto)]
 
 mod explanations;
+mod legality;
 mod limits;
+mod reading;
+mod typing;
 mod verdicts;
 
 pub use explanations::explain;
 pub use limits::explain_limits;
-pub use reading_messages::explain_schedule;
+pub use reading::explain_schedule;

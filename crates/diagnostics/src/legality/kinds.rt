@@ -1,7 +1,7 @@
 //! Methods whose kinds do not fit (number 205).
 
-use crate::breaches::{Breach, Found};
-use crate::sites::{
+use super::breaches::{Breach, Found};
+use super::sites::{
     MemberSpot, Sites, class_key, class_name, key_of, method_key, method_place, source_number,
 };
 use cil_model::texts::Text;

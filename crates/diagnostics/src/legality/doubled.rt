@@ -1,7 +1,7 @@
 //! Names that stand twice (number 201).
 
-use crate::breaches::{Breach, Found};
-use crate::sites::{MemberSpot, Sites, class_name, key_of, listed_interface, located_method};
+use super::breaches::{Breach, Found};
+use super::sites::{MemberSpot, Sites, class_name, key_of, listed_interface, located_method};
 use cil_model::texts::Text;
 use cil_model::trees::{Method, Tree};
 use metadata::violations;

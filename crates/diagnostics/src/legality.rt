@@ -1,5 +1,4 @@
 //! Why a tree is no legal program (numbers 201 to 207), to a person: what breaks a rule on names and limits, and where it stands.
-#![tactic(auto)]
 
 mod advice;
 mod breaches;

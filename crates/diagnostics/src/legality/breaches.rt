@@ -1,7 +1,7 @@
 //! What breaks a rule, and where.
 
-use crate::advice::Advice;
-use crate::sites::Sites;
+use super::advice::Advice;
+use super::sites::Sites;
 use std::fmt;
 
 /// What breaks a rule. It prints as one sentence without an end.

@@ -1,5 +1,4 @@
 //! Why a method has no typing (number 301), to a person: the instruction at fault, in words, and the stacks there.
-#![tactic(auto)]
 
 mod methods;
 mod numbered;

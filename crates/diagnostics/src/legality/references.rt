@@ -1,6 +1,6 @@
 //! What a part of a source names.
 
-use crate::sites::{MemberSpot, located_field, located_method};
+use super::sites::{MemberSpot, located_field, located_method};
 use cil_model::instructions::Instruction;
 use cil_model::texts::Text;
 use cil_model::trees::Tree;

@@ -1,7 +1,7 @@
 //! Classes that stand in the chain of their own base (number 203).
 
-use crate::breaches::{Breach, Found};
-use crate::sites::{Sites, class_key};
+use super::breaches::{Breach, Found};
+use super::sites::{Sites, class_key};
 use name_tables::keys::ClassKey;
 use name_tables::lookups::NameTables;
 use source_map::{ClassPart, ClassText, Place};

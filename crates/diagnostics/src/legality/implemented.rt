@@ -1,7 +1,7 @@
 //! Methods of listed interfaces that are absent (number 204).
 
-use crate::breaches::{Breach, Found};
-use crate::sites::{Sites, class_key, listed_interface, method_key, method_place};
+use super::breaches::{Breach, Found};
+use super::sites::{Sites, class_key, listed_interface, method_key, method_place};
 use cil_model::texts::Text;
 use cil_model::trees::Class;
 use metadata::violations;

@@ -1,6 +1,6 @@
 //! What this profile leaves out of ilasm, with what to write instead: the tables of docs/PROFILE.md.
 
-use crate::tables::Entry;
+use super::tables::Entry;
 
 /// Words of assemblies, classes, fields and methods that go without anything in their place.
 pub(crate) static NEEDLESS: &str =

@@ -1,9 +1,9 @@
 //! What to write in the place of what a source has.
 
-use crate::left_out::{INSTRUCTIONS, MARKS, NEEDLESS, WORDS};
-use crate::places::advice_at;
-use crate::spots::{Spot, is_name};
-use crate::tables::{Entry, advice_in, is_listed};
+use super::left_out::{INSTRUCTIONS, MARKS, NEEDLESS, WORDS};
+use super::places::advice_at;
+use super::spots::{Spot, is_name};
+use super::tables::{Entry, advice_in, is_listed};
 use cil_model::tokens::Symbol;
 use ilasm_tokens::expected::Expected;
 use ilasm_tokens::words::{WordUse, use_of};

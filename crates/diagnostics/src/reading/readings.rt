@@ -1,8 +1,8 @@
 //! Why a source has no tree (numbers 101 to 104).
 
-use crate::hints::ExpectedText;
-use crate::instead::{Instead, instead_at, instead_of_bytes};
-use crate::spots::{offset_before, spot_at, word_at};
+use super::hints::ExpectedText;
+use super::instead::{Instead, instead_at, instead_of_bytes};
+use super::spots::{offset_before, spot_at, word_at};
 use cil_model::limits::MOST_SOURCE_BYTES;
 use cil_model::memory::NoMemory;
 use ilasm_reader::ReadError;

@@ -1,6 +1,6 @@
 //! The operands that an instruction wants.
 
-use crate::numbered::{ClassNames, TypeOf};
+use super::numbered::{ClassNames, TypeOf};
 use cil_model::instructions::{BranchComparison, Comparison};
 use flow_rules::type_tree::type_of_class;
 use name_tables::lookups::MemberNumber;

@@ -1,7 +1,7 @@
 //! Why a method has no typing (number 301), in words.
 
-use crate::numbered::{EntryOf, NumberedClass};
-use crate::wanted::Scene;
+use super::numbered::{EntryOf, NumberedClass};
+use super::wanted::Scene;
 use flow_rules::entries::StackEntry;
 use flow_rules::mismatches::Mismatch;
 use resolved_code::operations::Operation;

@@ -1,8 +1,8 @@
 //! The entry point (number 206).
 
-use crate::advice::Advice;
-use crate::breaches::{Breach, Found};
-use crate::sites::{Sites, key_of, located_method};
+use super::advice::Advice;
+use super::breaches::{Breach, Found};
+use super::sites::{Sites, key_of, located_method};
 use cil_model::trees::{Method, Tree};
 use cil_model::types::DeclaredType;
 use metadata::violations;

@@ -1,13 +1,13 @@
 //! Why a tree is no legal program (numbers 201 to 207).
 
-use crate::breaches::{Breach, Found};
-use crate::cycles::own_base;
-use crate::doubled::doubled_name;
-use crate::entry::bad_entry;
-use crate::implemented::not_implemented;
-use crate::kinds::misfit_of;
-use crate::limits::passed_limit;
-use crate::unknown::unknown_name;
+use super::breaches::{Breach, Found};
+use super::cycles::own_base;
+use super::doubled::doubled_name;
+use super::entry::bad_entry;
+use super::implemented::not_implemented;
+use super::kinds::misfit_of;
+use super::limits::passed_limit;
+use super::unknown::unknown_name;
 use cil_model::memory::NoMemory;
 use cil_model::trees::Tree;
 use metadata::violations::Violation;

@@ -1,8 +1,8 @@
 //! Limits that are passed (number 207), all of which are this profile's.
 
-use crate::breaches::{Breach, Found};
-use crate::references::{place_of, type_at};
-use crate::sites::{MemberSpot, Sites, class_name, located_method};
+use super::breaches::{Breach, Found};
+use super::references::{place_of, type_at};
+use super::sites::{MemberSpot, Sites, class_name, located_method};
 use cil_model::instructions::Instruction;
 use cil_model::limits::{
     MOST_ARGUMENTS, MOST_BRACKETS, MOST_CLASSES, MOST_INSTANCE_FIELDS, MOST_INSTRUCTIONS,

@@ -1,7 +1,7 @@
 //! What to write where the grammar has something else, by the place.
 
-use crate::spots::{Form, Spot, form_of};
-use crate::tables::{Entry, advice_in, is_listed};
+use super::spots::{Form, Spot, form_of};
+use super::tables::{Entry, advice_in, is_listed};
 use cil_model::tokens::Symbol;
 use ilasm_tokens::expected::Expected;
 use std::str;

@@ -1,6 +1,6 @@
 //! What to write in the place of names that this profile lacks.
 
-use crate::unknown::{Role, Unknown, library_of};
+use super::unknown::{Role, Unknown, library_of};
 use metadata::violations::ClassFault;
 use name_tables::keys::{ClassKey, MethodKey};
 use std::fmt;

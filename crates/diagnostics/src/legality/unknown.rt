@@ -1,9 +1,9 @@
 //! Names that stand for nothing of the kind needed (number 202).
 
-use crate::advice::{Advice, advice_on};
-use crate::breaches::{Breach, Found};
-use crate::references::{MemberKey, class_of, class_place, line_at, member_of, type_at};
-use crate::sites::{Sites, key_of, listed_interface};
+use super::advice::{Advice, advice_on};
+use super::breaches::{Breach, Found};
+use super::references::{MemberKey, class_of, class_place, line_at, member_of, type_at};
+use super::sites::{Sites, key_of, listed_interface};
 use cil_model::instructions::Instruction;
 use cil_model::texts::Text;
 use cil_model::trees::{Class, ClassKind, Field, Method, Tree};

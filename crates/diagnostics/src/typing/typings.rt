@@ -1,9 +1,9 @@
 //! Where a method has no typing (number 301).
 
-use crate::methods::SourceMethod;
-use crate::numbered::{ClassNames, StackOf};
-use crate::refusals::Refusal;
-use crate::wanted::{Scene, Wanted};
+use super::methods::SourceMethod;
+use super::numbered::{ClassNames, StackOf};
+use super::refusals::Refusal;
+use super::wanted::{Scene, Wanted};
 use cil_model::memory::NoMemory;
 use flow_rules::type_tree::type_of_class;
 use name_tables::built_in::BuiltInClass;
