@@ -10,7 +10,7 @@ use ilasm_reader::{ReadError, read};
 use metadata::violations::Violation;
 use metadata::{MetaError, Program, resolve};
 use crate::reading::explain_reading;
-use source_map::Named;
+use crate::source_map::Named;
 use std::alloc::Global;
 use crate::typing::explain_typing;
 use verifier::failures::FailurePoint;

@@ -5,6 +5,7 @@ mod explanations;
 mod legality;
 mod limits;
 mod reading;
+mod source_map;
 mod typing;
 mod verdicts;
 

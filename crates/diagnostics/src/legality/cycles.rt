@@ -4,7 +4,7 @@ use super::breaches::{Breach, Found};
 use super::sites::{Sites, class_key};
 use name_tables::keys::ClassKey;
 use name_tables::lookups::NameTables;
-use source_map::{ClassPart, ClassText, Place};
+use crate::source_map::{ClassPart, ClassText, Place};
 use std::fmt;
 
 /// The most bases that are named.

@@ -8,7 +8,7 @@ use metadata::violations;
 use metadata::violations::{DoubledInClass, Repeat, SourceMember};
 use name_tables::bodies::lines_of;
 use name_tables::keys::{ClassKey, MethodKey};
-use source_map::{ClassPart, ClassText, LinePart, MethodText, Place, nth_field, nth_method};
+use crate::source_map::{ClassPart, ClassText, LinePart, MethodText, Place, nth_field, nth_method};
 use std::fmt;
 
 /// A name that stands twice where it must stand once.

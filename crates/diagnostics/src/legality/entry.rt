@@ -8,7 +8,7 @@ use cil_model::types::DeclaredType;
 use metadata::violations;
 use metadata::violations::SourceMember;
 use name_tables::keys::MethodKey;
-use source_map::{MemberPart, MethodText, Place, TypeText};
+use crate::source_map::{MemberPart, MethodText, Place, TypeText};
 use std::fmt;
 
 /// Why a source has not one entry point, in a static method without parameters that returns nothing.

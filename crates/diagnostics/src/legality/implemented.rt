@@ -7,7 +7,7 @@ use cil_model::trees::Class;
 use metadata::violations;
 use name_tables::keys::{ClassKey, MethodKey};
 use name_tables::lookups::{MemberNumber, NameTables};
-use source_map::{ClassPart, ClassText, MethodText, Place};
+use crate::source_map::{ClassPart, ClassText, MethodText, Place};
 use std::fmt;
 
 /// A method of an interface that a class lists, for which no class of the chain has a virtual method.

@@ -10,7 +10,7 @@ use metadata::violations;
 use metadata::violations::KindFault;
 use name_tables::keys::{ClassKey, MethodKey};
 use name_tables::lookups::{MemberNumber, NameTables};
-use source_map::{ClassText, MethodText, Place, nth_method};
+use crate::source_map::{ClassText, MethodText, Place, nth_method};
 use std::fmt;
 
 /// A method whose kind does not fit its class or what it inherits.

@@ -16,7 +16,7 @@ use name_tables::bodies::{code_of, lines_of, locals_of};
 use name_tables::keys::ClassKey;
 use name_tables::kinds::is_static;
 use name_tables::lookups::NameTables;
-use source_map::{LinePart, MemberPart, MethodPlace, Place, method_of_number};
+use crate::source_map::{LinePart, MemberPart, MethodPlace, Place, method_of_number};
 use std::fmt;
 
 /// How many of some things there may be.

@@ -9,7 +9,7 @@ use metadata::mentions::NamedTypes;
 use metadata::violations::{SourceMember, TypeSite, TypesPart};
 use name_tables::bodies::{lines_of, locals_of};
 use name_tables::keys::{ClassKey, FieldKey, MethodKey};
-use source_map::{LinePart, MemberPart, Place};
+use crate::source_map::{LinePart, MemberPart, Place};
 
 // ---- types
 

@@ -13,7 +13,7 @@ use cil_model::trees::Tree;
 use metadata::violations::Violation;
 use name_tables::built_in::BuiltInClass;
 use name_tables::lookups::NameTables;
-use source_map::{Named, Place, offset_of};
+use crate::source_map::{Named, Place, offset_of};
 use std::alloc::Global;
 
 fn offset_at(alloc: Global, text: &[u8], place: Option<Place>) -> Result<Option<usize>, NoMemory> {

@@ -13,7 +13,7 @@ use metadata::violations::{ClassFault, HeadingName, SourceMember, TypeSite};
 use name_tables::keys::{ClassKey, FieldKey, MethodKey};
 use name_tables::kinds::is_static;
 use name_tables::lookups::NameTables;
-use source_map::{ClassPart, ClassText, LinePart, MethodText, Place, TypeText};
+use crate::source_map::{ClassPart, ClassText, LinePart, MethodText, Place, TypeText};
 use std::fmt;
 
 /// What a class is named as.

@@ -8,7 +8,7 @@ use cil_model::memory::NoMemory;
 use ilasm_reader::ReadError;
 use ilasm_tokens::expected::Expected;
 use ilasm_tokens::words::{WordUse, use_of};
-use source_map::{Named, token_at};
+use crate::source_map::{Named, token_at};
 use std::alloc::Global;
 use std::fmt;
 

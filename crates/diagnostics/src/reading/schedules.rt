@@ -2,7 +2,7 @@
 
 use cil_model::memory::NoMemory;
 use schedule_text::{MOST_EVENTS, ScheduleError, read_schedule};
-use source_map::Named;
+use crate::source_map::Named;
 use std::alloc::Global;
 use std::fmt;
 

@@ -4,7 +4,7 @@ use cil_model::memory::NoMemory;
 use ilasm_tokens::failure::Failure;
 use ilasm_tokens::source::{token_offset, tokens};
 use ilasm_tokens::words::use_of;
-use source_map::token_at;
+use crate::source_map::token_at;
 use std::alloc::Global;
 use std::str;
 

@@ -5,7 +5,7 @@ use flow_rules::entries::StackEntry;
 use name_tables::built_in::BuiltInClass;
 use name_tables::keys::ClassKey;
 use resolved_code::types::{NumberedElement, NumberedType};
-use source_map::ClassText;
+use crate::source_map::ClassText;
 use std::fmt;
 use std::fmt::Display;
 

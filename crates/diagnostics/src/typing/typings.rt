@@ -10,7 +10,7 @@ use name_tables::built_in::BuiltInClass;
 use name_tables::lookups::MemberNumber;
 use resolved_code::Program;
 use resolved_code::classes::{ResolvedKind, body_of};
-use source_map::{Named, offset_of, token_at};
+use crate::source_map::{Named, offset_of, token_at};
 use std::alloc::Global;
 use std::fmt;
 use verifier::failures::{FailurePoint, IncomingStack};

@@ -1,7 +1,7 @@
 //! Where the parts of a source stand.
 
-use crate::marks::{Mark, Walk};
-use crate::places::{ClassPart, LinePart, MemberPart, Place};
+use super::marks::{Mark, Walk};
+use super::places::{ClassPart, LinePart, MemberPart, Place};
 use cil_model::memory::NoMemory;
 use cil_model::tokens::Symbol;
 use ilasm_tokens::failure::Failure;

@@ -1,5 +1,4 @@
 //! Where the parts of a source stand, and how a message shows a place of a text, a name or a type to a person.
-#![tactic(auto)]
 
 mod excerpts;
 mod lexemes;

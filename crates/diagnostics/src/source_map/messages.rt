@@ -1,8 +1,8 @@
 //! How a message is laid out.
 
-use crate::excerpts::push_excerpt;
-use crate::lexemes::token_at;
-use crate::lines::{Position, position_of};
+use super::excerpts::push_excerpt;
+use super::lexemes::token_at;
+use super::lines::{Position, position_of};
 use cil_model::memory::NoMemory;
 use std::alloc::Global;
 

@@ -1,6 +1,6 @@
 //! A line of a text with carets below a part of it.
 
-use crate::lines::line_at;
+use super::lines::line_at;
 use cil_model::memory::NoMemory;
 
 /// The most columns of a line that are shown.
