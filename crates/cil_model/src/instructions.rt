@@ -5,7 +5,7 @@ use crate::texts::Text;
 use crate::types::{ClassName, DeclaredType, Signature};
 
 /// An operation on two integers of one size (ECMA-335 III.1.5, table 2, and table 7 for those that check overflow).
-#[derive(Clone, Copy, PartialEq, Eq, Debug)]
+#[derive(Clone, Copy, PartialEq, Eq)]
 pub enum BinaryOperation {
     Add,
     Subtract,
@@ -21,14 +21,14 @@ pub enum BinaryOperation {
 }
 
 /// An operation on one integer (ECMA-335 III.1.5, tables 3 and 5).
-#[derive(Clone, Copy, PartialEq, Eq, Debug)]
+#[derive(Clone, Copy, PartialEq, Eq)]
 pub enum UnaryOperation {
     Negate,
     Complement,
 }
 
 /// A shift of an integer by an amount (ECMA-335 III.1.5, table 6).
-#[derive(Clone, Copy, PartialEq, Eq, Debug)]
+#[derive(Clone, Copy, PartialEq, Eq)]
 pub enum ShiftOperation {
     Left,
     Right,
@@ -36,7 +36,7 @@ pub enum ShiftOperation {
 }
 
 /// A comparison that gives 1 or 0 (ECMA-335 III.1.5, table 4).
-#[derive(Clone, Copy, PartialEq, Eq, Debug)]
+#[derive(Clone, Copy, PartialEq, Eq)]
 pub enum Comparison {
     Equal,
     Greater,
@@ -44,7 +44,7 @@ pub enum Comparison {
 }
 
 /// A comparison that decides a branch (ECMA-335 III.1.5, table 4).
-#[derive(Clone, Copy, PartialEq, Eq, Debug)]
+#[derive(Clone, Copy, PartialEq, Eq)]
 pub enum BranchComparison {
     Equal,
     NotEqual,
@@ -55,14 +55,14 @@ pub enum BranchComparison {
 }
 
 /// The name of a method, or `.ctor` (ECMA-335 II.10.5.1).
-#[derive(Debug, Drop)]
+#[derive(Drop)]
 pub enum MethodName {
     Constructor,
     Named(Text),
 }
 
 /// `type owner::name` (ECMA-335 II.16).
-#[derive(Debug, Drop)]
+#[derive(Drop)]
 pub struct FieldReference {
     pub field_type: DeclaredType,
     pub owner: ClassName,
@@ -70,7 +70,7 @@ pub struct FieldReference {
 }
 
 /// `type owner::name(types)` (ECMA-335 II.15.1.3).
-#[derive(Debug, Drop)]
+#[derive(Drop)]
 pub struct MethodReference {
     pub owner: ClassName,
     pub name: MethodName,
@@ -78,7 +78,6 @@ pub struct MethodReference {
 }
 
 /// An instruction. The text's name of each stands beside it.
-#[derive(Debug)]
 pub enum Instruction {
     /// `nop`
     NoOperation,

@@ -6,7 +6,6 @@ use crate::texts::Text;
 use crate::types::{ClassName, DeclaredType, Signature};
 
 /// A whole source.
-#[derive(Debug)]
 pub struct Tree {
     pub externs: Sequence<Text>,
     pub assembly: Option<Text>,
@@ -25,7 +24,6 @@ impl Drop for Tree {
 }
 
 /// A class or an interface (ECMA-335 II.10).
-#[derive(Debug)]
 pub struct Class {
     pub name: Text,
     pub kind: ClassKind,
@@ -44,7 +42,7 @@ impl Drop for Class {
 }
 
 /// Whether it is an interface; else the base and the listed interfaces (ECMA-335 II.10.1).
-#[derive(Debug, Drop)]
+#[derive(Drop)]
 pub enum ClassKind {
     Interface,
     Class {
@@ -55,14 +53,14 @@ pub enum ClassKind {
 }
 
 /// A member of a class, in source order.
-#[derive(Debug, Drop)]
+#[derive(Drop)]
 pub enum Member {
     Field(Field),
     Method(Method),
 }
 
 /// A field (ECMA-335 II.16).
-#[derive(Debug, Drop)]
+#[derive(Drop)]
 pub struct Field {
     pub is_static: bool,
     pub field_type: DeclaredType,
@@ -70,7 +68,6 @@ pub struct Field {
 }
 
 /// A method (ECMA-335 II.15). A constructor has the kind `Instance`.
-#[derive(Debug)]
 pub struct Method {
     pub name: MethodName,
     pub signature: Signature,
@@ -89,7 +86,7 @@ impl Drop for Method {
 }
 
 /// What a method is, with its code where it has some (ECMA-335 II.15.2 and II.15.4.2).
-#[derive(Debug, Drop)]
+#[derive(Drop)]
 pub enum MethodKind {
     Static(Code),
     Instance(Code),
@@ -98,7 +95,7 @@ pub enum MethodKind {
 }
 
 /// A method's body (ECMA-335 II.15.4).
-#[derive(Debug, Drop)]
+#[derive(Drop)]
 pub struct Code {
     pub is_entry_point: bool,
     pub max_stack: i64,
@@ -107,7 +104,7 @@ pub struct Code {
 }
 
 /// An instruction, with the labels that stand before it (ECMA-335 II.5.4).
-#[derive(Debug, Drop)]
+#[derive(Drop)]
 pub struct Line {
     pub labels: Sequence<Text>,
     pub instruction: Instruction,

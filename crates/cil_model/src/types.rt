@@ -6,7 +6,7 @@ use crate::sequences::Sequence;
 use crate::texts::Text;
 
 /// A class by its name, and the assembly that stands before it in brackets (ECMA-335 II.7.3).
-#[derive(Debug, PartialEq, Eq, Hash)]
+#[derive(PartialEq, Eq, Hash)]
 pub struct ClassName {
     pub assembly: Option<Text>,
     pub name: Text,
@@ -39,7 +39,7 @@ impl ClassName {
 }
 
 /// A type without brackets (ECMA-335 II.7.1).
-#[derive(Debug, PartialEq, Eq, Hash, Drop)]
+#[derive(PartialEq, Eq, Hash, Drop)]
 pub enum Element {
     Int32,
     Int64,
@@ -67,7 +67,7 @@ impl Element {
 }
 
 /// A type: the element, and how many pairs of brackets stand after it. `Dog[][]` has two.
-#[derive(Debug, PartialEq, Eq, Hash)]
+#[derive(PartialEq, Eq, Hash)]
 pub struct DeclaredType {
     pub element: Element,
     pub brackets: u32,
@@ -95,7 +95,7 @@ impl DeclaredType {
 }
 
 /// What a call is found by, beside the name (ECMA-335 II.15.3). No return type is `void`.
-#[derive(Debug, Drop)]
+#[derive(Drop)]
 pub struct Signature {
     pub parameters: Sequence<DeclaredType>,
     pub return_type: Option<DeclaredType>,

@@ -7,6 +7,7 @@ use cil_model::instructions::Instruction;
 use cil_model::texts::Text;
 use cil_model::trees::{Code, Method};
 use cil_model::types::DeclaredType;
+use instruction_text::InstructionText;
 use name_tables::bodies::lines_of;
 use std::alloc::Global;
 use std::fmt;
@@ -135,14 +136,14 @@ pub fn value_at(values: &[Value], place: i64) -> Result<Value, Halt> {
     }
 }
 
-/// `4: Binary(Add) [Int32(2), Int32(3)]`: the place, the instruction there, and the stack up to its top.
+/// `4: add [Int32(2), Int32(3)]`: the place, the instruction there, and the stack up to its top.
 impl fmt::Display for Frame<'_> {
     fn fmt<W: fmt::Write>(&self, f: &mut fmt::Formatter<W>) -> fmt::Result {
         let place = self.place;
         let stack = self.stack.as_slice();
         match self.instruction() {
             None => write!(f, "{place}: {stack:?}"),
-            Some(instruction) => write!(f, "{place}: {instruction:?} {stack:?}"),
+            Some(instruction) => write!(f, "{place}: {} {stack:?}", InstructionText(instruction)),
         }
     }
 }

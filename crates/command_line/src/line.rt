@@ -16,7 +16,7 @@ use orders::{Order, Workers};
 use std::alloc::{AllocError, Global};
 
 /// Why the words of a command line hold no order.
-#[derive(Debug, Drop)]
+#[derive(Drop)]
 pub enum LineFault {
     /// Help was asked for: the text for the standard output.
     Help(String),

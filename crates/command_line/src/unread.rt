@@ -7,7 +7,7 @@ use std::io;
 use std::io::ErrorKind;
 
 /// A file that an order names and that is not read.
-#[derive(Clone, Copy, Debug)]
+#[derive(Clone, Copy)]
 pub struct Unread<'a> {
     /// The file's name, as the command line has it.
     pub file: &'a str,
@@ -16,7 +16,7 @@ pub struct Unread<'a> {
 }
 
 /// A file that an order names for its record and that is not written.
-#[derive(Clone, Copy, Debug)]
+#[derive(Clone, Copy)]
 pub struct Unwritten<'a> {
     /// The file's name, as the command line has it.
     pub file: &'a str,

@@ -16,7 +16,7 @@ use std::alloc::Global;
 use source_runs::{Failure, History, status_of_failure, tell, write_record};
 
 /// What comes of the record of a run.
-#[derive(Debug, Drop)]
+#[derive(Drop)]
 pub(crate) enum Record {
     /// None is asked for.
     Unasked,

@@ -5,7 +5,7 @@ use std::fmt;
 use std::fmt::Display;
 
 /// The characters of a name or of a string literal, in printable ASCII.
-#[derive(Clone, Copy, Debug)]
+#[derive(Clone, Copy)]
 pub struct CharactersText<'a>(pub &'a Text);
 
 /// Each byte as `CharacterText` writes it.

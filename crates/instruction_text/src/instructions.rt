@@ -21,7 +21,7 @@ use std::fmt::Display;
 ///
 /// It is one line of printable ASCII: in names and string literals a backslash and what stands for it takes the place of each other
 /// byte.
-#[derive(Clone, Copy, Debug)]
+#[derive(Clone, Copy)]
 pub struct InstructionText<'a>(pub &'a Instruction);
 
 impl<'a> fmt::Display for InstructionText<'a> {

@@ -9,7 +9,7 @@ use std::fmt;
 use std::fmt::Display;
 
 /// The name of a method, or `.ctor` (ECMA-335 II.10.5.1).
-#[derive(Clone, Copy, Debug)]
+#[derive(Clone, Copy)]
 pub struct MethodNameText<'a>(pub &'a MethodName);
 
 impl<'a> fmt::Display for MethodNameText<'a> {

@@ -6,7 +6,7 @@ use std::fmt;
 use std::fmt::Display;
 
 /// A class by its name, with its assembly in brackets where it has one (ECMA-335 II.7.3): `[mscorlib]System.Console` or `Dog`.
-#[derive(Clone, Copy, Debug)]
+#[derive(Clone, Copy)]
 pub struct ClassText<'a>(pub &'a ClassName);
 
 impl<'a> fmt::Display for ClassText<'a> {

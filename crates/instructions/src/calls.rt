@@ -8,7 +8,7 @@ use object_memory::{Addr, Value, ValueKind};
 use threads_monitors::{Effect, FrameMemory};
 
 /// A method that is called: its number, how many arguments it has, `this` counted, and the kinds of its locals.
-#[derive(Clone, Copy, Debug)]
+#[derive(Clone, Copy)]
 pub struct Callee<'a> {
     pub method: u32,
     pub arguments: usize,

@@ -9,7 +9,7 @@ pub const ADDRESSES: u64 = 4_294_967_296;
 pub const FIRST_LITERAL: u32 = 2_147_483_648;
 
 /// Where an object is, or null. The objects of a heap have addresses, and so have the literals of a program. During a collection an object may have two; whether two addresses are of one object, a comparison of references tells, and nothing else can be done with them.
-#[derive(Clone, Copy, Debug, PartialEq, Eq)]
+#[derive(Clone, Copy, PartialEq, Eq)]
 pub struct Addr {
     pub(crate) number: u32,
 }

@@ -38,7 +38,7 @@ pub trait Output {
 }
 
 /// A writer, and whether a write to it has failed.
-#[derive(Debug, Drop)]
+#[derive(Drop)]
 pub struct Device<W> {
     writer: W,
     has_failed: bool,

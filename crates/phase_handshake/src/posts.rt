@@ -11,7 +11,7 @@ use std::marker::Model;
 
 /// What a live thread has seen of the collector: the phase that it has acknowledged, and whether it has answered the round that
 /// is posted.
-#[derive(Clone, Copy, PartialEq, Eq, Debug)]
+#[derive(Clone, Copy, PartialEq, Eq)]
 pub struct Seat {
     pub phase: Phase,
     pub answered: bool,
@@ -22,7 +22,7 @@ pub struct Seat {
 ///
 /// Each live thread has acknowledged the posted phase or the one before it. Whether all have acknowledged the posted one is kept, so that
 /// a step of the collector doesn't look at each seat. No call takes memory.
-#[derive(Debug, Drop)]
+#[derive(Drop)]
 pub struct Posts {
     posted: Phase,
     has_round: bool,

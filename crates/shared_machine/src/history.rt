@@ -25,7 +25,7 @@ pub struct Entry {
 }
 
 /// An entry, so many times in a row.
-#[derive(Clone, Copy, Debug)]
+#[derive(Clone, Copy)]
 pub struct Run {
     /// The entry.
     pub entry: Entry,

@@ -3,7 +3,7 @@
 use cil_model::reports::Fault;
 
 /// What an instruction comes to for its thread (this profile). A step of the thread reports it, unless it was the last of its budget.
-#[derive(Clone, Copy, Debug, PartialEq, Eq)]
+#[derive(Clone, Copy, PartialEq, Eq)]
 pub enum Effect {
     /// The thread goes on with its frames.
     GoesOn,
