@@ -1,2 +1,2 @@
-//! The definitions of `cil_model` computed on small resolved_code. Each trial is a question with its answer in `proofs/`, and the check computes it.
+//! The definitions of `cil_model` computed on small programs. Each trial is a question with its answer in `proofs/`, and the check computes it.
 #![tactic(auto)]

@@ -36,7 +36,7 @@ const ENDS: [End; 15] = [
     End::Fault(Fault::ThreadState),
 ];
 
-/// What became of the resolved_code.
+/// What became of the programs.
 #[derive(Drop)]
 struct Tally {
     reports: Vec<Report>,
@@ -146,7 +146,7 @@ fn event_among(random: &mut Random) -> Event {
     }
 }
 
-/// Says in one line what became of the resolved_code.
+/// Says in one line what became of the programs.
 fn tell(rt: &HostRuntime, tally: &Tally) -> io::Result<()> {
     let events = tally.reports.len();
     let ran = tally.count(Report::Ran);

@@ -1,4 +1,4 @@
-// Which trees are legal resolved_code.
+// Which trees are legal programs.
 #![tactic(auto)]
 
 mod cycles;

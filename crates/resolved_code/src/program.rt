@@ -1,4 +1,4 @@
-//! Legal resolved_code.
+//! Legal programs.
 
 ghost use Rattle.std.specs.Prelude.{◌≡◌, option_map};
 ghost use Rattle.cil_model.specs.Legality.{IsLegal};
