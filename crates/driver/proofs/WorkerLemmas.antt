@@ -24,7 +24,7 @@ use Rattle.source_runs.specs.simulation.MachineContents.{Content}
 use Rattle.source_runs.specs.simulation.Runs.{StandsAfter}
 use Rattle.source_runs.specs.simulation.threads_monitors.Threads.{end_of, is_live as is_live_thread}
 use Rattle.source_runs.specs.simulation.threads_monitors.declared.threads.Thread.{Thread}
-use Rattle.source_runs.specs.workers.Work.{IsOwn, IsOwnOf}
+use Rattle.source_runs.specs.shared_machine.Work.{IsOwn, IsOwnOf}
 use Rattle.orders.specs.Orders.{record_file_of}
 use Rattle.orders.specs.declared.order.Order.{Order}
 use Rattle.orders.specs.declared.order.Order.TheVariants.{Check, Run, Replay, Trace, Threads, Flip}

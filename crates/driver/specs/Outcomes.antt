@@ -28,7 +28,7 @@ use Rattle.driver.specs.Threads.{ends_of, is_live, lines_from, status_of}
 use Rattle.driver.specs.declared.recording.Record.{Record}
 use Rattle.source_runs.specs.shared_machine.Histories.{events_of, reports_of}
 use Rattle.source_runs.specs.shared_machine.declared.history.Entry.{Entry}
-use Rattle.source_runs.specs.workers.Work.{IsOwnOf}
+use Rattle.source_runs.specs.shared_machine.Work.{IsOwnOf}
 use Rattle.source_runs.specs.declared.failure.Failure.{Failure}
 use Rattle.source_runs.specs.declared.failure.Failure.TheVariants.{Memory, Device}
 use Rattle.orders.specs.declared.order.Order.{Order}

@@ -4,3 +4,7 @@ pub mod Answering
 pub mod Histories
 pub mod Codes
 pub mod OneWorker
+pub mod TicketCounts
+pub mod OwnEvents
+pub mod Openings
+pub mod Records

@@ -3,3 +3,4 @@ pub use Rattle.interleaving_core.specs as interleaving_core
 pub mod Codes
 pub mod Histories
 pub mod Worlds
+pub mod Work

@@ -1,6 +1,5 @@
 pub use Rattle.shared_machine.specs as shared_machine
 pub use Rattle.shared_machine.specs.simulation as simulation
 pub use Rattle.reference_machine.specs as reference_machine
-pub use Rattle.workers.specs as workers
 pub mod Failures
 pub mod Runs

@@ -8,6 +8,7 @@ mod threads;
 
 pub use failure::{Failure, report, status_of_failure, tell};
 pub use running::{accept, open, run_events, run_source};
-pub use shared_machine::{Answer, History, Machine, Opening, Outcome, Run, Shared, stop};
+pub use shared_machine::{
+    Answer, Gate, History, Machine, OpenGate, Opening, Outcome, Run, Shared, stop, write_record,
+};
 pub use threads::run_threads;
-pub use workers::{Gate, OpenGate, write_record};

@@ -7,19 +7,18 @@ ghost use Rattle.shared_machine.specs.simulation.threads_monitors.Threads.{is_li
 ghost use Rattle.shared_machine.specs.Histories.{events_of, reports_of};
 ghost use Rattle.shared_machine.specs.interleaving_core.Histories.{HasDone};
 ghost use Rattle.shared_machine.specs.declared.shared.TheConstants.{MOST_WORKERS};
-ghost use Rattle.workers.specs.Work.{IsOwnOf};
+ghost use Rattle.shared_machine.specs.Work.{IsOwnOf};
 
 use crate::failure::Failure;
 use crate::running::accept;
 use cil_model::limits::Limits;
-use shared_machine::{Machine, Outcome};
+use shared_machine::{Gate, Machine, Outcome, run_together};
 use std::alloc::Global;
 use std::marker::Brand;
 use std::sync::Wait;
 use std::thread::Threads;
 use verifier::Verified;
 use worker_counts::Blank;
-use workers::{Gate, run_together};
 
 /// Runs a source by so many workers, 1 to 16, each in a thread of its own, until no thread of the program is live, as `run_together` does,
 /// and answers the machine after that with the history. A pass of a worker is told to `gate`.

@@ -1,0 +1,101 @@
+-- What tickets have counted of their workers' own events.
+use Rattle.std.proofs.Common.{◌≡◌, ℕ, ◌+◌, ◌<◌, List, [], ◌∷◌, ◌++◌, length, get_or, refl, sym, ap, ◌∙◌, subst, arith, eq-eqb, nat_eq, All, true}
+use Rattle.std.proofs.lemmas.List.{get_or_append_left, get_or_push, length_push}
+use Rattle.std.proofs.lemmas.List.Elements.{All-append, All-cons, All-nil}
+use native.Mathlib.Decide.{ℕ_discrete}
+use mathlib.Core.Logic.{dite}
+use Rattle.cil_model.specs.declared.events.Event.{Event}
+use Rattle.cil_model.specs.declared.limits.TheConstants.{MOST_THREADS}
+use Rattle.cil_model.specs.declared.reports.Report.{Report}
+use Rattle.shared_machine.specs.Codes.{add}
+use Rattle.shared_machine.specs.Histories.{IsSmall, add_if, counted, entry}
+use Rattle.shared_machine.specs.Worlds.{IfDid, IfNoMemory, added}
+use Rattle.shared_machine.specs.declared.answer.Answer.{Answer}
+use Rattle.shared_machine.specs.declared.answer.Answer.TheVariants.{Did, NoMemory}
+use Rattle.shared_machine.specs.declared.history.Entry.{Entry}
+use Rattle.worker_counts.specs.Counts.{Count}
+use Rattle.shared_machine.specs.Work.{HasWorked, HaveWorked, IsEntryOf, IsOwn, event_of, is_driven_by}
+use Rattle.shared_machine.specs.declared.passing.Request.{Request}
+use Rattle.shared_machine.specs.declared.passing.Request.TheVariants.{Acknowledgement, Step as StepOfEach}
+
+-- ---- one worker
+
+counted_append : (w c : ℕ) (h k : List Entry) → counted w c (h ++ k) ≡ counted w (counted w c h) k
+counted_append w c [] k = refl
+counted_append w c (x ∷ h) k = counted_append w (add_if (nat_eq x.worker w) x c) h k
+
+counted_one : (w c : ℕ) (e : Event) (r : Report) → counted w c (entry w e r ∷ []) ≡ add c e r
+counted_one w c e r = ap (λ b. add_if b (entry w e r) c) (eq-eqb w w refl)
+
+pub worked_nothing : (workers : ℕ) (t : Count) → HasWorked workers t t
+worked_nothing workers t = record {
+  entries = [];
+  own = All-nil (IsEntryOf workers t.worker);
+  same = refl;
+  count = refl;
+}
+
+pub worked_both : (workers : ℕ) (t u v : Count) → HasWorked workers t u → HasWorked workers u v → HasWorked workers t v
+worked_both workers t u v first second = record {
+  entries = first.entries ++ second.entries;
+  own = All-append (IsEntryOf workers t.worker) first.entries second.entries first.own (subst (λ w. All (IsEntryOf workers w) second.entries) first.same second.own);
+  same = second.same ∙ first.same;
+  count = second.count ∙ ap (λ w. counted w u.count second.entries) first.same ∙ ap (λ n. counted t.worker n second.entries) first.count
+      ∙ sym (counted_append t.worker t.count first.entries second.entries);
+}
+
+did : (workers : ℕ) (t u : Count) (e : Event) (r : Report) → u ≡ added t e r → IsSmall e → IsOwn workers t.worker e → HasWorked workers t u
+did workers t u e r is small own = record {
+  entries = entry t.worker e r ∷ [];
+  own = All-cons (IsEntryOf workers t.worker) (entry t.worker e r) [] (refl, small, own) (All-nil (IsEntryOf workers t.worker));
+  same = ap (λ (c : Count). c.worker) is;
+  count = ap (λ (c : Count). c.count) is ∙ sym (counted_one t.worker t.count e r);
+}
+
+-- an event that `act` has answered
+pub worked_once : (workers : ℕ) (t u : Count) (x : Answer) (e : Event) → IfDid x (λ r. u ≡ added t e r) → IfNoMemory x (u ≡ t) → IsSmall e → IsOwn workers t.worker e
+    → HasWorked workers t u
+worked_once workers t u (Did r) e counts same small own = did workers t u e r counts small own
+worked_once workers t u NoMemory e counts same small own = subst (λ (v : Count). HasWorked workers t v) (sym same) (worked_nothing workers t)
+
+-- the same workers and the same ticket under equations
+pub worked_as : (workers workers' : ℕ) (t t' u : Count) → workers' ≡ workers → t' ≡ t → HasWorked workers' t' u → HasWorked workers t u
+worked_as workers workers' t t' u same same' did = subst (λ (p : ℕ × Count). HasWorked p.0 p.1 u) (λ k. (same k, same' k)) did
+
+-- what is asked for a thread that the worker drives is the worker's own
+pub asked_for_own : (workers worker thread : ℕ) (request : Request) (event : Event) → event ≡ event_of request thread → thread < MOST_THREADS → is_driven_by workers worker thread ≡ true
+    → IsOwn workers worker event
+asked_for_own workers worker thread Acknowledgement event is there drives = subst (λ (e : Event). IsOwn workers worker e) (sym is) (there, drives)
+asked_for_own workers worker thread StepOfEach event is there drives = subst (λ (e : Event). IsOwn workers worker e) (sym is) (there, drives)
+
+-- ---- several workers
+
+-- none of them has done anything
+pub have_worked_none : (workers : ℕ) (ts us : List Count) → us ≡ ts → HaveWorked workers ts us
+have_worked_none workers ts us is = subst (λ (l : List Count). HaveWorked workers ts l) (sym is) (record { each = refl; worked = λ i d below. worked_nothing workers (get_or ts i d) })
+
+one_more : (workers : ℕ) (ts us : List Count) (t u : Count) → HaveWorked workers ts us → HasWorked workers t u → HaveWorked workers (ts ++ t ∷ []) (us ++ u ∷ [])
+one_more workers ts us t u before more = record {
+  each = length_push us u ∙ ap (λ n. n + 1) before.each ∙ sym (length_push ts t);
+  worked = worked;
+}
+  where
+    worked : (i : ℕ) (d : Count) → i < length (ts ++ t ∷ []) → HasWorked workers (get_or (ts ++ t ∷ []) i d) (get_or (us ++ u ∷ []) i d)
+    worked i d below = dite (ℕ_discrete i (length ts))
+        (λ last.
+        let first : get_or (ts ++ t ∷ []) i d ≡ t = get_or_push ts t d i (sym last) in
+        let second : get_or (us ++ u ∷ []) i d ≡ u = get_or_push us u d i (before.each ∙ sym last) in
+        subst (λ (p : Count × Count). HasWorked workers p.0 p.1) (λ k. (sym first k, sym second k)) more)
+        (λ early.
+        let long = length_push ts t in
+        let inside : i < length ts = omega (arith, long) in
+        let same = before.each in
+        let first : get_or (ts ++ t ∷ []) i d ≡ get_or ts i d = get_or_append_left ts (t ∷ []) d i inside in
+        let second : get_or (us ++ u ∷ []) i d ≡ get_or us i d = get_or_append_left us (u ∷ []) d i (omega (arith, same)) in
+        subst (λ (p : Count × Count). HasWorked workers p.0 p.1) (λ k. (sym first k, sym second k)) (before.worked i d inside))
+
+-- one worker more
+pub have_worked_more : (workers : ℕ) (all rest news done : List Count) (t u : Count) → all ≡ rest ++ t ∷ [] → news ≡ done ++ u ∷ [] → HaveWorked workers rest done → HasWorked workers t u
+    → HaveWorked workers all news
+have_worked_more workers all rest news done t u is is' before more =
+    subst (λ (p : List Count × List Count). HaveWorked workers p.0 p.1) (λ k. (sym is k, sym is' k)) (one_more workers rest done t u before more)

@@ -1,0 +1,64 @@
+-- What workers do to a shared machine (this profile).
+use Rattle.std.specs.Prelude.{◌≡◌, ℕ, ◌<◌, ◌%◌, Bool, true, nat_eq, List, length, slice_index_or, Option, All, IfSome}
+use Rattle.cil_model.specs.declared.events.Event.{Event}
+use Rattle.cil_model.specs.declared.events.Event.TheVariants.{Step, Ack, Gc}
+use Rattle.cil_model.specs.declared.limits.TheConstants.{MOST_THREADS}
+use Rattle.epoch_words.specs.Tokens.{EpochsValue, HeraldValue, SeatValue}
+use Rattle.shared_machine.specs.Histories.{IsSmall, counted}
+use Rattle.shared_machine.specs.declared.history.Entry.{Entry}
+use Rattle.worker_counts.specs.Counts.{Count}
+use Rattle.shared_machine.specs.declared.passing.Request.{Request}
+use Rattle.shared_machine.specs.declared.passing.Request.TheVariants.{Acknowledgement, Step as StepOfEach}
+
+-- ---- whose events they are
+
+-- of so many workers, each drives the threads whose numbers leave its own when they are divided by the number of workers
+abbrev pub is_driven_by : ℕ → ℕ → ℕ → Bool
+is_driven_by workers worker thread = nat_eq (thread % workers) worker
+
+-- a thread that a machine can have and that one of so many workers drives
+abbrev pub IsTheirs : ℕ → ℕ → ℕ → Type 0
+IsTheirs workers worker thread = (thread < MOST_THREADS) × (is_driven_by workers worker thread ≡ true)
+
+-- what one of so many workers may do: steps and acknowledgements of the threads that it drives, and, as worker 0, events of the collector
+abbrev pub IsOwn : ℕ → ℕ → Event → Type 0
+IsOwn workers worker (Step thread) = IsTheirs workers worker thread
+IsOwn workers worker (Ack thread) = IsTheirs workers worker thread
+IsOwn workers worker Gc = worker ≡ 0
+
+-- an entry of a history is an event that is its worker's own
+abbrev pub IsOwnOf : ℕ → Entry → Type 0
+IsOwnOf workers e = IsOwn workers e.worker e.event
+
+-- the event by which this is asked for a thread
+abbrev pub event_of : Request → ℕ → Event
+event_of Acknowledgement thread = Ack thread
+event_of StepOfEach thread = Step thread
+
+-- ---- what a ticket has counted of them
+
+-- it is an entry of this worker, one of so many, for an event of its own
+abbrev pub IsEntryOf : ℕ → ℕ → Entry → Type 0
+IsEntryOf workers worker e = (e.worker ≡ worker) × IsSmall e.event × IsOwn workers worker e.event
+
+-- one of so many workers has done events of its own, which its ticket has counted
+pub record HasWorked (workers : ℕ) (before after : Count) : Type 0 where
+  pub entries : List Entry
+  pub own : All (IsEntryOf workers before.worker) entries
+  pub same : after.worker ≡ before.worker
+  pub count : after.count ≡ counted before.worker before.count entries
+
+-- so has each of these workers, whose tickets are in the same order as before
+pub record HaveWorked (workers : ℕ) (before after : List Count) : Type 0 where
+  pub each : length after ≡ length before
+  pub worked : (i : ℕ) (d : Count) → i < length before → HasWorked workers (slice_index_or before i d) (slice_index_or after i d)
+
+-- ---- the epochs
+
+-- a seat of these epochs
+abbrev pub IsSeatOf : EpochsValue → SeatValue → Type 0
+IsSeatOf epochs seat = seat.table ≡ epochs.table
+
+-- the herald, where it is here, is of these epochs
+abbrev pub IsHeraldOf : EpochsValue → Option HeraldValue → Type 0
+IsHeraldOf epochs herald = IfSome herald (λ h. h.table ≡ epochs.table)

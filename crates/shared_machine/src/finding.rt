@@ -1,0 +1,50 @@
+//! What a worker finds as a pass begins.
+
+ghost use Rattle.std.specs.Prelude.{◌≡◌, ◌<◌, ◌==◌, ◌||◌, ℕ, Bool, slice_index_or};
+ghost use Rattle.std.specs.List.{count_by};
+ghost use Rattle.cil_model.specs.declared.limits.TheConstants.{MOST_THREADS};
+ghost use Rattle.interleaving_core.specs.simulation.threads_monitors.Threads.{is_live, is_live_at};
+
+use crate::shared::Shared;
+use crate::world::{Opening, World};
+use cil_model::limits::MOST_THREADS;
+use interleaving_core::Machine;
+use std::sync::Wait;
+
+/// What a worker finds as a pass begins.
+#[derive(Clone, Copy)]
+pub(crate) struct Findings {
+    /// Whether the thread of each number is live.
+    pub live: [bool; MOST_THREADS],
+    /// Whether no thread is live, or the stop mark is set.
+    pub is_last: bool,
+}
+
+/// Whether the thread of each number is live.
+fn live_threads(machine: &Machine) -> [bool; MOST_THREADS]
+    ensures { (thread : ℕ) (d : Bool) → thread < MOST_THREADS → slice_index_or result thread d ≡ is_live_at machine.now.threads thread }
+{
+    let mut live = [false; MOST_THREADS];
+    for thread in 0..MOST_THREADS {
+        live[thread] = machine.is_live(thread as u8);
+    }
+    live
+}
+
+/// What is found in a world.
+fn found_in<M: Opening>(world: &World<M>) -> Findings
+    ensures live { (thread : ℕ) (d : Bool) → thread < MOST_THREADS → slice_index_or result.live thread d ≡ is_live_at world.now.core.threads thread }
+    ensures last { result.is_last ≡ ((count_by is_live world.now.core.threads == 0) || world.now.stopped) }
+{
+    let machine = world.machine();
+    Findings {
+        live: live_threads(machine),
+        is_last: machine.live() == 0 || world.is_stopped(),
+    }
+}
+
+/// Takes the lock, looks, and gives it back.
+pub(crate) fn look<M: Opening, R: Wait>(rt: &R, shared: &Shared<M>) -> Findings {
+    let world = shared.lock(rt);
+    found_in(&*world)
+}

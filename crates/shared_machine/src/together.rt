@@ -1,0 +1,67 @@
+//! A run by workers, from the opening to the end.
+
+ghost use Rattle.std.specs.Prelude.{◌≡◌, ◌≤◌, All, IfOk};
+ghost use Rattle.std.specs.List.{count_by};
+ghost use Rattle.shared_machine.specs.Histories.{events_of, reports_of};
+ghost use Rattle.shared_machine.specs.Worlds.{HasRun};
+ghost use Rattle.interleaving_core.specs.simulation.threads_monitors.Threads.{is_live};
+ghost use Rattle.shared_machine.specs.declared.shared.TheConstants.{MOST_WORKERS};
+ghost use Rattle.shared_machine.specs.Work.{IsOwnOf};
+
+use crate::crew::run_workers;
+use crate::gate::Gate;
+use crate::outcome::Outcome;
+use crate::shared::Shared;
+use crate::world::Opening;
+use cil_model::memory::NoMemory;
+use epoch_words::Epochs;
+use interleaving_core::Machine;
+use std::alloc::Global;
+use std::marker::{Send, Sync};
+use std::sync::Wait;
+use std::thread::Threads;
+use worker_counts::Blank;
+
+/// So many workers, 1 to 16, run a machine to its end, as `run_workers` does, and the run ends.
+///
+/// Whatever the order in which they got the lock, the history is one that a single thread could have made: the machine is at what its turns
+/// over the history's events make of the opening content, with the history's reports, and the reference machine follows them. Each entry is an
+/// event of its worker's own, of a thread that a machine can have. No thread is live. A run that met want of memory in starting a thread, and
+/// came to its end all the same, has the stop mark.
+///
+/// `blank` is the book of counts that `M` names, the machine holds what `M` names, and `M` names this number of workers. Only want of memory
+/// is an error: before the first event, or where it had workers stop while a thread was live. The machine is dropped then.
+pub fn run_together<M: Opening + Send + Sync, R: Threads + Wait + Sync, G: Gate + Sync>(
+    rt: &R,
+    alloc: Global,
+    blank: Blank,
+    core: Machine,
+    workers: u8,
+    gate: &G,
+) -> Result<Outcome, NoMemory>
+    requires book { blank.table.shared.table_id ≡ M.table }
+    requires core { core ≡ M.opening }
+    requires workers { (1 ≤ workers) × (workers ≤ MOST_WORKERS) × (workers ≡ M.workers) }
+    ensures ran { IfOk result (λ outcome. HasRun M.opening (events_of outcome.history.entries) (reports_of outcome.history.entries) outcome.machine) }
+    ensures own { IfOk result (λ outcome. All (IsOwnOf workers) outcome.history.entries) }
+    ensures ended { IfOk result (λ outcome. count_by is_live outcome.machine.threads ≡ 0) }
+{
+    let (epochs, herald, seats) = Epochs::new(alloc, usize::from(workers))?;
+    let (shared, tickets) = Shared::<M>::new(alloc, blank, core, workers)?;
+    let tickets = run_workers(rt, alloc, &shared, tickets, &epochs, herald, seats, gate);
+    match shared.finish(tickets) {
+        Ok(outcome) => ended(outcome),
+        Err(_) => unreachable!(),
+    }
+}
+
+/// What is left of a run where no thread is live. Where one is, the stop mark ended the run, and memory was wanted.
+fn ended(outcome: Outcome) -> Result<Outcome, NoMemory>
+    ensures same { IfOk result (λ whole. whole ≡ outcome) }
+    ensures ended { IfOk result (λ whole. count_by is_live whole.machine.threads ≡ 0) }
+{
+    if outcome.machine.live() > 0 {
+        return Err(NoMemory);
+    }
+    Ok(outcome)
+}

@@ -1,0 +1,54 @@
+//! A worker's passes.
+
+ghost use Rattle.std.specs.Prelude.{◌≡◌, ◌<◌};
+ghost use Rattle.shared_machine.specs.Work.{HasWorked, IsHeraldOf, IsSeatOf};
+
+use crate::finding::look;
+use crate::gate::Gate;
+use crate::passing::{Worker, pass};
+use crate::shared::Shared;
+use crate::world::{Opening, stop};
+use epoch_words::Epochs;
+use std::alloc::Global;
+use std::sync::Wait;
+use std::thread::yield_now;
+use worker_counts::Ticket;
+
+/// Sets the stop mark, under a lock of its own.
+pub(crate) fn set_stop_mark<M: Opening, R: Wait>(rt: &R, shared: &Shared<M>) {
+    let mut world = shared.lock(rt);
+    stop(&mut *world);
+}
+
+/// Makes passes until one has found no live thread or the stop mark, or memory did not last, and gives the ticket back. Where memory did
+/// not last, it sets the stop mark.
+pub(crate) fn work<M: Opening, R: Wait, G: Gate>(
+    rt: &R,
+    alloc: Global,
+    shared: &Shared<M>,
+    epochs: &Epochs,
+    gate: &G,
+    workers: u8,
+    mut worker: Worker<M>,
+) -> Ticket<M>
+    requires some { 0 < workers }
+    requires here { IsSeatOf epochs.now worker.seat × IsHeraldOf epochs.now worker.herald }
+    ensures { HasWorked workers worker.ticket result }
+{
+    let mut turn = 0u32;
+    for _ in rt.forever() {
+        gate.pass(worker.ticket.worker(), turn);
+        let found = look(rt, shared);
+        let (lasted, next) = pass(rt, alloc, shared, epochs, worker, workers, &found);
+        worker = next;
+        if !lasted {
+            set_stop_mark(rt, shared);
+        }
+        if !lasted || found.is_last {
+            break;
+        }
+        turn = turn.saturating_add(1);
+        yield_now();
+    }
+    worker.ticket
+}

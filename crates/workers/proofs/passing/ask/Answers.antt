@@ -1,5 +1,0 @@
-use Rattle.workers.proofs.TicketCounts.{worked_once}
-use Rattle.workers.proofs.passing.ask.Goals as goal
-
-pub returns : goal.returns
-returns g c = λ workers own. worked_once workers _ _ _ _ c.act.ensures.counted c.act.ensures.same c.act.ensures.small own

@@ -1,6 +1,0 @@
-use Rattle.workers.proofs.Records.{item_more}
-use Rattle.workers.proofs.record.items_of.Goals as goal
-
-pub loop-run-preserved : goal.loop-run-preserved
-loop-run-preserved c =
-    item_more c.runs-runs.result.now c.loop-run.run-index _ _ _ _ c.loop-run-test.true c.loop-run.invariant c.in_ok-reserve.ensures.items c.push_reserved.ensures.items

@@ -1,8 +1,0 @@
-use Rattle.workers.specs.Work.{HasWorked, IsHeraldOf, IsSeatOf}
-use Rattle.workers.proofs.working.work.Given as goal
-
-abbrev pub invariant-loop : goal.invariant-loop
-invariant-loop g l = record {
-  here : IsSeatOf l.epochs l.worker.seat × IsHeraldOf l.epochs l.worker.herald;
-  worked : HasWorked l.workers l.fn.worker.ticket l.worker.ticket;
-}

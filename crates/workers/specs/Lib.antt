@@ -1,2 +1,0 @@
-pub use Rattle.shared_machine.specs as shared_machine
-pub mod Work
