@@ -12,7 +12,7 @@ use Rattle.cil_model.specs.declared.limits.Limits.{Limits}
 use Rattle.cil_model.specs.declared.reports.Report.{Report}
 use Rattle.source_runs.specs.Failures.{IsOfWriting, is_refusal}
 use Rattle.source_runs.specs.declared.failure.Failure.{Failure}
-use Rattle.deadlocks.specs.event_trace.Traces.{IsTraced}
+use Rattle.event_trace.specs.Traces.{IsTraced}
 use Rattle.source_runs.specs.Runs.{IsReady, IsRunBy}
 use Rattle.driver.specs.Outcomes.{AreThreadsExplained, HasRun, HasTraced, IsExplanation, IsMachineShown, IsMachineShownInPart, IsRunInPart, IsShown, IsThreadText, IsTracedThenInPart}
 use Rattle.driver.specs.Threads.{ends_of, lines_from}

@@ -5,11 +5,11 @@ use Rattle.std.specs.Prelude.{◌≡◌, ◌⊎◌, ◌*◌, ◌++◌, ◌∷◌
 use Rattle.std.specs.List.{list_any}
 use Rattle.flip_trial.specs.Trial.{place_count}
 use Rattle.flip_trial.specs.declared.sizes.Sizes.{Sizes}
-use Rattle.deadlocks.specs.Deadlocks.{IsDeadlockOf}
-use Rattle.deadlocks.specs.Texts.{threads_text}
-use Rattle.deadlocks.specs.event_trace.Traces.{IsTraced, IsTracedInPart}
-use Rattle.deadlocks.specs.event_trace.declared.errors.TraceError.{TraceError}
-use Rattle.deadlocks.specs.event_trace.declared.errors.TraceError.TheVariants.{Memory as WantsMemory, Device as CantWrite}
+use Rattle.event_trace.specs.Deadlocks.{IsDeadlockOf}
+use Rattle.event_trace.specs.Texts.{threads_text}
+use Rattle.event_trace.specs.Traces.{IsTraced, IsTracedInPart}
+use Rattle.event_trace.specs.declared.errors.TraceError.{TraceError}
+use Rattle.event_trace.specs.declared.errors.TraceError.TheVariants.{Memory as WantsMemory, Device as CantWrite}
 use Rattle.source_runs.specs.simulation.Owed.{LeavesWhatIsOwed}
 use Rattle.source_runs.specs.simulation.StandsFor.{Represents}
 use Rattle.source_runs.specs.simulation.threads_monitors.Threads.{end_of}

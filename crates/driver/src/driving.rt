@@ -2,7 +2,7 @@
 
 ghost use Rattle.std.specs.Prelude.{◌≡◌, ◌⊎◌, ◌*◌, ◌++◌, ◌∷◌, [], ◌≤◌, ℕ, codes, IfErr, IfOk, List, None, OnErr, OnOk, true};
 ghost use Rattle.cil_model.specs.declared.reports.Report.{Report};
-ghost use Rattle.deadlocks.specs.event_trace.Traces.{IsTraced, IsTracedInPart};
+ghost use Rattle.event_trace.specs.Traces.{IsTraced, IsTracedInPart};
 ghost use Rattle.flip_trial.specs.Trial.{place_count};
 ghost use Rattle.outputs.specs.Beginnings.{AppendsBeginning};
 ghost use Rattle.schedule_text.specs.Items.{events_of};
@@ -17,7 +17,7 @@ use crate::explaining::tell_failure;
 use crate::running_threads::show_threads;
 use crate::showing::{say_accepted, show, show_trial};
 use cil_model::limits::Limits;
-use deadlocks::{TraceError, trace};
+use event_trace::{TraceError, trace};
 use flip_trial::Sizes;
 use orders::Order;
 use outputs::{NotWritten, Output};

@@ -9,7 +9,7 @@ ghost use Rattle.driver.specs.Outcomes.{IsMachineShown, IsMachineShownInPart, Is
 ghost use Rattle.driver.specs.Threads.{is_done, is_live, line_of, lines_from, status_of};
 
 use cil_model::reports::End;
-use deadlocks::explain_threads;
+use event_trace::explain_threads;
 use flip_trial::Outcome;
 use outputs::{NotWritten, Output};
 use std::alloc::Global;

@@ -3,3 +3,8 @@ pub mod PlaceLaws
 pub mod TraceLaws
 pub mod ColumnLaws
 pub mod EndLaws
+pub mod Agreeing
+pub mod Classes
+pub mod Counting
+pub mod RoundLaws
+pub mod Greatest

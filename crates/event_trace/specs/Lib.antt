@@ -5,3 +5,6 @@ pub mod Lines
 pub mod Pieces
 pub mod Traces
 pub mod Laws
+pub mod Rounds
+pub mod Deadlocks
+pub mod Texts

@@ -1,5 +1,5 @@
 use Rattle.std.proofs.Common.{inl, inr, refl, subst, sym}
-use Rattle.deadlocks.specs.event_trace.Traces.{IsTraced, IsTracedInPart}
+use Rattle.event_trace.specs.Traces.{IsTraced, IsTracedInPart}
 use Rattle.schedule_text.specs.Items.{events_of}
 use Rattle.driver.specs.Outcomes.{HasNotRun, IsTraceInPart}
 use Rattle.source_runs.specs.Failures.{IsOfWriting}

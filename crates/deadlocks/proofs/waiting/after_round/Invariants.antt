@@ -1,7 +1,0 @@
-use Rattle.std.proofs.Common.{◌≡◌, take}
-use Rattle.deadlocks.specs.Rounds.{passing, stays}
-use Rattle.deadlocks.proofs.waiting.after_round.Given as goal
-
--- the entries so far
-abbrev pub invariant-loop-thread : goal.invariant-loop-thread
-invariant-loop-thread l = l.next.items ≡ passing (stays l.machine l.set) 0 (take l.thread l.set)

@@ -1,6 +1,0 @@
-use Rattle.deadlocks.proofs.Greatest.{RoundsSoFar}
-use Rattle.deadlocks.proofs.waiting.deadlocked_threads.Given as goal
-
--- so many rounds were made
-abbrev pub invariant-loop-round : goal.invariant-loop-round
-invariant-loop-round l = RoundsSoFar l.machine l._round l.set.items
