@@ -16,7 +16,7 @@ pub enum Monitor {
 }
 
 /// A field with its value.
-#[derive(Clone, Copy, Debug)]
+#[derive(Clone, Copy)]
 pub struct FieldValue {
     pub field: MemberNumber,
     pub value: Value,

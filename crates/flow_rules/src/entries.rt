@@ -10,7 +10,7 @@ use resolved_code::types::{NumberedElement, NumberedType};
 
 /// What a verifier knows of a value on the stack (ECMA-335 III.1.8.1.2.1): the type that it was declared with, that it is a native
 /// integer, or that it is null.
-#[derive(Clone, Copy, PartialEq, Eq, Debug)]
+#[derive(Clone, Copy, PartialEq, Eq)]
 pub enum StackEntry {
     Declared(NumberedType),
     NativeInt,

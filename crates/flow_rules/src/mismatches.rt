@@ -6,7 +6,7 @@ use name_tables::lookups::MemberNumber;
 use resolved_code::types::NumberedType;
 
 /// Why an instruction has no place on a stack (ECMA-335 III.1.8 and the verifiability parts of III.3 and III.4).
-#[derive(Clone, Copy, Debug)]
+#[derive(Clone, Copy)]
 pub enum Mismatch {
     /// The stack holds fewer operands than the instruction takes.
     OperandMissing,

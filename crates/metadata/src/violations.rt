@@ -6,7 +6,7 @@ use name_tables::lookups::MemberNumber;
 use std::fmt;
 
 /// A field or a method of a class of the source.
-#[derive(Clone, Copy, Debug)]
+#[derive(Clone, Copy)]
 pub struct SourceMember {
     pub class: usize,
     /// Among the fields, or among the methods, of the class.
@@ -14,14 +14,14 @@ pub struct SourceMember {
 }
 
 /// Two places of a list at which the same name stands.
-#[derive(Clone, Copy, Debug)]
+#[derive(Clone, Copy)]
 pub struct Repeat {
     pub first: usize,
     pub again: usize,
 }
 
 /// A name that stands twice where it must stand once (number 201).
-#[derive(Clone, Copy, Debug)]
+#[derive(Clone, Copy)]
 pub enum Doubled {
     Externs(Repeat),
     Classes(Repeat),
@@ -32,7 +32,7 @@ pub enum Doubled {
 }
 
 /// A name that stands twice in a class.
-#[derive(Clone, Copy, Debug)]
+#[derive(Clone, Copy)]
 pub enum DoubledInClass {
     /// Among its fields.
     Fields(Repeat),
@@ -45,7 +45,7 @@ pub enum DoubledInClass {
 }
 
 /// Why a class may not be named where it is.
-#[derive(Clone, Copy, Debug)]
+#[derive(Clone, Copy)]
 pub enum ClassFault {
     /// The assembly before it is not declared.
     NoExtern,
@@ -60,7 +60,7 @@ pub enum ClassFault {
 }
 
 /// A class that the first line of a class names.
-#[derive(Clone, Copy, Debug)]
+#[derive(Clone, Copy)]
 pub enum HeadingName {
     /// Behind `extends`.
     Base,
@@ -69,7 +69,7 @@ pub enum HeadingName {
 }
 
 /// A part of a source that names types.
-#[derive(Clone, Copy, Debug)]
+#[derive(Clone, Copy)]
 pub enum TypesPart {
     Field(SourceMember),
     Signature(SourceMember),
@@ -78,7 +78,7 @@ pub enum TypesPart {
 }
 
 /// Where a type stands.
-#[derive(Clone, Copy, Debug)]
+#[derive(Clone, Copy)]
 pub struct TypeSite {
     pub part: TypesPart,
     /// Among the types of that part: parameters or locals from 0, and a result or another type behind them.
@@ -86,7 +86,7 @@ pub struct TypeSite {
 }
 
 /// A name that stands for nothing of the kind needed (number 202).
-#[derive(Clone, Copy, Debug)]
+#[derive(Clone, Copy)]
 pub enum Unknown {
     /// An extern that is no library.
     Extern(usize),
@@ -121,7 +121,7 @@ pub enum Unknown {
 }
 
 /// A method of an interface that a class lists.
-#[derive(Clone, Copy, Debug)]
+#[derive(Clone, Copy)]
 pub struct ListedMethod {
     /// By its place in the list.
     pub interface: usize,
@@ -130,14 +130,14 @@ pub struct ListedMethod {
 }
 
 /// A class that neither has nor inherits a virtual method for one of an interface that it lists (number 204).
-#[derive(Clone, Copy, Debug)]
+#[derive(Clone, Copy)]
 pub struct NotImplemented {
     pub class: usize,
     pub listed: ListedMethod,
 }
 
 /// Which method's kind does not fit, and why.
-#[derive(Clone, Copy, Debug)]
+#[derive(Clone, Copy)]
 pub enum KindFault {
     /// A method of an interface that is not `newslot abstract virtual instance`.
     InInterface { method: usize },
@@ -150,14 +150,14 @@ pub enum KindFault {
 }
 
 /// A method whose kind does not fit its class or what that inherits (number 205).
-#[derive(Clone, Copy, Debug)]
+#[derive(Clone, Copy)]
 pub struct Misfit {
     pub class: usize,
     pub fault: KindFault,
 }
 
 /// Why a source has not one entry point, in a static method without parameters that returns nothing (number 206).
-#[derive(Clone, Copy, Debug)]
+#[derive(Clone, Copy)]
 pub enum BadEntry {
     Absent,
     /// There are two.
@@ -174,7 +174,7 @@ pub enum BadEntry {
 }
 
 /// A limit of a method that is passed.
-#[derive(Clone, Copy, Debug)]
+#[derive(Clone, Copy)]
 pub enum MethodLimit {
     Arguments,
     Instructions,
@@ -185,7 +185,7 @@ pub enum MethodLimit {
 }
 
 /// A limit that is passed (number 207).
-#[derive(Clone, Copy, Debug)]
+#[derive(Clone, Copy)]
 pub enum Passed {
     Classes,
     Methods,
@@ -207,7 +207,7 @@ pub enum Passed {
 }
 
 /// What breaks a rule of legality.
-#[derive(Clone, Copy, Debug)]
+#[derive(Clone, Copy)]
 pub enum Violation {
     Doubled(Doubled),
     Unknown(Unknown),
@@ -244,5 +244,13 @@ impl fmt::Display for Violation {
     fn fmt<W: fmt::Write>(&self, f: &mut fmt::Formatter<W>) -> fmt::Result {
         let rule = self.rule();
         write!(f, "{rule}")
+    }
+}
+
+/// Which rule is broken.
+impl fmt::Debug for Violation {
+    fn fmt<W: fmt::Write>(&self, f: &mut fmt::Formatter<W>) -> fmt::Result {
+        let rule = self.rule();
+        write!(f, "{rule:?}")
     }
 }

@@ -28,7 +28,7 @@ use inheritance::Declared;
 use std::alloc::Global;
 
 /// Where a member stands: the number of its class, and its place among the fields or the methods of that class.
-#[derive(Clone, Copy, PartialEq, Eq, Debug)]
+#[derive(Clone, Copy, PartialEq, Eq)]
 pub struct MemberNumber {
     pub class: usize,
     pub place: usize,

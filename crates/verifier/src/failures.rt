@@ -8,9 +8,10 @@ use cil_model::memory::NoMemory;
 use cil_model::sequences::Sequence;
 use flow_rules::entries::StackEntry;
 use flow_rules::mismatches::Mismatch;
+use std::fmt;
 
 /// Why no stack can stand before an instruction.
-#[derive(Clone, Copy, Debug)]
+#[derive(Clone, Copy)]
 pub enum Reason {
     /// The instruction has no result on the stack that reaches it.
     NoResult(Mismatch),
@@ -23,7 +24,7 @@ pub enum Reason {
 }
 
 /// The stack of types behind an instruction, the top first.
-#[derive(Debug, Drop)]
+#[derive(Drop)]
 pub struct IncomingStack {
     /// The instruction's place.
     pub from: usize,
@@ -31,7 +32,7 @@ pub struct IncomingStack {
 }
 
 /// Where the search for a typing fails, why, and with what on the stack. Places are counted from 0.
-#[derive(Debug, Drop)]
+#[derive(Drop)]
 pub struct FailurePoint {
     /// The place before which no stack can stand.
     pub place: usize,
@@ -43,6 +44,14 @@ pub struct FailurePoint {
     pub stack: Sequence<StackEntry>,
     /// What control brings to the place; none where the instruction there has no result, and where control never gets to one.
     pub incoming: Option<IncomingStack>,
+}
+
+/// The place alone.
+impl fmt::Debug for FailurePoint {
+    fn fmt<W: fmt::Write>(&self, f: &mut fmt::Formatter<W>) -> fmt::Result {
+        let place = self.place;
+        write!(f, "FailurePoint at {place}")
+    }
 }
 
 /// Why there is no typing of a method: a search fails; or nothing is known, for want of memory.

@@ -20,7 +20,7 @@ use resolved_code::types::{NumberedElement, NumberedType};
 use std::alloc::Global;
 
 /// Why no stack is above two others.
-#[derive(Clone, Copy, Debug)]
+#[derive(Clone, Copy)]
 pub enum StackMismatch {
     /// They hold other numbers of values: the first, and the second.
     Heights(usize, usize),
