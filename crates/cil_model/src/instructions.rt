@@ -5,7 +5,7 @@ use crate::texts::Text;
 use crate::types::{ClassName, DeclaredType, Signature};
 
 /// An operation on two integers of one size (ECMA-335 III.1.5, table 2, and table 7 for those that check overflow).
-#[derive(Clone, Copy, PartialEq, Eq)]
+#[derive(Clone, Copy)]
 pub enum BinaryOperation {
     Add,
     Subtract,
@@ -21,14 +21,14 @@ pub enum BinaryOperation {
 }
 
 /// An operation on one integer (ECMA-335 III.1.5, tables 3 and 5).
-#[derive(Clone, Copy, PartialEq, Eq)]
+#[derive(Clone, Copy)]
 pub enum UnaryOperation {
     Negate,
     Complement,
 }
 
 /// A shift of an integer by an amount (ECMA-335 III.1.5, table 6).
-#[derive(Clone, Copy, PartialEq, Eq)]
+#[derive(Clone, Copy)]
 pub enum ShiftOperation {
     Left,
     Right,
@@ -36,7 +36,7 @@ pub enum ShiftOperation {
 }
 
 /// A comparison that gives 1 or 0 (ECMA-335 III.1.5, table 4).
-#[derive(Clone, Copy, PartialEq, Eq)]
+#[derive(Clone, Copy)]
 pub enum Comparison {
     Equal,
     Greater,
@@ -44,7 +44,7 @@ pub enum Comparison {
 }
 
 /// A comparison that decides a branch (ECMA-335 III.1.5, table 4).
-#[derive(Clone, Copy, PartialEq, Eq)]
+#[derive(Clone, Copy)]
 pub enum BranchComparison {
     Equal,
     NotEqual,

@@ -1,7 +1,7 @@
 // What the slots of objects hold.
 
 /// What a slot of an object holds.
-#[derive(Clone, Copy, PartialEq, Eq)]
+#[derive(Clone, Copy)]
 pub enum SlotKind {
     /// The hidden field of a `Cilvm.Thread`, which no text declares.
     Hidden,

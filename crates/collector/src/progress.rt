@@ -3,7 +3,7 @@
 ghost use Rattle.std.specs.Prelude.{◌≡◌};
 
 /// How far a collector is with the work of the phase that is posted. It has done nothing of a phase when it posts it.
-#[derive(Clone, Copy, PartialEq, Eq)]
+#[derive(Clone, Copy)]
 pub struct Progress {
     /// Whether it has marked what the static fields refer to, in this cycle.
     pub scanned_statics: bool,

@@ -8,7 +8,7 @@ ghost use Rattle.collector.specs.Conditions.{found_at};
 use object_memory::{Addr, Heap};
 
 /// An object of a block, and how many words of the block lie before it.
-#[derive(Clone, Copy, PartialEq, Eq)]
+#[derive(Clone, Copy)]
 pub(crate) struct Found {
     pub place: u32,
     pub object: Addr,

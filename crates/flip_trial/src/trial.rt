@@ -17,7 +17,7 @@ use std::thread::{Promise, PromisedHandle, Threads};
 use word_flip::{Copier, Flip, Writer};
 
 /// What a trial gave.
-#[derive(Clone, Copy, PartialEq, Eq)]
+#[derive(Clone, Copy)]
 pub struct Outcome {
     /// How often a load gave what its seat had stored just before.
     pub kept: u64,

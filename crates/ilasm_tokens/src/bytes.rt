@@ -8,7 +8,7 @@ ghost use Rattle.ilasm_tokens.specs.Lexing.{kind_of};
 use cil_model::tokens::Symbol;
 
 /// What a byte may begin.
-#[derive(Clone, Copy, PartialEq, Eq)]
+#[derive(Clone, Copy)]
 pub enum Kind {
     /// A word: a letter, `_` or `.`.
     Word,

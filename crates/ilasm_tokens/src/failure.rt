@@ -8,7 +8,7 @@ use crate::expected::Expected;
 use std::alloc::{AllocError, AllocFailed};
 
 /// Why a part of a source could not be read.
-#[derive(Clone, Copy, Debug, PartialEq, Eq)]
+#[derive(Clone, Copy, Debug)]
 pub enum Failure {
     /// What was read is not of the form that is expected here. It began where `left` items, bytes or tokens, were left.
     Refused { left: usize, expected: Expected },

@@ -6,7 +6,7 @@ ghost use Rattle.inheritance.specs.Changes.{changes_of, is_ordered, known, known
 use cil_model::memory::NoMemory;
 
 /// Where a key is declared: the number of the class, and the place among the keys that it declares.
-#[derive(Clone, Copy, PartialEq, Eq)]
+#[derive(Clone, Copy)]
 pub struct Declared {
     pub class: usize,
     pub place: usize,

@@ -15,7 +15,7 @@ use cil_model::memory::NoMemory;
 use std::alloc::Global;
 
 /// The bases of a class do not end among as many classes as are looked at.
-#[derive(Clone, Copy, PartialEq, Eq)]
+#[derive(Clone, Copy)]
 pub struct Endless;
 
 /// What each key finds from each class on: the class itself where it declares the key, else its base, and so on.

@@ -6,7 +6,7 @@ ghost use Rattle.interleaving_core.specs.Positions.{position_in, position_of};
 use threads_monitors::{FrameMemory, Standing};
 
 /// Where a live thread is.
-#[derive(Clone, Copy, PartialEq, Eq)]
+#[derive(Clone, Copy)]
 pub struct Position {
     /// The number of the method that runs, among the methods of all classes: those of each class in source order, class behind class,
     /// the built-in ones first.

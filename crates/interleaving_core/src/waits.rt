@@ -21,7 +21,7 @@ use simulation::interpreter_code::places::operation_at;
 use threads_monitors::{FrameMemory, Thread, is_live, thread_on};
 
 /// What a live thread waits for whose next step is blocked.
-#[derive(Clone, Copy, PartialEq, Eq)]
+#[derive(Clone, Copy)]
 pub enum Wait {
     /// For a monitor that another thread holds (ECMA-335 I.12.6.5).
     Monitor {

@@ -5,7 +5,7 @@ use threads_monitors::Effect;
 
 /// What an instruction comes to for its machine: an effect on its own thread, or a start of a thread on an object or a wait for
 /// one, which need the other threads.
-#[derive(Clone, Copy, PartialEq, Eq)]
+#[derive(Clone, Copy)]
 pub enum Outcome {
     Comes(Effect),
     Starts(Addr),

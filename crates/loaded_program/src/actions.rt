@@ -12,7 +12,7 @@ use name_tables::lookups::MemberNumber;
 use name_tables::numbers::{CONSOLE, MONITOR, OBJECT, THREAD};
 
 /// What a call of a built-in member without code does, in place of a frame.
-#[derive(Clone, Copy, PartialEq, Eq)]
+#[derive(Clone, Copy)]
 pub enum Action {
     /// The constructors of `System.Object` and `Cilvm.Thread`, which do nothing.
     Construct,

@@ -8,7 +8,7 @@ use flip_trial::Sizes;
 
 /// A command with its files and options, each default filled in. With `explain`, a refusal is told with its place and its rule, and a run
 /// that ends with live threads with where they are and what they wait for.
-#[derive(Clone, Copy, PartialEq, Eq)]
+#[derive(Clone, Copy)]
 pub enum Order<'a> {
     /// Says whether the source of this file is accepted.
     Check {

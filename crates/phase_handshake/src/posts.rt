@@ -11,7 +11,7 @@ use std::marker::Model;
 
 /// What a live thread has seen of the collector: the phase that it has acknowledged, and whether it has answered the round that
 /// is posted.
-#[derive(Clone, Copy, PartialEq, Eq)]
+#[derive(Clone, Copy)]
 pub struct Seat {
     pub phase: Phase,
     pub answered: bool,

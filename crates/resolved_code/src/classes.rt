@@ -11,7 +11,7 @@ use crate::types::NumberedType;
 use cil_model::sequences::Sequence;
 
 /// A field (ECMA-335 II.16).
-#[derive(Clone, Copy, PartialEq, Eq)]
+#[derive(Clone, Copy)]
 pub struct ResolvedField {
     pub is_static: bool,
     pub field_type: NumberedType,

@@ -10,7 +10,7 @@ ghost use Rattle.resolved_code.specs.TypeTests.{is_object, element_test, type_te
 use crate::types::{NumberedElement, NumberedType};
 
 /// What a test of two types comes to.
-#[derive(Clone, Copy, PartialEq, Eq)]
+#[derive(Clone, Copy)]
 pub enum TypeTest {
     /// The answer, whatever the classes are.
     Answered(bool),

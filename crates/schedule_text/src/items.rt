@@ -6,7 +6,7 @@ use cil_model::events::Event;
 use cil_model::limits::MOST_THREADS;
 
 /// An event, and how many times over it stands.
-#[derive(Clone, Copy, PartialEq, Eq)]
+#[derive(Clone, Copy)]
 pub struct Item {
     /// The event.
     pub event: Event,

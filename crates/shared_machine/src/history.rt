@@ -14,7 +14,7 @@ use std::marker::Model;
 const MOST_TIMES: u64 = u64::MAX;
 
 /// One event of a worker, with what the machine reported of it.
-#[derive(Clone, Copy, PartialEq, Eq, Debug)]
+#[derive(Clone, Copy, Debug)]
 pub struct Entry {
     /// The worker's number.
     pub worker: u8,

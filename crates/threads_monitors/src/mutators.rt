@@ -3,7 +3,7 @@
 use cil_model::phases::Phase;
 
 /// A thread that changes the heap while it is collected: its number, and the phase that it has acknowledged.
-#[derive(Clone, Copy, PartialEq, Eq)]
+#[derive(Clone, Copy)]
 pub struct Mutator {
     pub number: u8,
     pub phase: Phase,

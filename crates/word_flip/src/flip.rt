@@ -16,7 +16,7 @@ use std::marker::Model;
 const RECLAIM: u64 = 2;
 
 /// What became of a `copy_word`.
-#[derive(Clone, Copy, PartialEq, Eq)]
+#[derive(Clone, Copy)]
 pub enum Copy {
     /// The second copy says what the first says.
     Copied,
@@ -27,7 +27,7 @@ pub enum Copy {
 }
 
 /// What became of an `advance`.
-#[derive(Clone, Copy, PartialEq, Eq)]
+#[derive(Clone, Copy)]
 pub enum Advance {
     /// The next stage is posted.
     Posted,
@@ -40,7 +40,7 @@ pub enum Advance {
 }
 
 /// What became of a `retire`.
-#[derive(Clone, Copy, PartialEq, Eq)]
+#[derive(Clone, Copy)]
 pub enum Retire {
     /// The first copy has the retired mark.
     Retired,
