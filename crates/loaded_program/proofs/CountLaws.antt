@@ -1,8 +1,8 @@
 -- A legal tree has few methods.
-use Rattle.std.proofs.Common.{◌≡◌, ◌<◌, ℕ, suc, ◌+◌, ◌^◌, List, [], ◌∷◌, ◌++◌, length, get_or, take, drop, map, refl, ap, sym, ◌∙◌, arith, append_assoc, length-append, drop-cons}
+use Rattle.std.proofs.Common.{◌≡◌, ◌<◌, ◌≤◌, ℕ, suc, ◌+◌, ◌^◌, List, [], ◌∷◌, ◌++◌, length, get_or, take, drop, map, refl, ap, sym, ◌∙◌, arith, append_assoc, length-append, drop-cons}
 use Rattle.std.specs.List.{flat_map, sum_by}
-use Rattle.std.proofs.lemmas.List.{length-map}
-use Rattle.std.proofs.lemmas.List.Sums.{sum_by-cons, sum_by_more}
+use Rattle.std.proofs.lemmas.List.{length-map, append-nil, drop_all}
+use Rattle.std.proofs.lemmas.List.Sums.{sum_by-cons, sum_by_more, sum_by-take-le}
 use Rattle.std.proofs.lemmas.Grind.{flat_map-append}
 use Rattle.cil_model.specs.declared.types.ClassName.{ClassName}
 use Rattle.cil_model.specs.declared.trees.Tree.{Tree}
@@ -48,6 +48,14 @@ module _ {X : Type 0} (count : X → ℕ) (xs : List X) (i : ℕ) (x : X) (next 
   pub counted_more : next ≡ sum_by count (take i xs) → behind ≡ sum_by count (take (i + 1) xs)
   counted_more so_far =
       behind_is ∙ ap (λ n. n + count x) so_far ∙ ap (λ y. sum_by count (take i xs) + count y) is ∙ sym (sum_by_more count xs i x there)
+
+  -- which is no more than the whole
+  pub counted_fit : {m : ℕ} → next ≡ sum_by count (take i xs) → sum_by count xs < m → behind < m
+  counted_fit so_far less = omega (arith, counted_more so_far, sum_by-take-le count xs (i + 1), less)
+
+-- the running counts are given where none is left
+pub running_all : {X : Type 0} (count : X → ℕ) (xs : List X) (i next : ℕ) (first all : List ℕ) → length xs ≤ i → first ++ running_counts next (map count (drop i xs)) ≡ all → first ≡ all
+running_all count xs i next first all past so_far = sym (append-nil first) ∙ ap (λ ys. first ++ running_counts next (map count ys)) (sym (drop_all i xs past)) ∙ so_far
 
 module _ (tree : Tree) where
   -- with the built-in ones they are fewer than there are flat numbers

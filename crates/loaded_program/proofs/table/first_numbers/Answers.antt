@@ -1,9 +1,17 @@
-use Rattle.std.proofs.Common.{◌≡◌, ◌+◌, List, ◌++◌, length, map, drop, ap, sym, subst, ◌∙◌}
+use Rattle.std.proofs.Common.{◌≡◌, ◌+◌, List, ◌++◌, length, map, drop, refl, ap, sym, subst, ◌∙◌}
 use Rattle.resolved_code.specs.declared.classes.ResolvedClass.{ResolvedClass}
 use Rattle.resolved_code.specs.declared.classes.ResolvedMethod.{ResolvedMethod}
 use Rattle.loaded_program.specs.Numbered.{running_counts}
-use Rattle.loaded_program.proofs.CountLaws.{running_more, counted_more}
+use Rattle.loaded_program.proofs.CountLaws.{running_more, counted_more, counted_fit, running_all}
 use Rattle.loaded_program.proofs.table.first_numbers.Goals as goal
+
+pub loop-class-init : goal.loop-class-init
+loop-class-init c = record { numbered = ap (λ ns. ns ++ running_counts 0 (map (λ (r : ResolvedClass). length r.methods) c.args.classes.now)) c.in_ok-first.ensures.items; counted = refl }
+
+pub number_behind-next-requires : goal.number_behind-next-requires
+number_behind-next-requires c =
+    let behind = ap (λ (ms : List ResolvedMethod). c.loop-class.next + length ms) c.as_slice.ensures in
+    counted_fit (λ (r : ResolvedClass). length r.methods) c.args.classes.now c.loop-class.class-index c.class-item.result c.loop-class.next _ c.loop-class-test.true c.class-item.is behind c.loop-class.invariant.counted c.requires
 
 pub loop-class-preserved : goal.loop-class-preserved
 loop-class-preserved c =
@@ -14,3 +22,6 @@ loop-class-preserved c =
           (running_more (λ (r : ResolvedClass). length r.methods) rs c.loop-class.class-index c.class-item.result c.loop-class.next c.number_behind-next.result c.loop-class-test.true c.class-item.is behind c.loop-class.first.items _ c.loop-class.invariant.numbered);
       counted = counted_more (λ (r : ResolvedClass). length r.methods) rs c.loop-class.class-index c.class-item.result c.loop-class.next c.number_behind-next.result c.loop-class-test.true c.class-item.is behind c.loop-class.invariant.counted;
     }
+
+pub returns : goal.returns
+returns c = running_all (λ (r : ResolvedClass). length r.methods) c.args.classes.now c.loop-class.class-index c.loop-class.next c.loop-class.first.items _ c.loop-class-test.false c.loop-class.invariant.numbered
