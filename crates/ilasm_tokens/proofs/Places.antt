@@ -2,7 +2,9 @@
 use Rattle.std.proofs.Common.{◌≡◌, ◌∙◌, ◌<◌, ◌≤◌, ◌-◌, ◌+◌, ℕ, suc, List, length, Some, None, refl, sym, arith}
 use Rattle.cil_model.specs.declared.tokens.Token.{Token}
 use Rattle.cil_model.specs.Lexemes.{skip_gap, between}
-use Rattle.ilasm_tokens.specs.Steps.{bind, bind_at}
+use Rattle.ilasm_tokens.specs.declared.failure.Failure.{Failure}
+use Rattle.ilasm_tokens.specs.declared.failure.Failure.TheVariants.{Refused, OutOfMemory}
+use Rattle.ilasm_tokens.specs.Steps.{Fails, bind, bind_at}
 use Rattle.ilasm_tokens.specs.Lexing.{spaced_lexeme_at, behind_tokens, offset_of}
 
 step_of : (m n : ℕ) → n < m → m - n ≡ suc (m - (n + 1))
@@ -12,9 +14,20 @@ pub one_more : (m n : ℕ) (bs rest : List ℕ) (t : Token) → n < m → spaced
 unfolding behind_tokens bind
 one_more m n bs rest t less e = rw (step_of m n less, e) refl
 
-pub no_more : (m n : ℕ) (bs : List ℕ) → n < m → spaced_lexeme_at bs ≡ None → behind_tokens (m - n) bs ≡ None
+no_more : (m n : ℕ) (bs : List ℕ) → n < m → spaced_lexeme_at bs ≡ None → behind_tokens (m - n) bs ≡ None
 unfolding behind_tokens bind
 no_more m n bs less e = rw (step_of m n less, e) refl
+
+pub gap_fails : (failure : Failure) (m : ℕ) (source : List ℕ) → Fails failure (skip_gap between source) → Fails failure (offset_of m source)
+unfolding offset_of bind
+gap_fails (Refused left expected) m source e = rw e refl
+gap_fails OutOfMemory m source e = tt
+
+pub token_fails : (failure : Failure) (source start rest : List ℕ) (m k : ℕ) → skip_gap between source ≡ Some start → k < m → behind_tokens (m - k) rest ≡ behind_tokens m start → Fails failure (spaced_lexeme_at rest) → Fails failure (offset_of m source)
+unfolding offset_of bind
+token_fails (Refused left expected) source start rest m k e less so_far none =
+    rw (e, sym so_far ∙ no_more m k rest less none) refl
+token_fails OutOfMemory source start rest m k e less so_far none = tt
 
 pub at_place : (source start rest : List ℕ) (m k : ℕ) → skip_gap between source ≡ Some start → m ≤ k → behind_tokens (m - k) rest ≡ behind_tokens m start → offset_of m source ≡ Some (length source - length rest)
 unfolding offset_of behind_tokens

@@ -1,8 +1,10 @@
 -- What is behind white space and comments, by the bytes that stand at the front.
-use Rattle.std.proofs.Common.{◌≡◌, ◌≢◌, ◌≤◌, ◌<◌, ◌-◌, ℕ, Bool, true, false, List, [], ◌∷◌, length, take, drop, get_or, Some, refl, ap, sym, ◌∙◌, arith}
+use Rattle.std.proofs.Common.{◌≡◌, ◌≢◌, ◌≤◌, ◌<◌, ◌-◌, ◌==◌, ℕ, Bool, true, false, List, [], ◌∷◌, length, take, drop, get_or, None, Some, refl, ap, sym, ◌∙◌, arith}
+use Rattle.std.specs.Prelude.{if◌then◌else◌}
 use Rattle.std.proofs.Math.Seq.{take-length}
 use Rattle.std.proofs.lemmas.Bool.{ne_eqb}
-use Rattle.cil_model.specs.Lexemes.{is_white, skip_gap, between, slash, in_line, in_block}
+use Rattle.cil_model.specs.Lexemes.{is_white, skip_gap, between, slash, in_line, in_block, star}
+use Rattle.ilasm_tokens.proofs.Text.{block_place}
 
 -- what is behind the first byte
 abbrev pub behind : List ℕ → List ℕ
@@ -11,8 +13,59 @@ behind bs = take (length bs - 1) (drop 1 bs)
 behind_first : (c : ℕ) (cs : List ℕ) → cs ≡ behind (c ∷ cs)
 behind_first c cs = sym (ap (λ (n : ℕ). take n cs) (omega arith) ∙ take-length cs)
 
+pub behind_shorter : (bs : List ℕ) → 1 ≤ length bs → length (behind bs) < length bs
+behind_shorter [] some = absurd (omega (arith, some))
+behind_shorter (c ∷ cs) some = omega (arith, ap length (behind_first c cs))
+
 abbrev first : List ℕ → ℕ
 first bs = get_or bs 0 0
+
+-- ---- in a comment
+
+pub line_goes_on : (bs : List ℕ) → 1 ≤ length bs → first bs ≢ 10 → skip_gap in_line bs ≡ skip_gap in_line (behind bs)
+line_goes_on [] some other = absurd (omega (arith, some))
+line_goes_on (c ∷ cs) some other = rw (ne_eqb c 10 other) (ap (skip_gap in_line) (behind_first c cs))
+
+pub line_ends : (bs : List ℕ) → 1 ≤ length bs → first bs ≡ 10 → skip_gap in_line bs ≡ skip_gap between (behind bs)
+line_ends [] some end = absurd (omega (arith, some))
+line_ends (c ∷ cs) some end = rw end (ap (skip_gap between) (behind_first c cs))
+
+pub line_none_left : (bs : List ℕ) → length bs < 1 → skip_gap in_line bs ≡ skip_gap between bs
+line_none_left [] none = refl
+line_none_left (c ∷ cs) none = absurd (omega (arith, none))
+
+block_steps : (is_star : Bool) (cs : List ℕ) → (if is_star then skip_gap star cs else skip_gap in_block cs) ≡ skip_gap (block_place is_star) cs
+block_steps true cs = refl
+block_steps false cs = refl
+
+module _ (bs : List ℕ) (some : 1 ≤ length bs) where
+  pub block_goes_on : (is_star : Bool) → is_star ≡ false → skip_gap (block_place is_star) bs ≡ skip_gap (block_place (first bs == 42)) (behind bs)
+  block_goes_on is_star none = rw none (one bs some)
+    where
+      one : (cs : List ℕ) → 1 ≤ length cs → skip_gap in_block cs ≡ skip_gap (block_place (first cs == 42)) (behind cs)
+      one [] some = absurd (omega (arith, some))
+      one (c ∷ cs) some = block_steps (c == 42) cs ∙ ap (skip_gap (block_place (c == 42))) (behind_first c cs)
+
+  pub star_goes_on : (is_star : Bool) → is_star ≡ true → first bs ≢ 47 → skip_gap (block_place is_star) bs ≡ skip_gap (block_place (first bs == 42)) (behind bs)
+  star_goes_on is_star at_star other = rw at_star (one bs some other)
+    where
+      one : (cs : List ℕ) → 1 ≤ length cs → first cs ≢ 47 → skip_gap star cs ≡ skip_gap (block_place (first cs == 42)) (behind cs)
+      one [] some other = absurd (omega (arith, some))
+      one (c ∷ cs) some other = rw (ne_eqb c 47 other) (block_steps (c == 42) cs ∙ ap (skip_gap (block_place (c == 42))) (behind_first c cs))
+
+  pub block_ends : (is_star : Bool) → is_star ≡ true → first bs ≡ 47 → skip_gap (block_place is_star) bs ≡ skip_gap between (behind bs)
+  block_ends is_star at_star end = rw at_star (one bs some end)
+    where
+      one : (cs : List ℕ) → 1 ≤ length cs → first cs ≡ 47 → skip_gap star cs ≡ skip_gap between (behind cs)
+      one [] some end = absurd (omega (arith, some))
+      one (c ∷ cs) some end = rw end (ap (skip_gap between) (behind_first c cs))
+
+pub block_none_left : (is_star : Bool) (bs : List ℕ) → length bs < 1 → skip_gap (block_place is_star) bs ≡ None
+block_none_left true [] none = refl
+block_none_left false [] none = refl
+block_none_left _ (c ∷ cs) none = absurd (omega (arith, none))
+
+-- ---- between comments
 
 pub past_white : (bs : List ℕ) (white : Bool) → 1 ≤ length bs → white ≡ is_white (first bs) → white ≡ true → skip_gap between bs ≡ skip_gap between (behind bs)
 past_white [] white some e is = absurd (omega arith)

@@ -40,7 +40,6 @@ pub fn tokens(alloc: Global, source: &[u8]) -> Result<Sequence<SourceToken<'_>>,
 
 /// Where the token of this number begins, counted in bytes, or the end of the source behind its last token. Tokens are
 /// counted from 0. It is refused where the source has no such place, since too few tokens can be read.
-#[tactic(auto, using(crate::proofs::Reading::gap_shorter, crate::proofs::Reading::spaced_consumes, crate::proofs::Places::one_more, crate::proofs::Places::no_more), unfolding(crate::specs::Lexing::offset_of, crate::specs::Steps::bind))]
 pub fn token_offset(source: &[u8], number: usize) -> Result<usize, Failure>
     ensures { Gives (λ offset. offset) result (offset_of number source.now) }
 {
