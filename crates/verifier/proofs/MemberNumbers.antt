@@ -14,7 +14,7 @@ use Rattle.name_tables.specs.Numbers.{declarations, source_entry, method_at}
 use Rattle.verifier.specs.Members.{methods_at, own_methods}
 
 -- the method at a place of a class of the source
-pub next_of_class : (tree : Tree) (c : Class) (class place : ℕ) (m : Method) → slice_get (declarations tree) class ≡ Some (source_entry c) → slice_get (method_members c) place ≡ Some m → method_at tree (class, place) ≡ Some (source_name c, m)
+next_of_class : (tree : Tree) (c : Class) (class place : ℕ) (m : Method) → slice_get (declarations tree) class ≡ Some (source_entry c) → slice_get (method_members c) place ≡ Some m → method_at tree (class, place) ≡ Some (source_name c, m)
 next_of_class tree c class place m here there =
     ap (option_and_then {U = ClassName × Method} (λ (e : ClassName × Declaration). option_map {U = ClassName × Method} (λ x. (e.0, x)) (slice_get e.1.methods place))) here
     ∙ ap (option_map {U = ClassName × Method} (λ x. (source_name c, x))) there

@@ -52,6 +52,9 @@ after_end {X} (y ∷ ys) x (suc n) = behind (after_end ys x n)
     behind (inl e) = inl e
     behind (inr (e, at)) = inr (ap suc e, at)
 
+pub none_kept : (tree : Tree) → AreOfMethods tree []
+none_kept tree n rows owner m at here = none_is_some _ at
+
 module _ (tree : Tree) (typings : List (List (Option (List StackEntry)))) (kept : AreOfMethods tree typings) where
   -- one more is kept
   pub one_more : (owner : ClassName) (m : Method) (rows : List (Option (List StackEntry))) → slice_get (source_methods tree) (length typings) ≡ Some (owner, m) → IsTyping tree owner m (typing_of tree rows) →

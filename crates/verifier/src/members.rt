@@ -16,7 +16,6 @@ use name_tables::numbers::FIRST_OF_SOURCE;
 use std::alloc::Global;
 
 /// Appends the numbers of the methods of a class.
-#[tactic(auto, using(crate::proofs::MemberNumbers::next_of_class))]
 fn add_numbers(
     class: usize,
     methods: &[&Method],

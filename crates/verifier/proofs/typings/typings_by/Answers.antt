@@ -1,8 +1,11 @@
-use Rattle.std.proofs.Common.{◌≡◌, ◌<◌, ◌+◌, List, Option, length, arith, sym, subst}
+use Rattle.std.proofs.Common.{◌≡◌, ◌<◌, ◌+◌, List, Option, length, arith, refl, sym, ◌∙◌, subst}
 use Rattle.flow_rules.specs.declared.entries.StackEntry.{StackEntry}
 use Rattle.verifier.specs.Verdicts.{AreOfMethods}
-use Rattle.verifier.proofs.TypingLaws.{next_kept, next_refused}
+use Rattle.verifier.proofs.TypingLaws.{as_many, none_kept, next_kept, next_refused}
 use Rattle.verifier.proofs.typings.typings_by.Goals as goal
+
+pub loop-method-init : goal.loop-method-init
+loop-method-init c all = rw c.new-typings.ensures.items (refl, none_kept c.args.program.now)
 
 pub returns-in-Err : goal.returns-in-Err
 returns-in-Err c all =
@@ -16,3 +19,9 @@ loop-method-preserved c all =
     let invariant = c.loop-method.invariant all in
     subst (λ (typings : List (List (Option (List StackEntry)))). (length typings ≡ c.loop-method.method + 1) × AreOfMethods c.args.program.now typings) (sym c.in_ok-push-in-Ok.ensures.items)
     (next_kept c.args.program.now c.args.members.now c.loop-method.typings.items c.loop-method.method _ all below invariant.0 invariant.1 c.in-Ok.typing c.in-Ok.ensures)
+
+pub returns : goal.returns
+returns c all =
+    let invariant = c.loop-method.invariant all in
+    let whole : length c.loop-method.typings.items ≡ length c.args.members.now = omega (arith, invariant.0, c.loop-method-test.false, c.loop-method.auto) in
+    rw c.new.ensures (record { whole = whole ∙ as_many c.args.program.now c.args.members.now all; each = invariant.1 })
