@@ -1,3 +1,4 @@
+mod Chains
 mod Commas
 mod Complete
 mod Whole

@@ -135,7 +135,6 @@ fn implements(
 }
 
 /// The words before an interface's name, behind `.class`.
-#[tactic(auto, unfolding(crate::specs::Parsing::interface_words_at, ilasm_tokens::specs::Steps::bind))]
 fn interface_words(tokens: Tokens<'_>) -> Result<Tokens<'_>, Failure>
     ensures { Gives (λ r. r.now) result (interface_words_at tokens.now) }
 {

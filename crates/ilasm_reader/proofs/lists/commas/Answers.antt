@@ -1,4 +1,4 @@
-use Rattle.std.proofs.Common.{◌≡◌, true, false, arith}
+use Rattle.std.proofs.Common.{◌≡◌, true, false, sym, arith}
 use Rattle.std.proofs.lemmas.Result.{err_from_is_err_and}
 use Rattle.ilasm_reader.specs.Parsing.{starts_comma, after_comma}
 use Rattle.ilasm_tokens.proofs.Many.{turns, ends_loop, fails}
@@ -11,7 +11,7 @@ loop-alloc-init g c = rw (c.in_ok-push.ensures.items, c.in_ok-items.ensures.item
 pub returns-in_err-item : goal.returns-in_err-item
 returns-in_err-item g c =
     let p = err_from_is_err_and c.from_residual-in_err-item.result c.from_residual-in_err-item.ensures.1 in
-    let s : starts_comma c.loop-alloc.rest.now ≡ true = cc c.loop-alloc-test.ensures in
+    let s : starts_comma c.loop-alloc.rest.now ≡ true = sym c.loop-alloc-test.ensures in
     rw (p.1, p.2) (fails starts_comma (after_comma g.P.Parse.parsed_at) c.in_err-item.field-0.0 _ c.loop-alloc.items.items c.loop-alloc.rest.now c.loop-alloc.invariant s c.in_err-item.ensures)
 
 pub loop-alloc-smaller : goal.loop-alloc-smaller
@@ -19,10 +19,10 @@ loop-alloc-smaller g c = omega (arith, after_comma_consumes g.P.Parse.parsed_at 
 
 pub loop-alloc-preserved : goal.loop-alloc-preserved
 loop-alloc-preserved g c =
-    let s : starts_comma c.loop-alloc.rest.now ≡ true = cc c.loop-alloc-test.ensures in
+    let s : starts_comma c.loop-alloc.rest.now ≡ true = sym c.loop-alloc-test.ensures in
     rw c.in_ok-push-2.ensures.items (turns starts_comma (after_comma g.P.Parse.parsed_at) _ c.loop-alloc.items.items c.loop-alloc.rest.now c.in_ok-item.item c.in_ok-item.after.now (after_comma_consumes g.P.Parse.parsed_at g.met.P.Parse.consumes) c.loop-alloc.invariant s c.in_ok-item.ensures)
 
 pub returns : goal.returns
 returns g c =
-    let s : starts_comma c.loop-alloc.rest.now ≡ false = cc c.loop-alloc-test.ensures in
+    let s : starts_comma c.loop-alloc.rest.now ≡ false = sym c.loop-alloc-test.ensures in
     rw c.new.ensures (ends_loop starts_comma (after_comma g.P.Parse.parsed_at) _ c.loop-alloc.items.items c.loop-alloc.rest.now c.loop-alloc.invariant s)

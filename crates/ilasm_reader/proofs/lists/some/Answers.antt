@@ -1,4 +1,4 @@
-use Rattle.std.proofs.Common.{◌≡◌, [], true, false}
+use Rattle.std.proofs.Common.{◌≡◌, [], true, false, sym}
 use Rattle.std.proofs.lemmas.Result.{err_from_is_err_and}
 use Rattle.ilasm_tokens.proofs.Many.{begins, turns, ends_loop, fails}
 use Rattle.ilasm_reader.proofs.lists.some.Goals as goal
@@ -15,15 +15,18 @@ loop-alloc-init g c =
 pub returns-in_err-item : goal.returns-in_err-item
 returns-in_err-item g c =
     let p = err_from_is_err_and c.from_residual-in_err-item.result c.from_residual-in_err-item.ensures.1 in
-    let s : g.P.Starts.starts_at c.loop-alloc.rest.now ≡ true = cc c.loop-alloc-test.ensures in
+    let s : g.P.Starts.starts_at c.loop-alloc.rest.now ≡ true = sym c.loop-alloc-test.ensures in
     rw (p.1, p.2) (fails g.P.Starts.starts_at g.P.Parse.parsed_at c.in_err-item.field-0.0 _ c.loop-alloc.items.items c.loop-alloc.rest.now c.loop-alloc.invariant s c.in_err-item.ensures)
+
+pub loop-alloc-smaller : goal.loop-alloc-smaller
+loop-alloc-smaller g c = g.met.P.Parse.consumes c.loop-alloc.rest.now c.in_ok-item.item c.in_ok-item.after.now c.in_ok-item.ensures
 
 pub loop-alloc-preserved : goal.loop-alloc-preserved
 loop-alloc-preserved g c =
-    let s : g.P.Starts.starts_at c.loop-alloc.rest.now ≡ true = cc c.loop-alloc-test.ensures in
+    let s : g.P.Starts.starts_at c.loop-alloc.rest.now ≡ true = sym c.loop-alloc-test.ensures in
     rw c.in_ok-push-2.ensures.items (turns g.P.Starts.starts_at g.P.Parse.parsed_at _ c.loop-alloc.items.items c.loop-alloc.rest.now c.in_ok-item.item c.in_ok-item.after.now g.met.P.Parse.consumes c.loop-alloc.invariant s c.in_ok-item.ensures)
 
 pub returns : goal.returns
 returns g c =
-    let s : g.P.Starts.starts_at c.loop-alloc.rest.now ≡ false = cc c.loop-alloc-test.ensures in
+    let s : g.P.Starts.starts_at c.loop-alloc.rest.now ≡ false = sym c.loop-alloc-test.ensures in
     rw c.new.ensures (ends_loop g.P.Starts.starts_at g.P.Parse.parsed_at _ c.loop-alloc.items.items c.loop-alloc.rest.now c.loop-alloc.invariant s)
