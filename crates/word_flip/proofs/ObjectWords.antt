@@ -1,5 +1,6 @@
 -- What a word names.
-use Rattle.std.proofs.Common.{◌≡◌, ℕ, zero, suc, ◌+◌, ◌<◌, Option, Some, None, IfSome, List, [], ◌∷◌, ◌++◌, length, length-append, map, set, ap, ◌∙◌, arith}
+use Rattle.std.proofs.Common.{◌≡◌, ℕ, zero, suc, ◌+◌, ◌<◌, Option, Some, None, IfSome, List, [], ◌∷◌, ◌++◌, length, length-append, map, option_map, set, slice_get, slice_index, ap, sym, ◌∙◌, arith}
+use Rattle.std.proofs.lemmas.Option.{slice_get-get_or, slice_get-map}
 use Rattle.std.proofs.lemmas.List.{map-set}
 use Rattle.word_flip.specs.Objects.{object_of}
 
@@ -23,3 +24,7 @@ one_more wrote slot value = length-append wrote ((slot, value) ∷ [])
 -- what the words name, once an object was written
 pub written_to : (words : List ℕ) (place word : ℕ) (object : Option ℕ) → object_of word ≡ object → map object_of (set words place word) ≡ set (map object_of words) place object
 written_to words place word object e = map-set object_of words place word ∙ ap (λ (o : Option ℕ). set (map object_of words) place o) e
+
+-- what a place names, if a word is what stands there
+pub said_of : (words : List ℕ) (place word : ℕ) → place < length words → word ≡ slice_index words place → slice_get (map object_of words) place ≡ Some (object_of word)
+said_of words place word l e = slice_get-map object_of words place ∙ ap (option_map object_of) (slice_get-get_or words place 0 l ∙ ap Some (sym e))

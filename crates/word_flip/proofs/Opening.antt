@@ -1,5 +1,5 @@
 -- The writers of a new flip.
-use Rattle.std.proofs.Common.{◌≡◌, ℕ, zero, suc, All, Option, None, List, [], ◌∷◌, map, length, replicate, refl, ap}
+use Rattle.std.proofs.Common.{◌≡◌, ℕ, zero, suc, ◌+◌, ◌<◌, ◌≤◌, All, Option, None, List, [], ◌∷◌, map, length, replicate, refl, ap, arith}
 use Rattle.std.proofs.lemmas.List.{length-replicate}
 use Rattle.std.proofs.lemmas.List.Elements.{All-map}
 use Rattle.std.specs.List.{range_with_len}
@@ -24,3 +24,10 @@ opened table plan = map_twice writer_value (Table.opening_seat table plan) (open
 pub opened_idle : (table : TableId) (plan : PlanView) → All (λ token. (token.knows.pending ≡ None) × (length token.knows.written ≡ length token.knows.plan.owners)) (Table.opening_writers table plan)
 opened_idle table plan = All-map (λ (token : Table.WriterValue). (token.knows.pending ≡ None) × (length token.knows.written ≡ length token.knows.plan.owners)) (Table.opening_seat table plan) (range_with_len 0 plan.seats)
     (λ k d l. (refl, length-replicate {A = ℕ} (length plan.owners) 0))
+
+-- the limit of words is one above the number of objects
+pub limit_within : (objects : ℕ) → objects ≤ 256 → (0 < objects + 1) × (objects + 1 ≤ 65536)
+limit_within objects few = (omega arith, omega arith)
+
+pub first_stage : 0 ≤ 2
+first_stage = omega arith

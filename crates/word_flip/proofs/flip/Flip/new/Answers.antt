@@ -1,8 +1,10 @@
-use Rattle.std.proofs.Common.{List, map, ap, sym, ◌∙◌}
+use Rattle.std.proofs.Common.{ℕ, ◌+◌, Bool, false, List, length, map, mul-le-mul, replicate, refl, ap, sym, ◌∙◌}
+use Rattle.std.proofs.lemmas.List.{length-replicate}
+use Rattle.std.proofs.lemmas.Result.{IfOk-from_err}
 use Rattle.flip_table.specs.Tokens as Table
 use Rattle.flip_table.specs.declared.slot_table.PlanView.{PlanView}
 use Rattle.word_flip.specs.Tokens.{writer_value, opening_writers}
-use Rattle.word_flip.proofs.Opening.{opened, opened_idle}
+use Rattle.word_flip.proofs.Opening.{first_stage, limit_within, opened, opened_idle}
 use Rattle.word_flip.proofs.flip.Flip.new.Goals as goal
 
 pub writers_of-requires : goal.writers_of-requires
@@ -11,3 +13,62 @@ writers_of-requires c = record { idle = rw c.in_ok-table.ensures.writers (opened
 pub returns-clause-writers : goal.returns-clause-writers
 returns-clause-writers c = c.in_ok-writers.ensures ∙ (ap (λ (tokens : List Table.WriterValue). map writer_value tokens) c.in_ok-table.ensures.writers
     ∙ (opened _ _ ∙ ap (λ (plan : PlanView). opening_writers c.in_ok-table.table.table plan) (sym c.in_ok-table.ensures.table)))
+
+pub new-requires-clause-sizes : goal.new-requires-clause-sizes
+new-requires-clause-sizes c = (rw (c.in_ok-from_slice.ensures.len, c.requires.writers.0) (mul-le-mul c.requires.sizes.0 c.requires.sizes.1), rw c.from.ensures c.requires.sizes.2)
+
+pub new-requires-clause-owned : goal.new-requires-clause-owned
+new-requires-clause-owned c = rw (c.in_ok-from_slice.ensures.items, c.from.ensures) c.requires.writers.1
+
+pub new-requires-clause-limit : goal.new-requires-clause-limit
+new-requires-clause-limit c = rw c.from-2.ensures (limit_within c.args.objects c.requires.sizes.0)
+
+pub returns-in_err-from_slice-clause-flip : goal.returns-in_err-from_slice-clause-flip
+returns-in_err-from_slice-clause-flip c = IfOk-from_err c.from_residual.result _ c.from_residual.ensures.0
+
+pub returns-in_err-from_slice-clause-copier : goal.returns-in_err-from_slice-clause-copier
+returns-in_err-from_slice-clause-copier c = IfOk-from_err c.from_residual.result _ c.from_residual.ensures.0
+
+pub returns-in_err-from_slice-clause-writers : goal.returns-in_err-from_slice-clause-writers
+returns-in_err-from_slice-clause-writers c = IfOk-from_err c.from_residual.result _ c.from_residual.ensures.0
+
+pub returns-in_err-copied-clause-flip : goal.returns-in_err-copied-clause-flip
+returns-in_err-copied-clause-flip c = IfOk-from_err c.from_residual-in_err-copied.result _ c.from_residual-in_err-copied.ensures.0
+
+pub returns-in_err-copied-clause-copier : goal.returns-in_err-copied-clause-copier
+returns-in_err-copied-clause-copier c = IfOk-from_err c.from_residual-in_err-copied.result _ c.from_residual-in_err-copied.ensures.0
+
+pub returns-in_err-copied-clause-writers : goal.returns-in_err-copied-clause-writers
+returns-in_err-copied-clause-writers c = IfOk-from_err c.from_residual-in_err-copied.result _ c.from_residual-in_err-copied.ensures.0
+
+pub returns-in_err-table-clause-flip : goal.returns-in_err-table-clause-flip
+returns-in_err-table-clause-flip c = IfOk-from_err c.from_residual-in_err-table.result _ c.from_residual-in_err-table.ensures.0
+
+pub returns-in_err-table-clause-copier : goal.returns-in_err-table-clause-copier
+returns-in_err-table-clause-copier c = IfOk-from_err c.from_residual-in_err-table.result _ c.from_residual-in_err-table.ensures.0
+
+pub returns-in_err-table-clause-writers : goal.returns-in_err-table-clause-writers
+returns-in_err-table-clause-writers c = IfOk-from_err c.from_residual-in_err-table.result _ c.from_residual-in_err-table.ensures.0
+
+pub returns-in_err-writers-clause-flip : goal.returns-in_err-writers-clause-flip
+returns-in_err-writers-clause-flip c = IfOk-from_err c.from_residual-in_err-writers.result _ c.from_residual-in_err-writers.ensures.0
+
+pub returns-in_err-writers-clause-copier : goal.returns-in_err-writers-clause-copier
+returns-in_err-writers-clause-copier c = IfOk-from_err c.from_residual-in_err-writers.result _ c.from_residual-in_err-writers.ensures.0
+
+pub returns-in_err-writers-clause-writers : goal.returns-in_err-writers-clause-writers
+returns-in_err-writers-clause-writers c = IfOk-from_err c.from_residual-in_err-writers.result _ c.from_residual-in_err-writers.ensures.0
+
+pub invariant_of-flip : goal.invariant_of-flip
+invariant_of-flip c = (c.requires.sizes.0, rw c.in_ok-table.ensures.table (ap (λ n. n + 1) c.from-2.ensures), rw (c.in_ok-table.ensures.table, c.in_ok-from_slice.ensures.items) c.requires.writers.0)
+
+pub invariant_of-result : goal.invariant_of-result
+invariant_of-result c =
+    let copied = c.in_ok-copied.ensures.items_if_clones_equal (λ y e. e) ∙ ap (λ (items : List ℕ). replicate (length items) false) (sym c.in_ok-from_slice.ensures.items) in
+    rw c.in_ok-table.ensures.copier (copied, refl, length-replicate {A = Bool} _ false, length-replicate {A = ℕ} _ 0, first_stage)
+
+pub returns-clause-flip : goal.returns-clause-flip
+returns-clause-flip c = rw (c.in_ok-table.ensures.table, c.in_ok-from_slice.ensures.items, c.from.ensures, c.from-2.ensures)
+
+pub returns-clause-copier : goal.returns-clause-copier
+returns-clause-copier c = rw (c.in_ok-table.ensures.copier, c.in_ok-table.ensures.table)
