@@ -1,46 +1,30 @@
-use Rattle.std.proofs.Common.{refl}
+use Rattle.std.proofs.Common.{refl, ◌∙◌}
+use Rattle.flip_trial.proofs.Taken.{equal_options, set_there, some_below}
 use Rattle.flip_trial.proofs.seat.keep.Goals as goal
 
--- src/seat.rt:35:9
-pub slot_at-slot-requires : goal.slot_at-slot-requires
-slot_at-slot-requires c = ?
-
--- src/seat.rt:36:24
-pub overflow_add-object : goal.overflow_add-object
-overflow_add-object c = ?
-
--- src/seat.rt:36:23
-pub nonzero_rem-object : goal.nonzero_rem-object
-nonzero_rem-object c = ?
-
--- src/seat.rt:37:9
 pub store-writer-requires-clause-writer : goal.store-writer-requires-clause-writer
-store-writer-requires-clause-writer c = ?
+store-writer-requires-clause-writer c = c.requires.writer
 
--- src/seat.rt:37:9
 pub store-writer-requires-clause-slot : goal.store-writer-requires-clause-slot
-store-writer-requires-clause-slot c = ?
+store-writer-requires-clause-slot c = rw (c.requires.flip.objects_are, c.requires.flip.slots_are) c.slot_at-slot.ensures.within
 
--- src/seat.rt:37:9
 pub store-writer-requires-clause-own : goal.store-writer-requires-clause-own
-store-writer-requires-clause-own c = ?
+store-writer-requires-clause-own c =
+    rw (c.requires.flip.slots_are, c.slot_at-slot.ensures.place) (c.requires.flip.dealt c.args.place c.requires.own.0 ∙ c.requires.own.1)
 
--- src/seat.rt:37:9
 pub store-writer-requires-clause-value : goal.store-writer-requires-clause-value
-store-writer-requires-clause-value c = ?
+store-writer-requires-clause-value c = λ x e. rw c.requires.flip.objects_are (some_below _ _ x c.args.sizes.some_objects.0 e)
 
--- src/seat.rt:38:28
 pub load-loaded-requires-clause-writer : goal.load-loaded-requires-clause-writer
-load-loaded-requires-clause-writer c = ?
+load-loaded-requires-clause-writer c = rw c.store-writer.ensures c.requires.writer
 
--- src/seat.rt:38:28
 pub load-loaded-requires-clause-slot : goal.load-loaded-requires-clause-slot
-load-loaded-requires-clause-slot c = ?
+load-loaded-requires-clause-slot c = rw (c.requires.flip.objects_are, c.requires.flip.slots_are) c.slot_at-slot.ensures.within
 
--- src/seat.rt:27:1
 pub returns-clause-kept : goal.returns-clause-kept
-returns-clause-kept c = ?
+returns-clause-kept c =
+    let own = rw (c.store-writer.ensures, c.requires.flip.slots_are, c.slot_at-slot.ensures.place) at c.load-loaded.ensures.own in
+    c.eq.ensures ∙ equal_options _ _ (set_there c.args.writer.written c.args.place _ _ (own (c.requires.flip.dealt c.args.place c.requires.own.0 ∙ c.requires.own.1)))
 
--- src/seat.rt:27:1
 pub returns-clause-writer : goal.returns-clause-writer
-returns-clause-writer c = ?
+returns-clause-writer c = rw (c.load-loaded.ensures.rest, c.store-writer.ensures) (refl, refl, refl)
