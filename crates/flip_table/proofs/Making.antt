@@ -1,5 +1,5 @@
 -- The rule holds at the making, and the giving out of a writer keeps it.
-use Rattle.std.proofs.Common.{Bool, true, false, ◌≡◌, ◌≢◌, ℕ, zero, suc, ◌+◌, ◌<◌, List, [], ◌∷◌, ◌++◌, length, get_or, set, replicate, sym, refl, ap, ◌∙◌, subst, ⊎_elim, inl, inr, arith, length-set, length-append}
+use Rattle.std.proofs.Common.{Bool, true, false, ◌≡◌, ◌≢◌, ℕ, zero, suc, ◌+◌, ◌^◌, ◌<◌, ◌≤◌, List, [], ◌∷◌, ◌++◌, length, get_or, set, replicate, sym, refl, ap, ◌∙◌, subst, ⊎_elim, inl, inr, arith, length-set, length-append}
 use Rattle.std.proofs.lemmas.List.{length-replicate}
 use mathlib.Core.Option.{some, some-injective, some-ne-none}
 use lib.ListN.{get_elem?}
@@ -120,3 +120,10 @@ opens plan words count is count_is owned room = let null : (i : ℕ) → get_or 
       slots = λ k _. record { live = λ _. subst (λ (z : ℕ). z < plan.limit) (sym (null k)) room; dead = λ h. absurd (no_retired k h); small = (0, room, null (length plan.owners + k)); unwritten = λ _. (null k, null (length plan.owners + k), λ _. refl) };
       twins = λ k q _ e. let t = only_one (opening_view plan) (OfWriter q) (get_or plan.owners k 0 + 1) e in absurd (omega (arith, t.0));
     }
+
+-- how many words there are
+pub some_words : (below : ℕ) → 0 < below + 1
+some_words below = omega arith
+
+pub few_words : (slots seats : ℕ) → (slots ≤ 4096) × (seats ≤ 16) → slots + slots + seats + 1 < 2 ^ 64
+few_words slots seats few = omega arith

@@ -1,14 +1,48 @@
-use Rattle.std.proofs.Common.{rules, arith, sym}
+use Rattle.std.proofs.Common.{◌≡◌, ◌+◌, refl, ap, arith, sym, ◌∙◌}
+use Rattle.std.proofs.Math.Nat.{zero-add}
 use Rattle.std.proofs.lemmas.List.FromFn.{map-range_with_len_more}
-use Rattle.epoch_words.specs.Tokens.{opening_seat}
+use Rattle.std.proofs.lemmas.Result.{IfOk-from_err}
+use Rattle.epoch_words.specs.Tokens.{opening_seat, opening_seats}
 use Rattle.epoch_words.proofs.epochs.Epochs.new.Goals as goal
 
 pub loop-index-preserved : goal.loop-index-preserved
 loop-index-preserved c = record {
-  same_table = search rules;
-  dealt = search rules;
+  same_table = c.deal_seat.ensures.token.0 ∙ c.loop-index.invariant.same_table;
+  dealt = c.deal_seat.ensures.token.1;
   seats = rw (c.push_reserved.ensures.items, c.loop-index.invariant.seats, c.deal_seat.ensures.seat, c.loop-index.invariant.same_table)
-      (sym (map-range_with_len_more (opening_seat c.in_ok-words.words.shared.table_id) 0 c.loop-index.index c.loop-index.index (omega arith)));
-  count = search rules;
-  room = search rules;
+      (sym (map-range_with_len_more (opening_seat c.in_ok-words.words.shared.table_id) 0 c.loop-index.index c.loop-index.index (zero-add c.loop-index.index)));
+  count = c.push_reserved.ensures.len ∙ ap (λ n. n + 1) c.loop-index.invariant.count;
+  room = rw c.push_reserved.ensures.capacity c.loop-index.invariant.room;
 }
+
+pub returns-in_err-seats-clause-epochs : goal.returns-in_err-seats-clause-epochs
+returns-in_err-seats-clause-epochs c = IfOk-from_err c.from_residual.result _ c.from_residual.ensures.0
+
+pub returns-in_err-seats-clause-herald : goal.returns-in_err-seats-clause-herald
+returns-in_err-seats-clause-herald c = IfOk-from_err c.from_residual.result _ c.from_residual.ensures.0
+
+pub returns-in_err-seats-clause-seats : goal.returns-in_err-seats-clause-seats
+returns-in_err-seats-clause-seats c = IfOk-from_err c.from_residual.result _ c.from_residual.ensures.0
+
+pub returns-in_err-words-clause-epochs : goal.returns-in_err-words-clause-epochs
+returns-in_err-words-clause-epochs c = IfOk-from_err c.from_residual-in_err-words.result _ c.from_residual-in_err-words.ensures.0
+
+pub returns-in_err-words-clause-herald : goal.returns-in_err-words-clause-herald
+returns-in_err-words-clause-herald c = IfOk-from_err c.from_residual-in_err-words.result _ c.from_residual-in_err-words.ensures.0
+
+pub returns-in_err-words-clause-seats : goal.returns-in_err-words-clause-seats
+returns-in_err-words-clause-seats c = IfOk-from_err c.from_residual-in_err-words.result _ c.from_residual-in_err-words.ensures.0
+
+pub returns-clause-seats : goal.returns-clause-seats
+returns-clause-seats c =
+    let all : c.loop-index.index ≡ c.args.workers = omega arith in
+    c.loop-index.invariant.seats ∙ ap (λ index. opening_seats c.in_ok-words.words.shared.table_id index) all
+
+pub returns-clause-herald : goal.returns-clause-herald
+returns-clause-herald c = rw (c.herald_of.ensures, c.loop-index.invariant.same_table)
+
+pub deal_seat-requires-clause-words : goal.deal_seat-requires-clause-words
+deal_seat-requires-clause-words c = (c.loop-index.invariant.same_table, c.in_ok-words.ensures.words.0, c.in_ok-words.ensures.words.1)
+
+pub deal_seat-requires-clause-next : goal.deal_seat-requires-clause-next
+deal_seat-requires-clause-next c = (c.loop-index.invariant.dealt, c.loop-index-test.true)
