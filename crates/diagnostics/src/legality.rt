@@ -10,6 +10,7 @@ mod kinds;
 mod limits;
 mod references;
 mod rules;
+mod sentences;
 mod sites;
 mod unknown;
 

@@ -1,5 +1,6 @@
 //! What to write in the place of names that this profile lacks.
 
+use super::sentences::{tell_one, tell_two};
 use super::unknown::{Role, Unknown, library_of};
 use metadata::violations::ClassFault;
 use name_tables::keys::{ClassKey, MethodKey};
@@ -24,12 +25,12 @@ impl fmt::Display for Advice<'_> {
         match *self {
             Advice::Sentence(sentence) => f.write_str(sentence),
             Advice::Extern(library) => {
-                write!(
-                    f,
-                    "write `.assembly extern {library} {{}}` before the classes"
-                )
+                let behind = " {}` before the classes";
+                tell_one(f, "write `.assembly extern ", &library, behind)
             }
-            Advice::BuiltIn { library, class } => write!(f, "write `[{library}]{class}`"),
+            Advice::BuiltIn { library, class } => {
+                tell_two(f, "write `[", &library, "]", &class, "`")
+            }
         }
     }
 }

@@ -1,6 +1,7 @@
 //! Classes that stand in the chain of their own base (number 203).
 
 use super::breaches::{Breach, Found};
+use super::sentences::{tell_one, tell_two};
 use super::sites::{Sites, class_key};
 use name_tables::keys::ClassKey;
 use name_tables::lookups::NameTables;
@@ -22,7 +23,14 @@ pub struct OwnBase<'a> {
 impl fmt::Display for OwnBase<'_> {
     fn fmt<W: fmt::Write>(&self, f: &mut fmt::Formatter<W>) -> fmt::Result {
         let class = ClassText(self.class);
-        write!(f, "the bases of `{class}` lead back to it: `{class}`")?;
+        tell_two(
+            f,
+            "the bases of `",
+            &class,
+            "` lead back to it: `",
+            &class,
+            "`",
+        )?;
         tell_bases(f, self)
     }
 }
@@ -43,7 +51,7 @@ fn tell_bases<W: fmt::Write>(f: &mut fmt::Formatter<W>, own_base: &OwnBase) -> f
         };
         class = base;
         let text = ClassText(key);
-        write!(f, " extends `{text}`")?;
+        tell_one(f, " extends `", &text, "`")?;
         if key == own_base.class {
             return Ok(());
         }

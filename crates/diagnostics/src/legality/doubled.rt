@@ -1,6 +1,7 @@
 //! Names that stand twice (number 201).
 
 use super::breaches::{Breach, Found};
+use super::sentences::{tell_one, tell_two};
 use super::sites::{MemberSpot, Sites, class_name, key_of, listed_interface, located_method};
 use cil_model::texts::Text;
 use cil_model::trees::{Method, Tree};
@@ -37,24 +38,23 @@ pub enum Doubled<'a> {
 impl fmt::Display for Doubled<'_> {
     fn fmt<W: fmt::Write>(&self, f: &mut fmt::Formatter<W>) -> fmt::Result {
         match self {
-            Doubled::Extern(name) => tell_name(f, "the extern", *name, " stands twice"),
-            Doubled::Class(name) => tell_name(f, "two classes have the name", *name, ""),
+            Doubled::Extern(name) => tell_name(f, "the extern `", *name, "` stands twice"),
+            Doubled::Class(name) => tell_name(f, "two classes have the name `", *name, "`"),
             Doubled::Interface { class, interface } => {
-                let class = class.as_str();
                 let interface = ClassText(*interface);
-                write!(f, "the class `{class}` lists `{interface}` twice")
+                tell_of_class(f, *class, "` lists `", &interface, "` twice")
             }
             Doubled::Field { class, field } => {
-                let class = class.as_str();
                 let field = field.as_str();
-                write!(f, "the class `{class}` has two fields `{field}`")
+                tell_of_class(f, *class, "` has two fields `", &field, "`")
             }
             Doubled::Method { class, method } => {
-                let class = class.as_str();
                 let method = MethodText(*method);
-                write!(f, "the class `{class}` has two methods `{method}`")
+                tell_of_class(f, *class, "` has two methods `", &method, "`")
             }
-            Doubled::Label(name) => tell_name(f, "the label", *name, " stands twice in the method"),
+            Doubled::Label(name) => {
+                tell_name(f, "the label `", *name, "` stands twice in the method")
+            }
         }
     }
 }
@@ -71,8 +71,18 @@ fn tell_name<W: fmt::Write>(
     name: &Text,
     behind: &str,
 ) -> fmt::Result {
-    let name = name.as_str();
-    write!(f, "{before} `{name}`{behind}")
+    tell_one(f, before, &name.as_str(), behind)
+}
+
+/// What a class has twice.
+fn tell_of_class<W: fmt::Write, N: fmt::Display>(
+    f: &mut fmt::Formatter<W>,
+    class: &Text,
+    verb: &str,
+    name: &N,
+    behind: &str,
+) -> fmt::Result {
+    tell_two(f, "the class `", &class.as_str(), verb, name, behind)
 }
 
 /// A name that stands twice, at the second of its places.

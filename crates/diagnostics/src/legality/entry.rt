@@ -2,6 +2,7 @@
 
 use super::advice::Advice;
 use super::breaches::{Breach, Found};
+use super::sentences::{tell_one, tell_two};
 use super::sites::{Sites, key_of, located_method};
 use cil_model::trees::{Method, Tree};
 use cil_model::types::DeclaredType;
@@ -33,15 +34,13 @@ impl fmt::Display for BadEntry<'_> {
             BadEntry::Second => f.write_str("a second method has `.entrypoint`"),
             BadEntry::Returns(declared) => {
                 let declared = TypeText(*declared);
-                write!(
-                    f,
-                    "the method with `.entrypoint` returns `{declared}`, and not `void`"
-                )
+                let before = "the method with `.entrypoint` returns `";
+                tell_one(f, before, &declared, "`, and not `void`")
             }
             BadEntry::Unfit { method, fault } => {
                 let method = MethodText(*method);
-                let fault = *fault;
-                write!(f, "the method `{method}` has `.entrypoint`, but {fault}")
+                let between = "` has `.entrypoint`, but ";
+                tell_two(f, "the method `", &method, between, fault, "")
             }
         }
     }

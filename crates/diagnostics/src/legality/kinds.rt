@@ -1,6 +1,7 @@
 //! Methods whose kinds do not fit (number 205).
 
 use super::breaches::{Breach, Found};
+use super::sentences::{tell_one, tell_two};
 use super::sites::{
     MemberSpot, Sites, class_key, class_name, key_of, method_key, method_place, source_number,
 };
@@ -47,17 +48,25 @@ impl fmt::Display for Misfit<'_> {
             Misfit::InInterface { interface, method } => {
                 let interface = interface.as_str();
                 let method = MethodText(*method);
-                write!(
+                tell_two(
                     f,
-                    "the method `{method}` of the interface `{interface}` is not `newslot abstract virtual instance`"
+                    "the method `",
+                    &method,
+                    "` of the interface `",
+                    &interface,
+                    "` is not `newslot abstract virtual instance`",
                 )
             }
             Misfit::Abstract { class, method } => {
                 let class = class.as_str();
                 let method = MethodText(*method);
-                write!(
+                tell_two(
                     f,
-                    "the class `{class}` is not abstract, but its method `{method}` is"
+                    "the class `",
+                    &class,
+                    "` is not abstract, but its method `",
+                    &method,
+                    "` is",
                 )
             }
             Misfit::LeftOpen {
@@ -72,12 +81,17 @@ impl fmt::Display for Misfit<'_> {
                 owner,
             } => {
                 let class = class.as_str();
-                let owner = ClassText(*owner);
                 let method = MethodText(*method);
-                write!(
+                tell_two(
                     f,
-                    "the method `{method}` of `{class}` is virtual without newslot, but that of `{owner}`, which it would override, is not virtual"
-                )
+                    "the method `",
+                    &method,
+                    "` of `",
+                    &class,
+                    "` is virtual without newslot, but that of `",
+                )?;
+                let owner = ClassText(*owner);
+                tell_one(f, "", &owner, "`, which it would override, is not virtual")
             }
         }
     }
@@ -91,20 +105,23 @@ fn tell_left_open<W: fmt::Write>(
     hidden_by: Option<ClassKey>,
 ) -> fmt::Result {
     let class = class.as_str();
-    let owner = ClassText(owner);
     let method = MethodText(method);
-    write!(
+    tell_two(
         f,
-        "the class `{class}` is not abstract, but the abstract method `{method}` of `{owner}` is not overridden in it"
+        "the class `",
+        &class,
+        "` is not abstract, but the abstract method `",
+        &method,
+        "` of `",
     )?;
+    let owner = ClassText(owner);
+    tell_one(f, "", &owner, "` is not overridden in it")?;
     match hidden_by {
         None => Ok(()),
         Some(hiding) => {
             let hiding = ClassText(hiding);
-            write!(
-                f,
-                ": that of `{hiding}` is another, since it has newslot or is not virtual"
-            )
+            let behind = "` is another, since it has newslot or is not virtual";
+            tell_one(f, ": that of `", &hiding, behind)
         }
     }
 }

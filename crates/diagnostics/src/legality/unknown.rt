@@ -3,6 +3,7 @@
 use super::advice::{Advice, advice_on};
 use super::breaches::{Breach, Found};
 use super::references::{MemberKey, class_of, class_place, line_at, member_of, type_at};
+use super::sentences::tell_two;
 use super::sites::{Sites, key_of, listed_interface};
 use cil_model::instructions::Instruction;
 use cil_model::texts::Text;
@@ -206,7 +207,7 @@ fn tell_assembly<W: fmt::Write>(f: &mut fmt::Formatter<W>, name: &str) -> fmt::R
     let Some(library) = library_of(name) else {
         return Ok(());
     };
-    write!(f, ", but `[{library}]{name}` is built in")
+    tell_two(f, ", but `[", &library, "]", &name, "` is built in")
 }
 
 fn tell_near_field<W: fmt::Write>(f: &mut fmt::Formatter<W>, near: Option<&Field>) -> fmt::Result {
