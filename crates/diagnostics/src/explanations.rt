@@ -3,18 +3,18 @@
 ghost use Rattle.std.specs.Prelude.{◌≡◌, None, IfOk, IsSome, is_none};
 ghost use Rattle.diagnostics.specs.Verdicts.{IsAcceptedSource, is_acceptance};
 
+use crate::legality::{broken, explain_rule};
+use crate::reading::explain_reading;
+use crate::source_map::Named;
+use crate::typing::explain_typing;
 use crate::verdicts::{Verdict, verdict_of};
 use cil_model::memory::NoMemory;
 use cil_model::trees::Tree;
 use ilasm_reader::{ReadError, read};
 use metadata::violations::Violation;
 use metadata::{MetaError, Program, resolve};
-use crate::reading::explain_reading;
-use crate::source_map::Named;
 use std::alloc::Global;
-use crate::typing::explain_typing;
 use verifier::failures::FailurePoint;
-use crate::legality::{broken, explain_rule};
 
 /// The tree of a source that was read before; None where it has none.
 fn tree_of(alloc: Global, source: &[u8]) -> Result<Option<Tree>, NoMemory> {

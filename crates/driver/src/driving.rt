@@ -22,10 +22,10 @@ use flip_trial::Sizes;
 use orders::Order;
 use outputs::{NotWritten, Output};
 use schedule_text::Item;
+use source_runs::{Failure, Machine, accept, open, run_source};
 use std::alloc::Global;
 use std::sync::Wait;
 use std::thread::Threads;
-use source_runs::{Failure, Machine, accept, open, run_source};
 
 /// Does a command on the bytes of its files, and answers the status: a replay and a trace take their schedule
 /// from `schedule`, which the others pass over. Faults are looked for in this order: the source, the limits,

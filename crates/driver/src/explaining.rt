@@ -12,8 +12,8 @@ use diagnostics::{explain, explain_limits, explain_schedule};
 use orders::Order;
 use outputs::{NotWritten, Output};
 use schedule_text::read_schedule;
-use std::alloc::Global;
 use source_runs::{Failure, status_of_failure, tell};
+use std::alloc::Global;
 
 /// Writes a failure to the standard error, and behind a refusal a text that explains it, where the order asks for one. It answers the
 /// failure's status. An error is a write that failed, and a beginning of the telling is written then. Where the explanation wants memory,

@@ -12,8 +12,8 @@ ghost use Rattle.driver.specs.Records.{IsKept, IsRecordOf, refusal_of};
 use cil_model::memory::NoMemory;
 use outputs::Output;
 use schedule_text::ScheduleError;
-use std::alloc::Global;
 use source_runs::{Failure, History, status_of_failure, tell, write_record};
+use std::alloc::Global;
 
 /// What comes of the record of a run.
 #[derive(Drop)]

@@ -9,10 +9,10 @@ use crate::showing::show;
 use cil_model::limits::Limits;
 use orders::Workers;
 use outputs::Output;
+use source_runs::{Failure, OpenGate, run_threads};
 use std::alloc::Global;
 use std::sync::Wait;
 use std::thread::Threads;
-use source_runs::{Failure, OpenGate, run_threads};
 
 /// Runs a source by workers, prints what the run leaves, puts its record behind what is kept where one is asked for, and answers the status.
 pub(crate) fn show_threads<W: Output, E: Output>(

@@ -12,10 +12,10 @@ use cil_model::reports::End;
 use event_trace::explain_threads;
 use flip_trial::Outcome;
 use outputs::{NotWritten, Output};
+use source_runs::{Failure, Machine};
 use std::alloc::Global;
 use std::io;
 use std::io::Write;
-use source_runs::{Failure, Machine};
 
 /// Writes the one line of a check.
 pub(crate) fn say_accepted<W: Output>(out: &mut W) -> Result<(), NotWritten>

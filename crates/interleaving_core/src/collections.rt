@@ -17,12 +17,12 @@ use cil_model::limits::MOST_WORDS;
 use cil_model::memory::NoMemory;
 use cil_model::phases::Phase;
 use cil_model::reports::Report;
-use space_block::Block;
-use std::alloc::Global;
 use simulation::collector_code::{
     Progress, clear_step, copy_step, flip_static_step, is_closed, mark_step, retire, scan_statics,
     shell_step,
 };
+use space_block::Block;
+use std::alloc::Global;
 
 impl Engine {
     /// An event of the collector. It waits where a live thread has not acknowledged the posted phase. Want of memory, which the event

@@ -31,11 +31,11 @@ use cil_model::memory::NoMemory;
 use cil_model::reports::{End, Report};
 use object_memory::Addr;
 use phase_handshake::Posts;
-use std::alloc::Global;
 use simulation::collector_code::Progress;
 use simulation::interpreter_code::loaded_code::LoadedProgram;
 use simulation::interpreter_code::outcomes::Outcome;
 use simulation::interpreter_code::stores::Store;
+use std::alloc::Global;
 use threads_monitors::{Effect, Mutator, Standing, Thread, join, start, start_fault};
 
 /// A program, and all that changes while it runs: its threads, what a collector has posted and how far it is, and what instructions work on.

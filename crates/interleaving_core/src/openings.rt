@@ -18,11 +18,11 @@ use cil_model::trees::{Class, ClassKind, Field};
 use name_tables::classes::field_members;
 use object_memory::{Heap, Value};
 use phase_handshake::Posts;
-use space_block::Block;
-use std::alloc::Global;
 use simulation::collector_code::Progress;
 use simulation::interpreter_code::loaded_code::{LoadedProgram, value_kind};
 use simulation::interpreter_code::stores::Store;
+use space_block::Block;
+use std::alloc::Global;
 use threads_monitors::{Thread, zero_value};
 use verifier::Verified;
 

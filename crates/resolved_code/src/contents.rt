@@ -5,14 +5,14 @@ ghost use Rattle.cil_model.specs.Legality.{IsLegal};
 ghost use Rattle.resolved_code.specs.Resolved.{AreResolved};
 ghost use Rattle.resolved_code.specs.Contents.{IsContents, IsEntryPoint};
 
+use crate::classes::{ResolvedClass, ResolvedField, ResolvedMethod};
 use crate::entries::entry_number;
+use crate::literals::Literals;
+use crate::resolved::resolve_classes;
 use cil_model::memory::NoMemory;
 use cil_model::sequences::Sequence;
 use cil_model::texts::Text;
 use name_tables::lookups::{MemberNumber, NameTables};
-use crate::classes::{ResolvedClass, ResolvedField, ResolvedMethod};
-use crate::literals::Literals;
-use crate::resolved::resolve_classes;
 use std::alloc::Global;
 
 /// The classes of a legal tree by their numbers, its literals by theirs, and the number of its entry point.

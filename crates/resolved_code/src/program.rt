@@ -6,11 +6,11 @@ ghost use Rattle.cil_model.specs.Mentions.{literals_of};
 ghost use Rattle.resolved_code.specs.Resolved.{AreResolved};
 ghost use Rattle.resolved_code.specs.Contents.{IsContents, IsFieldOf, IsMethodOf, IsEntryPoint};
 
+use crate::classes::{ResolvedClass, ResolvedField, ResolvedMethod};
 use crate::contents::{Contents, field_at, method_at};
 use cil_model::texts::Text;
 use cil_model::trees::Tree;
 use name_tables::lookups::MemberNumber;
-use crate::classes::{ResolvedClass, ResolvedField, ResolvedMethod};
 use std::marker::Model;
 
 /// A legal program: the tree, with its classes, literals and entry point by numbers. Classes 0 to 4 are the built-in ones, and

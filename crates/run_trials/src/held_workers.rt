@@ -5,12 +5,12 @@ use cil_model::events::Event;
 use cil_model::memory::NoMemory;
 use cil_model::phases::Phase;
 use cil_model::reports::Report;
+use source_runs::{Failure, Gate, Machine, Run, open, run_threads};
 use std::alloc::Global;
 use std::sync::Wait;
 use std::sync::atomic::AtomicU64;
 use std::sync::atomic::Ordering::SeqCst;
 use std::thread::{Threads, yield_now};
-use source_runs::{Failure, Gate, Machine, Run, open, run_threads};
 
 /// The first thread starts another one, in its first 20 steps, and then both go round until their budgets end them.
 static ROUND: &str = ".assembly extern mscorlib {} .assembly extern cilvm {}

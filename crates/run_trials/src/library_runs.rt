@@ -6,13 +6,13 @@ use call_trials::{Call, LIMITS, SUM, act_many, came_to, run_both};
 use cil_model::events::Event;
 use orders::{read_source, read_text};
 use schedule_text::Item;
+use source_runs::{Failure, Machine, Outcome, accept, run_events};
 use std::alloc::Global;
 use std::io;
 use std::io::{ErrorKind, Read};
 use std::marker::Brand;
 use std::sync::Wait;
 use std::thread::Threads;
-use source_runs::{Failure, Machine, Outcome, accept, run_events};
 use worker_counts::Blank;
 
 /// Makes the calls. One that wants memory counts as one that came to something else.

@@ -4,10 +4,10 @@ ghost use Rattle.std.specs.Prelude.{◌≤◌};
 
 use call_trials::{LIMITS, SUM};
 use cil_model::limits::Limits;
+use source_runs::{Failure, OpenGate, Outcome, run_source, run_threads, write_record};
 use std::alloc::Global;
 use std::sync::Wait;
 use std::thread::Threads;
-use source_runs::{Failure, OpenGate, Outcome, run_source, run_threads, write_record};
 
 /// The first thread starts two others and prints 7; each of these counts from 0 to 4.
 static COUNTING: &str = ".assembly extern mscorlib {} .assembly extern cilvm {}

@@ -15,8 +15,8 @@ use std::alloc::Global;
 use std::marker::{Send, Sync};
 use std::snapshot::Snapshot;
 use std::sync::Wait;
-use std::thread::{Promise, PromisedHandle, Scope, Threads};
 use std::thread;
+use std::thread::{Promise, PromisedHandle, Scope, Threads};
 use worker_counts::Ticket;
 
 /// A worker's thread gives back its ticket, which has counted what the worker did.

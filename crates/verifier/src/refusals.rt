@@ -6,10 +6,10 @@ ghost use Rattle.verifier.specs.Numbers.{typing_number_of};
 ghost use Rattle.verifier.specs.Verdicts.{IsRefusalOf};
 ghost use Rattle.verifier.specs.declared.refusals.VerifyError.TheVariants.{NoTyping, OutOfMemory};
 
+use crate::failures::{FailurePoint, TypingError};
 use cil_model::memory::NoMemory;
 use std::alloc::AllocFailed;
 use thiserror::Error;
-use crate::failures::{FailurePoint, TypingError};
 
 /// Why a program was not accepted.
 #[derive(Debug, Drop, Error)]

@@ -17,10 +17,10 @@ ghost use Rattle.verifier.specs.Evidence.{IsRefusedAt, IsToldOf, IsAnsweredBy, I
 ghost use Rattle.verifier.specs.declared.failures.TypingError.TheVariants.{OutOfMemory};
 ghost use Rattle.verifier.specs.declared.search.RaiseError.TheVariants as OfRaise;
 
+use crate::failures::{FailurePoint, IncomingStack, Reason, TypingError};
 use crate::kept_stacks::KeptStack;
 use crate::merging::{MergeError, StackMerge, merge_stacks};
 use crate::order::Order;
-use crate::failures::{FailurePoint, IncomingStack, Reason, TypingError};
 use crate::stacks::stack_after;
 use crate::ways::ways_on;
 use cil_model::memory::NoMemory;

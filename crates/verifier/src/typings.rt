@@ -12,16 +12,16 @@ ghost use Rattle.verifier.specs.Members.{methods_at};
 ghost use Rattle.verifier.specs.Verdicts.{AreVerdicts, IsMethodVerdict};
 
 use crate::arguments::arguments_of;
+use crate::failures::TypingError;
+use crate::kept_stacks::KeptStack;
 use crate::refusals::{VerifyError, refused};
+use crate::search::find_typing;
 use cil_model::sequences::Sequence;
 use flow_rules::type_tree::TypeTree;
 use name_tables::lookups::MemberNumber;
 use resolved_code::Program;
 use resolved_code::classes::{Body, ResolvedMethod, body_of};
 use std::alloc::Global;
-use crate::kept_stacks::KeptStack;
-use crate::failures::TypingError;
-use crate::search::find_typing;
 
 /// The stacks before the instructions of a method, the top of each first; none where control never reaches an instruction.
 pub type Typing = Sequence<Option<KeptStack>>;

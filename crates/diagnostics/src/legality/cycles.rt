@@ -3,9 +3,9 @@
 use super::breaches::{Breach, Found};
 use super::sentences::{tell_one, tell_two};
 use super::sites::{Sites, class_key};
+use crate::source_map::{ClassPart, ClassText, Place};
 use name_tables::keys::ClassKey;
 use name_tables::lookups::NameTables;
-use crate::source_map::{ClassPart, ClassText, Place};
 use std::fmt;
 
 /// The most bases that are named.

@@ -3,13 +3,13 @@
 use super::breaches::{Breach, Found};
 use super::sentences::{tell_one, tell_two};
 use super::sites::{MemberSpot, Sites, class_name, key_of, listed_interface, located_method};
+use crate::source_map::{ClassPart, ClassText, LinePart, MethodText, Place, nth_field, nth_method};
 use cil_model::texts::Text;
 use cil_model::trees::{Method, Tree};
 use metadata::violations;
 use metadata::violations::{DoubledInClass, Repeat, SourceMember};
 use name_tables::bodies::lines_of;
 use name_tables::keys::{ClassKey, MethodKey};
-use crate::source_map::{ClassPart, ClassText, LinePart, MethodText, Place, nth_field, nth_method};
 use std::fmt;
 
 /// A name that stands twice where it must stand once.

@@ -4,12 +4,12 @@ use super::advice::Advice;
 use super::breaches::{Breach, Found};
 use super::sentences::{tell_one, tell_two};
 use super::sites::{Sites, key_of, located_method};
+use crate::source_map::{MemberPart, MethodText, Place, TypeText};
 use cil_model::trees::{Method, Tree};
 use cil_model::types::DeclaredType;
 use metadata::violations;
 use metadata::violations::SourceMember;
 use name_tables::keys::MethodKey;
-use crate::source_map::{MemberPart, MethodText, Place, TypeText};
 use std::fmt;
 
 /// Why a source has not one entry point, in a static method without parameters that returns nothing.

@@ -2,12 +2,12 @@
 
 use super::breaches::{Breach, Found};
 use super::sites::{Sites, class_key, listed_interface, method_key, method_place};
+use crate::source_map::{ClassPart, ClassText, MethodText, Place};
 use cil_model::texts::Text;
 use cil_model::trees::Class;
 use metadata::violations;
 use name_tables::keys::{ClassKey, MethodKey};
 use name_tables::lookups::{MemberNumber, NameTables};
-use crate::source_map::{ClassPart, ClassText, MethodText, Place};
 use std::fmt;
 
 /// A method of an interface that a class lists, for which no class of the chain has a virtual method.

@@ -5,13 +5,13 @@ use super::sentences::{tell_one, tell_two};
 use super::sites::{
     MemberSpot, Sites, class_key, class_name, key_of, method_key, method_place, source_number,
 };
+use crate::source_map::{ClassText, MethodText, Place, nth_method};
 use cil_model::texts::Text;
 use cil_model::trees::Class;
 use metadata::violations;
 use metadata::violations::KindFault;
 use name_tables::keys::{ClassKey, MethodKey};
 use name_tables::lookups::{MemberNumber, NameTables};
-use crate::source_map::{ClassText, MethodText, Place, nth_method};
 use std::fmt;
 
 /// A method whose kind does not fit its class or what it inherits.

@@ -3,6 +3,7 @@
 use super::breaches::{Breach, Found};
 use super::references::{place_of, type_at};
 use super::sites::{MemberSpot, Sites, class_name, located_method};
+use crate::source_map::{LinePart, MemberPart, MethodPlace, Place, method_of_number};
 use cil_model::instructions::Instruction;
 use cil_model::limits::{
     MOST_ARGUMENTS, MOST_BRACKETS, MOST_CLASSES, MOST_INSTANCE_FIELDS, MOST_INSTRUCTIONS,
@@ -16,7 +17,6 @@ use name_tables::bodies::{code_of, lines_of, locals_of};
 use name_tables::keys::ClassKey;
 use name_tables::kinds::is_static;
 use name_tables::lookups::NameTables;
-use crate::source_map::{LinePart, MemberPart, MethodPlace, Place, method_of_number};
 use std::fmt;
 
 /// How many of some things there may be.

@@ -1,6 +1,7 @@
 //! What a part of a source names.
 
 use super::sites::{MemberSpot, located_field, located_method};
+use crate::source_map::{LinePart, MemberPart, Place};
 use cil_model::instructions::Instruction;
 use cil_model::texts::Text;
 use cil_model::trees::Tree;
@@ -9,7 +10,6 @@ use metadata::mentions::NamedTypes;
 use metadata::violations::{SourceMember, TypeSite, TypesPart};
 use name_tables::bodies::{lines_of, locals_of};
 use name_tables::keys::{ClassKey, FieldKey, MethodKey};
-use crate::source_map::{LinePart, MemberPart, Place};
 
 // ---- types
 

@@ -8,12 +8,12 @@ use super::implemented::not_implemented;
 use super::kinds::misfit_of;
 use super::limits::passed_limit;
 use super::unknown::unknown_name;
+use crate::source_map::{Named, Place, offset_of};
 use cil_model::memory::NoMemory;
 use cil_model::trees::Tree;
 use metadata::violations::Violation;
 use name_tables::built_in::BuiltInClass;
 use name_tables::lookups::NameTables;
-use crate::source_map::{Named, Place, offset_of};
 use std::alloc::Global;
 
 fn offset_at(alloc: Global, text: &[u8], place: Option<Place>) -> Result<Option<usize>, NoMemory> {

@@ -1,10 +1,10 @@
 //! Where rules are broken.
 
+use crate::source_map::{ClassPart, LinePart, MemberPart, Place, nth_field, nth_method};
 use cil_model::trees::{Class, ClassKind, Field, Member, Method, Tree};
 use metadata::violations::SourceMember;
 use name_tables::keys::{ClassKey, MethodKey};
 use name_tables::lookups::{MemberNumber, NameTables};
-use crate::source_map::{ClassPart, LinePart, MemberPart, Place, nth_field, nth_method};
 
 /// Where a rule is broken.
 #[derive(Clone, Copy)]

@@ -5,6 +5,7 @@ use super::breaches::{Breach, Found};
 use super::references::{MemberKey, class_of, class_place, line_at, member_of, type_at};
 use super::sentences::tell_two;
 use super::sites::{Sites, key_of, listed_interface};
+use crate::source_map::{ClassPart, ClassText, LinePart, MethodText, Place, TypeText};
 use cil_model::instructions::Instruction;
 use cil_model::texts::Text;
 use cil_model::trees::{Class, ClassKind, Field, Method, Tree};
@@ -14,7 +15,6 @@ use metadata::violations::{ClassFault, HeadingName, SourceMember, TypeSite};
 use name_tables::keys::{ClassKey, FieldKey, MethodKey};
 use name_tables::kinds::is_static;
 use name_tables::lookups::NameTables;
-use crate::source_map::{ClassPart, ClassText, LinePart, MethodText, Place, TypeText};
 use std::fmt;
 
 /// What a class is named as.

@@ -3,12 +3,12 @@
 use super::hints::ExpectedText;
 use super::instead::{Instead, instead_at, instead_of_bytes};
 use super::spots::{offset_before, spot_at, word_at};
+use crate::source_map::{Named, token_at};
 use cil_model::limits::MOST_SOURCE_BYTES;
 use cil_model::memory::NoMemory;
 use ilasm_reader::ReadError;
 use ilasm_tokens::expected::Expected;
 use ilasm_tokens::words::{WordUse, use_of};
-use crate::source_map::{Named, token_at};
 use std::alloc::Global;
 use std::fmt;
 

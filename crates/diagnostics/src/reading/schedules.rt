@@ -1,8 +1,8 @@
 //! Why a text is no schedule (numbers 501 to 503).
 
+use crate::source_map::Named;
 use cil_model::memory::NoMemory;
 use schedule_text::{MOST_EVENTS, ScheduleError, read_schedule};
-use crate::source_map::Named;
 use std::alloc::Global;
 use std::fmt;
 

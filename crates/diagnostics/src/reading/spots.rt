@@ -1,10 +1,10 @@
 //! A token with those beside it.
 
+use crate::source_map::token_at;
 use cil_model::memory::NoMemory;
 use ilasm_tokens::failure::Failure;
 use ilasm_tokens::source::{token_offset, tokens};
 use ilasm_tokens::words::use_of;
-use crate::source_map::token_at;
 use std::alloc::Global;
 use std::str;
 

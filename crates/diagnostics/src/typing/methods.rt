@@ -1,8 +1,8 @@
 //! A method of a source, by its number.
 
+use crate::source_map::{LinePart, MemberPart, MethodPlace, Place, method_of_number, nth_method};
 use cil_model::instructions::MethodName;
 use cil_model::trees::{Class, Method};
-use crate::source_map::{LinePart, MemberPart, MethodPlace, Place, method_of_number, nth_method};
 
 /// A method of a source, with the name of its class.
 #[derive(Clone, Copy)]

@@ -1,11 +1,11 @@
 //! Types by numbers, as text.
 
+use crate::source_map::ClassText;
 use cil_model::trees::Class;
 use flow_rules::entries::StackEntry;
 use name_tables::built_in::BuiltInClass;
 use name_tables::keys::ClassKey;
 use resolved_code::types::{NumberedElement, NumberedType};
-use crate::source_map::ClassText;
 use std::fmt;
 use std::fmt::Display;
 

@@ -8,8 +8,8 @@ use resolved_code::operations::Operation;
 use resolved_code::types::NumberedType;
 use std::fmt;
 use std::fmt::Display;
-use verifier::merging::StackMismatch;
 use verifier::failures::Reason;
+use verifier::merging::StackMismatch;
 
 /// A reason, at an instruction with this name in the source.
 #[derive(Clone, Copy)]
