@@ -1,8 +1,13 @@
--- Steps of Mark: what the static fields hold is there to be marked, and a step that finds nothing grey changes nothing, so a round comes next.
-use Rattle.std.proofs.Common.{◌≡◌, if◌then◌else◌, Bool, true, false, List, [], ◌∷◌, get_or, Option, Some, None, pos, refl, sym, ap, ◌∙◌}
+-- Events of the collector. In Mark what the static fields hold is there to be marked, and a step that finds nothing grey changes nothing, so a round comes next.
+use Rattle.std.proofs.Common.{◌≡◌, if◌then◌else◌, Bool, true, false, List, [], ◌∷◌, get_or, Option, Some, None, pos, inr, refl, sym, ap, ◌∙◌}
 use Rattle.std.proofs.lemmas.List.Elements.{All-from_get_or}
 use Rattle.std.proofs.lemmas.Option.{slice_get-get_or}
-use Rattle.cil_model.specs.declared.reports.Report.TheVariants.{Worked}
+use Rattle.cil_model.specs.declared.events.Event.TheVariants.{Gc}
+use Rattle.cil_model.specs.declared.phases.Phase.{Phase}
+use Rattle.cil_model.specs.declared.phases.Phase.TheVariants.{Idle}
+use Rattle.cil_model.specs.declared.reports.Report.{Report}
+use Rattle.cil_model.specs.declared.reports.Report.TheVariants.{Waiting, Worked}
+use Rattle.phase_handshake.specs.Handshakes.{all_seen}
 use Rattle.object_memory.specs.declared.addresses.Addr.{Addr}
 use Rattle.object_memory.specs.declared.values.Value.{Value}
 use Rattle.object_memory.specs.declared.values.Value.TheVariants.{Int32}
@@ -10,14 +15,28 @@ use Rattle.object_memory.specs.Cells.{Cell}
 use Rattle.object_memory.specs.Objects.{Objects}
 use Rattle.simulation.specs.instructions.barriers.Barriers.{is_value_there}
 use Rattle.simulation.specs.collector.Conditions.{AreThere}
+use Rattle.simulation.specs.collector.Phases.{is_of_cycle}
 use Rattle.simulation.specs.collector.Marking.{mark_step, marked_on, oldest_cell, statics_scanned}
 use Rattle.simulation.specs.collector.declared.progress.Progress.{Progress}
-use Rattle.simulation.specs.Collecting.{marked, mark_work, rounds}
+use Rattle.simulation.specs.Collecting.{collected, cycle_opened, marked, mark_work, rounds, work}
 use Rattle.simulation.specs.MachineContents.{Content}
 use Rattle.simulation.specs.Sound.{IsSound}
+use Rattle.simulation.specs.Turns.{TakesMemory}
 use Rattle.simulation.proofs.NormalContents.{sound_is_held, static_is_live}
 use Rattle.simulation.proofs.collector.HeldValues.{live_value_is_there}
 use Rattle.simulation.proofs.collector.Views.{never}
+
+-- where each live thread has acknowledged the posted phase, its work is done
+pub collects : (c : Content) (phase : Phase) → all_seen c.posts ≡ true → c.posts.posted ≡ phase → collected c ≡ work phase c
+collects c phase seen posted = ap (λ b. if◌then◌else◌ {A = Content × Report} b (work c.posts.posted c) (c, Waiting)) seen ∙ ap (λ x. work x c) posted
+
+-- and else it waits
+pub waits : (c : Content) → all_seen c.posts ≡ false → collected c ≡ (c, Waiting)
+waits c unseen = ap (λ b. if◌then◌else◌ {A = Content × Report} b (work c.posts.posted c) (c, Waiting)) unseen
+
+-- the event that opens a cycle takes memory
+pub opening_takes_memory : (c : Content) → IsSound c → all_seen c.posts ≡ true → c.posts.posted ≡ Idle → TakesMemory c Gc
+opening_takes_memory c sound seen idle = ((cycle_opened c, Worked), sym (collects c Idle seen idle), inr (inr (sound.heap.blocks.held ∙ ap is_of_cycle idle, refl)))
 
 -- what the static fields of a sound machine hold is there
 pub statics_there : (c : Content) → IsSound c → AreThere c.objects c.statics

@@ -3,7 +3,8 @@ use Rattle.std.proofs.Common.{◌≡◌, ◌<◌, ℕ, true, false, List, ◌++�
 use Rattle.std.specs.Prelude.{IsSome, slice_index_or}
 use Rattle.std.specs.Option.{option_map_or}
 use Rattle.std.proofs.Math.Seq.{take-append_seam}
-use Rattle.std.proofs.lemmas.Option.{get_or_from_slice_get, slice_get_read}
+use Rattle.std.proofs.lemmas.List.{set-get_or}
+use Rattle.std.proofs.lemmas.Option.{get_or_from_slice_get, slice_get_read, slice_get_within}
 use Rattle.cil_model.specs.declared.phases.Phase.{Phase}
 use Rattle.cil_model.specs.declared.limits.Limits.{Limits}
 use Rattle.cil_model.specs.declared.reports.Fault.{Fault}
@@ -38,6 +39,12 @@ refilled xs ws n e = subst (λ k. take k (ws ++ drop (length ws) xs) ≡ ws) e (
 pub read_there : (threads read : List Thread) (t i : ℕ) (thread : Thread) → read ≡ threads → i ≡ t → i < length read → thread ≡ slice_index_or read i thread → slice_get threads t ≡ Some thread
 read_there threads read t i thread same number inside reads =
     subst (λ x. slice_get x t ≡ Some thread) same (subst (λ n. slice_get read n ≡ Some thread) number (slice_get_read read (length read) i thread refl inside reads))
+
+-- a live thread's number leads to it
+pub live_within : (threads : List Thread) (t i : ℕ) → i ≡ t → is_live_at threads t ≡ true → i < length threads
+live_within threads t i same live =
+    let there = live_there threads t live in
+    slice_get_within threads i (live_thread there.0 there.1) (ap (slice_get threads) same ∙ there.2)
 
 module _ (threads : List Thread) (t i : ℕ) (same : i ≡ t) (thread : Thread) (reads : thread ≡ slice_index_or threads i thread) where
   pub reached : (x : Thread) → slice_get threads t ≡ Some x → thread ≡ x
@@ -98,6 +105,16 @@ module _ (c : Content) (t i : ℕ) (same : i ≡ t) (thread : Thread) (reads : t
         is = ap (λ (k : ℕ). record c { threads = slice_set c.threads k new; objects = o; statics = statics; printed = printed }) same
             ∙ ap (λ (x : Thread). record c { threads = slice_set c.threads t x; objects = o; statics = statics; printed = printed }) new_is;
       }
+
+  -- where it is refused, and changes nothing
+  pub refused_is : (new : Thread) (o : Objects) (statics : List Value) (printed : List ℕ) → new ≡ thread → o ≡ c.objects → statics ≡ c.statics → printed ≡ c.printed
+      → record c { threads = slice_set c.threads i new; objects = o; statics = statics; printed = printed } ≡ c
+  refused_is new o statics printed same_thread same_objects same_statics same_printed =
+      ap (λ (x : Thread). record c { threads = slice_set c.threads i x; objects = o; statics = statics; printed = printed }) (same_thread ∙ reads)
+      ∙ ap (λ (threads : List Thread). record c { threads = threads; objects = o; statics = statics; printed = printed }) (set-get_or c.threads i thread)
+      ∙ ap (λ (x : Objects). record c { objects = x; statics = statics; printed = printed }) same_objects
+      ∙ ap (λ (x : List Value). record c { statics = x; printed = printed }) same_statics
+      ∙ ap (λ (x : List ℕ). record c { printed = x }) same_printed
 
 -- ---- a ready thread
 

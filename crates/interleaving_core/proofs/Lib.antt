@@ -18,3 +18,4 @@ pub mod Requests
 pub mod Ends
 pub mod AwaitedObjects
 pub mod Doing
+pub mod OpeningStatics

@@ -1,5 +1,6 @@
 use Rattle.std.proofs.Common.{◌≡◌, Some, List, [], ◌∷◌, ◌++◌, length, is_some, slice_get, sym, ap, subst, ◌∙◌}
 use Rattle.std.specs.List.{flat_map}
+use Rattle.std.proofs.lemmas.Result.{IfOk-from_err}
 use Rattle.cil_model.specs.declared.trees.Class.{Class}
 use Rattle.cil_model.specs.declared.trees.Tree.{Tree}
 use Rattle.cil_model.specs.Legality.{IsLegal}
@@ -25,6 +26,66 @@ beginning-requires-clause-there c =
     let is : IsEntryPoint tree number = subst (λ t. IsEntryPoint t number) c.program-3.ensures c.entry_point.ensures in
     let entry = entry_there tree legal number is in
     ap is_some (c.number-entry.ensures entry.0 entry.1)
+
+pub returns-in_err-program-clause-program : goal.returns-in_err-program-clause-program
+returns-in_err-program-clause-program c = IfOk-from_err c.from_residual.result _ c.from_residual.ensures.0
+
+pub returns-in_err-program-clause-accepted : goal.returns-in_err-program-clause-accepted
+returns-in_err-program-clause-accepted c = IfOk-from_err c.from_residual.result _ c.from_residual.ensures.0
+
+pub returns-in_err-program-clause-alone : goal.returns-in_err-program-clause-alone
+returns-in_err-program-clause-alone c = IfOk-from_err c.from_residual.result _ c.from_residual.ensures.0
+
+pub returns-in_err-program-clause-opening : goal.returns-in_err-program-clause-opening
+returns-in_err-program-clause-opening c = IfOk-from_err c.from_residual.result _ c.from_residual.ensures.0
+
+pub returns-in_err-statics-clause-program : goal.returns-in_err-statics-clause-program
+returns-in_err-statics-clause-program c = IfOk-from_err c.from_residual-in_err-statics.result _ c.from_residual-in_err-statics.ensures.0
+
+pub returns-in_err-statics-clause-accepted : goal.returns-in_err-statics-clause-accepted
+returns-in_err-statics-clause-accepted c = IfOk-from_err c.from_residual-in_err-statics.result _ c.from_residual-in_err-statics.ensures.0
+
+pub returns-in_err-statics-clause-alone : goal.returns-in_err-statics-clause-alone
+returns-in_err-statics-clause-alone c = IfOk-from_err c.from_residual-in_err-statics.result _ c.from_residual-in_err-statics.ensures.0
+
+pub returns-in_err-statics-clause-opening : goal.returns-in_err-statics-clause-opening
+returns-in_err-statics-clause-opening c = IfOk-from_err c.from_residual-in_err-statics.result _ c.from_residual-in_err-statics.ensures.0
+
+pub returns-in_err-heap-clause-program : goal.returns-in_err-heap-clause-program
+returns-in_err-heap-clause-program c = IfOk-from_err c.from_residual-in_err-heap.result _ c.from_residual-in_err-heap.ensures.0
+
+pub returns-in_err-heap-clause-accepted : goal.returns-in_err-heap-clause-accepted
+returns-in_err-heap-clause-accepted c = IfOk-from_err c.from_residual-in_err-heap.result _ c.from_residual-in_err-heap.ensures.0
+
+pub returns-in_err-heap-clause-alone : goal.returns-in_err-heap-clause-alone
+returns-in_err-heap-clause-alone c = IfOk-from_err c.from_residual-in_err-heap.result _ c.from_residual-in_err-heap.ensures.0
+
+pub returns-in_err-heap-clause-opening : goal.returns-in_err-heap-clause-opening
+returns-in_err-heap-clause-opening c = IfOk-from_err c.from_residual-in_err-heap.result _ c.from_residual-in_err-heap.ensures.0
+
+pub returns-in_err-first-clause-program : goal.returns-in_err-first-clause-program
+returns-in_err-first-clause-program c = IfOk-from_err c.from_residual-in_err-first.result _ c.from_residual-in_err-first.ensures.0
+
+pub returns-in_err-first-clause-accepted : goal.returns-in_err-first-clause-accepted
+returns-in_err-first-clause-accepted c = IfOk-from_err c.from_residual-in_err-first.result _ c.from_residual-in_err-first.ensures.0
+
+pub returns-in_err-first-clause-alone : goal.returns-in_err-first-clause-alone
+returns-in_err-first-clause-alone c = IfOk-from_err c.from_residual-in_err-first.result _ c.from_residual-in_err-first.ensures.0
+
+pub returns-in_err-first-clause-opening : goal.returns-in_err-first-clause-opening
+returns-in_err-first-clause-opening c = IfOk-from_err c.from_residual-in_err-first.result _ c.from_residual-in_err-first.ensures.0
+
+pub returns-in_err-push-clause-program : goal.returns-in_err-push-clause-program
+returns-in_err-push-clause-program c = IfOk-from_err c.from_residual-in_err-push.result _ c.from_residual-in_err-push.ensures.0
+
+pub returns-in_err-push-clause-accepted : goal.returns-in_err-push-clause-accepted
+returns-in_err-push-clause-accepted c = IfOk-from_err c.from_residual-in_err-push.result _ c.from_residual-in_err-push.ensures.0
+
+pub returns-in_err-push-clause-alone : goal.returns-in_err-push-clause-alone
+returns-in_err-push-clause-alone c = IfOk-from_err c.from_residual-in_err-push.result _ c.from_residual-in_err-push.ensures.0
+
+pub returns-in_err-push-clause-opening : goal.returns-in_err-push-clause-opening
+returns-in_err-push-clause-opening c = IfOk-from_err c.from_residual-in_err-push.result _ c.from_residual-in_err-push.ensures.0
 
 pub returns-clause-opening : goal.returns-clause-opening
 returns-clause-opening c =

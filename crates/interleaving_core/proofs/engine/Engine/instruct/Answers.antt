@@ -1,12 +1,17 @@
-use Rattle.std.proofs.Common.{ap, subst}
+use Rattle.std.proofs.Common.{◌≡◌, ap, length, rules, subst, vec_len}
 use Rattle.std.proofs.lemmas.Result.{IfOk-weaker, on_err_weaker}
 use Rattle.simulation.specs.interpreter.Instructions.{Prints}
 use Rattle.simulation.specs.Turns.{live_thread}
 use Rattle.threads_monitors.specs.declared.mutators.Mutator.{Mutator}
 use Rattle.threads_monitors.specs.declared.threads.Thread.{Thread}
 use Rattle.interleaving_core.specs.Views.{content_of}
-use Rattle.interleaving_core.proofs.Indexed.{instructed, reached, reached_live, reached_with, ready_for}
+use Rattle.interleaving_core.proofs.Indexed.{instructed, live_within, reached, reached_live, reached_with, ready_for, refused_is}
 use Rattle.interleaving_core.proofs.engine.Engine.instruct.Goals as goal
+
+pub index_mut-requires : goal.index_mut-requires
+index_mut-requires c =
+    let counted : vec_len c.args.self.now.threads ≡ length c.args.self.now.threads.items = search rules in
+    rw counted (live_within c.args.self.now.threads.items c.args.number c.from.result c.from.ensures c.requires.live)
 
 pub instruct-requires-clause-live : goal.instruct-requires-clause-live
 instruct-requires-clause-live c = reached_live c.args.self.now.threads.items c.args.number c.from.result c.from.ensures c.index_mut.result.now c.index_mut.ensures.value c.requires.live
@@ -37,3 +42,10 @@ returns-clause-prints c =
     subst (λ (u : Mutator). Prints c.args.self.now.program u m c.args.self.now.store.heap c.args.self.now.store.statics.items c.args.self.now.store.console.items)
     (ap (λ p. record { number = c.args.number; phase = p }) c.phase.ensures) (prints m (ap (λ (x : Thread). x.standing) is)))
     c.instruct.ensures.prints
+
+pub returns-clause-refused : goal.returns-clause-refused
+returns-clause-refused c =
+    on_err_weaker c.instruct.result
+    (λ kept. refused_is (content_of c.args.self.now) c.args.number c.from.result c.from.ensures c.index_mut.result.now c.index_mut.ensures.value c.instruct.new.thread c.instruct.new.store.heap
+    c.instruct.new.store.statics.items c.instruct.new.store.console.items kept.0 kept.1.heap kept.1.statics kept.1.console)
+    c.instruct.ensures.refused

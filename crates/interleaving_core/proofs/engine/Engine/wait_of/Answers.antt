@@ -16,6 +16,9 @@ wait_in-requires-clause-object c =
     let live : slice_get c.args.self.now.threads.items c.args.thread ≡ Some (live_thread thread.steps_left c.in-Live.frames) = there ∙ ap Some (thread_is thread c.in-Live.frames c.in-Live.is) in
     has_object (content_of c.args.self.now) c.args.thread thread.steps_left c.in-Live.frames (c.requires.ready.ready c.args.thread thread.steps_left c.in-Live.frames live) (c.requires.ready.answerable c.args.thread thread.steps_left c.in-Live.frames live)
 
+pub wait_in-requires-clause-few : goal.wait_in-requires-clause-few
+wait_in-requires-clause-few c = c.requires.few
+
 pub returns-in-Live : goal.returns-in-Live
 returns-in-Live c =
     let thread : Thread = c.in_ok-frames.field-0.now in

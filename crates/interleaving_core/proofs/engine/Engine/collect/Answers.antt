@@ -1,0 +1,118 @@
+use Rattle.std.proofs.Common.{◌∙◌, ap, ap₂, sym}
+use Rattle.std.proofs.lemmas.Result.{IfOk-weaker, on_err_weaker}
+use Rattle.cil_model.specs.declared.phases.Phase.TheVariants.{Idle, Mark, Allocate, Copy, PreFlip, HeapFlip, ThreadFlip, Reclaim}
+use Rattle.reference_machine.specs.Cycles.{phase_after}
+use Rattle.interleaving_core.specs.Views.{content_of}
+use Rattle.interleaving_core.proofs.Collecting.{collects, opening_takes_memory, waits}
+use Rattle.interleaving_core.proofs.engine.Engine.collect.Goals as goal
+
+pub returns-then-not-all_seen-clause-turns : goal.returns-then-not-all_seen-clause-turns
+returns-then-not-all_seen-clause-turns c = sym (waits (content_of c.args.self.now) (sym c.if-not-all_seen.ensures))
+
+pub open_cycle-requires-clause-limits : goal.open_cycle-requires-clause-limits
+open_cycle-requires-clause-limits c = c.requires.limits
+
+pub open_cycle-requires-clause-sound : goal.open_cycle-requires-clause-sound
+open_cycle-requires-clause-sound c = c.requires.sound
+
+pub open_cycle-requires-clause-posted : goal.open_cycle-requires-clause-posted
+open_cycle-requires-clause-posted c = sym c.in-Idle.ensures.posted
+
+pub open_cycle-requires-clause-seen : goal.open_cycle-requires-clause-seen
+open_cycle-requires-clause-seen c = sym c.if-not-all_seen.ensures
+
+pub mark_on-requires-clause-sound : goal.mark_on-requires-clause-sound
+mark_on-requires-clause-sound c = c.requires.sound
+
+pub mark_on-requires-clause-posted : goal.mark_on-requires-clause-posted
+mark_on-requires-clause-posted c = sym c.in-Mark.ensures.posted
+
+pub mark_on-requires-clause-seen : goal.mark_on-requires-clause-seen
+mark_on-requires-clause-seen c = sym c.if-not-all_seen.ensures
+
+pub look_on-requires-clause-sound : goal.look_on-requires-clause-sound
+look_on-requires-clause-sound c = c.requires.sound
+
+pub look_on-requires-clause-posted : goal.look_on-requires-clause-posted
+look_on-requires-clause-posted c = sym c.in-Allocate.ensures.posted
+
+pub look_on-requires-clause-seen : goal.look_on-requires-clause-seen
+look_on-requires-clause-seen c = sym c.if-not-all_seen.ensures
+
+pub copy_on-requires-clause-sound : goal.copy_on-requires-clause-sound
+copy_on-requires-clause-sound c = c.requires.sound
+
+pub copy_on-requires-clause-posted : goal.copy_on-requires-clause-posted
+copy_on-requires-clause-posted c = sym c.in-Copy.ensures.posted
+
+pub copy_on-requires-clause-seen : goal.copy_on-requires-clause-seen
+copy_on-requires-clause-seen c = sym c.if-not-all_seen.ensures
+
+pub flip_on-requires-clause-sound : goal.flip_on-requires-clause-sound
+flip_on-requires-clause-sound c = c.requires.sound
+
+pub flip_on-requires-clause-few : goal.flip_on-requires-clause-few
+flip_on-requires-clause-few c = c.requires.few
+
+pub flip_on-requires-clause-posted : goal.flip_on-requires-clause-posted
+flip_on-requires-clause-posted c = sym c.in-HeapFlip.ensures.posted
+
+pub flip_on-requires-clause-seen : goal.flip_on-requires-clause-seen
+flip_on-requires-clause-seen c = sym c.if-not-all_seen.ensures
+
+pub clear_on-requires-clause-sound : goal.clear_on-requires-clause-sound
+clear_on-requires-clause-sound c = c.requires.sound
+
+pub clear_on-requires-clause-posted : goal.clear_on-requires-clause-posted
+clear_on-requires-clause-posted c = sym c.in-Reclaim.ensures.posted
+
+pub clear_on-requires-clause-seen : goal.clear_on-requires-clause-seen
+clear_on-requires-clause-seen c = sym c.if-not-all_seen.ensures
+
+pub post-requires-clause-next : goal.post-requires-clause-next
+post-requires-clause-next c = ap phase_after c.in-PreFlip.ensures.posted
+
+pub post-requires-clause-seen : goal.post-requires-clause-seen
+post-requires-clause-seen c = sym c.if-not-all_seen.ensures
+
+pub post-requires-in-ThreadFlip-clause-next : goal.post-requires-in-ThreadFlip-clause-next
+post-requires-in-ThreadFlip-clause-next c = ap phase_after c.in-ThreadFlip.ensures.posted
+
+pub post-requires-in-ThreadFlip-clause-seen : goal.post-requires-in-ThreadFlip-clause-seen
+post-requires-in-ThreadFlip-clause-seen c = sym c.if-not-all_seen.ensures
+
+pub returns-in-Idle-clause-turns : goal.returns-in-Idle-clause-turns
+returns-in-Idle-clause-turns c =
+    IfOk-weaker c.open_cycle.result _ _
+    (λ report opened. ap₂ (λ after told. (after, told)) opened.0 opened.1 ∙ sym (collects (content_of c.args.self.now) Idle (sym c.if-not-all_seen.ensures) (sym c.in-Idle.ensures.posted)))
+    c.open_cycle.ensures.opened
+
+pub returns-in-Idle-clause-memory : goal.returns-in-Idle-clause-memory
+returns-in-Idle-clause-memory c =
+    on_err_weaker c.open_cycle.result (λ refused. opening_takes_memory (content_of c.args.self.now) c.requires.sound (sym c.if-not-all_seen.ensures) (sym c.in-Idle.ensures.posted)) c.open_cycle.ensures.refused
+
+pub returns-in-Idle-clause-refused : goal.returns-in-Idle-clause-refused
+returns-in-Idle-clause-refused c = c.open_cycle.ensures.refused
+
+pub returns-in-Mark-clause-turns : goal.returns-in-Mark-clause-turns
+returns-in-Mark-clause-turns c = c.mark_on.ensures ∙ sym (collects (content_of c.args.self.now) Mark (sym c.if-not-all_seen.ensures) (sym c.in-Mark.ensures.posted))
+
+pub returns-in-Allocate-clause-turns : goal.returns-in-Allocate-clause-turns
+returns-in-Allocate-clause-turns c = c.look_on.ensures ∙ sym (collects (content_of c.args.self.now) Allocate (sym c.if-not-all_seen.ensures) (sym c.in-Allocate.ensures.posted))
+
+pub returns-in-Copy-clause-turns : goal.returns-in-Copy-clause-turns
+returns-in-Copy-clause-turns c = c.copy_on.ensures ∙ sym (collects (content_of c.args.self.now) Copy (sym c.if-not-all_seen.ensures) (sym c.in-Copy.ensures.posted))
+
+pub returns-in-HeapFlip-clause-turns : goal.returns-in-HeapFlip-clause-turns
+returns-in-HeapFlip-clause-turns c = c.flip_on.ensures ∙ sym (collects (content_of c.args.self.now) HeapFlip (sym c.if-not-all_seen.ensures) (sym c.in-HeapFlip.ensures.posted))
+
+pub returns-in-Reclaim-clause-turns : goal.returns-in-Reclaim-clause-turns
+returns-in-Reclaim-clause-turns c = c.clear_on.ensures ∙ sym (collects (content_of c.args.self.now) Reclaim (sym c.if-not-all_seen.ensures) (sym c.in-Reclaim.ensures.posted))
+
+pub returns-in-PreFlip-clause-turns : goal.returns-in-PreFlip-clause-turns
+returns-in-PreFlip-clause-turns c =
+    ap₂ (λ after told. (after, told)) c.post.ensures.after c.post.ensures.report ∙ sym (collects (content_of c.args.self.now) PreFlip (sym c.if-not-all_seen.ensures) (sym c.in-PreFlip.ensures.posted))
+
+pub returns-in-ThreadFlip-clause-turns : goal.returns-in-ThreadFlip-clause-turns
+returns-in-ThreadFlip-clause-turns c =
+    ap₂ (λ after told. (after, told)) c.post-in-ThreadFlip.ensures.after c.post-in-ThreadFlip.ensures.report ∙ sym (collects (content_of c.args.self.now) ThreadFlip (sym c.if-not-all_seen.ensures) (sym c.in-ThreadFlip.ensures.posted))
