@@ -1,5 +1,5 @@
 -- What a run that is shown, whole or in part, shows of its source.
-use Rattle.std.proofs.Common.{◌≡◌, ◌++◌, ℕ, Bool, true, false, List, [], map, Option, Result, Ok, Err, refl, ap, sym, ◌∙◌, subst, inl, inr}
+use Rattle.std.proofs.Common.{◌≡◌, ◌⊎◌, ◌++◌, ℕ, Bool, true, false, List, [], map, Option, Result, Ok, Err, refl, ap, sym, ◌∙◌, subst, inl, inr}
 use Rattle.std.specs.Prelude.{IfErr}
 use Rattle.source_runs.proofs.simulation.StandsLaws.{ends_stand, printed_stands}
 use Rattle.source_runs.specs.simulation.MachineContents.{Content}
@@ -24,6 +24,11 @@ use Rattle.source_runs.proofs.interleaving_core.Doing.{has_done}
 pub for_err : {T E : Type 0} {P : Type 0} (r : Result T E) → P → IfErr r (λ _. P)
 for_err (Ok x) p = tt
 for_err (Err e) p = p
+
+-- either of two, each by its own way
+pub by_either : {A B C D : Type 0} → A ⊎ B → (A → C) → (B → D) → C ⊎ D
+by_either (inl a) f g = inl (f a)
+by_either (inr b) f g = inr (g b)
 
 -- nothing explains a failure, whether that is asked for or not
 pub no_explanation : (told : Bool) → IsExplanation told []

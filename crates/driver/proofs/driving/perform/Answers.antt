@@ -1,11 +1,24 @@
 use Rattle.std.proofs.Common.{refl, subst}
-use Rattle.std.specs.Prelude.{IfErr, IfOk}
-use Rattle.source_runs.proofs.RunLemmas.{if_ok}
-use Rattle.driver.specs.Outcomes.{HasNotRun, HasRun}
+use Rattle.std.specs.Prelude.{◌≡◌, ◌⊎◌, IfErr, IfOk, OnErr}
+use Rattle.source_runs.proofs.RunLemmas.{if_err, if_ok, on_err, on_err_of}
+use Rattle.driver.specs.Outcomes.{HasNotRun, HasRun, HasRunThreads, IsRunByWorkersInPart, IsRunInPart}
+use Rattle.driver.proofs.OutcomeLemmas.{by_either, no_refusal}
 use Rattle.driver.proofs.driving.perform.Goals as goal
 
 pub returns-in-Check-clause-done : goal.returns-in-Check-clause-done
 returns-in-Check-clause-done g c = rw c.in-Check.is (if_ok c.check.result c.check.ensures.done (λ _ done. (done, refl, refl)))
+
+pub returns-in-Check-clause-failed : goal.returns-in-Check-clause-failed
+returns-in-Check-clause-failed g c = rw c.in-Check.is c.check.ensures.failed
+
+pub returns-in-Check-clause-same : goal.returns-in-Check-clause-same
+returns-in-Check-clause-same g c = on_err c.check.result refl
+
+pub returns-in-Check-clause-untouched : goal.returns-in-Check-clause-untouched
+returns-in-Check-clause-untouched g c = if_err c.check.result c.check.ensures.untouched (λ failure same refused. (same refused, refl))
+
+pub returns-in-Check-clause-in_part : goal.returns-in-Check-clause-in_part
+returns-in-Check-clause-in_part g c = rw c.in-Check.is (on_err_of c.check.result c.check.ensures.in_part (λ part. by_either part (λ same. (same, refl)) (λ begun. (begun.0, begun.1, refl))))
 
 pub returns-in-Run-clause-done : goal.returns-in-Run-clause-done
 returns-in-Run-clause-done g c =
@@ -18,11 +31,35 @@ returns-in-Run-clause-failed g c =
     rw c.in-Run.is (subst (λ text. IfErr c.show_run.result (HasNotRun c.args.source.now c.in-Run.limits text))
     c.as_bytes.ensures.value c.show_run.ensures.failed)
 
+pub returns-in-Run-clause-same : goal.returns-in-Run-clause-same
+returns-in-Run-clause-same g c = on_err c.show_run.result refl
+
+pub returns-in-Run-clause-untouched : goal.returns-in-Run-clause-untouched
+returns-in-Run-clause-untouched g c = c.show_run.ensures.untouched
+
+pub returns-in-Run-clause-in_part : goal.returns-in-Run-clause-in_part
+returns-in-Run-clause-in_part g c =
+    let out = g.W.Output.contents c.args.out.now in
+    let out' = g.W.Output.contents c.show_run.new.out in
+    let err = g.E.Output.contents c.args.err.now in
+    let err' = g.E.Output.contents c.show_run.new.err in
+    rw c.in-Run.is (subst (λ text. OnErr c.show_run.result (((out' ≡ out) × (err' ≡ err)) ⊎ IsRunInPart c.args.source.now c.in-Run.limits text c.in-Run.explain out out' err err'))
+    c.as_bytes.ensures.value c.show_run.ensures.in_part)
+
 pub returns-in-Replay-clause-done : goal.returns-in-Replay-clause-done
 returns-in-Replay-clause-done g c = rw c.in-Replay.is (if_ok c.show_run-in-Replay.result c.show_run-in-Replay.ensures.done (λ _ done. (done, refl)))
 
 pub returns-in-Replay-clause-failed : goal.returns-in-Replay-clause-failed
 returns-in-Replay-clause-failed g c = rw c.in-Replay.is c.show_run-in-Replay.ensures.failed
+
+pub returns-in-Replay-clause-same : goal.returns-in-Replay-clause-same
+returns-in-Replay-clause-same g c = on_err c.show_run-in-Replay.result refl
+
+pub returns-in-Replay-clause-untouched : goal.returns-in-Replay-clause-untouched
+returns-in-Replay-clause-untouched g c = c.show_run-in-Replay.ensures.untouched
+
+pub returns-in-Replay-clause-in_part : goal.returns-in-Replay-clause-in_part
+returns-in-Replay-clause-in_part g c = rw c.in-Replay.is c.show_run-in-Replay.ensures.in_part
 
 pub returns-in-Trace-clause-done : goal.returns-in-Trace-clause-done
 returns-in-Trace-clause-done g c = rw c.in-Trace.is (if_ok c.show_trace.result c.show_trace.ensures.done (λ _ done. (done, refl)))
@@ -30,8 +67,51 @@ returns-in-Trace-clause-done g c = rw c.in-Trace.is (if_ok c.show_trace.result c
 pub returns-in-Trace-clause-failed : goal.returns-in-Trace-clause-failed
 returns-in-Trace-clause-failed g c = rw c.in-Trace.is c.show_trace.ensures.failed
 
+pub returns-in-Trace-clause-same : goal.returns-in-Trace-clause-same
+returns-in-Trace-clause-same g c = on_err c.show_trace.result refl
+
+pub returns-in-Trace-clause-untouched : goal.returns-in-Trace-clause-untouched
+returns-in-Trace-clause-untouched g c = c.show_trace.ensures.untouched
+
+pub returns-in-Trace-clause-in_part : goal.returns-in-Trace-clause-in_part
+returns-in-Trace-clause-in_part g c = rw c.in-Trace.is c.show_trace.ensures.in_part
+
+pub returns-in-Threads-clause-done : goal.returns-in-Threads-clause-done
+returns-in-Threads-clause-done g c =
+    rw c.in-Threads.is (subst (λ asked. IfOk c.show_threads.result (HasRunThreads c.args.source.now c.in-Threads.limits c.in-Threads.workers.count asked c.in-Threads.explain
+    (g.W.Output.contents c.args.out.now) (g.W.Output.contents c.show_threads.new.out) (g.E.Output.contents c.args.err.now) (g.E.Output.contents c.show_threads.new.err)
+    c.args.record.now.items c.show_threads.new.kept.items)) c.is_some.ensures c.show_threads.ensures.done)
+
 pub returns-in-Threads-clause-failed : goal.returns-in-Threads-clause-failed
 returns-in-Threads-clause-failed g c = rw c.in-Threads.is c.show_threads.ensures.failed
 
+pub returns-in-Threads-clause-same : goal.returns-in-Threads-clause-same
+returns-in-Threads-clause-same g c = c.show_threads.ensures.same
+
+pub returns-in-Threads-clause-untouched : goal.returns-in-Threads-clause-untouched
+returns-in-Threads-clause-untouched g c = c.show_threads.ensures.untouched
+
+pub returns-in-Threads-clause-in_part : goal.returns-in-Threads-clause-in_part
+returns-in-Threads-clause-in_part g c =
+    let out = g.W.Output.contents c.args.out.now in
+    let out' = g.W.Output.contents c.show_threads.new.out in
+    let err = g.E.Output.contents c.args.err.now in
+    let err' = g.E.Output.contents c.show_threads.new.err in
+    rw c.in-Threads.is (subst (λ asked. OnErr c.show_threads.result (((out' ≡ out) × (err' ≡ err))
+    ⊎ IsRunByWorkersInPart c.args.source.now c.in-Threads.limits c.in-Threads.workers.count asked c.in-Threads.explain out out' err err'))
+    c.is_some.ensures c.show_threads.ensures.in_part)
+
 pub returns-in-Flip-clause-done : goal.returns-in-Flip-clause-done
 returns-in-Flip-clause-done g c = rw c.in-Flip.is (if_ok c.try_flip.result c.try_flip.ensures.done (λ _ done. (done, refl, refl)))
+
+pub returns-in-Flip-clause-failed : goal.returns-in-Flip-clause-failed
+returns-in-Flip-clause-failed g c = rw c.in-Flip.is c.try_flip.ensures.failed
+
+pub returns-in-Flip-clause-same : goal.returns-in-Flip-clause-same
+returns-in-Flip-clause-same g c = on_err c.try_flip.result refl
+
+pub returns-in-Flip-clause-untouched : goal.returns-in-Flip-clause-untouched
+returns-in-Flip-clause-untouched g c = if_err c.try_flip.result c.try_flip.ensures.failed (λ failure writing refused. absurd (no_refusal failure writing refused))
+
+pub returns-in-Flip-clause-in_part : goal.returns-in-Flip-clause-in_part
+returns-in-Flip-clause-in_part g c = rw c.in-Flip.is (on_err_of c.try_flip.result c.try_flip.ensures.in_part (λ part. by_either part (λ same. (same, refl)) (λ begun. (begun, refl))))

@@ -1,4 +1,5 @@
-use Rattle.std.proofs.Common.{inl, inr, subst, sym}
+use Rattle.std.proofs.Common.{◌∙◌, inl, inr, refl, subst, sym}
+use Rattle.std.proofs.lemmas.Result.{IfOk-from_err}
 use Rattle.driver.specs.Outcomes.{HasNotRunThreads}
 use Rattle.source_runs.specs.Failures.{IsOfWriting}
 use Rattle.source_runs.proofs.RunLemmas.{handed_on, if_err, if_ok, on_err, on_err_of}
@@ -9,26 +10,68 @@ use Rattle.driver.proofs.running_threads.show_threads.Goals as goal
 pub record_of-requires : goal.record_of-requires
 record_of-requires g c = all_numbered c.args.workers.count c.in_ok-outcome.outcome.history.entries c.in_ok-outcome.ensures.own
 
+pub returns-in_err-outcome-clause-done : goal.returns-in_err-outcome-clause-done
+returns-in_err-outcome-clause-done g c = IfOk-from_err c.from_residual.result _ c.from_residual.ensures.0
+
 pub returns-in_err-outcome-clause-failed : goal.returns-in_err-outcome-clause-failed
 returns-in_err-outcome-clause-failed g c =
     handed_on c.from_residual.result c.from_residual.ensures.1 (λ failure same.
     subst (HasNotRunThreads c.args.source.now c.args.limits) (sym same) (inl c.in_err-outcome.ensures.refused))
+
+pub returns-in_err-outcome-clause-same : goal.returns-in_err-outcome-clause-same
+returns-in_err-outcome-clause-same g c = on_err c.from_residual.result refl
+
+pub returns-in_err-outcome-clause-untouched : goal.returns-in_err-outcome-clause-untouched
+returns-in_err-outcome-clause-untouched g c = handed_on c.from_residual.result c.from_residual.ensures.1 (λ failure same refused. (refl, refl))
+
+pub returns-in_err-outcome-clause-in_part : goal.returns-in_err-outcome-clause-in_part
+returns-in_err-outcome-clause-in_part g c = on_err c.from_residual.result (inl (refl, refl))
+
+pub returns-in_err-record-clause-done : goal.returns-in_err-record-clause-done
+returns-in_err-record-clause-done g c = IfOk-from_err c.from_residual-in_err-record.result _ c.from_residual-in_err-record.ensures.0
 
 pub returns-in_err-record-clause-failed : goal.returns-in_err-record-clause-failed
 returns-in_err-record-clause-failed g c =
     let ran = c.in_ok-outcome.ensures.ran in
     handed_on c.from_residual-in_err-record.result c.from_residual-in_err-record.ensures.1 (λ failure same. inr ((ran.0, ran.1), inl same))
 
+pub returns-in_err-record-clause-same : goal.returns-in_err-record-clause-same
+returns-in_err-record-clause-same g c = on_err c.from_residual-in_err-record.result refl
+
+pub returns-in_err-record-clause-untouched : goal.returns-in_err-record-clause-untouched
+returns-in_err-record-clause-untouched g c = handed_on c.from_residual-in_err-record.result c.from_residual-in_err-record.ensures.1 (λ failure same refused. (refl, refl))
+
+pub returns-in_err-record-clause-in_part : goal.returns-in_err-record-clause-in_part
+returns-in_err-record-clause-in_part g c = on_err c.from_residual-in_err-record.result (inl (refl, refl))
+
+pub returns-in_err-reserve-clause-done : goal.returns-in_err-reserve-clause-done
+returns-in_err-reserve-clause-done g c = IfOk-from_err c.from_residual-in_err-reserve.result _ c.from_residual-in_err-reserve.ensures.0
+
 pub returns-in_err-reserve-clause-failed : goal.returns-in_err-reserve-clause-failed
 returns-in_err-reserve-clause-failed g c =
     let ran = c.in_ok-outcome.ensures.ran in
     handed_on c.from_residual-in_err-reserve.result c.from_residual-in_err-reserve.ensures.1 (λ failure same. inr ((ran.0, ran.1), inl same))
+
+pub returns-in_err-reserve-clause-same : goal.returns-in_err-reserve-clause-same
+returns-in_err-reserve-clause-same g c = on_err c.from_residual-in_err-reserve.result c.reserve.ensures.items
+
+pub returns-in_err-reserve-clause-untouched : goal.returns-in_err-reserve-clause-untouched
+returns-in_err-reserve-clause-untouched g c = handed_on c.from_residual-in_err-reserve.result c.from_residual-in_err-reserve.ensures.1 (λ failure same refused. (refl, refl))
+
+pub returns-in_err-reserve-clause-in_part : goal.returns-in_err-reserve-clause-in_part
+returns-in_err-reserve-clause-in_part g c = on_err c.from_residual-in_err-reserve.result (inl (refl, refl))
+
+pub returns-in_err-status-clause-done : goal.returns-in_err-status-clause-done
+returns-in_err-status-clause-done g c = IfOk-from_err c.from_residual-in_err-status.result _ c.from_residual-in_err-status.ensures.0
 
 pub returns-in_err-status-clause-failed : goal.returns-in_err-status-clause-failed
 returns-in_err-status-clause-failed g c =
     let ran = c.in_ok-outcome.ensures.ran in
     handed_on c.from_residual-in_err-status.result c.from_residual-in_err-status.ensures.1 (λ failure same.
     inr ((ran.0, ran.1), subst IsOfWriting (sym same) c.in_err-status.ensures.failed))
+
+pub returns-in_err-status-clause-same : goal.returns-in_err-status-clause-same
+returns-in_err-status-clause-same g c = on_err c.from_residual-in_err-status.result c.reserve.ensures.items
 
 pub returns-in_err-status-clause-untouched : goal.returns-in_err-status-clause-untouched
 returns-in_err-status-clause-untouched g c =
@@ -56,6 +99,9 @@ pub returns-clause-failed : goal.returns-clause-failed
 returns-clause-failed g c =
     let ran = c.in_ok-outcome.ensures.ran in
     if_err c.keep.result c.keep.ensures.failed (λ failure writing. inr ((ran.0, ran.1), writing))
+
+pub returns-clause-same : goal.returns-clause-same
+returns-clause-same g c = on_err_of c.keep.result c.keep.ensures.same (λ same. same ∙ c.reserve.ensures.items)
 
 pub returns-clause-untouched : goal.returns-clause-untouched
 returns-clause-untouched g c = if_err c.keep.result c.keep.ensures.failed (λ failure writing refused. absurd (no_refusal failure writing refused))
