@@ -1,7 +1,10 @@
 -- What an error that a `?` hands on is, and what a machine that was made and run shows of its source.
-use Rattle.std.proofs.Common.{◌≡◌, ℕ, List, Result, Ok, Err, sym, ◌∙◌, subst, inl, inr}
-use Rattle.std.specs.Prelude.{IfErr, IfOk, IsErrAnd, OnErr}
+use Rattle.std.proofs.Common.{◌≡◌, ℕ, Bool, true, false, List, Result, Ok, Err, refl, sym, ◌∙◌, subst, inl, inr}
+use Rattle.std.specs.Prelude.{◌↔◌, IfErr, IfOk, IsErrAnd, OnErr}
 use Rattle.cil_model.specs.Legality.{IsLegal}
+use Rattle.cil_model.specs.Ranges.{are_in_range}
+use Rattle.shared_machine.specs.interleaving_core.declared.machine.Refused.{Refused as NotMade}
+use Rattle.shared_machine.specs.interleaving_core.declared.machine.Refused.TheVariants.{Limits as BadLimits, OutOfMemory as NotMadeForMemory}
 use Rattle.shared_machine.specs.interleaving_core.Histories.{HasDone}
 use Rattle.shared_machine.specs.simulation.MachineContents.{Content}
 use Rattle.cil_model.specs.Sources.{HasTree, IsAnswer}
@@ -12,9 +15,9 @@ use Rattle.cil_model.specs.declared.trees.Tree.{Tree}
 use Rattle.cil_model.specs.Typings.{IsAccepted}
 use Rattle.verifier.specs.Verdicts.{IsVerdict}
 use Rattle.verifier.specs.declared.refusals.VerifyError.{VerifyError}
-use Rattle.source_runs.specs.Failures.{failure_of_verifying}
+use Rattle.source_runs.specs.Failures.{failure_of_making, failure_of_verifying}
 use Rattle.source_runs.specs.declared.failure.Failure.{Failure}
-use Rattle.source_runs.specs.Runs.{ComesToBy, IsAcceptedSource, IsNotAccepted}
+use Rattle.source_runs.specs.Runs.{ComesToBy, IsAcceptedSource, IsNotAccepted, IsNotRunWithin}
 
 pub handed_on : {T E : Type 0} {P gives : E → Type 0} (r : Result T E) → IsErrAnd r gives → ((e : E) → gives e → P e) → IfErr r P
 handed_on (Ok x) h f = tt
@@ -58,3 +61,13 @@ pub untyped_source : (source : List ℕ) (tree program : Tree) (error : VerifyEr
     → IsVerdict program (Err error) → failure ≡ failure_of_verifying error → IsNotAccepted source failure
 untyped_source source tree program error failure read same legal verdict told =
     inr (tree, read, inr (inl (legal, (error, subst (λ (t : Tree). IsVerdict t (Err error)) same verdict, told))))
+
+-- a machine that was not made: its limits, or else memory
+pub not_made : {T : Type 0} (limits : Limits) (error : NotMade) (failure : Failure) → (◌≡◌ {A = Result T NotMade} (Err error) (Err BadLimits)) ↔ (are_in_range limits ≡ false) → failure ≡ failure_of_making error
+    → IsNotRunWithin limits failure
+not_made limits BadLimits failure within told = inl (within.0 refl, told)
+not_made limits NotMadeForMemory failure within told = by_range (are_in_range limits) refl
+  where
+    by_range : (b : Bool) → are_in_range limits ≡ b → IsNotRunWithin limits failure
+    by_range true in_range = inr (in_range, told)
+    by_range false beyond = let wrong = within.1 beyond in absurd cc
