@@ -136,6 +136,9 @@ module _ (items : List Item) (i : ℕ) (d : Item) (below : i < length items) (ru
       ap length from_item ∙ length-append (replicate item.count item.event) behind ∙ ap (λ n. n + length behind) (length-replicate item.count item.event)
 
   module _ (most : ℕ) (few : run.count + length (events_of (drop i items)) ≤ most) where
+    pub few_both : run.count + item.count ≤ most
+    few_both = omega (arith, few, from_item_count)
+
     pub few_more : (more : Item) → replicate more.count more.event ≡ replicate run.count run.event ++ replicate item.count item.event → more.count + length behind ≤ most
     few_more more is =
         let long : more.count ≡ run.count + item.count =

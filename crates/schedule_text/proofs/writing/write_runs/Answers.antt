@@ -1,8 +1,14 @@
-use Rattle.std.proofs.Common.{arith, refl, string_bytes}
+use Rattle.std.proofs.Common.{ap, arith, refl, string_bytes}
 use Rattle.schedule_text.specs.declared.errors.TheConstants.{MOST_EVENTS}
-use Rattle.schedule_text.proofs.WritingLemmas.{few_more, few_next, last_run, no_run, run_ends, run_grows}
+use Rattle.schedule_text.proofs.WritingLemmas.{few_both, few_more, few_next, joined, last_run, no_run, run_ends, run_grows}
 use Rattle.schedule_text.proofs.writing.write_runs.Goals as goal
 use Rattle.schedule_text.proofs.writing.write_runs.Goals.{in-Some, in-None+in_ok-append_item-in-None, then-run-gt0+in_ok-append_item, else-run-gt0}
+
+pub loop-item-init : goal.loop-item-init
+loop-item-init c = record { written = λ runs are. (runs, are, ap (λ text. joined text runs) c.new-text.ensures.bytes); few = omega (arith, c.requires) }
+
+pub longer-requires : goal.longer-requires
+longer-requires c = few_both c.args.items.now c.loop-item.item-index _ c.loop-item-test.true c.loop-item.run MOST_EVENTS c.loop-item.invariant.few
 
 pub loop-item-preserved : goal.loop-item-preserved
 loop-item-preserved c =
