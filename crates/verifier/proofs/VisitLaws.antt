@@ -39,6 +39,13 @@ pub work_falls : {T : Type 0} (tree : Tree) (max_stack : ℤ) (after : List Stac
 work_falls tree max_stack after ways old new (Ok done) h = h.1
 work_falls tree max_stack after ways old new (Err e) h = tt
 
+-- what is so where a stack was taken on is so where that is answered
+pub answered_so : {T : Type 0} (P : Type 0) (r : Result T RaiseError) (answer : Result T TypingError) → IsAnsweredBy r answer → OnOk r P → OnOk answer P
+answered_so P (Ok done) (Ok done') told so = so
+answered_so P (Ok done) (Err e) told so = tt
+answered_so P (Err step) (Ok done) told so = elim told [ ]
+answered_so P (Err step) (Err e) told so = tt
+
 module _ (m : MethodTypes) (operations : List Operation) (max_stack : ℤ) (code : Code) (of : AreOf m operations max_stack code) where
   abbrev arguments : List DeclaredType
   arguments = types_named m.types.now m.arguments.now
