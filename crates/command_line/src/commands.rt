@@ -1,6 +1,6 @@
 //! The commands that clap reads, with their help.
 ghost use Rattle.std.specs.Prelude.{◌≡◌, IfOk, codes, pos};
-ghost use Rattle.clap.specs.Words.{App, app_of, new_app, with_subcommand};
+ghost use Rattle.clap.specs.Words.{App, Rule, app_of, new_app, with_rule, with_subcommand};
 ghost use Rattle.clap.specs.declared.builder.value_parser.ValueParser.TheVariants as vp;
 ghost use Rattle.command_line.specs.CommandLine.{IsArgument, IsCommand, check_app, cilvm_app, file_rule, flag_rule};
 ghost use Rattle.command_line.specs.CommandLine.{flip_app, needed, number_rule, replay_app, run_app, text_rule, threads_app, trace_app, with_default};
@@ -86,168 +86,214 @@ fn flag<'a>(alloc: Global, id: &'a str, help: &'a str) -> Arg<'a>
         .help(help)
 }
 
+/// A command with an argument more. An error is the command's own.
+fn with_argument<'a>(
+    command: Result<Command<'a>, AllocError>,
+    argument: Arg<'a>,
+) -> Result<Command<'a>, AllocError>
+    ensures { (app : App) (rule : Rule) → IfOk command.entry (IsCommand app) → IsArgument rule argument.entry → IfOk result (IsCommand (with_rule app rule)) }
+{
+    command?.arg(argument)
+}
+
 /// The option that has a refusal explained, and what threads wait for where a run ends with live ones.
 fn with_explain<'a>(
     alloc: Global,
-    command: Command<'a>,
+    command: Result<Command<'a>, AllocError>,
     help: &'a str,
 ) -> Result<Command<'a>, AllocError>
-    ensures { (app : App) → IsCommand app command.entry → IfOk result (IsCommand (with_explain app)) }
+    ensures { (app : App) → IfOk command.entry (IsCommand app) → IfOk result (IsCommand (with_explain app)) }
 {
-    command.arg(flag(alloc, "explain", help))
+    with_argument(command, flag(alloc, "explain", help))
+}
+
+/// A command without arguments: what it does, and what its help ends with.
+fn new_command<'a>(alloc: Global, name: &'a str, about: &'a str, after_help: &'a str) -> Command<'a>
+    ensures { IsCommand (new_app name.entry.now) result }
+{
+    Command::new(alloc, name)
+        .about(about)
+        .after_help(after_help)
 }
 
 /// A command that takes a source from a file.
-fn source_command<'a>(alloc: Global, name: &'a str) -> Result<Command<'a>, AllocError>
+fn source_command<'a>(
+    alloc: Global,
+    name: &'a str,
+    about: &'a str,
+    after_help: &'a str,
+) -> Result<Command<'a>, AllocError>
     ensures { IfOk result (IsCommand (with_source name.entry.now)) }
 {
-    Command::new(alloc, name).arg(file_argument(alloc, "file", "FILE", "The source, in ilasm text"))
+    let command = new_command(alloc, name, about, after_help);
+    command.arg(file_argument(alloc, "file", "FILE", "The source, in ilasm text"))
 }
 
 /// A command that takes a source and a schedule, each from a file.
-fn with_files<'a>(alloc: Global, name: &'a str) -> Result<Command<'a>, AllocError>
+fn with_files<'a>(
+    alloc: Global,
+    name: &'a str,
+    about: &'a str,
+    after_help: &'a str,
+) -> Result<Command<'a>, AllocError>
     ensures { IfOk result (IsCommand (with_files name.entry.now)) }
 {
-    source_command(alloc, name)?.arg(file_argument(
-        alloc,
-        "schedule",
-        "SCHEDULE",
-        "The file with the events",
-    ))
+    let command = source_command(alloc, name, about, after_help);
+    with_argument(
+        command,
+        file_argument(alloc, "schedule", "SCHEDULE", "The file with the events"),
+    )
 }
 
-fn with_limits<'a>(alloc: Global, command: Command<'a>) -> Result<Command<'a>, AllocError>
-    ensures { (app : App) → IsCommand app command.entry → IfOk result (IsCommand (with_limits app)) }
+fn with_limits<'a>(
+    alloc: Global,
+    command: Result<Command<'a>, AllocError>,
+) -> Result<Command<'a>, AllocError>
+    ensures { (app : App) → IfOk command.entry (IsCommand app) → IfOk result (IsCommand (with_limits app)) }
 {
-    command
-        .arg(limit_option(
-            alloc,
-            "words",
-            LEAST_WORDS,
-            MOST_WORDS,
-            "65536",
-            "Words of 64 bits in a space, 64 to 1048576",
-        ))?
-        .arg(limit_option(
-            alloc,
-            "budget",
-            1,
-            MOST_BUDGET,
-            "100000",
-            "Steps that each thread may take, 1 to 1000000",
-        ))?
-        .arg(limit_option(
-            alloc,
-            "depth",
-            1,
-            MOST_DEPTH,
-            "64",
-            "Calls that a thread may have open, 1 to 256",
-        ))
+    let words = limit_option(
+        alloc,
+        "words",
+        LEAST_WORDS,
+        MOST_WORDS,
+        "65536",
+        "Words of 64 bits in a space, 64 to 1048576",
+    );
+    let command = with_argument(command, words);
+    let budget = limit_option(
+        alloc,
+        "budget",
+        1,
+        MOST_BUDGET,
+        "100000",
+        "Steps that each thread may take, 1 to 1000000",
+    );
+    let command = with_argument(command, budget);
+    let depth = limit_option(
+        alloc,
+        "depth",
+        1,
+        MOST_DEPTH,
+        "64",
+        "Calls that a thread may have open, 1 to 256",
+    );
+    with_argument(command, depth)
 }
 
 /// The options of a run: what is explained of it, and its limits.
 fn with_run_options<'a>(
     alloc: Global,
-    command: Command<'a>,
+    command: Result<Command<'a>, AllocError>,
     explanation: &'a str,
 ) -> Result<Command<'a>, AllocError>
-    ensures { (app : App) → IsCommand app command.entry → IfOk result (IsCommand (with_run_options app)) }
+    ensures { (app : App) → IfOk command.entry (IsCommand app) → IfOk result (IsCommand (with_run_options app)) }
 {
-    let command = with_explain(alloc, command, explanation)?;
-    with_limits(alloc, command)
+    with_limits(alloc, with_explain(alloc, command, explanation))
 }
 
 fn check_command<'a>(alloc: Global) -> Result<Command<'a>, AllocError>
     ensures { IfOk result (IsCommand check_app) }
 {
-    let command = source_command(alloc, "check")?
-        .about("Says whether a source is accepted")
-        .after_help("Example:\n  cilvm check examples/add.il");
+    let command = source_command(
+        alloc,
+        "check",
+        "Says whether a source is accepted",
+        "Example:\n  cilvm check examples/add.il",
+    );
     with_explain(alloc, command, EXPLAIN_REFUSAL)
 }
 
 fn threads_command<'a>(alloc: Global) -> Result<Command<'a>, AllocError>
     ensures { IfOk result (IsCommand threads_app) }
 {
-    let command = source_command(alloc, "threads")?
-        .about("Runs a source by workers, each in a thread of its own")
-        .after_help(
-            "Of N workers, number K runs the threads whose numbers leave K when they are divided by N. The record is a schedule: 'cilvm replay FILE RECORD' with the same limits does the run again, to the same output. A record has at most 1000000 events.\n\nExample, which prints 5:\n  cilvm threads examples/add.il",
-        )
-        .arg(limit_option(alloc, "workers", 1, 16, "1", "Workers, 1 to 16"))?
-        .arg(text_option(
-            alloc,
-            "record",
-            "RECORD",
-            "Writes the events of the run to this file",
-        ))?;
-    with_run_options(alloc, command, EXPLAIN_REFUSAL)
+    let command = source_command(
+        alloc,
+        "threads",
+        "Runs a source by workers, each in a thread of its own",
+        "Of N workers, number K runs the threads whose numbers leave K when they are divided by N. The record is a schedule: 'cilvm replay FILE RECORD' with the same limits does the run again, to the same output. A record has at most 1000000 events.\n\nExample, which prints 5:\n  cilvm threads examples/add.il",
+    );
+    let workers = limit_option(alloc, "workers", 1, 16, "1", "Workers, 1 to 16");
+    let command = with_argument(command, workers);
+    let record = text_option(
+        alloc,
+        "record",
+        "RECORD",
+        "Writes the events of the run to this file",
+    );
+    with_run_options(alloc, with_argument(command, record), EXPLAIN_REFUSAL)
 }
 
 fn run_command<'a>(alloc: Global) -> Result<Command<'a>, AllocError>
     ensures { IfOk result (IsCommand run_app) }
 {
-    let command = source_command(alloc, "run")?
-        .about("Runs a source by a schedule given on the command line")
-        .after_help(
-            "Events, with spaces between them:\n  s0    a step of thread 0: one instruction\n  a0    its acknowledgement to the collector\n  g     an event of the collector\n  s0*5  five steps; '*' and a count may follow each event\nThe threads have the numbers 0 to 15, and a schedule has at most 1000000 events.\n\nExample, which prints 5:\n  cilvm run examples/add.il --schedule 's0*5'",
-        )
-        .arg(needed_text(
-            alloc,
-            "schedule",
-            "EVENTS",
-            "The events in their order, as 's0*5 g a0'",
-        ))?;
-    with_run_options(alloc, command, EXPLAIN_RUN)
+    let command = source_command(
+        alloc,
+        "run",
+        "Runs a source by a schedule given on the command line",
+        "Events, with spaces between them:\n  s0    a step of thread 0: one instruction\n  a0    its acknowledgement to the collector\n  g     an event of the collector\n  s0*5  five steps; '*' and a count may follow each event\nThe threads have the numbers 0 to 15, and a schedule has at most 1000000 events.\n\nExample, which prints 5:\n  cilvm run examples/add.il --schedule 's0*5'",
+    );
+    let schedule = needed_text(
+        alloc,
+        "schedule",
+        "EVENTS",
+        "The events in their order, as 's0*5 g a0'",
+    );
+    with_run_options(alloc, with_argument(command, schedule), EXPLAIN_RUN)
 }
 
 fn replay_command<'a>(alloc: Global) -> Result<Command<'a>, AllocError>
     ensures { IfOk result (IsCommand replay_app) }
 {
-    let command = with_files(alloc, "replay")?
-        .about("Runs a source by a schedule that a file holds")
-        .after_help(
-            "The file has the events in the form that 'cilvm run --help' tells, on as many lines as you like.\n\nExample, which prints 5:\n  cilvm replay examples/add.il examples/add.schedule",
-        );
+    let command = with_files(
+        alloc,
+        "replay",
+        "Runs a source by a schedule that a file holds",
+        "The file has the events in the form that 'cilvm run --help' tells, on as many lines as you like.\n\nExample, which prints 5:\n  cilvm replay examples/add.il examples/add.schedule",
+    );
     with_run_options(alloc, command, EXPLAIN_RUN)
 }
 
 fn trace_command<'a>(alloc: Global) -> Result<Command<'a>, AllocError>
     ensures { IfOk result (IsCommand trace_app) }
 {
-    let command = with_files(alloc, "trace")?
-        .about("Replays a schedule, and prints a line of each event")
-        .after_help(
-            "A line has these columns, with tabs between them: the event's number, the event, what was reported of it, the instruction that the thread was at, and then, after the event, the thread's frames, the height of its stack, the words in use in the old space, or the only one, and in the new one, the phase that the collector has posted and the one that the thread has acknowledged. An empty line ends the trace. What the program prints and how its threads stand follow as 'cilvm replay' prints them.\n\nExample:\n  cilvm trace examples/add.il examples/add.schedule",
-        );
+    let command = with_files(
+        alloc,
+        "trace",
+        "Replays a schedule, and prints a line of each event",
+        "A line has these columns, with tabs between them: the event's number, the event, what was reported of it, the instruction that the thread was at, and then, after the event, the thread's frames, the height of its stack, the words in use in the old space, or the only one, and in the new one, the phase that the collector has posted and the one that the thread has acknowledged. An empty line ends the trace. What the program prints and how its threads stand follow as 'cilvm replay' prints them.\n\nExample:\n  cilvm trace examples/add.il examples/add.schedule",
+    );
     with_run_options(alloc, command, EXPLAIN_RUN)
 }
 
 fn flip_command<'a>(alloc: Global) -> Result<Command<'a>, AllocError>
     ensures { IfOk result (IsCommand flip_app) }
 {
-    Command::new(alloc, "flip")
-        .about("Tries the copying of slots without a lock, by threads")
-        .after_help(
-            "Each seat is a thread. In each round it stores an object to each of its slots and loads it again, while another thread copies all slots, moves the seats to the copies and retires the first ones. 'kept' counts the loads that gave what was stored, 'retired' the slots whose first copy was retired.\n\nExample, which prints 'kept 24' and 'retired 6':\n  cilvm flip --seats 1 --objects 2 --slots 3 --rounds 4",
-        )
-        .arg(needed_number(
-            alloc,
-            "seats",
-            1,
-            16,
-            "Threads that store and load, 1 to 16",
-        ))?
-        .arg(needed_number(alloc, "objects", 1, 256, "Objects, 1 to 256"))?
-        .arg(needed_number(alloc, "slots", 1, 16, "Slots of each object, 1 to 16"))?
-        .arg(needed_number(
-            alloc,
-            "rounds",
-            0,
-            10_000,
-            "Stores to each slot, 0 to 10000",
-        ))
+    let command = new_command(
+        alloc,
+        "flip",
+        "Tries the copying of slots without a lock, by threads",
+        "Each seat is a thread. In each round it stores an object to each of its slots and loads it again, while another thread copies all slots, moves the seats to the copies and retires the first ones. 'kept' counts the loads that gave what was stored, 'retired' the slots whose first copy was retired.\n\nExample, which prints 'kept 24' and 'retired 6':\n  cilvm flip --seats 1 --objects 2 --slots 3 --rounds 4",
+    );
+    let seats = needed_number(
+        alloc,
+        "seats",
+        1,
+        16,
+        "Threads that store and load, 1 to 16",
+    );
+    let command = command.arg(seats);
+    let objects = needed_number(alloc, "objects", 1, 256, "Objects, 1 to 256");
+    let command = with_argument(command, objects);
+    let slots = needed_number(alloc, "slots", 1, 16, "Slots of each object, 1 to 16");
+    let command = with_argument(command, slots);
+    let rounds = needed_number(
+        alloc,
+        "rounds",
+        0,
+        10_000,
+        "Stores to each slot, 0 to 10000",
+    );
+    with_argument(command, rounds)
 }
 
 fn program<'a>(alloc: Global) -> Command<'a>
@@ -265,22 +311,22 @@ fn program<'a>(alloc: Global) -> Command<'a>
 
 /// A program with a command more. An error is that of either.
 fn with_command<'a>(
-    program: Command<'a>,
+    program: Result<Command<'a>, AllocError>,
     command: Result<Command<'a>, AllocError>,
 ) -> Result<Command<'a>, AllocError>
-    ensures { (app own : App) → app_of program.entry ≡ app → IfOk command.entry (IsCommand own) → IfOk result (λ c. app_of c ≡ with_subcommand app own.top) }
+    ensures { (app own : App) → IfOk program.entry (λ p. app_of p ≡ app) → IfOk command.entry (IsCommand own) → IfOk result (λ c. app_of c ≡ with_subcommand app own.top) }
 {
-    program.subcommand(command?)
+    program?.subcommand(command?)
 }
 
 /// The whole command line.
 pub fn cilvm_command<'a>(alloc: Global) -> Result<Command<'a>, AllocError>
     ensures { IfOk result (λ c. app_of c ≡ cilvm_app) }
 {
-    let program = with_command(program(alloc), check_command(alloc))?;
-    let program = with_command(program, threads_command(alloc))?;
-    let program = with_command(program, run_command(alloc))?;
-    let program = with_command(program, replay_command(alloc))?;
-    let program = with_command(program, trace_command(alloc))?;
+    let program = with_command(Ok(program(alloc)), check_command(alloc));
+    let program = with_command(program, threads_command(alloc));
+    let program = with_command(program, run_command(alloc));
+    let program = with_command(program, replay_command(alloc));
+    let program = with_command(program, trace_command(alloc));
     with_command(program, flip_command(alloc))
 }

@@ -3,9 +3,9 @@ use Rattle.command_line.proofs.commands.cilvm_command.Goals as goal
 
 pub returns : goal.returns
 returns c =
-    let first = c.in_ok-program.ensures _ check_app c.program.ensures c.check_command.ensures in
-    let second = c.in_ok-program-2.ensures _ threads_app first c.threads_command.ensures in
-    let third = c.in_ok-program-3.ensures _ run_app second c.run_command.ensures in
-    let fourth = c.in_ok-program-4.ensures _ replay_app third c.replay_command.ensures in
-    let fifth = c.in_ok-program-5.ensures _ trace_app fourth c.trace_command.ensures in
-    c.with_command-6.ensures _ flip_app fifth c.flip_command.ensures
+    let first = c.with_command-program.ensures _ check_app c.program.ensures c.check_command.ensures in
+    let second = c.with_command-program-2.ensures _ threads_app first c.threads_command.ensures in
+    let third = c.with_command-program-3.ensures _ run_app second c.run_command.ensures in
+    let fourth = c.with_command-program-4.ensures _ replay_app third c.replay_command.ensures in
+    let fifth = c.with_command-program-5.ensures _ trace_app fourth c.trace_command.ensures in
+    c.with_command.ensures _ flip_app fifth c.flip_command.ensures

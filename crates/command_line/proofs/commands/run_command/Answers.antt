@@ -1,10 +1,4 @@
-use Rattle.std.proofs.Common.{codes}
-use Rattle.command_line.specs.CommandLine.{IsCommand, with_source}
-use Rattle.command_line.proofs.CommandLemmas.{with_argument}
 use Rattle.command_line.proofs.commands.run_command.Goals as goal
 
 pub returns : goal.returns
-returns c =
-    let source = c.in_ok-source_command.ensures in
-    let told : IsCommand (with_source (codes "run")) c.after_help.result = (rw (c.after_help.ensures, c.about.ensures) source.0, rw (c.after_help.ensures, c.about.ensures) source.1) in
-    c.with_run_options.ensures _ (with_argument _ _ _ _ _ told c.needed_text.ensures c.in_ok-command.ensures)
+returns c = c.with_run_options.ensures _ (c.with_argument.ensures _ _ c.source_command-command.ensures c.needed_text-schedule.ensures)

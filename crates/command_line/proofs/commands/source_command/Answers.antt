@@ -3,4 +3,4 @@ use Rattle.command_line.proofs.CommandLemmas.{with_argument}
 use Rattle.command_line.proofs.commands.source_command.Goals as goal
 
 pub returns : goal.returns
-returns c = IfOk-weaker c.arg.result _ _ (λ r added. with_argument _ _ _ _ _ (c.new.ensures.app, c.new.ensures.local) c.file_argument.ensures added) c.arg.ensures
+returns c = IfOk-weaker c.arg.result _ _ (λ r added. with_argument _ _ _ _ _ c.new_command-command.ensures c.file_argument.ensures added) c.arg.ensures

@@ -1,9 +1,4 @@
-use Rattle.std.proofs.Common.{codes}
-use Rattle.command_line.specs.CommandLine.{IsCommand, with_files}
 use Rattle.command_line.proofs.commands.trace_command.Goals as goal
 
 pub returns : goal.returns
-returns c =
-    let files = c.in_ok-with_files.ensures in
-    let told : IsCommand (with_files (codes "trace")) c.after_help-command.result = (rw (c.after_help-command.ensures, c.about.ensures) files.0, rw (c.after_help-command.ensures, c.about.ensures) files.1) in
-    c.with_run_options.ensures (with_files (codes "trace")) told
+returns c = c.with_run_options.ensures _ c.with_files-command.ensures
