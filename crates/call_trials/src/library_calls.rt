@@ -200,7 +200,7 @@ fn is_plain_run(alloc: Global, mut machine: PlainMachine<'_>) -> Result<bool, No
         last = machine.step(0, false)?;
     }
     Ok(
-        shown.as_str() == "thread 0: 10 steps left, 0: LoadInt32(2) []\n"
+        shown.as_str() == "thread 0: 10 steps left, 0: ldc.i4 2 []\n"
             && last == Some(Report::Ended(End::Done))
             && machine.console() == b"5\n".as_slice(),
     )
