@@ -15,7 +15,9 @@ pub struct NotWritten {
 
 impl NotWritten {
     /// Whether the writer wanted memory.
-    pub fn wants_memory(&self) -> bool {
+    pub fn wants_memory(&self) -> bool
+        ensures { result ≡ self.now.wants_memory }
+    {
         self.wants_memory
     }
 }
