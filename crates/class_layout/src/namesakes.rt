@@ -14,8 +14,8 @@ use std::alloc::Global;
 
 /// The methods of one name and signature: the role of the first one of each class, by the classes' numbers.
 #[derive(Drop)]
-pub struct Namesakes<'c, 'p> {
-    pub classes: &'c Classes<'p>,
+pub struct Namesakes<'p> {
+    pub classes: &'p Classes<'p>,
     pub identity: usize,
     roles: Vec<Option<Role>>,
     ghost roles_are: { roles.items ≡ map (λ r. role_in identity r.methods) classes.now.all.now },
@@ -60,9 +60,9 @@ fn nearest_lister(classes: &Classes, interface: usize, chain: &[usize]) -> Optio
     None
 }
 
-impl<'c, 'p> Namesakes<'c, 'p> {
+impl<'p> Namesakes<'p> {
     /// Fails for want of memory alone.
-    pub fn new(alloc: Global, classes: &'c Classes<'p>, identity: usize) -> Result<Self, NoMemory>
+    pub fn new(alloc: Global, classes: &'p Classes<'p>, identity: usize) -> Result<Self, NoMemory>
         ensures classes { IfOk result (λ methods. methods.classes.now ≡ classes.now) }
         ensures identity { IfOk result (λ methods. methods.identity ≡ identity) }
     {

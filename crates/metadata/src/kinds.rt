@@ -503,7 +503,7 @@ fn first_misfit(
 
 /// The first method whose kind does not fit its class or what that inherits; none where there is none (number 205). Fails for want
 /// of memory alone.
-pub fn misfit(alloc: Global, methods: &MethodTables) -> Result<Option<Misfit>, NoMemory>
+pub fn misfit<'a>(alloc: Global, methods: &'a MethodTables<'a>) -> Result<Option<Misfit>, NoMemory>
     ensures { IfOk result (λ m. is_some m ≡ misfits_kind methods.now.names.now.classes.tree.now) }
 {
     let slots = OpenSlots::new(alloc, methods)?;

@@ -22,8 +22,8 @@ use std::alloc::Global;
 
 /// The methods of classes, and of which classes it is known that they leave no slot open.
 #[derive(Drop)]
-pub struct OpenSlots<'m, 't, 'a> {
-    pub methods: &'m MethodTables<'t, 'a>,
+pub struct OpenSlots<'a> {
+    pub methods: &'a MethodTables<'a>,
     settled: Vec<bool>,
     ghost are_settled: { AreSettled methods.now.names.now.classes.tree.now settled.items },
 }
@@ -187,9 +187,9 @@ fn settled_classes(alloc: Global, methods: &MethodTables) -> Result<Vec<bool>, N
     Ok(settled)
 }
 
-impl<'m, 't, 'a> OpenSlots<'m, 't, 'a> {
+impl<'a> OpenSlots<'a> {
     /// Looks at all classes. Takes time with the number of classes and methods, but for logarithms. Fails for want of memory alone.
-    pub fn new(alloc: Global, methods: &'m MethodTables<'t, 'a>) -> Result<Self, NoMemory>
+    pub fn new(alloc: Global, methods: &'a MethodTables<'a>) -> Result<Self, NoMemory>
         ensures { IfOk result (λ s. s.methods.now.names.now.classes.tree.now ≡ methods.now.names.now.classes.tree.now) }
     {
         let settled = settled_classes(alloc, methods)?;

@@ -22,8 +22,8 @@ use std::alloc::Global;
 
 /// The methods of a tree by name and signature; and of the methods of each class the numbers of their keys among the virtual ones.
 #[derive(Drop)]
-pub struct MethodTables<'t, 'a> {
-    pub names: &'t NameTables<'a>,
+pub struct MethodTables<'a> {
+    pub names: &'a NameTables<'a>,
     overridable: Inherited<usize>,
     declared: Vec<Vec<usize>>,
     ghost declared_are: { AreNumbers names.now.classes.tree.now (virtual_number names.now.methods.keys overridable.keys) (map (λ r. r.items) declared.items) },
@@ -122,9 +122,9 @@ fn first_missing(
     Ok(None)
 }
 
-impl<'t, 'a> MethodTables<'t, 'a> {
+impl<'a> MethodTables<'a> {
     /// Makes them from the tables of names. Fails for want of memory alone.
-    pub fn new(alloc: Global, names: &'t NameTables<'a>) -> Result<Self, NoMemory>
+    pub fn new(alloc: Global, names: &'a NameTables<'a>) -> Result<Self, NoMemory>
         ensures { IfOk result (λ t. t.names.now.classes.tree.now ≡ names.now.classes.tree.now) }
     {
         let overridable = all_virtual(alloc, names)?;
@@ -134,7 +134,7 @@ impl<'t, 'a> MethodTables<'t, 'a> {
     /// Makes them from the tables of names and the virtual methods of all classes. Fails for want of memory alone.
     fn of(
         alloc: Global,
-        names: &'t NameTables<'a>,
+        names: &'a NameTables<'a>,
         overridable: Inherited<usize>,
     ) -> Result<Self, NoMemory>
         requires { IsMemberTable names.now.classes.tree.now overridable.inheritance.forest (virtual_number names.now.methods.keys overridable.keys) (virtual_place names.now.classes.tree.now) }

@@ -24,10 +24,10 @@ use std::alloc::Global;
 
 /// What the names of a tree are looked up in.
 #[derive(Drop)]
-pub struct Resolver<'n, 'a> {
-    pub names: &'n NameTables<'a>,
-    pub literals: &'n Literals<'a>,
-    pub identities: &'n Identities<'a>,
+pub struct Resolver<'a> {
+    pub names: &'a NameTables<'a>,
+    pub literals: &'a Literals<'a>,
+    pub identities: &'a Identities<'a>,
     ghost one_tree: { literals.now.tree.now ≡ names.now.classes.tree.now },
     ghost same_tree: { identities.now.tree.now ≡ names.now.classes.tree.now },
 }
@@ -111,7 +111,7 @@ fn switch(alloc: Global, labels: &Labels, targets: &[Text]) -> Result<Option<Ope
     }
 }
 
-impl<'n, 'a> Resolver<'n, 'a> {
+impl<'a> Resolver<'a> {
     // ---- types
 
     /// An instruction on a type (ECMA-335 III.4.3, III.4.6, III.4.20). None where the class that it names stands for nothing.

@@ -65,7 +65,7 @@ fn body_of(
     }
 }
 
-impl<'n, 'a> Resolver<'n, 'a> {
+impl<'a> Resolver<'a> {
     /// What runs for each line of a method, in order. Fails for want of memory alone.
     fn operations(
         &self,

@@ -20,7 +20,7 @@ use name_tables::classes::DeclaredClass;
 use name_tables::lookups::NameTables;
 use std::alloc::Global;
 
-impl<'n, 'a> Resolver<'n, 'a> {
+impl<'a> Resolver<'a> {
     /// A class or interface (ECMA-335 II.10). None where a name in it stands for nothing. Fails for want of memory alone.
     fn class(&self, alloc: Global, class: &DeclaredClass) -> Result<Option<ResolvedClass>, NoMemory>
         ensures { IfOk result (λ c. c ≡ class_rule self.now.names.now.classes.tree.now (declaration_in class.now)) }
