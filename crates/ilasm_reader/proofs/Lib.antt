@@ -1,4 +1,3 @@
-mod Chains
 mod Commas
 mod Complete
 mod Whole

@@ -1,6 +1,5 @@
 -- Reading the parts of a source from its tokens, from left to right.
-use Rattle.std.specs.Borrow.{Bor}
-use Rattle.std.specs.Prelude.{◌≡◌, ◌==◌, ℕ, ℤ, List, [], ◌∷◌, length, Option, Some, None, Result, Ok, Err, Bool, true, false, is_some, is_none, if◌then◌else◌, codes, bytes_eq, unwrap_or, nat_le, pos, negsuc}
+use Rattle.std.specs.Prelude.{◌≡◌, ◌==◌, ℕ, ℤ, List, [], ◌∷◌, length, Option, Some, None, Bool, true, false, is_some, is_none, if◌then◌else◌, codes, bytes_eq, unwrap_or, nat_le, pos, negsuc}
 use Rattle.cil_model.specs.declared.tokens.Symbol as symbols
 use Rattle.cil_model.specs.declared.tokens.Symbol.TheVariants.{OpenBrace, CloseBrace, OpenParenthesis, CloseParenthesis, OpenBracket, CloseBracket, Comma, Colon, DoubleColon}
 use Rattle.cil_model.specs.declared.tokens.Token.{Token}
@@ -40,8 +39,7 @@ use Rattle.ilasm_tokens.specs.declared.words.FieldAccess.{FieldAccess}
 use Rattle.ilasm_tokens.specs.declared.words.FieldAccess.TheVariants as accesses
 use Rattle.ilasm_tokens.specs.declared.words.TypeTest.{TypeTest}
 use Rattle.ilasm_tokens.specs.declared.words.TypeTest.TheVariants as tests
-use Rattle.ilasm_tokens.specs.declared.failure.Failure.{Failure}
-use Rattle.ilasm_tokens.specs.Steps.{◌>>=◌, Fails, choice, ParserOf, with_front, many}
+use Rattle.ilasm_tokens.specs.Steps.{◌>>=◌, choice, ParserOf, with_front, many}
 use Rattle.ilasm_tokens.specs.Vocabulary.{use_of}
 use Rattle.ilasm_tokens.specs.Parts.{reserved_in, name_in, integer_in, quoted_in, symbol_in}
 use Rattle.ilasm_reader.specs.declared.methods.Beginning.{Beginning}
@@ -87,6 +85,11 @@ unfoldable pub quoted_at : Parser (List ℕ)
 quoted_at [] = None
 quoted_at (t ∷ rest) = choice (quoted_in t) (λ found. Some (found, rest)) None
 
+-- what a function answers that takes something where it stands, and nothing where it does not: whether it stands there
+abbrev pub Takes : {S : Type 0} → Bool → List S → List S → Option (List S) → Type 0
+Takes true before behind read = read ≡ Some behind
+Takes false before behind read = (read ≡ None) × (behind ≡ before)
+
 -- whether a word stands here, and what is behind it
 unfoldable pub flag_at : List ℕ → List Token → Bool × List Token
 flag_at w ts = choice (word_at w ts) (λ rest. (true, rest)) (false, ts)
@@ -104,11 +107,6 @@ pair_at first_at second_at ts = do
   first ← first_at ts
   second ← second_at first.1
   Some ((first.0, second.0), second.1)
-
--- what was read before is beside what is parsed, or nothing is parsed
-abbrev pub IsBeside : {A B : Type 0} → A → Result ((A × B) × Bor (List Token)) Failure → Option (B × List Token) → Type 0
-IsBeside before (Ok x) parsed = (x.0.0 ≡ before) × (parsed ≡ Some (x.0.1, x.1.now))
-IsBeside before (Err e) parsed = Fails e parsed
 
 -- ---- lists
 

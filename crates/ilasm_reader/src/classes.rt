@@ -6,7 +6,8 @@ ghost use Rattle.ilasm_reader.specs.Parsing.{assembly_at, base_at, block_at, cla
 use crate::lists::{Parse, Starts, commas, in_block, many};
 use crate::methods::method;
 use crate::single::{
-    after_word, before_symbol, empty_block, expect_symbol, expect_word, expect_word_of, flag, name,
+    empty_block, expect_symbol, expect_symbol_of, expect_word, expect_word_of, flag, name,
+    starts_word, take_word,
 };
 use crate::types::{AnyType, ClassReference, PlainName};
 use cil_model::sequences::Sequence;
@@ -22,31 +23,28 @@ use std::alloc::Global;
 /// How many members, classes or assemblies memory is taken for at first.
 const FEW: usize = 4;
 
-/// The words before a field's type, and whether it is static.
+/// Takes the words before a field's type, and tells whether it is static.
 #[tactic(auto, unfolding(crate::specs::Parsing::field_words_at, ilasm_tokens::specs::Steps::bind))]
-fn field_words(tokens: Tokens<'_>) -> Result<(bool, Tokens<'_>), Failure>
-    ensures { Gives (λ x. (x.0, x.1.now)) result (field_words_at tokens.now) }
+fn field_words(tokens: &mut Tokens<'_>) -> Result<bool, Failure>
+    ensures { Gives (λ x. (x, tokens.new.now)) result (field_words_at tokens.old.now) }
 {
-    let rest = expect_word(tokens, b".field")?;
-    let rest = expect_word(rest, b"public")?;
-    Ok(flag(rest, b"static"))
+    expect_word(tokens, b".field")?;
+    expect_word(tokens, b"public")?;
+    Ok(flag(tokens, b"static"))
 }
 
 /// A field.
 #[tactic(auto, unfolding(crate::specs::Parsing::field_at, ilasm_tokens::specs::Steps::bind))]
-fn field(alloc: Global, tokens: Tokens<'_>) -> Result<(Field, Tokens<'_>), Failure>
-    ensures { Gives (λ x. (x.0, x.1.now)) result (field_at tokens.now) }
+fn field(alloc: Global, tokens: &mut Tokens<'_>) -> Result<Field, Failure>
+    ensures { Gives (λ x. (x, tokens.new.now)) result (field_at tokens.old.now) }
 {
-    let (is_static, rest) = field_words(tokens)?;
-    let ((field_type, name), rest) = <(AnyType, PlainName)>::parse(alloc, rest)?;
-    Ok((
-        Field {
-            is_static,
-            field_type,
-            name,
-        },
-        rest,
-    ))
+    let is_static = field_words(tokens)?;
+    let (field_type, name) = <(AnyType, PlainName)>::parse(alloc, tokens)?;
+    Ok(Field {
+        is_static,
+        field_type,
+        name,
+    })
 }
 
 /// A member of an interface, which is a method.
@@ -60,9 +58,9 @@ impl Parse for InterfaceMember {
     ghost parsed_at = { interface_member_at };
 
     #[tactic(auto, unfolding(crate::specs::Parsing::interface_member_at, ilasm_tokens::specs::Steps::bind))]
-    fn parse(alloc: Global, tokens: Tokens<'_>) -> Result<(Member, Tokens<'_>), Failure> {
-        let (method, rest) = method(alloc, tokens, Expected::InterfaceMember)?;
-        Ok((Member::Method(method), rest))
+    fn parse(alloc: Global, tokens: &mut Tokens<'_>) -> Result<Member, Failure> {
+        let method = method(alloc, tokens, Expected::InterfaceMember)?;
+        Ok(Member::Method(method))
     }
 
     ghost consumes = { λ ts x rest e. ((interface_member_sound ts).out (x, rest) e).1 };
@@ -87,13 +85,13 @@ impl Parse for AnyMember {
     ghost parsed_at = { member_at };
 
     #[tactic(auto, unfolding(crate::specs::Parsing::member_at, crate::specs::Parsing::interface_member_at, ilasm_tokens::specs::Steps::bind, ilasm_tokens::specs::Steps::choice))]
-    fn parse(alloc: Global, tokens: Tokens<'_>) -> Result<(Member, Tokens<'_>), Failure> {
-        if after_word(tokens, b".field").is_some() {
-            let (field, rest) = field(alloc, tokens)?;
-            return Ok((Member::Field(field), rest));
+    fn parse(alloc: Global, tokens: &mut Tokens<'_>) -> Result<Member, Failure> {
+        if starts_word(*tokens, b".field") {
+            let field = field(alloc, tokens)?;
+            return Ok(Member::Field(field));
         }
-        let (method, rest) = method(alloc, tokens, Expected::Member)?;
-        Ok((Member::Method(method), rest))
+        let method = method(alloc, tokens, Expected::Member)?;
+        Ok(Member::Method(method))
     }
 
     ghost consumes = { λ ts x rest e. ((member_sound ts).out (x, rest) e).1 };
@@ -108,41 +106,42 @@ impl Starts for AnyMember {
 }
 
 /// Members in braces. Where one more may stand, the grammar has what is told as expected.
-#[tactic(auto, unfolding(crate::specs::Parsing::block_at, ilasm_tokens::specs::Steps::bind))]
+#[tactic(auto, unfolding(crate::specs::Parsing::block_at, crate::specs::Parsing::before_sign_at, ilasm_tokens::specs::Steps::bind))]
 fn block<P: Starts>(
     alloc: Global,
-    tokens: Tokens<'_>,
+    tokens: &mut Tokens<'_>,
     expected: Expected,
-) -> Result<(Sequence<P::Tree>, Tokens<'_>), Failure>
-    ensures { Gives (λ x. (x.0, x.1.now)) result (block_at P.starts_at P.parsed_at tokens.now) }
+) -> Result<Sequence<P::Tree>, Failure>
+    ensures { Gives (λ x. (x, tokens.new.now)) result (block_at P.starts_at P.parsed_at tokens.old.now) }
 {
-    let (members, rest) = many::<P>(alloc, expect_symbol(tokens, Symbol::OpenBrace)?, FEW)?;
-    before_symbol(members, rest, Symbol::CloseBrace, expected)
+    expect_symbol(tokens, Symbol::OpenBrace)?;
+    let members = many::<P>(alloc, tokens, FEW)?;
+    expect_symbol_of(tokens, Symbol::CloseBrace, expected)?;
+    Ok(members)
 }
 
 /// The interfaces that a class lists; none where they are left out.
 #[tactic(auto, unfolding(crate::specs::Parsing::implements_at, ilasm_tokens::specs::Steps::choice))]
-fn implements(
-    alloc: Global,
-    tokens: Tokens<'_>,
-) -> Result<(Sequence<ClassName>, Tokens<'_>), Failure>
-    ensures { Gives (λ x. (x.0, x.1.now)) result (implements_at tokens.now) }
+fn implements(alloc: Global, tokens: &mut Tokens<'_>) -> Result<Sequence<ClassName>, Failure>
+    ensures { Gives (λ x. (x, tokens.new.now)) result (implements_at tokens.old.now) }
 {
-    match after_word(tokens, b"implements") {
-        Some(rest) => commas::<ClassReference>(alloc, rest),
-        None => Ok((Sequence::new(Vec::new(alloc)), tokens)),
+    if take_word(tokens, b"implements") {
+        commas::<ClassReference>(alloc, tokens)
+    } else {
+        Ok(Sequence::new(Vec::new(alloc)))
     }
 }
 
-/// The words before an interface's name, behind `.class`.
-fn interface_words(tokens: Tokens<'_>) -> Result<Tokens<'_>, Failure>
-    ensures { Gives (λ r. r.now) result (interface_words_at tokens.now) }
+/// Takes the words before an interface's name, behind `.class`.
+#[tactic(auto, unfolding(crate::specs::Parsing::interface_words_at, ilasm_tokens::specs::Steps::bind))]
+fn interface_words(tokens: &mut Tokens<'_>) -> Result<(), Failure>
+    ensures { Gives (λ _. tokens.new.now) result (interface_words_at tokens.old.now) }
 {
-    let rest = expect_word(tokens, b"interface")?;
-    let rest = expect_word(rest, b"public")?;
-    let rest = expect_word(rest, b"abstract")?;
-    let rest = expect_word(rest, b"auto")?;
-    expect_word(rest, b"ansi")
+    expect_word(tokens, b"interface")?;
+    expect_word(tokens, b"public")?;
+    expect_word(tokens, b"abstract")?;
+    expect_word(tokens, b"auto")?;
+    expect_word(tokens, b"ansi")
 }
 
 /// The members of an interface, in braces.
@@ -155,7 +154,7 @@ impl Parse for InterfaceMembers {
 
     ghost parsed_at = { block_at in_block interface_member_at };
 
-    fn parse(alloc: Global, tokens: Tokens<'_>) -> Result<(Sequence<Member>, Tokens<'_>), Failure> {
+    fn parse(alloc: Global, tokens: &mut Tokens<'_>) -> Result<Sequence<Member>, Failure> {
         block::<InterfaceMember>(alloc, tokens, Expected::InterfaceMember)
     }
 
@@ -164,20 +163,17 @@ impl Parse for InterfaceMembers {
 
 /// An interface, behind the word `.class`.
 #[tactic(auto, unfolding(crate::specs::Parsing::interface_at, ilasm_tokens::specs::Steps::bind))]
-fn interface(alloc: Global, tokens: Tokens<'_>) -> Result<(Class, Tokens<'_>), Failure>
-    ensures { Gives (λ x. (x.0, x.1.now)) result (interface_at tokens.now) }
+fn interface(alloc: Global, tokens: &mut Tokens<'_>) -> Result<Class, Failure>
+    ensures { Gives (λ x. (x, tokens.new.now)) result (interface_at tokens.old.now) }
 {
-    let rest = interface_words(tokens)?;
-    let ((name, members), rest) = <(PlainName, InterfaceMembers)>::parse(alloc, rest)?;
+    interface_words(tokens)?;
+    let (name, members) = <(PlainName, InterfaceMembers)>::parse(alloc, tokens)?;
     let kind = ClassKind::Interface;
-    Ok((
-        Class {
-            name,
-            kind,
-            members,
-        },
-        rest,
-    ))
+    Ok(Class {
+        name,
+        kind,
+        members,
+    })
 }
 
 /// What stands before `auto`, behind `abstract` or without it.
@@ -189,16 +185,16 @@ fn attributes_behind(is_abstract: bool) -> Expected {
     }
 }
 
-/// The words before the name of a class that is no interface, and whether it is abstract.
+/// Takes the words before the name of a class that is no interface, and tells whether it is abstract.
 #[tactic(auto, unfolding(crate::specs::Parsing::class_words_at, ilasm_tokens::specs::Steps::bind))]
-fn class_words(tokens: Tokens<'_>) -> Result<(bool, Tokens<'_>), Failure>
-    ensures { Gives (λ x. (x.0, x.1.now)) result (class_words_at tokens.now) }
+fn class_words(tokens: &mut Tokens<'_>) -> Result<bool, Failure>
+    ensures { Gives (λ x. (x, tokens.new.now)) result (class_words_at tokens.old.now) }
 {
-    let rest = expect_word_of(tokens, b"public", Expected::ClassHead)?;
-    let (is_abstract, rest) = flag(rest, b"abstract");
-    let rest = expect_word_of(rest, b"auto", attributes_behind(is_abstract))?;
-    let rest = expect_word(rest, b"ansi")?;
-    Ok((is_abstract, rest))
+    expect_word_of(tokens, b"public", Expected::ClassHead)?;
+    let is_abstract = flag(tokens, b"abstract");
+    expect_word_of(tokens, b"auto", attributes_behind(is_abstract))?;
+    expect_word(tokens, b"ansi")?;
+    Ok(is_abstract)
 }
 
 /// The class that a class extends.
@@ -212,8 +208,9 @@ impl Parse for Base {
     ghost parsed_at = { base_at };
 
     #[tactic(auto, unfolding(crate::specs::Parsing::base_at, ilasm_tokens::specs::Steps::bind))]
-    fn parse(alloc: Global, tokens: Tokens<'_>) -> Result<(ClassName, Tokens<'_>), Failure> {
-        ClassReference::parse(alloc, expect_word(tokens, b"extends")?)
+    fn parse(alloc: Global, tokens: &mut Tokens<'_>) -> Result<ClassName, Failure> {
+        expect_word(tokens, b"extends")?;
+        ClassReference::parse(alloc, tokens)
     }
 
     ghost consumes = { λ ts x rest e. ((base_sound ts).out (x, rest) e).1 };
@@ -230,10 +227,10 @@ impl Parse for ClassBody {
     ghost parsed_at = { class_body_at };
 
     #[tactic(auto, unfolding(crate::specs::Parsing::class_body_at, ilasm_tokens::specs::Steps::bind))]
-    fn parse(alloc: Global, tokens: Tokens<'_>) -> Result<(Self::Tree, Tokens<'_>), Failure> {
-        let (interfaces, rest) = implements(alloc, tokens)?;
-        let (members, rest) = block::<AnyMember>(alloc, rest, Expected::Member)?;
-        Ok(((interfaces, members), rest))
+    fn parse(alloc: Global, tokens: &mut Tokens<'_>) -> Result<Self::Tree, Failure> {
+        let interfaces = implements(alloc, tokens)?;
+        let members = block::<AnyMember>(alloc, tokens, Expected::Member)?;
+        Ok((interfaces, members))
     }
 
     ghost consumes = { λ ts x rest e. ((class_body_sound ts).out (x, rest) e).1 };
@@ -241,25 +238,22 @@ impl Parse for ClassBody {
 
 /// A class that is no interface, behind the word `.class`.
 #[tactic(auto, unfolding(crate::specs::Parsing::plain_class_at, ilasm_tokens::specs::Steps::bind))]
-fn plain_class(alloc: Global, tokens: Tokens<'_>) -> Result<(Class, Tokens<'_>), Failure>
-    ensures { Gives (λ x. (x.0, x.1.now)) result (plain_class_at tokens.now) }
+fn plain_class(alloc: Global, tokens: &mut Tokens<'_>) -> Result<Class, Failure>
+    ensures { Gives (λ x. (x, tokens.new.now)) result (plain_class_at tokens.old.now) }
 {
-    let (is_abstract, rest) = class_words(tokens)?;
-    let (parts, rest) = <(PlainName, (Base, ClassBody))>::parse(alloc, rest)?;
+    let is_abstract = class_words(tokens)?;
+    let parts = <(PlainName, (Base, ClassBody))>::parse(alloc, tokens)?;
     let (name, (base, (interfaces, members))) = parts;
     let kind = ClassKind::Class {
         is_abstract,
         base,
         interfaces,
     };
-    Ok((
-        Class {
-            name,
-            kind,
-            members,
-        },
-        rest,
-    ))
+    Ok(Class {
+        name,
+        kind,
+        members,
+    })
 }
 
 /// A class or an interface.
@@ -273,12 +267,12 @@ impl Parse for AnyClass {
     ghost parsed_at = { class_at };
 
     #[tactic(auto, unfolding(crate::specs::Parsing::class_at, ilasm_tokens::specs::Steps::bind, ilasm_tokens::specs::Steps::choice))]
-    fn parse(alloc: Global, tokens: Tokens<'_>) -> Result<(Class, Tokens<'_>), Failure> {
-        let rest = expect_word_of(tokens, b".class", Expected::Class)?;
-        if after_word(rest, b"interface").is_some() {
-            interface(alloc, rest)
+    fn parse(alloc: Global, tokens: &mut Tokens<'_>) -> Result<Class, Failure> {
+        expect_word_of(tokens, b".class", Expected::Class)?;
+        if starts_word(*tokens, b"interface") {
+            interface(alloc, tokens)
         } else {
-            plain_class(alloc, rest)
+            plain_class(alloc, tokens)
         }
     }
 
@@ -297,14 +291,14 @@ impl Starts for AnyClass {
 #[tactic(auto, unfolding(crate::specs::Parsing::named_assembly_at, ilasm_tokens::specs::Steps::bind))]
 fn named_assembly(
     alloc: Global,
-    tokens: Tokens<'_>,
+    tokens: &mut Tokens<'_>,
     expected: Expected,
-) -> Result<(Text, Tokens<'_>), Failure>
-    ensures { Gives (λ x. (x.0, x.1.now)) result (named_assembly_at tokens.now) }
+) -> Result<Text, Failure>
+    ensures { Gives (λ x. (x, tokens.new.now)) result (named_assembly_at tokens.old.now) }
 {
-    let (name, rest) = name(alloc, tokens, expected)?;
-    let rest = empty_block(rest)?;
-    Ok((name, rest))
+    let name = name(alloc, tokens, expected)?;
+    empty_block(tokens)?;
+    Ok(name)
 }
 
 /// An assembly that the source uses.
@@ -318,10 +312,10 @@ impl Parse for Extern {
     ghost parsed_at = { extern_at };
 
     #[tactic(auto, unfolding(crate::specs::Parsing::extern_at, ilasm_tokens::specs::Steps::bind))]
-    fn parse(alloc: Global, tokens: Tokens<'_>) -> Result<(Text, Tokens<'_>), Failure> {
-        let rest = expect_word(tokens, b".assembly")?;
-        let rest = expect_word(rest, b"extern")?;
-        named_assembly(alloc, rest, Expected::Name)
+    fn parse(alloc: Global, tokens: &mut Tokens<'_>) -> Result<Text, Failure> {
+        expect_word(tokens, b".assembly")?;
+        expect_word(tokens, b"extern")?;
+        named_assembly(alloc, tokens, Expected::Name)
     }
 
     ghost consumes = { λ ts x rest e. ((extern_sound ts).out (x, rest) e).1 };
@@ -332,23 +326,21 @@ impl Starts for Extern {
 
     #[tactic(auto, unfolding(crate::specs::Parsing::starts_extern, ilasm_tokens::specs::Steps::choice))]
     fn starts(tokens: Tokens<'_>) -> bool {
-        match after_word(tokens, b".assembly") {
-            Some(rest) => after_word(rest, b"extern").is_some(),
-            None => false,
-        }
+        let mut ahead = tokens;
+        take_word(&mut ahead, b".assembly") && take_word(&mut ahead, b"extern")
     }
 }
 
 /// The source's own assembly, if it is named.
 #[tactic(auto, unfolding(crate::specs::Parsing::assembly_at, ilasm_tokens::specs::Steps::bind, ilasm_tokens::specs::Steps::choice))]
-fn assembly(alloc: Global, tokens: Tokens<'_>) -> Result<(Option<Text>, Tokens<'_>), Failure>
-    ensures { Gives (λ x. (x.0, x.1.now)) result (assembly_at tokens.now) }
+fn assembly(alloc: Global, tokens: &mut Tokens<'_>) -> Result<Option<Text>, Failure>
+    ensures { Gives (λ x. (x, tokens.new.now)) result (assembly_at tokens.old.now) }
 {
-    let Some(rest) = after_word(tokens, b".assembly") else {
-        return Ok((None, tokens));
-    };
-    let (name, rest) = named_assembly(alloc, rest, Expected::AssemblyName)?;
-    Ok((Some(name), rest))
+    if !take_word(tokens, b".assembly") {
+        return Ok(None);
+    }
+    let name = named_assembly(alloc, tokens, Expected::AssemblyName)?;
+    Ok(Some(name))
 }
 
 /// What stands where the first class may begin, behind the source's own assembly or without it.
@@ -368,18 +360,17 @@ fn class_behind(classes: usize, start: Expected) -> Expected {
 /// As many classes as stand here. Where the first may begin, the grammar has what is told as `start`.
 fn classes(
     alloc: Global,
-    tokens: Tokens<'_>,
+    tokens: &mut Tokens<'_>,
     start: Expected,
-) -> Result<(Sequence<Class>, Tokens<'_>), Failure>
-    ensures { Gives (λ x. (x.0, x.1.now)) result (many in_block class_at tokens.now) }
+) -> Result<Sequence<Class>, Failure>
+    ensures { Gives (λ x. (x, tokens.new.now)) result (many in_block class_at tokens.old.now) }
 {
+    let all = tokens.len();
     match many::<AnyClass>(alloc, tokens, FEW) {
-        Err(Failure::Refused { left, .. }) if left == tokens.len() => {
-            Err(Failure::Refused {
-                left,
-                expected: start,
-            })
-        }
+        Err(Failure::Refused { left, .. }) if left == all => Err(Failure::Refused {
+            left,
+            expected: start,
+        }),
         read => read,
     }
 }
@@ -389,10 +380,11 @@ fn classes(
 pub fn tree(alloc: Global, tokens: Tokens<'_>) -> Result<Tree, Failure>
     ensures { Gives (λ tree. tree) result (tree_at tokens.now) }
 {
-    let (externs, rest) = many::<Extern>(alloc, tokens, FEW)?;
-    let (assembly, rest) = assembly(alloc, rest)?;
+    let mut rest = tokens;
+    let externs = many::<Extern>(alloc, &mut rest, FEW)?;
+    let assembly = assembly(alloc, &mut rest)?;
     let start = classes_behind(assembly.is_some());
-    let (classes, rest) = classes(alloc, rest, start)?;
+    let classes = classes(alloc, &mut rest, start)?;
     if !rest.is_empty() {
         return Err(Failure::Refused {
             left: rest.len(),

@@ -5,10 +5,10 @@ ghost use Rattle.ilasm_tokens.specs.Steps.{Gives};
 ghost use Rattle.ilasm_reader.specs.Parsing.{code_at, code_start_at, in_block, label_at, line_at, lines_at, locals_at, max_stack_at, some_locals_at, starts_label};
 
 use crate::instructions::instruction;
-use crate::lists::{Parse, Starts, closed_commas, in_block, many, with};
+use crate::lists::{Parse, Starts, closed_commas, in_block, many};
 use crate::single::{
-    after_name, after_word, before_symbol, expect_symbol, expect_word, expect_word_of, flag,
-    integer, name,
+    expect_symbol, expect_symbol_of, expect_word, expect_word_of, flag, integer, name, take_name,
+    take_word,
 };
 use crate::types::Parameter;
 use cil_model::sequences::Sequence;
@@ -31,10 +31,11 @@ impl Parse for Label {
 
     ghost parsed_at = { label_at };
 
-    #[tactic(auto, unfolding(crate::specs::Parsing::label_at, ilasm_tokens::specs::Steps::bind))]
-    fn parse(alloc: Global, tokens: Tokens<'_>) -> Result<(Text, Tokens<'_>), Failure> {
-        let (name, rest) = name(alloc, tokens, Expected::LabelName)?;
-        before_symbol(name, rest, Symbol::Colon, Expected::LabelColon)
+    #[tactic(auto, unfolding(crate::specs::Parsing::label_at, crate::specs::Parsing::before_sign_at, ilasm_tokens::specs::Steps::bind))]
+    fn parse(alloc: Global, tokens: &mut Tokens<'_>) -> Result<Text, Failure> {
+        let name = name(alloc, tokens, Expected::LabelName)?;
+        expect_symbol_of(tokens, Symbol::Colon, Expected::LabelColon)?;
+        Ok(name)
     }
 
     ghost consumes = { λ ts x rest e. ((label_sound ts).out (x, rest) e).1 };
@@ -45,7 +46,8 @@ impl Starts for Label {
 
     #[tactic(auto, unfolding(crate::specs::Parsing::starts_label))]
     fn starts(tokens: Tokens<'_>) -> bool {
-        after_name(tokens).is_some()
+        let mut ahead = tokens;
+        take_name(&mut ahead)
     }
 }
 
@@ -69,16 +71,14 @@ impl Parse for CodeLine {
     ghost parsed_at = { line_at };
 
     #[tactic(auto, unfolding(crate::specs::Parsing::line_at, ilasm_tokens::specs::Steps::bind))]
-    fn parse(alloc: Global, tokens: Tokens<'_>) -> Result<(Line, Tokens<'_>), Failure> {
-        let (labels, rest) = many::<Label>(alloc, tokens, 1)?;
-        let (instruction, rest) = instruction(alloc, rest, line_behind(labels.as_slice().len()))?;
-        Ok((
-            Line {
-                labels,
-                instruction,
-            },
-            rest,
-        ))
+    fn parse(alloc: Global, tokens: &mut Tokens<'_>) -> Result<Line, Failure> {
+        let labels = many::<Label>(alloc, tokens, 1)?;
+        let expected = line_behind(labels.as_slice().len());
+        let instruction = instruction(alloc, tokens, expected)?;
+        Ok(Line {
+            labels,
+            instruction,
+        })
     }
 
     ghost consumes = { λ ts x rest e. ((line_sound ts).out (x, rest) e).1 };
@@ -94,28 +94,23 @@ impl Starts for CodeLine {
 
 /// The types of the locals, behind `.locals`.
 #[tactic(auto, unfolding(crate::specs::Parsing::some_locals_at, ilasm_tokens::specs::Steps::bind))]
-fn some_locals(
-    alloc: Global,
-    tokens: Tokens<'_>,
-) -> Result<(Sequence<DeclaredType>, Tokens<'_>), Failure>
-    ensures { Gives (λ x. (x.0, x.1.now)) result (some_locals_at tokens.now) }
+fn some_locals(alloc: Global, tokens: &mut Tokens<'_>) -> Result<Sequence<DeclaredType>, Failure>
+    ensures { Gives (λ x. (x, tokens.new.now)) result (some_locals_at tokens.old.now) }
 {
-    let rest = expect_word(tokens, b"init")?;
-    let inside = expect_symbol(rest, Symbol::OpenParenthesis)?;
-    closed_commas::<Parameter>(alloc, inside)
+    expect_word(tokens, b"init")?;
+    expect_symbol(tokens, Symbol::OpenParenthesis)?;
+    closed_commas::<Parameter>(alloc, tokens)
 }
 
 /// The types of the locals; none where they are left out.
 #[tactic(auto, unfolding(crate::specs::Parsing::locals_at, ilasm_tokens::specs::Steps::choice))]
-fn locals(
-    alloc: Global,
-    tokens: Tokens<'_>,
-) -> Result<(Sequence<DeclaredType>, Tokens<'_>), Failure>
-    ensures { Gives (λ x. (x.0, x.1.now)) result (locals_at tokens.now) }
+fn locals(alloc: Global, tokens: &mut Tokens<'_>) -> Result<Sequence<DeclaredType>, Failure>
+    ensures { Gives (λ x. (x, tokens.new.now)) result (locals_at tokens.old.now) }
 {
-    match after_word(tokens, b".locals") {
-        Some(rest) => some_locals(alloc, rest),
-        None => Ok((Sequence::new(Vec::new(alloc)), tokens)),
+    if take_word(tokens, b".locals") {
+        some_locals(alloc, tokens)
+    } else {
+        Ok(Sequence::new(Vec::new(alloc)))
     }
 }
 
@@ -130,13 +125,11 @@ fn start_of_code(is_entry_point: bool) -> Expected {
 
 /// How high the stack may be, behind `.entrypoint` or without it.
 #[tactic(auto, unfolding(crate::specs::Parsing::max_stack_at, ilasm_tokens::specs::Steps::bind))]
-fn max_stack(tokens: Tokens<'_>, is_entry_point: bool) -> Result<(i64, Tokens<'_>), Failure>
-    ensures { Gives (λ x. (x.0, x.1.now)) result (max_stack_at tokens.now) }
+fn max_stack(tokens: &mut Tokens<'_>, is_entry_point: bool) -> Result<i64, Failure>
+    ensures { Gives (λ x. (x, tokens.new.now)) result (max_stack_at tokens.old.now) }
 {
-    integer(
-        expect_word_of(tokens, b".maxstack", start_of_code(is_entry_point))?,
-        Expected::Integer,
-    )
+    expect_word_of(tokens, b".maxstack", start_of_code(is_entry_point))?;
+    integer(tokens, Expected::Integer)
 }
 
 /// How many reserved words stand before the end of a block. No more lines do, since each has the name of an instruction.
@@ -150,51 +143,40 @@ fn words_ahead(tokens: Tokens<'_>) -> usize
         .count()
 }
 
-/// The opening brace, whether the method is the entry point, and how high the stack may be.
+/// Takes the opening brace, and gives whether the method is the entry point and how high the stack may be.
 #[tactic(auto, unfolding(crate::specs::Parsing::code_start_at, ilasm_tokens::specs::Steps::bind))]
-fn code_start(tokens: Tokens<'_>) -> Result<((bool, i64), Tokens<'_>), Failure>
-    ensures { Gives (λ x. ((x.0.0, x.0.1), x.1.now)) result (code_start_at tokens.now) }
+fn code_start(tokens: &mut Tokens<'_>) -> Result<(bool, i64), Failure>
+    ensures { Gives (λ x. ((x.0, x.1), tokens.new.now)) result (code_start_at tokens.old.now) }
 {
-    let block = expect_symbol(tokens, Symbol::OpenBrace)?;
-    let (is_entry_point, rest) = flag(block, b".entrypoint");
-    let (max_stack, rest) = max_stack(rest, is_entry_point)?;
-    Ok(((is_entry_point, max_stack), rest))
+    expect_symbol(tokens, Symbol::OpenBrace)?;
+    let is_entry_point = flag(tokens, b".entrypoint");
+    let max_stack = max_stack(tokens, is_entry_point)?;
+    Ok((is_entry_point, max_stack))
 }
 
 /// The lines of a method, to the closing brace.
-struct Lines;
-
-impl Parse for Lines {
-    ghost use Rattle.ilasm_reader.specs.Sound.{lines_sound};
-
-    type Tree = Sequence<Line>;
-
-    ghost parsed_at = { lines_at };
-
-    #[tactic(auto, unfolding(crate::specs::Parsing::lines_at, ilasm_tokens::specs::Steps::bind))]
-    fn parse(alloc: Global, tokens: Tokens<'_>) -> Result<(Sequence<Line>, Tokens<'_>), Failure> {
-        let (lines, rest) = many::<CodeLine>(alloc, tokens, words_ahead(tokens))?;
-        before_symbol(lines, rest, Symbol::CloseBrace, Expected::Line)
-    }
-
-    ghost consumes = { λ ts x rest e. ((lines_sound ts).out (x, rest) e).1 };
+#[tactic(auto, unfolding(crate::specs::Parsing::lines_at, crate::specs::Parsing::before_sign_at, ilasm_tokens::specs::Steps::bind))]
+fn lines(alloc: Global, tokens: &mut Tokens<'_>) -> Result<Sequence<Line>, Failure>
+    ensures { Gives (λ x. (x, tokens.new.now)) result (lines_at tokens.old.now) }
+{
+    let expected = words_ahead(*tokens);
+    let lines = many::<CodeLine>(alloc, tokens, expected)?;
+    expect_symbol_of(tokens, Symbol::CloseBrace, Expected::Line)?;
+    Ok(lines)
 }
 
 /// The code of a method, in braces.
 #[tactic(auto, unfolding(crate::specs::Parsing::code_at, ilasm_tokens::specs::Steps::bind))]
-pub fn code(alloc: Global, tokens: Tokens<'_>) -> Result<(Code, Tokens<'_>), Failure>
-    ensures { Gives (λ x. (x.0, x.1.now)) result (code_at tokens.now) }
+pub fn code(alloc: Global, tokens: &mut Tokens<'_>) -> Result<Code, Failure>
+    ensures { Gives (λ x. (x, tokens.new.now)) result (code_at tokens.old.now) }
 {
-    let ((is_entry_point, max_stack), rest) = code_start(tokens)?;
-    let (locals, rest) = locals(alloc, rest)?;
-    let ((locals, lines), rest) = with::<_, Lines>(alloc, locals, rest)?;
-    Ok((
-        Code {
-            is_entry_point,
-            max_stack,
-            locals,
-            lines,
-        },
-        rest,
-    ))
+    let (is_entry_point, max_stack) = code_start(tokens)?;
+    let locals = locals(alloc, tokens)?;
+    let lines = lines(alloc, tokens)?;
+    Ok(Code {
+        is_entry_point,
+        max_stack,
+        locals,
+        lines,
+    })
 }

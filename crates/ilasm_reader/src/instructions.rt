@@ -92,14 +92,15 @@ fn with_type(which: TypeTest, its_type: DeclaredType) -> Instruction
 
 /// The instruction `ldc.i4`, behind its name.
 #[tactic(auto, unfolding(crate::specs::Parsing::operands_at, crate::specs::Parsing::has_32_bits, ilasm_tokens::specs::Steps::bind))]
-fn load_int32(tokens: Tokens<'_>) -> Result<(Instruction, Tokens<'_>), Failure>
-    ensures { Gives (λ x. (x.0, x.1.now)) result (operands_at Int32 tokens.now) }
+fn load_int32(tokens: &mut Tokens<'_>) -> Result<Instruction, Failure>
+    ensures { Gives (λ x. (x, tokens.new.now)) result (operands_at Int32 tokens.old.now) }
 {
-    let (value, rest) = integer(tokens, Expected::Int32)?;
+    let left = tokens.len();
+    let value = integer(tokens, Expected::Int32)?;
     match i32::try_from(value) {
-        Ok(value) => Ok((Instruction::LoadInt32(value), rest)),
+        Ok(value) => Ok(Instruction::LoadInt32(value)),
         Err(_) => Err(Failure::Refused {
-            left: tokens.len(),
+            left,
             expected: Expected::Int32,
         }),
     }
@@ -116,18 +117,15 @@ fn called_behind(is_instance: bool) -> Expected {
 
 /// The instruction `call`, behind its name.
 #[tactic(auto, unfolding(crate::specs::Parsing::operands_at, ilasm_tokens::specs::Steps::bind))]
-fn call(alloc: Global, tokens: Tokens<'_>) -> Result<(Instruction, Tokens<'_>), Failure>
-    ensures { Gives (λ x. (x.0, x.1.now)) result (operands_at Call tokens.now) }
+fn call(alloc: Global, tokens: &mut Tokens<'_>) -> Result<Instruction, Failure>
+    ensures { Gives (λ x. (x, tokens.new.now)) result (operands_at Call tokens.old.now) }
 {
-    let (is_instance, rest) = flag(tokens, b"instance");
-    let (method, rest) = method_reference(alloc, rest, called_behind(is_instance))?;
-    Ok((
-        Instruction::Call {
-            is_instance,
-            method,
-        },
-        rest,
-    ))
+    let is_instance = flag(tokens, b"instance");
+    let method = method_reference(alloc, tokens, called_behind(is_instance))?;
+    Ok(Instruction::Call {
+        is_instance,
+        method,
+    })
 }
 
 /// The virtual call of a method, unless it is a constructor.
@@ -152,14 +150,15 @@ fn virtual_call(method: MethodReference) -> Option<Instruction>
 
 /// The instruction `callvirt`, behind its name.
 #[tactic(auto, unfolding(crate::specs::Parsing::operands_at, ilasm_tokens::specs::Steps::bind))]
-fn call_virtual(alloc: Global, tokens: Tokens<'_>) -> Result<(Instruction, Tokens<'_>), Failure>
-    ensures { Gives (λ x. (x.0, x.1.now)) result (operands_at CallVirtual tokens.now) }
+fn call_virtual(alloc: Global, tokens: &mut Tokens<'_>) -> Result<Instruction, Failure>
+    ensures { Gives (λ x. (x, tokens.new.now)) result (operands_at CallVirtual tokens.old.now) }
 {
-    let (method, rest) = instance_method(alloc, tokens)?;
+    let left = tokens.len();
+    let method = instance_method(alloc, tokens)?;
     match virtual_call(method) {
-        Some(call) => Ok((call, rest)),
+        Some(call) => Ok(call),
         None => Err(Failure::Refused {
-            left: tokens.len(),
+            left,
             expected: Expected::VirtualMethod,
         }),
     }
@@ -187,14 +186,15 @@ fn creation(method: MethodReference) -> Option<Instruction>
 
 /// The instruction `newobj`, behind its name.
 #[tactic(auto, unfolding(crate::specs::Parsing::operands_at, ilasm_tokens::specs::Steps::bind))]
-fn new_object(alloc: Global, tokens: Tokens<'_>) -> Result<(Instruction, Tokens<'_>), Failure>
-    ensures { Gives (λ x. (x.0, x.1.now)) result (operands_at NewObject tokens.now) }
+fn new_object(alloc: Global, tokens: &mut Tokens<'_>) -> Result<Instruction, Failure>
+    ensures { Gives (λ x. (x, tokens.new.now)) result (operands_at NewObject tokens.old.now) }
 {
-    let (method, rest) = instance_method(alloc, tokens)?;
+    let left = tokens.len();
+    let method = instance_method(alloc, tokens)?;
     match creation(method) {
-        Some(created) => Ok((created, rest)),
+        Some(created) => Ok(created),
         None => Err(Failure::Refused {
-            left: tokens.len(),
+            left,
             expected: Expected::Constructor,
         }),
     }
@@ -205,44 +205,41 @@ fn new_object(alloc: Global, tokens: Tokens<'_>) -> Result<(Instruction, Tokens<
 fn instruction_of(
     alloc: Global,
     form: Form,
-    tokens: Tokens<'_>,
-) -> Result<(Instruction, Tokens<'_>), Failure>
-    ensures { Gives (λ x. (x.0, x.1.now)) result (operands_at form tokens.now) }
+    tokens: &mut Tokens<'_>,
+) -> Result<Instruction, Failure>
+    ensures { Gives (λ x. (x, tokens.new.now)) result (operands_at form tokens.old.now) }
 {
     match form {
-        Form::Bare(which) => Ok((bare(which), tokens)),
+        Form::Bare(which) => Ok(bare(which)),
         Form::Int32 => load_int32(tokens),
         Form::Integer(which) => {
-            let (value, rest) = integer(tokens, Expected::Integer)?;
-            Ok((with_integer(which, value), rest))
+            let value = integer(tokens, Expected::Integer)?;
+            Ok(with_integer(which, value))
         }
         Form::Quoted => {
-            let (characters, rest) = quoted(alloc, tokens)?;
-            Ok((Instruction::LoadString(characters), rest))
+            let characters = quoted(alloc, tokens)?;
+            Ok(Instruction::LoadString(characters))
         }
         Form::Jump(which) => {
-            let (label, rest) = name(alloc, tokens, Expected::LabelName)?;
-            Ok((jump(which, label), rest))
+            let label = name(alloc, tokens, Expected::LabelName)?;
+            Ok(jump(which, label))
         }
         Form::Switch => {
-            let (labels, rest) = parentheses::<Target>(alloc, tokens)?;
-            Ok((Instruction::Switch(labels), rest))
+            let labels = parentheses::<Target>(alloc, tokens)?;
+            Ok(Instruction::Switch(labels))
         }
         Form::Field(which) => {
-            let (field, rest) = field_reference(alloc, tokens)?;
-            Ok((with_field(which, field), rest))
+            let field = field_reference(alloc, tokens)?;
+            Ok(with_field(which, field))
         }
         Form::NewArray => {
-            let (element, rest) = element(alloc, tokens, Expected::ElementType)?;
+            let element = element(alloc, tokens, Expected::ElementType)?;
             let brackets = 0;
-            Ok((
-                Instruction::NewArray(DeclaredType { element, brackets }),
-                rest,
-            ))
+            Ok(Instruction::NewArray(DeclaredType { element, brackets }))
         }
         Form::Type(which) => {
-            let (its_type, rest) = AnyType::parse(alloc, tokens)?;
-            Ok((with_type(which, its_type), rest))
+            let its_type = AnyType::parse(alloc, tokens)?;
+            Ok(with_type(which, its_type))
         }
         Form::Call => call(alloc, tokens),
         Form::CallVirtual => call_virtual(alloc, tokens),
@@ -254,17 +251,15 @@ fn instruction_of(
 #[tactic(auto, unfolding(crate::specs::Parsing::instruction_at, crate::specs::Parsing::form_of, ilasm_tokens::specs::Steps::bind))]
 pub fn instruction(
     alloc: Global,
-    tokens: Tokens<'_>,
+    tokens: &mut Tokens<'_>,
     expected: Expected,
-) -> Result<(Instruction, Tokens<'_>), Failure>
-    ensures { Gives (λ x. (x.0, x.1.now)) result (instruction_at tokens.now) }
+) -> Result<Instruction, Failure>
+    ensures { Gives (λ x. (x, tokens.new.now)) result (instruction_at tokens.old.now) }
 {
-    let (word, rest) = any_word(tokens, expected)?;
+    let left = tokens.len();
+    let word = any_word(tokens, expected)?;
     match use_of(word) {
-        Some(WordUse::Instruction(form)) => instruction_of(alloc, form, rest),
-        _ => Err(Failure::Refused {
-            left: tokens.len(),
-            expected,
-        }),
+        Some(WordUse::Instruction(form)) => instruction_of(alloc, form, tokens),
+        _ => Err(Failure::Refused { left, expected }),
     }
 }

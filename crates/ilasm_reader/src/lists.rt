@@ -2,9 +2,9 @@
 
 ghost use Rattle.std.specs.Prelude.{◌≡◌, ◌≤◌, List, Bool, true, length};
 ghost use Rattle.ilasm_tokens.specs.Steps.{Gives, Consumes, many};
-ghost use Rattle.ilasm_reader.specs.Parsing.{Parser, IsBeside, starts_comma, after_comma, commas_at, closed_commas_at, parentheses_at, in_block};
+ghost use Rattle.ilasm_reader.specs.Parsing.{Parser, starts_comma, after_comma, commas_at, closed_commas_at, parentheses_at, in_block};
 
-use crate::single::{after_symbol, before_symbol, expect_symbol};
+use crate::single::{expect_symbol, expect_symbol_of, starts_symbol, take_symbol};
 use cil_model::sequences::Sequence;
 use cil_model::tokens::Symbol;
 use ilasm_tokens::expected::Expected;
@@ -21,9 +21,9 @@ pub trait Parse {
 
     ghost parsed_at: { Parser Self.Tree };
 
-    /// What the tree keeps of the part that the tokens begin with, and the tokens behind it.
-    fn parse(alloc: Global, tokens: Tokens<'_>) -> Result<(Self::Tree, Tokens<'_>), Failure>
-        ensures { Gives (λ x. (x.0, x.1.now)) result (parsed_at tokens.now) };
+    /// Takes the part that the tokens begin with, and gives what the tree keeps of it.
+    fn parse(alloc: Global, tokens: &mut Tokens<'_>) -> Result<Self::Tree, Failure>
+        ensures { Gives (λ x. (x, tokens.new.now)) result (parsed_at tokens.old.now) };
 
     // Something is taken.
     ghost consumes: { Consumes parsed_at };
@@ -39,24 +39,13 @@ impl<P: Parse, Q: Parse> Parse for (P, Q) {
     ghost parsed_at = { pair_at P.parsed_at Q.parsed_at };
 
     #[tactic(auto, unfolding(crate::specs::Parsing::pair_at, ilasm_tokens::specs::Steps::bind))]
-    fn parse(alloc: Global, tokens: Tokens<'_>) -> Result<(Self::Tree, Tokens<'_>), Failure> {
-        let (first, rest) = P::parse(alloc, tokens)?;
-        with::<_, Q>(alloc, first, rest)
+    fn parse(alloc: Global, tokens: &mut Tokens<'_>) -> Result<Self::Tree, Failure> {
+        let first = P::parse(alloc, tokens)?;
+        let second = Q::parse(alloc, tokens)?;
+        Ok((first, second))
     }
 
     ghost consumes = { pair_consumes P.consumes Q.consumes };
-}
-
-/// A part, beside what was read before it.
-pub fn with<T: Drop, P: Parse>(
-    alloc: Global,
-    before: T,
-    tokens: Tokens<'_>,
-) -> Result<((T, P::Tree), Tokens<'_>), Failure>
-    ensures { IsBeside before result (P.parsed_at tokens.now) }
-{
-    let (part, rest) = P::parse(alloc, tokens)?;
-    Ok(((before, part), rest))
 }
 
 /// A part that stands in a list without commas.
@@ -73,35 +62,34 @@ pub trait Starts: Parse {
 /// As many as stand here, one after the other, of which the first starts here. Memory for `expected` is taken at once.
 fn some<P: Starts>(
     alloc: Global,
-    tokens: Tokens<'_>,
+    tokens: &mut Tokens<'_>,
     expected: usize,
-) -> Result<(Sequence<P::Tree>, Tokens<'_>), Failure>
-    requires { P.starts_at tokens.now ≡ true }
-    ensures { Gives (λ x. (x.0, x.1.now)) result (many P.starts_at P.parsed_at tokens.now) }
+) -> Result<Sequence<P::Tree>, Failure>
+    requires { P.starts_at tokens.old.now ≡ true }
+    ensures { Gives (λ x. (x, tokens.new.now)) result (many P.starts_at P.parsed_at tokens.old.now) }
 {
-    let (first, mut rest) = P::parse(alloc, tokens)?;
+    let first = P::parse(alloc, tokens)?;
     let mut items = Vec::with_capacity(alloc, expected)?;
     items.push(first)?;
-    while P::starts(rest) {
-        let (item, after) = P::parse(alloc, rest)?;
+    while P::starts(*tokens) {
+        let item = P::parse(alloc, tokens)?;
         items.push(item)?;
-        rest = after;
     }
-    Ok((Sequence::new(items), rest))
+    Ok(Sequence::new(items))
 }
 
 /// As many as stand here, one after the other. If there are some, memory for `expected` is taken at once.
 pub fn many<P: Starts>(
     alloc: Global,
-    tokens: Tokens<'_>,
+    tokens: &mut Tokens<'_>,
     expected: usize,
-) -> Result<(Sequence<P::Tree>, Tokens<'_>), Failure>
-    ensures { Gives (λ x. (x.0, x.1.now)) result (many P.starts_at P.parsed_at tokens.now) }
+) -> Result<Sequence<P::Tree>, Failure>
+    ensures { Gives (λ x. (x, tokens.new.now)) result (many P.starts_at P.parsed_at tokens.old.now) }
 {
-    if P::starts(tokens) {
+    if P::starts(*tokens) {
         some::<P>(alloc, tokens, expected)
     } else {
-        Ok((Sequence::new(Vec::new(alloc)), tokens))
+        Ok(Sequence::new(Vec::new(alloc)))
     }
 }
 
@@ -109,18 +97,16 @@ pub fn many<P: Starts>(
 fn starts_comma(tokens: Tokens<'_>) -> bool
     ensures { result ≡ starts_comma tokens.now }
 {
-    after_symbol(tokens, Symbol::Comma).is_some()
+    starts_symbol(tokens, Symbol::Comma)
 }
 
 /// The part behind a comma.
 #[tactic(auto, unfolding(crate::specs::Parsing::after_comma, ilasm_tokens::specs::Steps::bind))]
-fn after_comma<P: Parse>(
-    alloc: Global,
-    tokens: Tokens<'_>,
-) -> Result<(P::Tree, Tokens<'_>), Failure>
-    ensures { Gives (λ x. (x.0, x.1.now)) result (after_comma P.parsed_at tokens.now) }
+fn after_comma<P: Parse>(alloc: Global, tokens: &mut Tokens<'_>) -> Result<P::Tree, Failure>
+    ensures { Gives (λ x. (x, tokens.new.now)) result (after_comma P.parsed_at tokens.old.now) }
 {
-    P::parse(alloc, expect_symbol(tokens, Symbol::Comma)?)
+    expect_symbol(tokens, Symbol::Comma)?;
+    P::parse(alloc, tokens)
 }
 
 /// How many commas stand before the end of a list, which is a parenthesis or a brace.
@@ -143,47 +129,47 @@ fn commas_ahead(tokens: Tokens<'_>) -> usize
 #[tactic(auto, unfolding(crate::specs::Parsing::commas_at, ilasm_tokens::specs::Steps::bind))]
 pub fn commas<P: Parse>(
     alloc: Global,
-    tokens: Tokens<'_>,
-) -> Result<(Sequence<P::Tree>, Tokens<'_>), Failure>
-    ensures { Gives (λ x. (x.0, x.1.now)) result (commas_at P.parsed_at tokens.now) }
+    tokens: &mut Tokens<'_>,
+) -> Result<Sequence<P::Tree>, Failure>
+    ensures { Gives (λ x. (x, tokens.new.now)) result (commas_at P.parsed_at tokens.old.now) }
 {
-    let (first, mut rest) = P::parse(alloc, tokens)?;
-    let mut items = Vec::with_capacity(alloc, commas_ahead(rest).saturating_add(1))?;
+    let first = P::parse(alloc, tokens)?;
+    let mut items = Vec::with_capacity(alloc, commas_ahead(*tokens).saturating_add(1))?;
     items.push(first)?;
-    while starts_comma(rest) {
-        let (item, after) = after_comma::<P>(alloc, rest)?;
+    while starts_comma(*tokens) {
+        let item = after_comma::<P>(alloc, tokens)?;
         items.push(item)?;
-        rest = after;
     }
-    Ok((Sequence::new(items), rest))
+    Ok(Sequence::new(items))
 }
 
 /// One or more behind an opening parenthesis, with commas between, to the closing one.
-#[tactic(auto, unfolding(crate::specs::Parsing::closed_commas_at, ilasm_tokens::specs::Steps::bind))]
+#[tactic(auto, unfolding(crate::specs::Parsing::closed_commas_at, crate::specs::Parsing::before_sign_at, ilasm_tokens::specs::Steps::bind))]
 pub fn closed_commas<P: Parse>(
     alloc: Global,
-    tokens: Tokens<'_>,
-) -> Result<(Sequence<P::Tree>, Tokens<'_>), Failure>
-    ensures { Gives (λ x. (x.0, x.1.now)) result (closed_commas_at P.parsed_at tokens.now) }
+    tokens: &mut Tokens<'_>,
+) -> Result<Sequence<P::Tree>, Failure>
+    ensures { Gives (λ x. (x, tokens.new.now)) result (closed_commas_at P.parsed_at tokens.old.now) }
 {
-    let (items, rest) = commas::<P>(alloc, tokens)?;
-    let end = Expected::ListEnd(Symbol::CloseParenthesis);
-    before_symbol(items, rest, Symbol::CloseParenthesis, end)
+    let items = commas::<P>(alloc, tokens)?;
+    let end = Symbol::CloseParenthesis;
+    expect_symbol_of(tokens, end, Expected::ListEnd(end))?;
+    Ok(items)
 }
 
 /// Any number in parentheses, with commas between.
 #[tactic(auto, unfolding(crate::specs::Parsing::parentheses_at, ilasm_tokens::specs::Steps::bind, ilasm_tokens::specs::Steps::choice))]
 pub fn parentheses<P: Parse>(
     alloc: Global,
-    tokens: Tokens<'_>,
-) -> Result<(Sequence<P::Tree>, Tokens<'_>), Failure>
-    ensures { Gives (λ x. (x.0, x.1.now)) result (parentheses_at P.parsed_at tokens.now) }
+    tokens: &mut Tokens<'_>,
+) -> Result<Sequence<P::Tree>, Failure>
+    ensures { Gives (λ x. (x, tokens.new.now)) result (parentheses_at P.parsed_at tokens.old.now) }
 {
-    let inside = expect_symbol(tokens, Symbol::OpenParenthesis)?;
-    if let Some(rest) = after_symbol(inside, Symbol::CloseParenthesis) {
-        return Ok((Sequence::new(Vec::new(alloc)), rest));
+    expect_symbol(tokens, Symbol::OpenParenthesis)?;
+    if take_symbol(tokens, Symbol::CloseParenthesis) {
+        return Ok(Sequence::new(Vec::new(alloc)));
     }
-    closed_commas::<P>(alloc, inside)
+    closed_commas::<P>(alloc, tokens)
 }
 
 /// Whether a block goes on: its end is neither here nor missing.
@@ -191,5 +177,5 @@ pub fn parentheses<P: Parse>(
 pub fn in_block(tokens: Tokens<'_>) -> bool
     ensures { result ≡ in_block tokens.now }
 {
-    !tokens.is_empty() && after_symbol(tokens, Symbol::CloseBrace).is_none()
+    !tokens.is_empty() && !starts_symbol(tokens, Symbol::CloseBrace)
 }

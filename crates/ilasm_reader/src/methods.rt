@@ -2,14 +2,13 @@
 
 ghost use Rattle.std.specs.Prelude.{◌≡◌};
 ghost use Rattle.ilasm_tokens.specs.Steps.{Gives};
-ghost use Rattle.ilasm_reader.specs.Parsing.{body_at, code_body_at, constructor_head_at, constructor_words_at, first_words_at, head_at, kind_with, managed_body_at, method_at, method_words_at, named_head_at, parameter_at, parentheses_at, signature_at, virtual_words_at};
+ghost use Rattle.ilasm_reader.specs.Parsing.{body_at, code_body_at, constructor_head_at, constructor_words_at, first_words_at, head_at, kind_with, managed_body_at, method_at, method_words_at, named_head_at, signature_at, virtual_words_at};
 
 use crate::code::code;
-use crate::lists::{Parse, parentheses, with};
-use crate::single::{after_word, empty_block, expect_word, expect_word_of, flag};
-use crate::types::{Parameter, PlainName, return_type};
+use crate::lists::parentheses;
+use crate::single::{empty_block, expect_word, expect_word_of, flag, name, skip_word, take_word};
+use crate::types::{Parameter, return_type};
 use cil_model::instructions::MethodName;
-use cil_model::sequences::Sequence;
 use cil_model::trees::{Code, Method, MethodKind};
 use cil_model::types::{DeclaredType, Signature};
 use ilasm_tokens::expected::Expected;
@@ -38,79 +37,79 @@ fn virtual_behind(is_new_slot: bool, is_abstract: bool) -> Expected {
 
 /// The words of a virtual method or of an abstract one.
 #[tactic(auto, unfolding(crate::specs::Parsing::virtual_words_at, ilasm_tokens::specs::Steps::bind))]
-fn virtual_words(tokens: Tokens<'_>) -> Result<(Beginning, Tokens<'_>), Failure>
-    ensures { Gives (λ x. (x.0, x.1.now)) result (virtual_words_at tokens.now) }
+fn virtual_words(tokens: &mut Tokens<'_>) -> Result<Beginning, Failure>
+    ensures { Gives (λ x. (x, tokens.new.now)) result (virtual_words_at tokens.old.now) }
 {
-    let (is_new_slot, rest) = flag(tokens, b"newslot");
-    let (is_abstract, rest) = flag(rest, b"abstract");
-    let rest = expect_word_of(rest, b"virtual", virtual_behind(is_new_slot, is_abstract))?;
-    let rest = expect_word(rest, b"instance")?;
-    let beginning = if is_abstract {
+    let is_new_slot = flag(tokens, b"newslot");
+    let is_abstract = flag(tokens, b"abstract");
+    expect_word_of(tokens, b"virtual", virtual_behind(is_new_slot, is_abstract))?;
+    expect_word(tokens, b"instance")?;
+    Ok(if is_abstract {
         Beginning::Abstract { is_new_slot }
     } else {
         Beginning::Virtual { is_new_slot }
-    };
-    Ok((beginning, rest))
+    })
 }
 
-/// The words of a constructor, behind the first.
+/// Takes the words of a constructor, behind the first.
 #[tactic(auto, unfolding(crate::specs::Parsing::constructor_words_at, ilasm_tokens::specs::Steps::bind))]
-fn constructor_words(tokens: Tokens<'_>) -> Result<Tokens<'_>, Failure>
-    ensures { Gives (λ r. r.now) result (constructor_words_at tokens.now) }
+fn constructor_words(tokens: &mut Tokens<'_>) -> Result<(), Failure>
+    ensures { Gives (λ _. tokens.new.now) result (constructor_words_at tokens.old.now) }
 {
-    expect_word(expect_word(tokens, b"rtspecialname")?, b"instance")
+    expect_word(tokens, b"rtspecialname")?;
+    expect_word(tokens, b"instance")
 }
 
 /// The words before a method's return type.
 #[tactic(auto, unfolding(crate::specs::Parsing::first_words_at, ilasm_tokens::specs::Steps::bind, ilasm_tokens::specs::Steps::choice))]
-fn first_words(tokens: Tokens<'_>) -> Result<(Beginning, Tokens<'_>), Failure>
-    ensures { Gives (λ x. (x.0, x.1.now)) result (first_words_at tokens.now) }
+fn first_words(tokens: &mut Tokens<'_>) -> Result<Beginning, Failure>
+    ensures { Gives (λ x. (x, tokens.new.now)) result (first_words_at tokens.old.now) }
 {
-    if let Some(rest) = after_word(tokens, b"static") {
-        return Ok((Beginning::Static, rest));
+    if take_word(tokens, b"static") {
+        return Ok(Beginning::Static);
     }
-    if let Some(rest) = after_word(tokens, b"instance") {
-        return Ok((Beginning::Instance, rest));
+    if take_word(tokens, b"instance") {
+        return Ok(Beginning::Instance);
     }
-    if let Some(rest) = after_word(tokens, b"specialname") {
-        return Ok((Beginning::Constructor, constructor_words(rest)?));
+    if take_word(tokens, b"specialname") {
+        constructor_words(tokens)?;
+        return Ok(Beginning::Constructor);
     }
     virtual_words(tokens)
 }
 
 /// All words before a method's return type. Where no method begins, the grammar has what is told as expected.
 #[tactic(auto, unfolding(crate::specs::Parsing::method_words_at, ilasm_tokens::specs::Steps::bind))]
-fn method_words(tokens: Tokens<'_>, expected: Expected) -> Result<(Beginning, Tokens<'_>), Failure>
-    ensures { Gives (λ x. (x.0, x.1.now)) result (method_words_at tokens.now) }
+fn method_words(tokens: &mut Tokens<'_>, expected: Expected) -> Result<Beginning, Failure>
+    ensures { Gives (λ x. (x, tokens.new.now)) result (method_words_at tokens.old.now) }
 {
-    let rest = expect_word_of(tokens, b".method", expected)?;
-    let rest = expect_word(rest, b"public")?;
-    first_words(after_word(rest, b"hidebysig").unwrap_or(rest))
+    expect_word_of(tokens, b".method", expected)?;
+    expect_word(tokens, b"public")?;
+    skip_word(tokens, b"hidebysig");
+    first_words(tokens)
 }
 
 /// The return type and the name of a constructor.
 #[tactic(auto, unfolding(crate::specs::Parsing::constructor_head_at, ilasm_tokens::specs::Steps::bind))]
-fn constructor_head(
-    tokens: Tokens<'_>,
-) -> Result<((Option<DeclaredType>, MethodName), Tokens<'_>), Failure>
-    ensures { Gives (λ x. (x.0, x.1.now)) result (constructor_head_at tokens.now) }
+fn constructor_head(tokens: &mut Tokens<'_>) -> Result<(Option<DeclaredType>, MethodName), Failure>
+    ensures { Gives (λ x. (x, tokens.new.now)) result (constructor_head_at tokens.old.now) }
 {
-    let rest = expect_word(tokens, b"void")?;
-    let rest = expect_word(rest, b".ctor")?;
-    Ok(((None, MethodName::Constructor), rest))
+    expect_word(tokens, b"void")?;
+    expect_word(tokens, b".ctor")?;
+    Ok((None, MethodName::Constructor))
 }
 
 /// The return type and the name of a method that is no constructor.
 #[tactic(auto, unfolding(crate::specs::Parsing::named_head_at, ilasm_tokens::specs::Steps::bind))]
 fn named_head(
     alloc: Global,
-    tokens: Tokens<'_>,
-) -> Result<((Option<DeclaredType>, MethodName), Tokens<'_>), Failure>
-    ensures { Gives (λ x. (x.0, x.1.now)) result (named_head_at tokens.now) }
+    tokens: &mut Tokens<'_>,
+) -> Result<(Option<DeclaredType>, MethodName), Failure>
+    ensures { Gives (λ x. (x, tokens.new.now)) result (named_head_at tokens.old.now) }
 {
-    let (return_type, rest) = return_type(alloc, tokens, Expected::ReturnType)?;
-    let ((return_type, name), rest) = with::<_, PlainName>(alloc, return_type, rest)?;
-    Ok(((return_type, MethodName::Named(name)), rest))
+    let return_type = return_type(alloc, tokens, Expected::ReturnType)?;
+    let name = name(alloc, tokens, Expected::Name)?;
+    Ok((return_type, MethodName::Named(name)))
 }
 
 /// The return type and the name.
@@ -118,9 +117,9 @@ fn named_head(
 fn head(
     alloc: Global,
     beginning: Beginning,
-    tokens: Tokens<'_>,
-) -> Result<((Option<DeclaredType>, MethodName), Tokens<'_>), Failure>
-    ensures { Gives (λ x. (x.0, x.1.now)) result (head_at beginning tokens.now) }
+    tokens: &mut Tokens<'_>,
+) -> Result<(Option<DeclaredType>, MethodName), Failure>
+    ensures { Gives (λ x. (x, tokens.new.now)) result (head_at beginning tokens.old.now) }
 {
     match beginning {
         Beginning::Constructor => constructor_head(tokens),
@@ -128,43 +127,22 @@ fn head(
     }
 }
 
-/// The parameters of a method that is declared, in parentheses.
-struct Parameters;
-
-impl Parse for Parameters {
-    ghost use Rattle.ilasm_reader.specs.Sound.{parameters_sound};
-
-    type Tree = Sequence<DeclaredType>;
-
-    ghost parsed_at = { parentheses_at parameter_at };
-
-    fn parse(
-        alloc: Global,
-        tokens: Tokens<'_>,
-    ) -> Result<(Sequence<DeclaredType>, Tokens<'_>), Failure> {
-        parentheses::<Parameter>(alloc, tokens)
-    }
-
-    ghost consumes = { λ ts x rest e. ((parameters_sound ts).out (x, rest) e).1 };
-}
-
 /// The name, the return type and the parameters.
 #[tactic(auto, unfolding(crate::specs::Parsing::signature_at, ilasm_tokens::specs::Steps::bind))]
 fn signature(
     alloc: Global,
     beginning: Beginning,
-    tokens: Tokens<'_>,
-) -> Result<((MethodName, Signature), Tokens<'_>), Failure>
-    ensures { Gives (λ x. (x.0, x.1.now)) result (signature_at beginning tokens.now) }
+    tokens: &mut Tokens<'_>,
+) -> Result<(MethodName, Signature), Failure>
+    ensures { Gives (λ x. (x, tokens.new.now)) result (signature_at beginning tokens.old.now) }
 {
-    let (head, rest) = head(alloc, beginning, tokens)?;
-    let ((head, parameters), rest) = with::<_, Parameters>(alloc, head, rest)?;
-    let (return_type, name) = head;
+    let (return_type, name) = head(alloc, beginning, tokens)?;
+    let parameters = parentheses::<Parameter>(alloc, tokens)?;
     let signature = Signature {
         parameters,
         return_type,
     };
-    Ok(((name, signature), rest))
+    Ok((name, signature))
 }
 
 /// The kind of a method that has code.
@@ -183,28 +161,24 @@ fn kind_with(beginning: Beginning, code: Code) -> MethodKind
 fn code_body(
     alloc: Global,
     beginning: Beginning,
-    tokens: Tokens<'_>,
-) -> Result<(MethodKind, Tokens<'_>), Failure>
-    ensures { Gives (λ x. (x.0, x.1.now)) result (code_body_at beginning tokens.now) }
+    tokens: &mut Tokens<'_>,
+) -> Result<MethodKind, Failure>
+    ensures { Gives (λ x. (x, tokens.new.now)) result (code_body_at beginning tokens.old.now) }
 {
-    let (code, rest) = code(alloc, tokens)?;
-    Ok((kind_with(beginning, code), rest))
+    let code = code(alloc, tokens)?;
+    Ok(kind_with(beginning, code))
 }
 
 /// The kind, with the code that stands here; an abstract method has an empty block.
 #[tactic(auto, unfolding(crate::specs::Parsing::body_at, ilasm_tokens::specs::Steps::bind))]
-fn body(
-    alloc: Global,
-    beginning: Beginning,
-    tokens: Tokens<'_>,
-) -> Result<(MethodKind, Tokens<'_>), Failure>
-    ensures { Gives (λ x. (x.0, x.1.now)) result (body_at beginning tokens.now) }
+fn body(alloc: Global, beginning: Beginning, tokens: &mut Tokens<'_>) -> Result<MethodKind, Failure>
+    ensures { Gives (λ x. (x, tokens.new.now)) result (body_at beginning tokens.old.now) }
 {
     let Beginning::Abstract { is_new_slot } = beginning else {
         return code_body(alloc, beginning, tokens);
     };
-    let rest = empty_block(tokens)?;
-    Ok((MethodKind::Abstract { is_new_slot }, rest))
+    empty_block(tokens)?;
+    Ok(MethodKind::Abstract { is_new_slot })
 }
 
 /// The kind, behind the words before a body.
@@ -212,33 +186,26 @@ fn body(
 fn managed_body(
     alloc: Global,
     beginning: Beginning,
-    tokens: Tokens<'_>,
-) -> Result<(MethodKind, Tokens<'_>), Failure>
-    ensures { Gives (λ x. (x.0, x.1.now)) result (managed_body_at beginning tokens.now) }
+    tokens: &mut Tokens<'_>,
+) -> Result<MethodKind, Failure>
+    ensures { Gives (λ x. (x, tokens.new.now)) result (managed_body_at beginning tokens.old.now) }
 {
-    let rest = expect_word_of(tokens, b"cil", Expected::CilManaged)?;
-    let rest = expect_word(rest, b"managed")?;
-    body(alloc, beginning, rest)
+    expect_word_of(tokens, b"cil", Expected::CilManaged)?;
+    expect_word(tokens, b"managed")?;
+    body(alloc, beginning, tokens)
 }
 
 /// A method. Where none begins, the grammar has what is told as expected.
 #[tactic(auto, unfolding(crate::specs::Parsing::method_at, ilasm_tokens::specs::Steps::bind))]
-pub fn method(
-    alloc: Global,
-    tokens: Tokens<'_>,
-    expected: Expected,
-) -> Result<(Method, Tokens<'_>), Failure>
-    ensures { Gives (λ x. (x.0, x.1.now)) result (method_at tokens.now) }
+pub fn method(alloc: Global, tokens: &mut Tokens<'_>, expected: Expected) -> Result<Method, Failure>
+    ensures { Gives (λ x. (x, tokens.new.now)) result (method_at tokens.old.now) }
 {
-    let (beginning, rest) = method_words(tokens, expected)?;
-    let ((name, signature), rest) = signature(alloc, beginning, rest)?;
-    let (kind, rest) = managed_body(alloc, beginning, rest)?;
-    Ok((
-        Method {
-            name,
-            signature,
-            kind,
-        },
-        rest,
-    ))
+    let beginning = method_words(tokens, expected)?;
+    let (name, signature) = signature(alloc, beginning, tokens)?;
+    let kind = managed_body(alloc, beginning, tokens)?;
+    Ok(Method {
+        name,
+        signature,
+        kind,
+    })
 }

@@ -3,8 +3,8 @@
 ghost use Rattle.ilasm_tokens.specs.Steps.{Gives};
 ghost use Rattle.ilasm_reader.specs.Parsing.{field_of_owner_at, field_reference_at, instance_method_at, method_name_at, method_of_owner_at, method_reference_at, name_at, parentheses_at, type_at};
 
-use crate::lists::{Parse, parentheses, with};
-use crate::single::{after_word, expect_symbol, expect_word, name};
+use crate::lists::{Parse, parentheses};
+use crate::single::{expect_symbol, expect_word, name, take_word};
 use crate::types::{AnyType, ClassReference, return_type};
 use cil_model::instructions::{FieldReference, MethodName, MethodReference};
 use cil_model::sequences::Sequence;
@@ -26,7 +26,7 @@ impl Parse for Target {
 
     ghost parsed_at = { name_at };
 
-    fn parse(alloc: Global, tokens: Tokens<'_>) -> Result<(Text, Tokens<'_>), Failure> {
+    fn parse(alloc: Global, tokens: &mut Tokens<'_>) -> Result<Text, Failure> {
         name(alloc, tokens, Expected::LabelName)
     }
 
@@ -44,9 +44,9 @@ impl Parse for FieldOfOwner {
     ghost parsed_at = { field_of_owner_at };
 
     #[tactic(auto, unfolding(crate::specs::Parsing::field_of_owner_at, ilasm_tokens::specs::Steps::bind))]
-    fn parse(alloc: Global, tokens: Tokens<'_>) -> Result<(Text, Tokens<'_>), Failure> {
-        let rest = expect_symbol(tokens, Symbol::DoubleColon)?;
-        name(alloc, rest, Expected::MemberName)
+    fn parse(alloc: Global, tokens: &mut Tokens<'_>) -> Result<Text, Failure> {
+        expect_symbol(tokens, Symbol::DoubleColon)?;
+        name(alloc, tokens, Expected::MemberName)
     }
 
     ghost consumes = { λ ts x rest e. ((field_of_owner_sound ts).out (x, rest) e).1 };
@@ -54,34 +54,28 @@ impl Parse for FieldOfOwner {
 
 /// `type owner::name`.
 #[tactic(auto, unfolding(crate::specs::Parsing::field_reference_at, ilasm_tokens::specs::Steps::bind))]
-pub fn field_reference(
-    alloc: Global,
-    tokens: Tokens<'_>,
-) -> Result<(FieldReference, Tokens<'_>), Failure>
-    ensures { Gives (λ x. (x.0, x.1.now)) result (field_reference_at tokens.now) }
+pub fn field_reference(alloc: Global, tokens: &mut Tokens<'_>) -> Result<FieldReference, Failure>
+    ensures { Gives (λ x. (x, tokens.new.now)) result (field_reference_at tokens.old.now) }
 {
-    let (parts, rest) = <(AnyType, (ClassReference, FieldOfOwner))>::parse(alloc, tokens)?;
+    let parts = <(AnyType, (ClassReference, FieldOfOwner))>::parse(alloc, tokens)?;
     let (field_type, (owner, name)) = parts;
-    Ok((
-        FieldReference {
-            field_type,
-            owner,
-            name,
-        },
-        rest,
-    ))
+    Ok(FieldReference {
+        field_type,
+        owner,
+        name,
+    })
 }
 
 /// A name, or `.ctor`.
 #[tactic(auto, unfolding(crate::specs::Parsing::method_name_at, ilasm_tokens::specs::Steps::bind, ilasm_tokens::specs::Steps::choice))]
-fn method_name(alloc: Global, tokens: Tokens<'_>) -> Result<(MethodName, Tokens<'_>), Failure>
-    ensures { Gives (λ x. (x.0, x.1.now)) result (method_name_at tokens.now) }
+fn method_name(alloc: Global, tokens: &mut Tokens<'_>) -> Result<MethodName, Failure>
+    ensures { Gives (λ x. (x, tokens.new.now)) result (method_name_at tokens.old.now) }
 {
-    if let Some(rest) = after_word(tokens, b".ctor") {
-        return Ok((MethodName::Constructor, rest));
+    if take_word(tokens, b".ctor") {
+        return Ok(MethodName::Constructor);
     }
-    let (name, rest) = name(alloc, tokens, Expected::MemberName)?;
-    Ok((MethodName::Named(name), rest))
+    let name = name(alloc, tokens, Expected::MemberName)?;
+    Ok(MethodName::Named(name))
 }
 
 /// The name of a method, behind `::`.
@@ -95,9 +89,9 @@ impl Parse for MethodOfOwner {
     ghost parsed_at = { method_of_owner_at };
 
     #[tactic(auto, unfolding(crate::specs::Parsing::method_of_owner_at, ilasm_tokens::specs::Steps::bind))]
-    fn parse(alloc: Global, tokens: Tokens<'_>) -> Result<(MethodName, Tokens<'_>), Failure> {
-        let rest = expect_symbol(tokens, Symbol::DoubleColon)?;
-        method_name(alloc, rest)
+    fn parse(alloc: Global, tokens: &mut Tokens<'_>) -> Result<MethodName, Failure> {
+        expect_symbol(tokens, Symbol::DoubleColon)?;
+        method_name(alloc, tokens)
     }
 
     ghost consumes = { λ ts x rest e. ((method_of_owner_sound ts).out (x, rest) e).1 };
@@ -113,10 +107,7 @@ impl Parse for ParameterTypes {
 
     ghost parsed_at = { parentheses_at type_at };
 
-    fn parse(
-        alloc: Global,
-        tokens: Tokens<'_>,
-    ) -> Result<(Sequence<DeclaredType>, Tokens<'_>), Failure> {
+    fn parse(alloc: Global, tokens: &mut Tokens<'_>) -> Result<Sequence<DeclaredType>, Failure> {
         parentheses::<AnyType>(alloc, tokens)
     }
 
@@ -127,43 +118,30 @@ impl Parse for ParameterTypes {
 #[tactic(auto, unfolding(crate::specs::Parsing::method_reference_at, ilasm_tokens::specs::Steps::bind))]
 pub fn method_reference(
     alloc: Global,
-    tokens: Tokens<'_>,
+    tokens: &mut Tokens<'_>,
     expected: Expected,
-) -> Result<(MethodReference, Tokens<'_>), Failure>
-    ensures { Gives (λ x. (x.0, x.1.now)) result (method_reference_at tokens.now) }
+) -> Result<MethodReference, Failure>
+    ensures { Gives (λ x. (x, tokens.new.now)) result (method_reference_at tokens.old.now) }
 {
-    let (return_type, rest) = return_type(alloc, tokens, expected)?;
-    let (parts, rest) = with::<_, (ClassReference, (MethodOfOwner, ParameterTypes))>(
-        alloc,
-        return_type,
-        rest,
-    )?;
-    let (return_type, (owner, (name, parameters))) = parts;
+    let return_type = return_type(alloc, tokens, expected)?;
+    let parts = <(ClassReference, (MethodOfOwner, ParameterTypes))>::parse(alloc, tokens)?;
+    let (owner, (name, parameters)) = parts;
     let signature = Signature {
         parameters,
         return_type,
     };
-    Ok((
-        MethodReference {
-            owner,
-            name,
-            signature,
-        },
-        rest,
-    ))
+    Ok(MethodReference {
+        owner,
+        name,
+        signature,
+    })
 }
 
 /// A method behind the word `instance`.
 #[tactic(auto, unfolding(crate::specs::Parsing::instance_method_at, ilasm_tokens::specs::Steps::bind))]
-pub fn instance_method(
-    alloc: Global,
-    tokens: Tokens<'_>,
-) -> Result<(MethodReference, Tokens<'_>), Failure>
-    ensures { Gives (λ x. (x.0, x.1.now)) result (instance_method_at tokens.now) }
+pub fn instance_method(alloc: Global, tokens: &mut Tokens<'_>) -> Result<MethodReference, Failure>
+    ensures { Gives (λ x. (x, tokens.new.now)) result (instance_method_at tokens.old.now) }
 {
-    method_reference(
-        alloc,
-        expect_word(tokens, b"instance")?,
-        Expected::ReturnType,
-    )
+    expect_word(tokens, b"instance")?;
+    method_reference(alloc, tokens, Expected::ReturnType)
 }

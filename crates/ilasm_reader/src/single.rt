@@ -1,8 +1,8 @@
 //! Single tokens.
 
-ghost use Rattle.std.specs.Prelude.{◌≡◌, option_map};
+ghost use Rattle.std.specs.Prelude.{◌≡◌, is_some, option_map, unwrap_or};
 ghost use Rattle.ilasm_tokens.specs.Steps.{Gives};
-ghost use Rattle.ilasm_reader.specs.Parsing.{word_at, sign_at, before_sign_at, empty_block_at, any_word_at, name_at, integer_at, quoted_at, flag_at};
+ghost use Rattle.ilasm_reader.specs.Parsing.{Takes, word_at, sign_at, empty_block_at, any_word_at, name_at, integer_at, quoted_at, flag_at};
 
 use cil_model::texts::Text;
 use cil_model::tokens::Symbol;
@@ -11,200 +11,209 @@ use ilasm_tokens::failure::Failure;
 use ilasm_tokens::source_tokens::Tokens;
 use std::alloc::Global;
 
-/// The tokens behind a reserved word, if it stands here.
+/// Takes a reserved word, if it stands here, and tells whether it does.
 #[tactic(auto, unfolding(crate::specs::Parsing::word_at, ilasm_tokens::specs::Steps::choice))]
-pub fn after_word<'a>(tokens: Tokens<'a>, word: &[u8]) -> Option<Tokens<'a>>
-    ensures { option_map (λ r. r.now) result ≡ word_at word.now tokens.now }
+pub fn take_word(tokens: &mut Tokens<'_>, word: &[u8]) -> bool
+    ensures { Takes result tokens.old.now tokens.new.now (word_at word.now tokens.old.now) }
 {
-    let [first, rest @ ..] = tokens else {
-        return None;
-    };
-    match first.reserved() {
-        Some(found) if found == word => Some(rest),
-        _ => None,
+    match *tokens {
+        [first, rest @ ..] if first.reserved() == Some(word) => {
+            *tokens = rest;
+            true
+        }
+        _ => false,
     }
 }
 
-/// The tokens behind a symbol, if it stands here.
+/// Takes a symbol, if it stands here, and tells whether it does.
 #[tactic(auto, unfolding(crate::specs::Parsing::sign_at, ilasm_tokens::specs::Steps::choice))]
-pub fn after_symbol(tokens: Tokens<'_>, symbol: Symbol) -> Option<Tokens<'_>>
-    ensures { option_map (λ r. r.now) result ≡ sign_at symbol tokens.now }
+pub fn take_symbol(tokens: &mut Tokens<'_>, symbol: Symbol) -> bool
+    ensures { Takes result tokens.old.now tokens.new.now (sign_at symbol tokens.old.now) }
 {
-    let [first, rest @ ..] = tokens else {
-        return None;
-    };
-    match first.symbol() {
-        Some(found) if found == symbol => Some(rest),
-        _ => None,
+    match *tokens {
+        [first, rest @ ..] if first.symbol() == Some(symbol) => {
+            *tokens = rest;
+            true
+        }
+        _ => false,
     }
 }
 
-/// The tokens behind a reserved word, which must stand here. Where it does not, the grammar has what is told as expected.
-pub fn expect_word_of<'a>(
-    tokens: Tokens<'a>,
+/// Takes a name, if one stands here, and tells whether one does.
+#[tactic(auto, unfolding(crate::specs::Parsing::name_at, ilasm_tokens::specs::Steps::choice))]
+pub fn take_name(tokens: &mut Tokens<'_>) -> bool
+    ensures { Takes result tokens.old.now tokens.new.now (option_map (λ x. x.1) (name_at tokens.old.now)) }
+{
+    match *tokens {
+        [first, rest @ ..] if first.is_name() => {
+            *tokens = rest;
+            true
+        }
+        _ => false,
+    }
+}
+
+/// Whether a reserved word stands here.
+pub fn starts_word(tokens: Tokens<'_>, word: &[u8]) -> bool
+    ensures { result ≡ is_some (word_at word.now tokens.now) }
+{
+    let mut ahead = tokens;
+    take_word(&mut ahead, word)
+}
+
+/// Whether a symbol stands here.
+pub fn starts_symbol(tokens: Tokens<'_>, symbol: Symbol) -> bool
+    ensures { result ≡ is_some (sign_at symbol tokens.now) }
+{
+    let mut ahead = tokens;
+    take_symbol(&mut ahead, symbol)
+}
+
+/// Takes a reserved word, which must stand here. Where it does not, the grammar has what is told as expected.
+pub fn expect_word_of(
+    tokens: &mut Tokens<'_>,
     word: &[u8],
     expected: Expected,
-) -> Result<Tokens<'a>, Failure>
-    ensures { Gives (λ r. r.now) result (word_at word.now tokens.now) }
+) -> Result<(), Failure>
+    ensures { Gives (λ _. tokens.new.now) result (word_at word.now tokens.old.now) }
 {
-    match after_word(tokens, word) {
-        Some(rest) => Ok(rest),
-        None => Err(Failure::Refused {
+    if take_word(tokens, word) {
+        Ok(())
+    } else {
+        Err(Failure::Refused {
             left: tokens.len(),
             expected,
-        }),
+        })
     }
 }
 
-/// The tokens behind a reserved word, which alone may stand here.
-pub fn expect_word<'a>(tokens: Tokens<'a>, word: &'static [u8]) -> Result<Tokens<'a>, Failure>
-    ensures { Gives (λ r. r.now) result (word_at word.now tokens.now) }
+/// Takes a reserved word, which alone may stand here.
+pub fn expect_word(tokens: &mut Tokens<'_>, word: &'static [u8]) -> Result<(), Failure>
+    ensures { Gives (λ _. tokens.new.now) result (word_at word.now tokens.old.now) }
 {
     expect_word_of(tokens, word, Expected::Word(word))
 }
 
-/// The tokens behind a symbol, which must stand here. Where it does not, the grammar has what is told as expected.
+/// Takes a symbol, which must stand here. Where it does not, the grammar has what is told as expected.
 pub fn expect_symbol_of(
-    tokens: Tokens<'_>,
+    tokens: &mut Tokens<'_>,
     symbol: Symbol,
     expected: Expected,
-) -> Result<Tokens<'_>, Failure>
-    ensures { Gives (λ r. r.now) result (sign_at symbol tokens.now) }
+) -> Result<(), Failure>
+    ensures { Gives (λ _. tokens.new.now) result (sign_at symbol tokens.old.now) }
 {
-    match after_symbol(tokens, symbol) {
-        Some(rest) => Ok(rest),
-        None => Err(Failure::Refused {
+    if take_symbol(tokens, symbol) {
+        Ok(())
+    } else {
+        Err(Failure::Refused {
             left: tokens.len(),
             expected,
-        }),
+        })
     }
 }
 
-/// The tokens behind a symbol, which alone may stand here.
-pub fn expect_symbol(tokens: Tokens<'_>, symbol: Symbol) -> Result<Tokens<'_>, Failure>
-    ensures { Gives (λ r. r.now) result (sign_at symbol tokens.now) }
+/// Takes a symbol, which alone may stand here.
+pub fn expect_symbol(tokens: &mut Tokens<'_>, symbol: Symbol) -> Result<(), Failure>
+    ensures { Gives (λ _. tokens.new.now) result (sign_at symbol tokens.old.now) }
 {
     expect_symbol_of(tokens, symbol, Expected::Symbol(symbol))
 }
 
-/// What was read, if a symbol stands behind it. Where it does not, the grammar has what is told as expected.
-#[tactic(auto, unfolding(crate::specs::Parsing::before_sign_at, ilasm_tokens::specs::Steps::bind))]
-pub fn before_symbol<T: Drop>(
-    read: T,
-    tokens: Tokens<'_>,
-    symbol: Symbol,
-    expected: Expected,
-) -> Result<(T, Tokens<'_>), Failure>
-    ensures { Gives (λ x. (x.0, x.1.now)) result (before_sign_at read symbol tokens.now) }
-{
-    let rest = expect_symbol_of(tokens, symbol, expected)?;
-    Ok((read, rest))
-}
-
-/// The tokens behind a pair of braces with nothing between.
+/// Takes a pair of braces with nothing between.
 #[tactic(auto, unfolding(crate::specs::Parsing::empty_block_at, ilasm_tokens::specs::Steps::bind))]
-pub fn empty_block(tokens: Tokens<'_>) -> Result<Tokens<'_>, Failure>
-    ensures { Gives (λ r. r.now) result (empty_block_at tokens.now) }
+pub fn empty_block(tokens: &mut Tokens<'_>) -> Result<(), Failure>
+    ensures { Gives (λ _. tokens.new.now) result (empty_block_at tokens.old.now) }
 {
-    expect_symbol(
-        expect_symbol(tokens, Symbol::OpenBrace)?,
-        Symbol::CloseBrace,
-    )
+    expect_symbol(tokens, Symbol::OpenBrace)?;
+    expect_symbol(tokens, Symbol::CloseBrace)
 }
 
 /// A reserved word. Where there is none, the grammar has what is told as expected.
 #[tactic(auto, unfolding(crate::specs::Parsing::any_word_at, ilasm_tokens::specs::Steps::choice))]
-pub fn any_word(tokens: Tokens<'_>, expected: Expected) -> Result<(&[u8], Tokens<'_>), Failure>
-    ensures { Gives (λ x. (x.0.now, x.1.now)) result (any_word_at tokens.now) }
+pub fn any_word<'a>(tokens: &mut Tokens<'a>, expected: Expected) -> Result<&'a [u8], Failure>
+    ensures { Gives (λ x. (x.now, tokens.new.now)) result (any_word_at tokens.old.now) }
 {
-    let [first, rest @ ..] = tokens else {
+    let [first, rest @ ..] = *tokens else {
         return Err(Failure::Refused { left: 0, expected });
     };
-    match first.reserved() {
-        Some(found) => Ok((found, rest)),
-        None => Err(Failure::Refused {
+    let Some(found) = first.reserved() else {
+        return Err(Failure::Refused {
             left: tokens.len(),
             expected,
-        }),
-    }
+        });
+    };
+    *tokens = rest;
+    Ok(found)
 }
 
 /// A name. Where there is none, the grammar has what is told as expected.
 #[tactic(auto, unfolding(crate::specs::Parsing::name_at, ilasm_tokens::specs::Steps::choice))]
-pub fn name(
-    alloc: Global,
-    tokens: Tokens<'_>,
-    expected: Expected,
-) -> Result<(Text, Tokens<'_>), Failure>
-    ensures { Gives (λ x. (x.0, x.1.now)) result (name_at tokens.now) }
+pub fn name(alloc: Global, tokens: &mut Tokens<'_>, expected: Expected) -> Result<Text, Failure>
+    ensures { Gives (λ x. (x, tokens.new.now)) result (name_at tokens.old.now) }
 {
-    let [first, rest @ ..] = tokens else {
+    let [first, rest @ ..] = *tokens else {
         return Err(Failure::Refused { left: 0, expected });
     };
-    match first.name(alloc)? {
-        Some(found) => Ok((found, rest)),
-        None => Err(Failure::Refused {
+    let Some(found) = first.name(alloc)? else {
+        return Err(Failure::Refused {
             left: tokens.len(),
             expected,
-        }),
-    }
-}
-
-/// The tokens behind a name, if one stands here.
-#[tactic(auto, unfolding(crate::specs::Parsing::name_at, ilasm_tokens::specs::Steps::choice))]
-pub fn after_name(tokens: Tokens<'_>) -> Option<Tokens<'_>>
-    ensures { option_map (λ r. r.now) result ≡ option_map (λ x. x.1) (name_at tokens.now) }
-{
-    match tokens {
-        [first, rest @ ..] if first.is_name() => Some(rest),
-        _ => None,
-    }
+        });
+    };
+    *tokens = rest;
+    Ok(found)
 }
 
 /// An integer. Where there is none, the grammar has what is told as expected.
 #[tactic(auto, unfolding(crate::specs::Parsing::integer_at, ilasm_tokens::specs::Steps::choice))]
-pub fn integer(tokens: Tokens<'_>, expected: Expected) -> Result<(i64, Tokens<'_>), Failure>
-    ensures { Gives (λ x. (x.0, x.1.now)) result (integer_at tokens.now) }
+pub fn integer(tokens: &mut Tokens<'_>, expected: Expected) -> Result<i64, Failure>
+    ensures { Gives (λ x. (x, tokens.new.now)) result (integer_at tokens.old.now) }
 {
-    let [first, rest @ ..] = tokens else {
+    let [first, rest @ ..] = *tokens else {
         return Err(Failure::Refused { left: 0, expected });
     };
-    match first.integer() {
-        Some(found) => Ok((found, rest)),
-        None => Err(Failure::Refused {
+    let Some(found) = first.integer() else {
+        return Err(Failure::Refused {
             left: tokens.len(),
             expected,
-        }),
-    }
+        });
+    };
+    *tokens = rest;
+    Ok(found)
 }
 
 /// The characters of a string literal.
 #[tactic(auto, unfolding(crate::specs::Parsing::quoted_at, ilasm_tokens::specs::Steps::choice))]
-pub fn quoted(alloc: Global, tokens: Tokens<'_>) -> Result<(Text, Tokens<'_>), Failure>
-    ensures { Gives (λ x. (x.0, x.1.now)) result (quoted_at tokens.now) }
+pub fn quoted(alloc: Global, tokens: &mut Tokens<'_>) -> Result<Text, Failure>
+    ensures { Gives (λ x. (x, tokens.new.now)) result (quoted_at tokens.old.now) }
 {
-    let [first, rest @ ..] = tokens else {
+    let [first, rest @ ..] = *tokens else {
         return Err(Failure::Refused {
             left: 0,
             expected: Expected::StringLiteral,
         });
     };
-    match first.quoted(alloc)? {
-        Some(found) => Ok((found, rest)),
-        None => Err(Failure::Refused {
+    let Some(found) = first.quoted(alloc)? else {
+        return Err(Failure::Refused {
             left: tokens.len(),
             expected: Expected::StringLiteral,
-        }),
-    }
+        });
+    };
+    *tokens = rest;
+    Ok(found)
 }
 
-/// Whether a word stands here, and the tokens behind it.
+/// Whether a word stands here, which is taken if it does. It is what `take_word` does, said by one value of the grammar.
 #[tactic(auto, unfolding(crate::specs::Parsing::flag_at, ilasm_tokens::specs::Steps::choice))]
-pub fn flag<'a>(tokens: Tokens<'a>, word: &[u8]) -> (bool, Tokens<'a>)
-    ensures { (result.0, result.1.now) ≡ flag_at word.now tokens.now }
+pub fn flag(tokens: &mut Tokens<'_>, word: &[u8]) -> bool
+    ensures { (result, tokens.new.now) ≡ flag_at word.now tokens.old.now }
 {
-    match after_word(tokens, word) {
-        Some(rest) => (true, rest),
-        None => (false, tokens),
-    }
+    take_word(tokens, word)
+}
+
+/// Takes a reserved word, if it stands here, which is not told.
+pub fn skip_word(tokens: &mut Tokens<'_>, word: &[u8])
+    ensures { tokens.new.now ≡ unwrap_or (word_at word.now tokens.old.now) tokens.old.now }
+{
+    take_word(tokens, word);
 }

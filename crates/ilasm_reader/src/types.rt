@@ -1,11 +1,10 @@
 //! Types and names of classes.
 
-ghost use Rattle.std.specs.Prelude.{◌≡◌, option_map};
 ghost use Rattle.ilasm_tokens.specs.Steps.{Gives};
-ghost use Rattle.ilasm_reader.specs.Parsing.{assembly_name_at, brackets_at, class_name_at, class_of_assembly_at, element_at, name_at, parameter_at, return_type_at, type_at};
+ghost use Rattle.ilasm_reader.specs.Parsing.{Takes, assembly_name_at, brackets_at, class_name_at, class_of_assembly_at, element_at, name_at, parameter_at, return_type_at, type_at};
 
 use crate::lists::Parse;
-use crate::single::{after_name, after_symbol, after_word, before_symbol, expect_word_of, name};
+use crate::single::{expect_symbol, expect_word_of, name, take_name, take_symbol, take_word};
 use cil_model::texts::Text;
 use cil_model::tokens::Symbol;
 use cil_model::types::{ClassName, DeclaredType, Element};
@@ -24,11 +23,11 @@ impl Parse for AssemblyName {
 
     ghost parsed_at = { assembly_name_at };
 
-    #[tactic(auto, unfolding(crate::specs::Parsing::assembly_name_at, ilasm_tokens::specs::Steps::bind))]
-    fn parse(alloc: Global, tokens: Tokens<'_>) -> Result<(Text, Tokens<'_>), Failure> {
-        let (name, rest) = name(alloc, tokens, Expected::Name)?;
-        let end = Symbol::CloseBracket;
-        before_symbol(name, rest, end, Expected::Symbol(end))
+    #[tactic(auto, unfolding(crate::specs::Parsing::assembly_name_at, crate::specs::Parsing::before_sign_at, ilasm_tokens::specs::Steps::bind))]
+    fn parse(alloc: Global, tokens: &mut Tokens<'_>) -> Result<Text, Failure> {
+        let name = name(alloc, tokens, Expected::Name)?;
+        expect_symbol(tokens, Symbol::CloseBracket)?;
+        Ok(name)
     }
 
     ghost consumes = { λ ts x rest e. ((assembly_name_sound ts).out (x, rest) e).1 };
@@ -44,7 +43,7 @@ impl Parse for OwnName {
 
     ghost parsed_at = { name_at };
 
-    fn parse(alloc: Global, tokens: Tokens<'_>) -> Result<(Text, Tokens<'_>), Failure> {
+    fn parse(alloc: Global, tokens: &mut Tokens<'_>) -> Result<Text, Failure> {
         name(alloc, tokens, Expected::ClassName)
     }
 
@@ -61,7 +60,7 @@ impl Parse for PlainName {
 
     ghost parsed_at = { name_at };
 
-    fn parse(alloc: Global, tokens: Tokens<'_>) -> Result<(Text, Tokens<'_>), Failure> {
+    fn parse(alloc: Global, tokens: &mut Tokens<'_>) -> Result<Text, Failure> {
         name(alloc, tokens, Expected::Name)
     }
 
@@ -70,12 +69,12 @@ impl Parse for PlainName {
 
 /// A class behind an opening bracket: the name of its assembly, and its own.
 #[tactic(auto, unfolding(crate::specs::Parsing::class_of_assembly_at, ilasm_tokens::specs::Steps::bind))]
-fn class_of_assembly(alloc: Global, tokens: Tokens<'_>) -> Result<(ClassName, Tokens<'_>), Failure>
-    ensures { Gives (λ x. (x.0, x.1.now)) result (class_of_assembly_at tokens.now) }
+fn class_of_assembly(alloc: Global, tokens: &mut Tokens<'_>) -> Result<ClassName, Failure>
+    ensures { Gives (λ x. (x, tokens.new.now)) result (class_of_assembly_at tokens.old.now) }
 {
-    let ((assembly, name), rest) = <(AssemblyName, OwnName)>::parse(alloc, tokens)?;
+    let (assembly, name) = <(AssemblyName, OwnName)>::parse(alloc, tokens)?;
     let assembly = Some(assembly);
-    Ok((ClassName { assembly, name }, rest))
+    Ok(ClassName { assembly, name })
 }
 
 /// A class by its name, perhaps behind the name of an assembly in brackets.
@@ -89,13 +88,13 @@ impl Parse for ClassReference {
     ghost parsed_at = { class_name_at };
 
     #[tactic(auto, unfolding(crate::specs::Parsing::class_name_at, ilasm_tokens::specs::Steps::bind, ilasm_tokens::specs::Steps::choice))]
-    fn parse(alloc: Global, tokens: Tokens<'_>) -> Result<(ClassName, Tokens<'_>), Failure> {
-        if let Some(inside) = after_symbol(tokens, Symbol::OpenBracket) {
-            return class_of_assembly(alloc, inside);
+    fn parse(alloc: Global, tokens: &mut Tokens<'_>) -> Result<ClassName, Failure> {
+        if take_symbol(tokens, Symbol::OpenBracket) {
+            return class_of_assembly(alloc, tokens);
         }
-        let (name, rest) = name(alloc, tokens, Expected::ClassName)?;
+        let name = name(alloc, tokens, Expected::ClassName)?;
         let assembly = None;
-        Ok((ClassName { assembly, name }, rest))
+        Ok(ClassName { assembly, name })
     }
 
     ghost consumes = { λ ts x rest e. ((class_name_sound ts).out (x, rest) e).1 };
@@ -105,53 +104,54 @@ impl Parse for ClassReference {
 #[tactic(auto, unfolding(crate::specs::Parsing::element_at, ilasm_tokens::specs::Steps::bind, ilasm_tokens::specs::Steps::choice))]
 pub fn element(
     alloc: Global,
-    tokens: Tokens<'_>,
+    tokens: &mut Tokens<'_>,
     expected: Expected,
-) -> Result<(Element, Tokens<'_>), Failure>
-    ensures { Gives (λ x. (x.0, x.1.now)) result (element_at tokens.now) }
+) -> Result<Element, Failure>
+    ensures { Gives (λ x. (x, tokens.new.now)) result (element_at tokens.old.now) }
 {
-    if let Some(rest) = after_word(tokens, b"int32") {
-        return Ok((Element::Int32, rest));
+    if take_word(tokens, b"int32") {
+        return Ok(Element::Int32);
     }
-    if let Some(rest) = after_word(tokens, b"int64") {
-        return Ok((Element::Int64, rest));
+    if take_word(tokens, b"int64") {
+        return Ok(Element::Int64);
     }
-    if let Some(rest) = after_word(tokens, b"object") {
-        return Ok((Element::Object, rest));
+    if take_word(tokens, b"object") {
+        return Ok(Element::Object);
     }
-    if let Some(rest) = after_word(tokens, b"string") {
-        return Ok((Element::String, rest));
+    if take_word(tokens, b"string") {
+        return Ok(Element::String);
     }
-    let (class, rest) = ClassReference::parse(alloc, expect_word_of(tokens, b"class", expected)?)?;
-    Ok((Element::Class(class), rest))
+    expect_word_of(tokens, b"class", expected)?;
+    Ok(Element::Class(ClassReference::parse(alloc, tokens)?))
 }
 
-/// The tokens behind a pair of brackets with nothing between, if it stands here.
+/// Takes a pair of brackets with nothing between, if it stands here, and tells whether it does.
 #[tactic(auto, unfolding(crate::specs::Parsing::brackets_at, ilasm_tokens::specs::Steps::bind))]
-fn after_brackets(tokens: Tokens<'_>) -> Option<Tokens<'_>>
-    ensures { option_map (λ r. r.now) result ≡ brackets_at tokens.now }
+fn take_brackets(tokens: &mut Tokens<'_>) -> bool
+    ensures { Takes result tokens.old.now tokens.new.now (brackets_at tokens.old.now) }
 {
-    after_symbol(
-        after_symbol(tokens, Symbol::OpenBracket)?,
-        Symbol::CloseBracket,
-    )
+    let mut ahead = *tokens;
+    if take_symbol(&mut ahead, Symbol::OpenBracket)
+        && take_symbol(&mut ahead, Symbol::CloseBracket)
+    {
+        *tokens = ahead;
+        return true;
+    }
+    false
 }
 
 /// A type. Where there is none, the grammar has what is told as expected.
 #[tactic(auto, unfolding(crate::specs::Parsing::type_at, ilasm_tokens::specs::Steps::bind, ilasm_tokens::specs::Steps::choice))]
 fn declared_type(
     alloc: Global,
-    tokens: Tokens<'_>,
+    tokens: &mut Tokens<'_>,
     expected: Expected,
-) -> Result<(DeclaredType, Tokens<'_>), Failure>
-    ensures { Gives (λ x. (x.0, x.1.now)) result (type_at tokens.now) }
+) -> Result<DeclaredType, Failure>
+    ensures { Gives (λ x. (x, tokens.new.now)) result (type_at tokens.old.now) }
 {
-    let (element, rest) = element(alloc, tokens, expected)?;
-    let (brackets, rest) = match after_brackets(rest) {
-        Some(after) => (1, after),
-        None => (0, rest),
-    };
-    Ok((DeclaredType { element, brackets }, rest))
+    let element = element(alloc, tokens, expected)?;
+    let brackets = if take_brackets(tokens) { 1 } else { 0 };
+    Ok(DeclaredType { element, brackets })
 }
 
 /// A type.
@@ -164,7 +164,7 @@ impl Parse for AnyType {
 
     ghost parsed_at = { type_at };
 
-    fn parse(alloc: Global, tokens: Tokens<'_>) -> Result<(DeclaredType, Tokens<'_>), Failure> {
+    fn parse(alloc: Global, tokens: &mut Tokens<'_>) -> Result<DeclaredType, Failure> {
         declared_type(alloc, tokens, Expected::Type)
     }
 
@@ -182,9 +182,10 @@ impl Parse for Parameter {
     ghost parsed_at = { parameter_at };
 
     #[tactic(auto, unfolding(crate::specs::Parsing::parameter_at, crate::specs::Parsing::name_at, ilasm_tokens::specs::Steps::bind, ilasm_tokens::specs::Steps::choice))]
-    fn parse(alloc: Global, tokens: Tokens<'_>) -> Result<(DeclaredType, Tokens<'_>), Failure> {
-        let (its_type, rest) = AnyType::parse(alloc, tokens)?;
-        Ok((its_type, after_name(rest).unwrap_or(rest)))
+    fn parse(alloc: Global, tokens: &mut Tokens<'_>) -> Result<DeclaredType, Failure> {
+        let its_type = AnyType::parse(alloc, tokens)?;
+        take_name(tokens);
+        Ok(its_type)
     }
 
     ghost consumes = { λ ts x rest e. ((parameter_sound ts).out (x, rest) e).1 };
@@ -194,14 +195,13 @@ impl Parse for Parameter {
 #[tactic(auto, unfolding(crate::specs::Parsing::return_type_at, ilasm_tokens::specs::Steps::bind, ilasm_tokens::specs::Steps::choice))]
 pub fn return_type(
     alloc: Global,
-    tokens: Tokens<'_>,
+    tokens: &mut Tokens<'_>,
     expected: Expected,
-) -> Result<(Option<DeclaredType>, Tokens<'_>), Failure>
-    ensures { Gives (λ x. (x.0, x.1.now)) result (return_type_at tokens.now) }
+) -> Result<Option<DeclaredType>, Failure>
+    ensures { Gives (λ x. (x, tokens.new.now)) result (return_type_at tokens.old.now) }
 {
-    if let Some(rest) = after_word(tokens, b"void") {
-        return Ok((None, rest));
+    if take_word(tokens, b"void") {
+        return Ok(None);
     }
-    let (its_type, rest) = declared_type(alloc, tokens, expected)?;
-    Ok((Some(its_type), rest))
+    Ok(Some(declared_type(alloc, tokens, expected)?))
 }
