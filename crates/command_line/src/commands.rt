@@ -93,7 +93,10 @@ fn with_argument<'a>(
 ) -> Result<Command<'a>, AllocError>
     ensures { (app : App) (rule : Rule) → IfOk command.entry (IsCommand app) → IsArgument rule argument.entry → IfOk result (IsCommand (with_rule app rule)) }
 {
-    command?.arg(argument)
+    let Ok(command) = command else {
+        return Err(AllocError);
+    };
+    command.arg(argument)
 }
 
 /// The option that has a refusal explained, and what threads wait for where a run ends with live ones.
@@ -316,7 +319,13 @@ fn with_command<'a>(
 ) -> Result<Command<'a>, AllocError>
     ensures { (app own : App) → IfOk program.entry (λ p. app_of p ≡ app) → IfOk command.entry (IsCommand own) → IfOk result (λ c. app_of c ≡ with_subcommand app own.top) }
 {
-    program?.subcommand(command?)
+    let Ok(program) = program else {
+        return Err(AllocError);
+    };
+    let Ok(command) = command else {
+        return Err(AllocError);
+    };
+    program.subcommand(command)
 }
 
 /// The whole command line.

@@ -7,5 +7,5 @@ use Rattle.command_line.proofs.commands.with_argument.Goals as goal
 
 pub returns : goal.returns
 returns c app rule is argument_is =
-    let one : IsCommand app c.in_ok-command.field-0 = subst (λ r. IfOk r (IsCommand app)) c.in_ok-command.was is in
+    let one : IsCommand app c.in-Ok.command = subst (λ r. IfOk r (IsCommand app)) c.in-Ok.is is in
     IfOk-weaker c.arg.result _ _ (λ r added. with_argument _ _ _ _ _ one argument_is added) c.arg.ensures
