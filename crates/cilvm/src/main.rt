@@ -22,27 +22,50 @@ fn main(rt: HostRuntime) -> ExitCode {
 }
 
 fn program(rt: &HostRuntime, threads: &(impl Threads + Wait + Sync)) -> Result<u8, Failure> {
-    let alloc = rt.alloc();
-    let given: Vec<String> = match env::args(rt) {
-        Ok(args) => args.collect(alloc)?,
-        Err(error) if error.kind() == io::ErrorKind::InvalidData => {
+    match given_words(rt)? {
+        Some(given) => obey(rt, threads, given.as_slice()),
+        None => {
             eprintln!(rt; "error: an argument is not UTF-8")?;
-            return Ok(2);
+            Ok(2)
         }
-        Err(error) => return Err(Failure::from(error)),
-    };
+    }
+}
+
+/// The words of the command line. None where one of them is not UTF-8.
+fn given_words(rt: &HostRuntime) -> Result<Option<Vec<String>>, Failure> {
+    match env::args(rt) {
+        Ok(args) => Ok(Some(args.collect(rt.alloc())?)),
+        Err(error) if error.kind() == io::ErrorKind::InvalidData => Ok(None),
+        Err(error) => Err(Failure::from(error)),
+    }
+}
+
+/// Does what the words of the command line ask for, and answers the status.
+fn obey(
+    rt: &HostRuntime,
+    threads: &(impl Threads + Wait + Sync),
+    given: &[String],
+) -> Result<u8, Failure> {
+    let alloc = rt.alloc();
     let words: Vec<&str> = given.iter().map(|word| word.as_str()).collect(alloc)?;
     match command_line::order(alloc, words.as_slice()) {
         Ok(order) => Ok(carry_out(rt, threads, &order)),
-        Err(LineFault::Help(text) | LineFault::Version(text)) => {
+        Err(fault) => tell_line(rt, &fault),
+    }
+}
+
+/// Tells what stands in the place of an order, and answers the status.
+fn tell_line(rt: &HostRuntime, fault: &LineFault) -> Result<u8, Failure> {
+    match fault {
+        LineFault::Help(text) | LineFault::Version(text) => {
             print!(rt; "{text}")?;
             Ok(0)
         }
-        Err(LineFault::Bad(text)) => {
+        LineFault::Bad(text) => {
             eprint!(rt; "{text}")?;
             Ok(2)
         }
-        Err(LineFault::Memory) => Err(Failure::Memory),
+        LineFault::Memory => Err(Failure::Memory),
     }
 }
 
@@ -56,6 +79,17 @@ fn carry_out(rt: &HostRuntime, threads: &(impl Threads + Wait + Sync), order: &O
         Ok(schedule) => schedule,
         Err(unread) => return tell_unread(rt, &unread),
     };
+    carry_out_on(rt, threads, order, source.as_slice(), schedule.as_slice())
+}
+
+/// Carries out an order on the bytes of its files, and answers the status.
+fn carry_out_on(
+    rt: &HostRuntime,
+    threads: &(impl Threads + Wait + Sync),
+    order: &Order<'_>,
+    source: &[u8],
+    schedule: &[u8],
+) -> u8 {
     let alloc = rt.alloc();
     let errors = rt.stderr();
     let mut out = Device::new(io::writer(rt));
@@ -65,8 +99,8 @@ fn carry_out(rt: &HostRuntime, threads: &(impl Threads + Wait + Sync), order: &O
         threads,
         alloc,
         order,
-        source.as_slice(),
-        schedule.as_slice(),
+        source,
+        schedule,
         &mut out,
         &mut err,
         &mut record,
