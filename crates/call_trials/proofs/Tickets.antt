@@ -1,7 +1,7 @@
 -- Two tickets.
 use Rattle.std.proofs.Common.{◌≡◌, List, [], ◌∷◌, ◌++◌, sym, ap, ◌∙◌, subst, All}
 use Rattle.std.proofs.lemmas.List.Elements.{All-head, All-tail}
-use Rattle.worker_counts.specs.Counts.{Count}
+use Rattle.shared_machine.specs.Counts.{Count}
 use Rattle.shared_machine.specs.Codes.{add}
 use Rattle.shared_machine.specs.Histories.{count_of}
 use Rattle.shared_machine.specs.Worlds.{AgreesWith, IfDid, added}

@@ -6,11 +6,10 @@ ghost use Rattle.shared_machine.specs.Histories.{count_of, events_of, reports_of
 ghost use Rattle.shared_machine.specs.Worlds.{AgreesWith, HasRun, IfDid, added, fresh};
 
 use cil_model::events::Event;
-use shared_machine::{Answer, Machine, Opening, Outcome, Shared, stop};
+use shared_machine::{Answer, Blank, Machine, Opening, Outcome, Shared, Ticket, stop};
 use std::alloc::{AllocError, Global};
 use std::sync::Wait;
 use std::thread::{Threads, join};
-use worker_counts::{Blank, Ticket};
 
 /// The first two tickets.
 fn two<M: Opening>(mut tickets: Vec<Ticket<M>>) -> Option<(Ticket<M>, Ticket<M>)>

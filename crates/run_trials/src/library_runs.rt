@@ -6,6 +6,7 @@ use call_trials::{Call, LIMITS, SUM, act_many, came_to, run_both};
 use cil_model::events::Event;
 use orders::{read_source, read_text};
 use schedule_text::Item;
+use shared_machine::Blank;
 use source_runs::{Failure, Machine, Outcome, accept, run_events};
 use std::alloc::Global;
 use std::io;
@@ -13,7 +14,6 @@ use std::io::{ErrorKind, Read};
 use std::marker::Brand;
 use std::sync::Wait;
 use std::thread::Threads;
-use worker_counts::Blank;
 
 /// Makes the calls. One that wants memory counts as one that came to something else.
 pub fn run_calls(threads: &(impl Threads + Wait + Sync), alloc: Global) -> [Call; 10] {

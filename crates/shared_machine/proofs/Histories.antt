@@ -6,8 +6,8 @@ use Rattle.std.proofs.lemmas.Option.{slice_get_within}
 use Rattle.std.specs.Prelude.{slice_get, replicate}
 use native.Mathlib.Decide.{ℕ_discrete}
 use mathlib.Core.Logic.{dite}
-use Rattle.worker_counts.proofs.Moves.{get_same, get_other}
-use Rattle.worker_counts.specs.Counts.{Count}
+use Rattle.shared_machine.proofs.Moves.{get_same, get_other}
+use Rattle.shared_machine.specs.Counts.{Count}
 use Rattle.cil_model.specs.declared.events.Event.{Event}
 use Rattle.cil_model.specs.declared.reports.Report.{Report}
 use Rattle.interleaving_core.specs.simulation.MachineContents.{Content}

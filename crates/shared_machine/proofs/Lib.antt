@@ -8,3 +8,4 @@ pub mod TicketCounts
 pub mod OwnEvents
 pub mod Openings
 pub mod Records
+pub mod Moves

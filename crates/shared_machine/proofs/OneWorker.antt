@@ -2,7 +2,7 @@
 use Rattle.std.proofs.Common.{◌≡◌, ℕ, ◌+◌, ◌<◌, List, [], ◌≤◌, ◌∷◌, ◌++◌, get_or, take, length, replicate, refl, sym, ap, ◌∙◌, subst, append_assoc, arith, eq-eqb, All, nat_eq}
 use Rattle.std.proofs.lemmas.List.{append-nil, length-append, replicate_more}
 use Rattle.std.proofs.lemmas.List.Elements.{All-head, All-nil, All-push, All-tail, All-weaker}
-use Rattle.worker_counts.specs.Counts.{Count}
+use Rattle.shared_machine.specs.Counts.{Count}
 use Rattle.cil_model.specs.declared.events.Event.{Event}
 use Rattle.cil_model.specs.declared.reports.Report.{Report}
 use Rattle.schedule_text.specs.Items.{events_of as events_in}

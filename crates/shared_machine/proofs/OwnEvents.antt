@@ -10,7 +10,7 @@ use Rattle.shared_machine.specs.Histories.{AreOf, AreSmall, IsSmall, count_of, c
 use Rattle.shared_machine.specs.Worlds.{AgreesWith, IsComplete, fresh}
 use Rattle.shared_machine.specs.declared.history.Entry.{Entry}
 use Rattle.shared_machine.proofs.Codes.{fixes}
-use Rattle.worker_counts.specs.Counts.{Count}
+use Rattle.shared_machine.specs.Counts.{Count}
 use Rattle.shared_machine.specs.Work.{HasWorked, HaveWorked, IsEntryOf, IsOwn, IsOwnOf}
 
 -- ---- the events of one worker among entries

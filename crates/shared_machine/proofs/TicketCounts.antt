@@ -13,7 +13,7 @@ use Rattle.shared_machine.specs.Worlds.{IfDid, IfNoMemory, added}
 use Rattle.shared_machine.specs.declared.answer.Answer.{Answer}
 use Rattle.shared_machine.specs.declared.answer.Answer.TheVariants.{Did, NoMemory}
 use Rattle.shared_machine.specs.declared.history.Entry.{Entry}
-use Rattle.worker_counts.specs.Counts.{Count}
+use Rattle.shared_machine.specs.Counts.{Count}
 use Rattle.shared_machine.specs.Work.{HasWorked, HaveWorked, IsEntryOf, IsOwn, event_of, is_driven_by}
 use Rattle.shared_machine.specs.declared.passing.Request.{Request}
 use Rattle.shared_machine.specs.declared.passing.Request.TheVariants.{Acknowledgement, Step as StepOfEach}

@@ -4,3 +4,4 @@ pub mod Codes
 pub mod Histories
 pub mod Worlds
 pub mod Work
+pub mod Counts

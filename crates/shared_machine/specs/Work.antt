@@ -6,7 +6,7 @@ use Rattle.cil_model.specs.declared.limits.TheConstants.{MOST_THREADS}
 use Rattle.epoch_words.specs.Tokens.{EpochsValue, HeraldValue, SeatValue}
 use Rattle.shared_machine.specs.Histories.{IsSmall, counted}
 use Rattle.shared_machine.specs.declared.history.Entry.{Entry}
-use Rattle.worker_counts.specs.Counts.{Count}
+use Rattle.shared_machine.specs.Counts.{Count}
 use Rattle.shared_machine.specs.declared.passing.Request.{Request}
 use Rattle.shared_machine.specs.declared.passing.Request.TheVariants.{Acknowledgement, Step as StepOfEach}
 

@@ -10,7 +10,7 @@ use Rattle.interleaving_core.specs.simulation.collector.Phases.{no_progress}
 use Rattle.interleaving_core.specs.simulation.phase_handshake.Handshakes.{first_handshakes}
 use Rattle.interleaving_core.specs.simulation.Runs.{AreTurns, FollowsReference}
 use Rattle.interleaving_core.specs.simulation.Turns.{IsTurn}
-use Rattle.worker_counts.specs.Counts.{Count}
+use Rattle.shared_machine.specs.Counts.{Count}
 use Rattle.shared_machine.specs.Codes.{add}
 use Rattle.shared_machine.specs.Histories.{AreOf, entry, events_of, reports_of, count_of}
 use Rattle.shared_machine.specs.declared.answer.Answer.{Answer}

@@ -7,6 +7,7 @@ ghost use Rattle.shared_machine.specs.Histories.{events_of, reports_of};
 ghost use Rattle.shared_machine.specs.Worlds.{HasCounted, HasRun};
 
 use crate::answer::Answer;
+use crate::book::{Blank, Ticket};
 use crate::outcome::Outcome;
 use crate::shared::Shared;
 use crate::world::Opening;
@@ -15,7 +16,6 @@ use interleaving_core::Machine;
 use schedule_text::Item;
 use std::alloc::Global;
 use std::sync::Wait;
-use worker_counts::{Blank, Ticket};
 
 /// Does an item's event as often as it says, each time by `act` of the ticket, and gives the ticket back. Only want of memory is an error.
 #[inline(always)]

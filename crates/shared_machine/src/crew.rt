@@ -5,6 +5,7 @@ ghost use Rattle.epoch_words.specs.Tokens.{EpochsValue};
 ghost use Rattle.shared_machine.specs.declared.shared.TheConstants.{MOST_WORKERS};
 ghost use Rattle.shared_machine.specs.Work.{HasWorked, HaveWorked, IsHeraldOf, IsSeatOf};
 
+use crate::book::Ticket;
 use crate::gate::Gate;
 use crate::passing::Worker;
 use crate::shared::Shared;
@@ -17,7 +18,6 @@ use std::snapshot::Snapshot;
 use std::sync::Wait;
 use std::thread;
 use std::thread::{Promise, PromisedHandle, Scope, Threads};
-use worker_counts::Ticket;
 
 /// A worker's thread gives back its ticket, which has counted what the worker did.
 #[derive(Drop)]

@@ -4,6 +4,7 @@
 
 mod alone;
 mod answer;
+mod book;
 mod crew;
 mod finding;
 mod gate;
@@ -13,11 +14,13 @@ mod passing;
 mod record;
 mod shared;
 mod together;
+mod view;
 mod working;
 mod world;
 
 pub use alone::run_alone;
 pub use answer::Answer;
+pub use book::{Blank, Book, Ticket};
 pub use crew::run_workers;
 pub use gate::{Gate, OpenGate};
 pub use history::{Entry, History, Run, counts_fix_events};
@@ -26,4 +29,5 @@ pub use outcome::Outcome;
 pub use record::write_record;
 pub use shared::{MOST_WORKERS, Shared, Unfinished};
 pub use together::run_together;
+pub use view::{Naming, Next};
 pub use world::{Opening, World, perform, stop};

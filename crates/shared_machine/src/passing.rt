@@ -4,6 +4,7 @@ ghost use Rattle.std.specs.Prelude.{◌≡◌, ◌<◌, ℕ};
 ghost use Rattle.shared_machine.specs.Work.{HasWorked, IsHeraldOf, IsOwn, IsSeatOf, event_of, is_driven_by};
 
 use crate::answer::Answer;
+use crate::book::Ticket;
 use crate::finding::Findings;
 use crate::shared::Shared;
 use crate::world::Opening;
@@ -13,7 +14,6 @@ use cil_model::reports::Report;
 use epoch_words::{Epochs, Herald, Seat};
 use std::alloc::Global;
 use std::sync::Wait;
-use worker_counts::Ticket;
 
 /// A worker at its work.
 #[derive(Drop)]

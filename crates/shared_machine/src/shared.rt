@@ -6,6 +6,7 @@ ghost use Rattle.shared_machine.specs.Worlds.{AgreesWith, HasRun, HasTicket, IfD
 ghost use Rattle.shared_machine.specs.declared.shared.TheConstants.{MOST_WORKERS};
 
 use crate::answer::Answer;
+use crate::book::{Blank, Book, Ticket};
 use crate::outcome::Outcome;
 use crate::world::{Opening, World, perform};
 use cil_model::events::Event;
@@ -13,7 +14,6 @@ use interleaving_core::Machine;
 use std::alloc::{AllocError, Global};
 use std::marker::Model;
 use std::sync::{Mutex, MutexGuard, Wait};
-use worker_counts::{Blank, Book, Ticket};
 
 /// Workers of a shared machine.
 pub const MOST_WORKERS: u8 = 16;

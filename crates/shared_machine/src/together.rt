@@ -8,6 +8,7 @@ ghost use Rattle.interleaving_core.specs.simulation.threads_monitors.Threads.{is
 ghost use Rattle.shared_machine.specs.declared.shared.TheConstants.{MOST_WORKERS};
 ghost use Rattle.shared_machine.specs.Work.{IsOwnOf};
 
+use crate::book::Blank;
 use crate::crew::run_workers;
 use crate::gate::Gate;
 use crate::outcome::Outcome;
@@ -20,7 +21,6 @@ use std::alloc::Global;
 use std::marker::{Send, Sync};
 use std::sync::Wait;
 use std::thread::Threads;
-use worker_counts::Blank;
 
 /// So many workers, 1 to 16, run a machine to its end, as `run_workers` does, and the run ends.
 ///

@@ -3,6 +3,7 @@
 ghost use Rattle.std.specs.Prelude.{◌≡◌, ◌<◌};
 ghost use Rattle.shared_machine.specs.Work.{HasWorked, IsHeraldOf, IsSeatOf};
 
+use crate::book::Ticket;
 use crate::finding::look;
 use crate::gate::Gate;
 use crate::passing::{Worker, pass};
@@ -12,7 +13,6 @@ use epoch_words::Epochs;
 use std::alloc::Global;
 use std::sync::Wait;
 use std::thread::yield_now;
-use worker_counts::Ticket;
 
 /// Sets the stop mark, under a lock of its own.
 pub(crate) fn set_stop_mark<M: Opening, R: Wait>(rt: &R, shared: &Shared<M>) {

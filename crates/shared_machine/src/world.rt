@@ -8,13 +8,14 @@ ghost use Rattle.shared_machine.specs.Histories.{AreOf, IsSmall, events_of, repo
 ghost use Rattle.shared_machine.specs.Worlds.{AgreesWith, HasRun, IfDid, IfNoMemory, IsDid, IsIn, IsSound, added};
 
 use crate::answer::Answer;
+use crate::book::{Book, Ticket};
 use crate::history::{Entry, History};
 use crate::outcome::Outcome;
+use crate::view::{Naming, Next};
 use cil_model::events::Event;
 use interleaving_core::Machine;
 use std::alloc::Global;
 use std::marker::{Brand, Model};
-use worker_counts::{Book, Naming, Next, Ticket};
 
 /// Names a shared machine: what it held when it was opened, how many workers it has, and its book of counts. Who opens it picks all
 /// three, at `Brand`.

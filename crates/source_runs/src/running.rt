@@ -11,12 +11,11 @@ use crate::failure::Failure;
 use cil_model::limits::Limits;
 use class_layout::lay_out;
 use schedule_text::{Item, read_schedule};
-use shared_machine::{Machine, Outcome, run_alone};
+use shared_machine::{Blank, Machine, Outcome, run_alone};
 use std::alloc::Global;
 use std::marker::Brand;
 use std::sync::Wait;
 use verifier::{Verified, verify};
-use worker_counts::Blank;
 
 /// Runs a source by the events that a schedule's text writes, as `run_events` runs those of its items.
 ///

@@ -12,13 +12,12 @@ ghost use Rattle.shared_machine.specs.Work.{IsOwnOf};
 use crate::failure::Failure;
 use crate::running::accept;
 use cil_model::limits::Limits;
-use shared_machine::{Gate, Machine, Outcome, run_together};
+use shared_machine::{Blank, Gate, Machine, Outcome, run_together};
 use std::alloc::Global;
 use std::marker::Brand;
 use std::sync::Wait;
 use std::thread::Threads;
 use verifier::Verified;
-use worker_counts::Blank;
 
 /// Runs a source by so many workers, 1 to 16, each in a thread of its own, until no thread of the program is live, as `run_together` does,
 /// and answers the machine after that with the history. A pass of a worker is told to `gate`.

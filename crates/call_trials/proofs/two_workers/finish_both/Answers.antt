@@ -1,5 +1,5 @@
 use Rattle.std.proofs.Common.{List, [], ◌∷◌, ◌++◌, ap, ◌∙◌}
-use Rattle.worker_counts.specs.Counts.{Count}
+use Rattle.shared_machine.specs.Counts.{Count}
 use Rattle.call_trials.proofs.Tickets.{first_agrees, second_agrees}
 use Rattle.call_trials.proofs.two_workers.finish_both.Goals as goal
 

@@ -1,6 +1,6 @@
 use Rattle.std.proofs.Common.{◌≡◌, subst}
 use Rattle.std.specs.Prelude.{IfOk, IfSome}
-use Rattle.worker_counts.specs.Counts.{Count}
+use Rattle.shared_machine.specs.Counts.{Count}
 use Rattle.shared_machine.specs.Codes.{add}
 use Rattle.shared_machine.specs.Histories.{count_of}
 use Rattle.shared_machine.specs.Worlds.{IfDid}

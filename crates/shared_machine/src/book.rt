@@ -1,7 +1,8 @@
-//! The book of counts, and the tickets.
+//! A count for each worker, in a book that lies under a lock and in tickets outside of it. A ticket's count is the one in the book
+//! whenever the two meet.
 
 ghost use Rattle.std.specs.Prelude.{◌≡◌, ℕ, ◌<◌, ◌++◌, ◌∷◌, [], length, slice_get, slice_set, Some, IfOk};
-ghost use Rattle.worker_counts.specs.Counts.{keeper, claim, Count};
+ghost use Rattle.shared_machine.specs.Counts.{keeper, claim, Count};
 
 use crate::view::{Comparison, Deals, Desk, Meets, Naming, Next, Parts, Pass, Renewal, Rest};
 use atomic_table::Badge;
@@ -31,7 +32,7 @@ pub struct Book<M: Naming> {
 
 impl<M: Naming> Model for Book<M> {
     ghost use Rattle.std.specs.Prelude.{◌≡◌, ℕ, List, []};
-    ghost use Rattle.worker_counts.specs.Counts.{keeper};
+    ghost use Rattle.shared_machine.specs.Counts.{keeper};
 
     ghost Value = { List ℕ };
 
@@ -52,7 +53,7 @@ pub struct Ticket<M: Naming> {
 
 impl<M: Naming> Model for Ticket<M> {
     ghost use Rattle.std.specs.Prelude.{◌≡◌, [], ◌∷◌};
-    ghost use Rattle.worker_counts.specs.Counts.{Count, claim, count_in};
+    ghost use Rattle.shared_machine.specs.Counts.{Count, claim, count_in};
 
     ghost Value = { Count };
 

@@ -15,7 +15,7 @@ pub trait Naming {
 }
 
 impl Naming for Brand {
-    ghost use Rattle.worker_counts.specs.Counts.{no_table};
+    ghost use Rattle.shared_machine.specs.Counts.{no_table};
 
     ghost table = { no_table };
 }
@@ -34,7 +34,7 @@ pub struct Agreement;
 
 impl TableRule<u64, View, ()> for Agreement {
     ghost use Rattle.std.specs.Prelude.{[]};
-    ghost use Rattle.worker_counts.specs.Counts.{keeper, Kept};
+    ghost use Rattle.shared_machine.specs.Counts.{keeper, Kept};
 
     ghost holds = { λ _ s. Kept s.views };
 
@@ -46,7 +46,7 @@ pub struct Deals;
 
 impl Split<View> for Deals {
     ghost use Rattle.std.specs.Prelude.{length};
-    ghost use Rattle.worker_counts.specs.Counts.{grown, claim};
+    ghost use Rattle.shared_machine.specs.Counts.{grown, claim};
 
     ghost left = { grown };
 
@@ -57,7 +57,7 @@ impl Split<View> for Deals {
 pub struct Meets;
 
 impl Join<View> for Meets {
-    ghost use Rattle.worker_counts.specs.Counts.{both, nobody};
+    ghost use Rattle.shared_machine.specs.Counts.{both, nobody};
 
     ghost both = { both };
 
@@ -68,7 +68,7 @@ impl Join<View> for Meets {
 pub struct Parts;
 
 impl Split<View> for Parts {
-    ghost use Rattle.worker_counts.specs.Counts.{without, ticket_of};
+    ghost use Rattle.shared_machine.specs.Counts.{without, ticket_of};
 
     ghost left = { without };
 
@@ -88,7 +88,7 @@ impl Next for Brand {
 pub struct Renewal<N: Next>(PhantomData<N>);
 
 impl<N: Next> Play<u64, View> for Renewal<N> {
-    ghost use Rattle.worker_counts.specs.Counts.{Renews};
+    ghost use Rattle.shared_machine.specs.Counts.{Renews};
 
     ghost then = { Renews N.next };
 }
@@ -97,7 +97,7 @@ impl<N: Next> Play<u64, View> for Renewal<N> {
 pub struct Comparison;
 
 impl Play<u64, View> for Comparison {
-    ghost use Rattle.worker_counts.specs.Counts.{Compares};
+    ghost use Rattle.shared_machine.specs.Counts.{Compares};
 
     ghost then = { Compares };
 }
