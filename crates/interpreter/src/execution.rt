@@ -28,143 +28,113 @@ pub(crate) fn execute(
     ensures refused { OnErr result ((frames.new ≡ frames.old) × HoldSame store.old store.new) }
     ensures prints { OnErr result (is_printing store.old.console.items (linked_turn program.now mutator instruction.now frames.old store.old.heap store.old.statics.items store.old.console.items) ≡ true) }
 {
-    match instruction {
-        LinkedInstruction::NoOperation => Ok(Outcome::Comes(places::go_on(frames))),
-        LinkedInstruction::LoadInt32(number) => Ok(Outcome::Comes(places::leave(
-            frames,
-            Value::Int32(*number),
-        ))),
-        LinkedInstruction::LoadInt64(number) => Ok(Outcome::Comes(places::leave(
-            frames,
-            Value::Int64(*number),
-        ))),
-        LinkedInstruction::LoadNull => Ok(Outcome::Comes(places::leave(
-            frames,
-            Value::Ref(Addr::null()),
-        ))),
-        LinkedInstruction::LoadString(literal) => Ok(Outcome::Comes(places::leave(
-            frames,
-            Value::Ref(*literal),
-        ))),
-        LinkedInstruction::LoadArgument(index) => Ok(Outcome::Comes(stack::load_argument(
-            frames, *index,
-        ))),
-        LinkedInstruction::StoreArgument(index) => Ok(Outcome::Comes(stack::store_argument(
-            frames, *index,
-        ))),
-        LinkedInstruction::LoadLocal(index) => Ok(Outcome::Comes(stack::load_local(
-            frames, *index,
-        ))),
-        LinkedInstruction::StoreLocal(index) => Ok(Outcome::Comes(stack::store_local(
-            frames, *index,
-        ))),
-        LinkedInstruction::Duplicate => Ok(Outcome::Comes(stack::duplicate(frames))),
-        LinkedInstruction::Pop => Ok(Outcome::Comes(stack::pop(frames))),
-        LinkedInstruction::Binary(operation) => Ok(Outcome::Comes(arithmetic::binary(
-            frames, *operation,
-        ))),
-        LinkedInstruction::Unary(operation) => Ok(Outcome::Comes(arithmetic::unary(
-            frames, *operation,
-        ))),
-        LinkedInstruction::Shift(operation) => Ok(Outcome::Comes(arithmetic::shift(
-            frames, *operation,
-        ))),
-        LinkedInstruction::Compare(comparison) => Ok(Outcome::Comes(arithmetic::compare(
+    let effect = match instruction {
+        LinkedInstruction::NoOperation => places::go_on(frames),
+        LinkedInstruction::LoadInt32(number) => places::leave(frames, Value::Int32(*number)),
+        LinkedInstruction::LoadInt64(number) => places::leave(frames, Value::Int64(*number)),
+        LinkedInstruction::LoadNull => places::leave(frames, Value::Ref(Addr::null())),
+        LinkedInstruction::LoadString(literal) => places::leave(frames, Value::Ref(*literal)),
+        LinkedInstruction::LoadArgument(index) => stack::load_argument(frames, *index),
+        LinkedInstruction::StoreArgument(index) => stack::store_argument(frames, *index),
+        LinkedInstruction::LoadLocal(index) => stack::load_local(frames, *index),
+        LinkedInstruction::StoreLocal(index) => stack::store_local(frames, *index),
+        LinkedInstruction::Duplicate => stack::duplicate(frames),
+        LinkedInstruction::Pop => stack::pop(frames),
+        LinkedInstruction::Binary(operation) => arithmetic::binary(frames, *operation),
+        LinkedInstruction::Unary(operation) => arithmetic::unary(frames, *operation),
+        LinkedInstruction::Shift(operation) => arithmetic::shift(frames, *operation),
+        LinkedInstruction::Compare(comparison) => arithmetic::compare(
             frames,
             &store.heap,
             mutator.phase,
             *comparison,
-        ))),
-        LinkedInstruction::ConvertInt32 => Ok(Outcome::Comes(arithmetic::convert_to_32(frames))),
-        LinkedInstruction::ConvertInt64 => Ok(Outcome::Comes(arithmetic::convert_to_64(frames))),
-        LinkedInstruction::Branch(place) => Ok(Outcome::Comes(places::jump(frames, *place))),
-        LinkedInstruction::BranchTrue(place) => Ok(Outcome::Comes(branches::branch_true(
-            frames, *place,
-        ))),
-        LinkedInstruction::BranchFalse(place) => Ok(Outcome::Comes(branches::branch_false(
-            frames, *place,
-        ))),
-        LinkedInstruction::BranchCompare(comparison, place) => Ok(Outcome::Comes(
-            branches::branch_compare(frames, &store.heap, mutator.phase, *comparison, *place),
-        )),
-        LinkedInstruction::Switch(places) => Ok(Outcome::Comes(branches::switch(
+        ),
+        LinkedInstruction::ConvertInt32 => arithmetic::convert_to_32(frames),
+        LinkedInstruction::ConvertInt64 => arithmetic::convert_to_64(frames),
+        LinkedInstruction::Branch(place) => places::jump(frames, *place),
+        LinkedInstruction::BranchTrue(place) => branches::branch_true(frames, *place),
+        LinkedInstruction::BranchFalse(place) => branches::branch_false(frames, *place),
+        LinkedInstruction::BranchCompare(comparison, place) => branches::branch_compare(
             frames,
-            places.as_slice(),
-        ))),
-        LinkedInstruction::LoadField { slot, kind } => Ok(Outcome::Comes(fields::load_field(
+            &store.heap,
+            mutator.phase,
+            *comparison,
+            *place,
+        ),
+        LinkedInstruction::Switch(places) => branches::switch(frames, places.as_slice()),
+        LinkedInstruction::LoadField { slot, kind } => fields::load_field(
             frames,
             &mut store.heap,
             *kind,
             *slot,
-        ))),
-        LinkedInstruction::StoreField { slot } => Ok(Outcome::Comes(fields::store_field(
+        ),
+        LinkedInstruction::StoreField { slot } => fields::store_field(
             frames,
             &mut store.heap,
             mutator.phase,
             *slot,
-        ))),
-        LinkedInstruction::LoadStaticField(number) => Ok(Outcome::Comes(statics::load_static(
+        ),
+        LinkedInstruction::LoadStaticField(number) => statics::load_static(
             frames,
             &store.statics,
             *number,
-        ))),
-        LinkedInstruction::StoreStaticField(number) => Ok(Outcome::Comes(statics::store_static(
+        ),
+        LinkedInstruction::StoreStaticField(number) => statics::store_static(
             frames,
             &mut store.heap,
             mutator.phase,
             &mut store.statics,
             *number,
-        ))),
-        LinkedInstruction::NewArray(element) => Ok(Outcome::Comes(arrays::new_array(
+        ),
+        LinkedInstruction::NewArray(element) => arrays::new_array(
             frames,
             &mut store.heap,
             mutator.phase,
             *element,
-        ))),
-        LinkedInstruction::LoadLength => Ok(Outcome::Comes(arrays::load_length(
-            frames,
-            &mut store.heap,
-        ))),
-        LinkedInstruction::LoadElement(kind) => Ok(Outcome::Comes(arrays::load_element(
+        ),
+        LinkedInstruction::LoadLength => arrays::load_length(frames, &mut store.heap),
+        LinkedInstruction::LoadElement(kind) => arrays::load_element(
             frames,
             &mut store.heap,
             *kind,
-        ))),
-        LinkedInstruction::StoreElement => Ok(Outcome::Comes(arrays::store_element(
-            frames,
-            &mut store.heap,
-            mutator.phase,
-        ))),
-        LinkedInstruction::StoreElementReference => Ok(Outcome::Comes(casts::store_reference(
-            program.program(),
-            program.layout(),
-            frames,
-            &mut store.heap,
-            mutator.phase,
-        ))),
-        LinkedInstruction::CastClass(to) => Ok(Outcome::Comes(casts::cast_class(
-            program.program(),
-            program.layout(),
-            frames,
-            &mut store.heap,
-            *to,
-        ))),
-        LinkedInstruction::IsInstance(to) => Ok(Outcome::Comes(casts::is_instance(
-            program.program(),
-            program.layout(),
-            frames,
-            &mut store.heap,
-            *to,
-        ))),
-        LinkedInstruction::Call(number) => run(program, mutator, *number, frames, store),
-        LinkedInstruction::CallVirtual { method, operands } => run_virtual(
-            program, mutator, *method, *operands, frames, store,
         ),
+        LinkedInstruction::StoreElement => arrays::store_element(
+            frames,
+            &mut store.heap,
+            mutator.phase,
+        ),
+        LinkedInstruction::StoreElementReference => casts::store_reference(
+            program.program(),
+            program.layout(),
+            frames,
+            &mut store.heap,
+            mutator.phase,
+        ),
+        LinkedInstruction::CastClass(to) => casts::cast_class(
+            program.program(),
+            program.layout(),
+            frames,
+            &mut store.heap,
+            *to,
+        ),
+        LinkedInstruction::IsInstance(to) => casts::is_instance(
+            program.program(),
+            program.layout(),
+            frames,
+            &mut store.heap,
+            *to,
+        ),
+        LinkedInstruction::Call(number) => {
+            return run(program, mutator, *number, frames, store);
+        }
+        LinkedInstruction::CallVirtual { method, operands } => {
+            return run_virtual(program, mutator, *method, *operands, frames, store);
+        }
         LinkedInstruction::NewObject {
             class,
             slots,
             method,
-        } => Ok(Outcome::Comes(create(
+        } => create(
             program,
             mutator,
             *class,
@@ -172,9 +142,8 @@ pub(crate) fn execute(
             *method,
             frames,
             &mut store.heap,
-        ))),
-        LinkedInstruction::Return { has_value } => Ok(Outcome::Comes(returns::return_from(
-            frames, *has_value,
-        ))),
-    }
+        ),
+        LinkedInstruction::Return { has_value } => returns::return_from(frames, *has_value),
+    };
+    Ok(Outcome::Comes(effect))
 }
