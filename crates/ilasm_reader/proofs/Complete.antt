@@ -1,6 +1,6 @@
 -- What is in the grammar is read, up to instructions.
-use Rattle.std.proofs.Common.{◌≡◌, ◌==◌, ◌∙◌, ℕ, zero, suc, ℤ, pos, negsuc, List, [], ◌∷◌, Option, Some, None, Bool, true, false, refl, sym, subst, inl, inr, arith, FitsSigned, Contains}
-use Rattle.std.specs.Prelude.{codes, bytes_eq, unwrap_or}
+use Rattle.std.proofs.Common.{◌≡◌, ◌==◌, ◌∙◌, ℕ, zero, suc, ℤ, pos, negsuc, List, [], ◌∷◌, Option, Some, None, Bool, true, false, refl, ap, sym, subst, inl, inr, arith, FitsSigned, Contains}
+use Rattle.std.specs.Prelude.{codes, bytes_eq}
 use Rattle.std.specs.Int.{w32}
 use Rattle.std.proofs.lemmas.Slice.Eq.{bytes_eq-Decides}
 use Rattle.std.proofs.lemmas.Bool.{le-leb}
@@ -140,9 +140,9 @@ unfolding flag_at
 flag_complete w true ts rest n p = choice_at _ _ (word_complete w p) refl
 flag_complete w false ts rest n p = choice_past _ (rw p n) (rw p refl)
 
-pub skip_complete : (w : List ℕ) (ts rest : List Token) → word_at w rest ≡ None → maybe (word w) ts rest → unwrap_or (word_at w ts) ts ≡ rest
-skip_complete w ts rest n (inl p) = rw (word_complete w p) refl
-skip_complete w ts rest n (inr p) = rw (p, n) refl
+pub skip_complete : (w : List ℕ) (ts rest : List Token) → word_at w rest ≡ None → maybe (word w) ts rest → (flag_at w ts).1 ≡ rest
+skip_complete w ts rest n (inl p) = ap (λ (y : Bool × List Token). y.1) (flag_complete w true ts rest n p)
+skip_complete w ts rest n (inr p) = ap (λ (y : Bool × List Token). y.1) (flag_complete w false ts rest n p)
 
 -- ---- what may stand behind an optional part
 

@@ -1,4 +1,5 @@
 mod Commas
 mod Complete
 mod Whole
+mod Words
 mod Unique

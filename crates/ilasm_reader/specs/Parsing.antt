@@ -1,5 +1,5 @@
 -- Reading the parts of a source from its tokens, from left to right.
-use Rattle.std.specs.Prelude.{◌≡◌, ◌==◌, ℕ, ℤ, List, [], ◌∷◌, length, Option, Some, None, Bool, true, false, is_some, is_none, if◌then◌else◌, codes, bytes_eq, unwrap_or, nat_le, pos, negsuc}
+use Rattle.std.specs.Prelude.{◌≡◌, ◌==◌, ℕ, ℤ, List, [], ◌∷◌, length, Option, Some, None, Bool, true, false, is_some, is_none, if◌then◌else◌, codes, bytes_eq, nat_le, pos, negsuc}
 use Rattle.cil_model.specs.declared.tokens.Symbol as symbols
 use Rattle.cil_model.specs.declared.tokens.Symbol.TheVariants.{OpenBrace, CloseBrace, OpenParenthesis, CloseParenthesis, OpenBracket, CloseBracket, Comma, Colon, DoubleColon}
 use Rattle.cil_model.specs.declared.tokens.Token.{Token}
@@ -53,6 +53,14 @@ Parser A = ParserOf Token A
 unfoldable pub word_at : List ℕ → List Token → Option (List Token)
 word_at w [] = None
 word_at w (t ∷ rest) = choice (reserved_in t) (λ found. if bytes_eq found w then Some rest else None) None
+
+-- reserved words, one behind the other
+unfoldable pub words_at : List (List ℕ) → List Token → Option (List Token)
+words_at [] ts = Some ts
+words_at (w ∷ []) ts = word_at w ts
+words_at (w ∷ v ∷ ws) ts = do
+  rest ← word_at w ts
+  words_at (v ∷ ws) rest
 
 abbrev pub number_of : symbols.Symbol → ℕ
 number_of OpenBrace = 0
@@ -468,7 +476,7 @@ unfoldable pub method_words_at : Parser Beginning
 method_words_at ts = do
   public ← word_at (codes ".method") ts
   behind ← word_at (codes "public") public
-  first_words_at (unwrap_or (word_at (codes "hidebysig") behind) behind)
+  first_words_at (flag_at (codes "hidebysig") behind).1
 
 unfoldable pub method_at : Parser Method
 method_at ts = do

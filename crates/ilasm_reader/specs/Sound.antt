@@ -1,6 +1,6 @@
 -- What is read is in the grammar, and something is taken.
 use Rattle.std.proofs.Common.{◌≡◌, ◌==◌, ◌∙◌, ◌<◌, ◌≤◌, ℕ, ℤ, pos, negsuc, List, [], ◌∷◌, length, Option, Some, None, Bool, true, false, cond, refl, ap, subst, inl, inr, arith, FitsSigned}
-use Rattle.std.specs.Prelude.{codes, bytes_eq, unwrap_or}
+use Rattle.std.specs.Prelude.{codes, bytes_eq}
 use Rattle.std.specs.Int.{w32}
 use Rattle.std.proofs.lemmas.Slice.Eq.{bytes_eq-Decides}
 use Rattle.std.proofs.lemmas.Bool.{eqb-true, leb-true}
@@ -100,9 +100,12 @@ flag_sound w ts =
     (λ rest e. let p = (word_sound w ts).out rest e in (p.0, omega (arith, p.1)))
     (refl, omega arith)
 
-skipped : (w : List ℕ) (ts : List Token) (r : Option (List Token)) → Yields r (λ rest. word w ts rest × (length rest < length ts)) → maybe (word w) ts (unwrap_or r ts) × (length (unwrap_or r ts) ≤ length ts)
-skipped w ts (Some rest) y = let p = y.out rest refl in (inl p.0, omega (arith, p.1))
-skipped w ts None y = (inr refl, omega arith)
+perhaps : (b : Bool) (R : Span) (ts rest : List Token) → present b R ts rest → maybe R ts rest
+perhaps true R ts rest p = inl p
+perhaps false R ts rest p = inr p
+
+skipped : (w : List ℕ) (ts : List Token) → maybe (word w) ts (flag_at w ts).1 × (length (flag_at w ts).1 ≤ length ts)
+skipped w ts = let p = flag_sound w ts in (perhaps (flag_at w ts).0 (word w) ts (flag_at w ts).1 p.0, p.1)
 
 -- ---- one part behind another
 
@@ -457,8 +460,8 @@ unfolding method_words_at
 method_words_sound ts =
     yields_bind (word_sound (codes ".method") ts) (λ a p. yields_bind (word_sound (codes "public") a) (λ b q. record {
       out = λ y e.
-          let k = skipped (codes "hidebysig") b (word_at (codes "hidebysig") b) (word_sound (codes "hidebysig") b) in
-          let r = (first_words_sound (unwrap_or (word_at (codes "hidebysig") b) b)).out y e in
+          let k = skipped (codes "hidebysig") b in
+          let r = (first_words_sound (flag_at (codes "hidebysig") b).1).out y e in
           ((a, p.0, (b, q.0, (_, k.0, r.0))), omega (arith, p.1, q.1, k.1, r.1));
     }))
 

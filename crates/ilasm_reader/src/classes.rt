@@ -6,7 +6,7 @@ ghost use Rattle.ilasm_reader.specs.Parsing.{assembly_at, base_at, block_at, cla
 use crate::lists::{Parse, Starts, commas, in_block, many};
 use crate::methods::method;
 use crate::single::{
-    empty_block, expect_symbol, expect_symbol_of, expect_word, expect_word_of, flag, name,
+    empty_block, expect_symbol, expect_symbol_of, expect_word, expect_word_of, expect_words, name,
     starts_word, take_word,
 };
 use crate::types::{AnyType, ClassReference, PlainName};
@@ -24,13 +24,12 @@ use std::alloc::Global;
 const FEW: usize = 4;
 
 /// Takes the words before a field's type, and tells whether it is static.
-#[tactic(auto, unfolding(crate::specs::Parsing::field_words_at, ilasm_tokens::specs::Steps::bind))]
+#[tactic(auto, unfolding(crate::specs::Parsing::field_words_at, crate::specs::Parsing::words_at, ilasm_tokens::specs::Steps::bind))]
 fn field_words(tokens: &mut Tokens<'_>) -> Result<bool, Failure>
     ensures { Gives (λ x. (x, tokens.new.now)) result (field_words_at tokens.old.now) }
 {
-    expect_word(tokens, b".field")?;
-    expect_word(tokens, b"public")?;
-    Ok(flag(tokens, b"static"))
+    expect_words(tokens, &[b".field", b"public"])?;
+    Ok(take_word(tokens, b"static"))
 }
 
 /// A field.
@@ -133,15 +132,14 @@ fn implements(alloc: Global, tokens: &mut Tokens<'_>) -> Result<Sequence<ClassNa
 }
 
 /// Takes the words before an interface's name, behind `.class`.
-#[tactic(auto, unfolding(crate::specs::Parsing::interface_words_at, ilasm_tokens::specs::Steps::bind))]
+#[tactic(auto, unfolding(crate::specs::Parsing::interface_words_at, crate::specs::Parsing::words_at, ilasm_tokens::specs::Steps::bind))]
 fn interface_words(tokens: &mut Tokens<'_>) -> Result<(), Failure>
     ensures { Gives (λ _. tokens.new.now) result (interface_words_at tokens.old.now) }
 {
-    expect_word(tokens, b"interface")?;
-    expect_word(tokens, b"public")?;
-    expect_word(tokens, b"abstract")?;
-    expect_word(tokens, b"auto")?;
-    expect_word(tokens, b"ansi")
+    expect_words(
+        tokens,
+        &[b"interface", b"public", b"abstract", b"auto", b"ansi"],
+    )
 }
 
 /// The members of an interface, in braces.
@@ -191,7 +189,7 @@ fn class_words(tokens: &mut Tokens<'_>) -> Result<bool, Failure>
     ensures { Gives (λ x. (x, tokens.new.now)) result (class_words_at tokens.old.now) }
 {
     expect_word_of(tokens, b"public", Expected::ClassHead)?;
-    let is_abstract = flag(tokens, b"abstract");
+    let is_abstract = take_word(tokens, b"abstract");
     expect_word_of(tokens, b"auto", attributes_behind(is_abstract))?;
     expect_word(tokens, b"ansi")?;
     Ok(is_abstract)
@@ -311,10 +309,9 @@ impl Parse for Extern {
 
     ghost parsed_at = { extern_at };
 
-    #[tactic(auto, unfolding(crate::specs::Parsing::extern_at, ilasm_tokens::specs::Steps::bind))]
+    #[tactic(auto, unfolding(crate::specs::Parsing::extern_at, crate::specs::Parsing::words_at, ilasm_tokens::specs::Steps::bind))]
     fn parse(alloc: Global, tokens: &mut Tokens<'_>) -> Result<Text, Failure> {
-        expect_word(tokens, b".assembly")?;
-        expect_word(tokens, b"extern")?;
+        expect_words(tokens, &[b".assembly", b"extern"])?;
         named_assembly(alloc, tokens, Expected::Name)
     }
 

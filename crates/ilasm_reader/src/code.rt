@@ -7,7 +7,7 @@ ghost use Rattle.ilasm_reader.specs.Parsing.{code_at, code_start_at, in_block, l
 use crate::instructions::instruction;
 use crate::lists::{Parse, Starts, closed_commas, in_block, many};
 use crate::single::{
-    expect_symbol, expect_symbol_of, expect_word, expect_word_of, flag, integer, name, take_name,
+    expect_symbol, expect_symbol_of, expect_word, expect_word_of, integer, name, take_name,
     take_word,
 };
 use crate::types::Parameter;
@@ -149,7 +149,7 @@ fn code_start(tokens: &mut Tokens<'_>) -> Result<(bool, i64), Failure>
     ensures { Gives (λ x. ((x.0, x.1), tokens.new.now)) result (code_start_at tokens.old.now) }
 {
     expect_symbol(tokens, Symbol::OpenBrace)?;
-    let is_entry_point = flag(tokens, b".entrypoint");
+    let is_entry_point = take_word(tokens, b".entrypoint");
     let max_stack = max_stack(tokens, is_entry_point)?;
     Ok((is_entry_point, max_stack))
 }

@@ -7,7 +7,7 @@ ghost use Rattle.ilasm_reader.specs.Parsing.{bare, creation, virtual_call, with_
 
 use crate::lists::{Parse, parentheses};
 use crate::operands::{Target, field_reference, instance_method, method_reference};
-use crate::single::{any_word, flag, integer, name, quoted};
+use crate::single::{any_word, integer, name, quoted, take_word};
 use crate::types::{AnyType, element};
 use cil_model::instructions::{FieldReference, Instruction, MethodName, MethodReference};
 use cil_model::texts::Text;
@@ -120,7 +120,7 @@ fn called_behind(is_instance: bool) -> Expected {
 fn call(alloc: Global, tokens: &mut Tokens<'_>) -> Result<Instruction, Failure>
     ensures { Gives (λ x. (x, tokens.new.now)) result (operands_at Call tokens.old.now) }
 {
-    let is_instance = flag(tokens, b"instance");
+    let is_instance = take_word(tokens, b"instance");
     let method = method_reference(alloc, tokens, called_behind(is_instance))?;
     Ok(Instruction::Call {
         is_instance,

@@ -6,7 +6,7 @@ ghost use Rattle.ilasm_reader.specs.Parsing.{body_at, code_body_at, constructor_
 
 use crate::code::code;
 use crate::lists::parentheses;
-use crate::single::{empty_block, expect_word, expect_word_of, flag, name, skip_word, take_word};
+use crate::single::{empty_block, expect_word, expect_word_of, expect_words, name, take_word};
 use crate::types::{Parameter, return_type};
 use cil_model::instructions::MethodName;
 use cil_model::trees::{Code, Method, MethodKind};
@@ -40,8 +40,8 @@ fn virtual_behind(is_new_slot: bool, is_abstract: bool) -> Expected {
 fn virtual_words(tokens: &mut Tokens<'_>) -> Result<Beginning, Failure>
     ensures { Gives (λ x. (x, tokens.new.now)) result (virtual_words_at tokens.old.now) }
 {
-    let is_new_slot = flag(tokens, b"newslot");
-    let is_abstract = flag(tokens, b"abstract");
+    let is_new_slot = take_word(tokens, b"newslot");
+    let is_abstract = take_word(tokens, b"abstract");
     expect_word_of(tokens, b"virtual", virtual_behind(is_new_slot, is_abstract))?;
     expect_word(tokens, b"instance")?;
     Ok(if is_abstract {
@@ -52,12 +52,11 @@ fn virtual_words(tokens: &mut Tokens<'_>) -> Result<Beginning, Failure>
 }
 
 /// Takes the words of a constructor, behind the first.
-#[tactic(auto, unfolding(crate::specs::Parsing::constructor_words_at, ilasm_tokens::specs::Steps::bind))]
+#[tactic(auto, unfolding(crate::specs::Parsing::constructor_words_at, crate::specs::Parsing::words_at, ilasm_tokens::specs::Steps::bind))]
 fn constructor_words(tokens: &mut Tokens<'_>) -> Result<(), Failure>
     ensures { Gives (λ _. tokens.new.now) result (constructor_words_at tokens.old.now) }
 {
-    expect_word(tokens, b"rtspecialname")?;
-    expect_word(tokens, b"instance")
+    expect_words(tokens, &[b"rtspecialname", b"instance"])
 }
 
 /// The words before a method's return type.
@@ -85,17 +84,16 @@ fn method_words(tokens: &mut Tokens<'_>, expected: Expected) -> Result<Beginning
 {
     expect_word_of(tokens, b".method", expected)?;
     expect_word(tokens, b"public")?;
-    skip_word(tokens, b"hidebysig");
+    take_word(tokens, b"hidebysig");
     first_words(tokens)
 }
 
 /// The return type and the name of a constructor.
-#[tactic(auto, unfolding(crate::specs::Parsing::constructor_head_at, ilasm_tokens::specs::Steps::bind))]
+#[tactic(auto, unfolding(crate::specs::Parsing::constructor_head_at, crate::specs::Parsing::words_at, ilasm_tokens::specs::Steps::bind))]
 fn constructor_head(tokens: &mut Tokens<'_>) -> Result<(Option<DeclaredType>, MethodName), Failure>
     ensures { Gives (λ x. (x, tokens.new.now)) result (constructor_head_at tokens.old.now) }
 {
-    expect_word(tokens, b"void")?;
-    expect_word(tokens, b".ctor")?;
+    expect_words(tokens, &[b"void", b".ctor"])?;
     Ok((None, MethodName::Constructor))
 }
 

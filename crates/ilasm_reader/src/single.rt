@@ -1,8 +1,8 @@
 //! Single tokens.
 
-ghost use Rattle.std.specs.Prelude.{◌≡◌, is_some, option_map, unwrap_or};
+ghost use Rattle.std.specs.Prelude.{◌≡◌, is_some, map, option_map};
 ghost use Rattle.ilasm_tokens.specs.Steps.{Gives};
-ghost use Rattle.ilasm_reader.specs.Parsing.{Takes, word_at, sign_at, empty_block_at, any_word_at, name_at, integer_at, quoted_at, flag_at};
+ghost use Rattle.ilasm_reader.specs.Parsing.{Takes, word_at, words_at, sign_at, empty_block_at, any_word_at, name_at, integer_at, quoted_at, flag_at};
 
 use cil_model::texts::Text;
 use cil_model::tokens::Symbol;
@@ -12,9 +12,10 @@ use ilasm_tokens::source_tokens::Tokens;
 use std::alloc::Global;
 
 /// Takes a reserved word, if it stands here, and tells whether it does.
-#[tactic(auto, unfolding(crate::specs::Parsing::word_at, ilasm_tokens::specs::Steps::choice))]
+#[tactic(auto, unfolding(crate::specs::Parsing::word_at, crate::specs::Parsing::flag_at, ilasm_tokens::specs::Steps::choice))]
 pub fn take_word(tokens: &mut Tokens<'_>, word: &[u8]) -> bool
-    ensures { Takes result tokens.old.now tokens.new.now (word_at word.now tokens.old.now) }
+    ensures taken { Takes result tokens.old.now tokens.new.now (word_at word.now tokens.old.now) }
+    ensures flag { (result, tokens.new.now) ≡ flag_at word.now tokens.old.now }
 {
     match *tokens {
         [first, rest @ ..] if first.reserved() == Some(word) => {
@@ -92,6 +93,16 @@ pub fn expect_word(tokens: &mut Tokens<'_>, word: &'static [u8]) -> Result<(), F
     ensures { Gives (λ _. tokens.new.now) result (word_at word.now tokens.old.now) }
 {
     expect_word_of(tokens, word, Expected::Word(word))
+}
+
+/// Takes reserved words, one behind the other, each of which alone may stand in its place.
+pub fn expect_words(tokens: &mut Tokens<'_>, words: &[&'static [u8]]) -> Result<(), Failure>
+    ensures { Gives (λ _. tokens.new.now) result (words_at (map (λ word. word.now) words.now) tokens.old.now) }
+{
+    for word in words {
+        expect_word(tokens, word)?;
+    }
+    Ok(())
 }
 
 /// Takes a symbol, which must stand here. Where it does not, the grammar has what is told as expected.
@@ -201,19 +212,4 @@ pub fn quoted(alloc: Global, tokens: &mut Tokens<'_>) -> Result<Text, Failure>
     };
     *tokens = rest;
     Ok(found)
-}
-
-/// Whether a word stands here, which is taken if it does. It is what `take_word` does, said by one value of the grammar.
-#[tactic(auto, unfolding(crate::specs::Parsing::flag_at, ilasm_tokens::specs::Steps::choice))]
-pub fn flag(tokens: &mut Tokens<'_>, word: &[u8]) -> bool
-    ensures { (result, tokens.new.now) ≡ flag_at word.now tokens.old.now }
-{
-    take_word(tokens, word)
-}
-
-/// Takes a reserved word, if it stands here, which is not told.
-pub fn skip_word(tokens: &mut Tokens<'_>, word: &[u8])
-    ensures { tokens.new.now ≡ unwrap_or (word_at word.now tokens.old.now) tokens.old.now }
-{
-    take_word(tokens, word);
 }
