@@ -1,5 +1,6 @@
 pub mod AlikeLaws
 pub mod Lists
+pub mod Outcomes
 pub mod LabelLaws
 pub mod LiteralNumbers
 pub mod StandLaws

@@ -37,19 +37,9 @@ all_some_absent {X} {Y} rule (z ∷ zs) (suc i) x l e h = by_first (rule z) (all
     by_first (Some y) k = ap (option_map (λ ys. y ∷ ys)) k
 
 -- at the end of the loop all items are found
-pub all_some_whole : {X Y : Type 0} (rule : X → Option Y) (xs : List X) (i : ℕ) (ys zs : List Y) → i ≡ length xs → all_some (map rule (take i xs)) ≡ Some ys → zs ≡ ys → Some zs ≡ all_some (map rule xs)
-all_some_whole rule xs i ys zs e h k = ap Some k ∙ sym h ∙ ap (λ n. all_some (map rule (take n xs))) e ∙ ap (λ ws. all_some (map rule ws)) (take-length xs)
+pub all_some_whole : {X Y : Type 0} (rule : X → Option Y) (xs : List X) (i : ℕ) (ys zs : List Y) → i ≡ length xs → all_some (map rule (take i xs)) ≡ Some ys → zs ≡ ys → all_some (map rule xs) ≡ Some zs
+all_some_whole rule xs i ys zs e h k = sym (ap (λ ws. all_some (map rule ws)) (take-length xs)) ∙ sym (ap (λ n. all_some (map rule (take n xs))) e) ∙ h ∙ ap Some (sym k)
 
 -- the same of items that are seen through a view
-pub all_some_more_seen : {Z X Y : Type 0} (view : Z → X) (rule : X → Option Y) (zs : List Z) (i : ℕ) (z : Z) (ys : List Y) (y : Y) → i < length zs → z ≡ get_or zs i z →
-    all_some (map rule (map view (take i zs))) ≡ Some ys → rule (view z) ≡ Some y → all_some (map rule (map view (take (i + 1) zs))) ≡ Some (ys ++ y ∷ [])
-all_some_more_seen view rule zs i z ys y l e h k =
-    ap all_some (map_of_map view rule (take (i + 1) zs)) ∙ all_some_more (λ w. rule (view w)) zs i z ys y l e (sym (ap all_some (map_of_map view rule (take i zs))) ∙ h) k
-
-pub all_some_absent_seen : {Z X Y : Type 0} (view : Z → X) (rule : X → Option Y) (zs : List Z) (i : ℕ) (z : Z) → i < length zs → z ≡ get_or zs i z → rule (view z) ≡ None →
-    all_some (map rule (map view zs)) ≡ None
-all_some_absent_seen view rule zs i z l e h = ap all_some (map_of_map view rule zs) ∙ all_some_absent (λ w. rule (view w)) zs i z l e h
-
-pub all_some_whole_seen : {Z X Y : Type 0} (view : Z → X) (rule : X → Option Y) (zs : List Z) (i : ℕ) (ys ws : List Y) → i ≡ length zs → all_some (map rule (map view (take i zs))) ≡ Some ys → ws ≡ ys →
-    Some ws ≡ all_some (map rule (map view zs))
-all_some_whole_seen view rule zs i ys ws e h k = ap Some k ∙ sym h ∙ ap (λ n. all_some (map rule (map view (take n zs)))) e ∙ ap (λ vs. all_some (map rule (map view vs))) (take-length zs)
+pub all_some_seen : {Z X Y : Type 0} (view : Z → X) (rule : X → Option Y) (ws zs : List Z) → ws ≡ zs → all_some (map (λ z. rule (view z)) ws) ≡ all_some (map rule (map view zs))
+all_some_seen view rule ws zs e = ap all_some (ap (map (λ z. rule (view z))) e ∙ sym (map_of_map view rule zs))

@@ -4,6 +4,7 @@ pub mod TypeTests
 pub mod Identities
 pub mod Resolved
 pub mod Rules
+pub mod Outcomes
 pub mod LabelPlaces
 pub mod Found
 pub mod Contents

@@ -7,6 +7,7 @@ ghost use Rattle.resolved_code.specs.Contents.{IsContents, IsEntryPoint};
 
 use crate::classes::{ResolvedClass, ResolvedField, ResolvedMethod};
 use crate::entries::entry_number;
+use crate::errors::ResolveError;
 use crate::literals::Literals;
 use crate::resolved::resolve_classes;
 use cil_model::memory::NoMemory;
@@ -44,10 +45,11 @@ fn classes_of_legal(
     requires literals { literals.now.tree.now ≡ names.now.classes.tree.now }
     ensures { IfOk result (λ classes. AreResolved names.now.classes.tree.now classes) }
 {
-    let Some(classes) = resolve_classes(alloc, names, literals)? else {
-        unreachable!()
-    };
-    Ok(classes)
+    match resolve_classes(alloc, names, literals) {
+        Ok(classes) => Ok(classes),
+        Err(ResolveError::OutOfMemory) => Err(NoMemory),
+        Err(ResolveError::Unresolved) => unreachable!(),
+    }
 }
 
 impl Contents {

@@ -1,23 +1,24 @@
 // Instructions with their operands looked up, one group after the other.
 
-ghost use Rattle.std.specs.Prelude.{◌≡◌, IfOk, Some, option_map, map, false, true};
+ghost use Rattle.std.specs.Prelude.{◌≡◌, Some, option_map, false, true};
 ghost use Rattle.std.specs.List.{position_from};
 ghost use Rattle.cil_model.specs.Bodies.{place_of, virtual_reference, constructor_reference};
 ghost use Rattle.cil_model.specs.Mentions.{literals_of};
 ghost use Rattle.cil_model.specs.Same.{same_text};
-ghost use Rattle.resolved_code.specs.declared.operations.Operation.TheVariants.{LoadString, Switch, Call, CallVirtual, NewObject};
+ghost use Rattle.resolved_code.specs.declared.operations.Operation.TheVariants.{LoadString, Call, CallVirtual, NewObject};
 ghost use Rattle.name_tables.specs.Numbers.{field_number, method_number};
-ghost use Rattle.resolved_code.specs.Rules.{all_some, field_rule, method_rule, with_owner, branch_rule, type_operand_rule, field_operand_rule, call_rule, plain_rule, operation_rule};
+ghost use Rattle.resolved_code.specs.Rules.{field_rule, method_rule, with_owner, branch_rule, type_operand_rule, field_operand_rule, call_rule, plain_rule, operation_rule};
 
+use crate::errors::ResolveError;
 use crate::identities::Identities;
+use crate::items::{Resolve, resolve_all};
 use crate::labels::Labels;
 use crate::literals::Literals;
 use crate::numbering::{class_number, numbered_type};
 use crate::operations::Operation;
 use cil_model::instructions::{FieldReference, Instruction, MethodReference};
-use cil_model::memory::NoMemory;
-use cil_model::sequences::Sequence;
 use cil_model::texts::Text;
+use cil_model::trees::Line;
 use cil_model::types::{ClassName, DeclaredType, Signature};
 use name_tables::lookups::{MemberNumber, NameTables};
 use std::alloc::Global;
@@ -38,33 +39,34 @@ pub struct Resolver<'a> {
 fn plain_operation(instruction: &Instruction) -> Option<Operation>
     ensures { result ≡ plain_rule instruction.now }
 {
-    match instruction {
-        Instruction::NoOperation => Some(Operation::NoOperation),
-        Instruction::LoadInt32(value) => Some(Operation::LoadInt32(*value)),
-        Instruction::LoadInt64(value) => Some(Operation::LoadInt64(*value)),
-        Instruction::LoadNull => Some(Operation::LoadNull),
-        Instruction::LoadArgument(number) => Some(Operation::LoadArgument(*number)),
-        Instruction::StoreArgument(number) => Some(Operation::StoreArgument(*number)),
-        Instruction::LoadLocal(number) => Some(Operation::LoadLocal(*number)),
-        Instruction::StoreLocal(number) => Some(Operation::StoreLocal(*number)),
-        Instruction::Duplicate => Some(Operation::Duplicate),
-        Instruction::Pop => Some(Operation::Pop),
-        Instruction::Binary(operation) => Some(Operation::Binary(*operation)),
-        Instruction::Unary(operation) => Some(Operation::Unary(*operation)),
-        Instruction::Shift(operation) => Some(Operation::Shift(*operation)),
-        Instruction::Compare(comparison) => Some(Operation::Compare(*comparison)),
-        Instruction::ConvertInt32 => Some(Operation::ConvertInt32),
-        Instruction::ConvertInt64 => Some(Operation::ConvertInt64),
-        Instruction::LoadLength => Some(Operation::LoadLength),
-        Instruction::LoadElementInt32 => Some(Operation::LoadElementInt32),
-        Instruction::LoadElementInt64 => Some(Operation::LoadElementInt64),
-        Instruction::LoadElementReference => Some(Operation::LoadElementReference),
-        Instruction::StoreElementInt32 => Some(Operation::StoreElementInt32),
-        Instruction::StoreElementInt64 => Some(Operation::StoreElementInt64),
-        Instruction::StoreElementReference => Some(Operation::StoreElementReference),
-        Instruction::Return => Some(Operation::Return),
-        _ => None,
-    }
+    let operation = match instruction {
+        Instruction::NoOperation => Operation::NoOperation,
+        Instruction::LoadInt32(value) => Operation::LoadInt32(*value),
+        Instruction::LoadInt64(value) => Operation::LoadInt64(*value),
+        Instruction::LoadNull => Operation::LoadNull,
+        Instruction::LoadArgument(number) => Operation::LoadArgument(*number),
+        Instruction::StoreArgument(number) => Operation::StoreArgument(*number),
+        Instruction::LoadLocal(number) => Operation::LoadLocal(*number),
+        Instruction::StoreLocal(number) => Operation::StoreLocal(*number),
+        Instruction::Duplicate => Operation::Duplicate,
+        Instruction::Pop => Operation::Pop,
+        Instruction::Binary(operation) => Operation::Binary(*operation),
+        Instruction::Unary(operation) => Operation::Unary(*operation),
+        Instruction::Shift(operation) => Operation::Shift(*operation),
+        Instruction::Compare(comparison) => Operation::Compare(*comparison),
+        Instruction::ConvertInt32 => Operation::ConvertInt32,
+        Instruction::ConvertInt64 => Operation::ConvertInt64,
+        Instruction::LoadLength => Operation::LoadLength,
+        Instruction::LoadElementInt32 => Operation::LoadElementInt32,
+        Instruction::LoadElementInt64 => Operation::LoadElementInt64,
+        Instruction::LoadElementReference => Operation::LoadElementReference,
+        Instruction::StoreElementInt32 => Operation::StoreElementInt32,
+        Instruction::StoreElementInt64 => Operation::StoreElementInt64,
+        Instruction::StoreElementReference => Operation::StoreElementReference,
+        Instruction::Return => Operation::Return,
+        _ => return None,
+    };
+    Some(operation)
 }
 
 // ---- branches
@@ -84,30 +86,14 @@ fn branch(labels: &Labels, instruction: &Instruction) -> Option<Operation>
     }
 }
 
-fn target_places(
-    alloc: Global,
-    labels: &Labels,
-    targets: &[Text],
-) -> Result<Option<Sequence<usize>>, NoMemory>
-    ensures { IfOk result (λ places. places ≡ all_some (map (λ label. place_of label labels.now.lines.now) targets.now)) }
-{
-    let mut places = Vec::new(alloc);
-    for label in targets {
-        let Some(place) = labels.place(label) else {
-            return Ok(None);
-        };
-        places.push(place)?;
-    }
-    Ok(Some(Sequence::new(places)))
-}
+/// A label is resolved to its place.
+impl<'a> Resolve<Text> for Labels<'a> {
+    type Resolved = usize;
 
-/// A `switch` (ECMA-335 III.3.66). None where one of its labels stands nowhere. Fails for want of memory alone.
-fn switch(alloc: Global, labels: &Labels, targets: &[Text]) -> Result<Option<Operation>, NoMemory>
-    ensures { IfOk result (λ o. o ≡ option_map Switch (all_some (map (λ label. place_of label labels.now.lines.now) targets.now))) }
-{
-    match target_places(alloc, labels, targets)? {
-        None => Ok(None),
-        Some(places) => Ok(Some(Operation::Switch(places))),
+    ghost rule = { λ labels label. place_of label labels.lines.now };
+
+    fn resolve(&self, _alloc: Global, label: &Text) -> Result<usize, ResolveError> {
+        self.place(label).ok_or(ResolveError::Unresolved)
     }
 }
 
@@ -260,35 +246,45 @@ impl<'a> Resolver<'a> {
     {
         self.literals.number(text).map(Operation::LoadString)
     }
+}
 
-    /// What runs for an instruction of a method with these labels. None where a name of it stands for nothing. Fails for want
-    /// of memory alone.
-    pub fn operation(
-        &self,
-        alloc: Global,
-        labels: &Labels,
-        instruction: &Instruction,
-    ) -> Result<Option<Operation>, NoMemory>
-        ensures { IfOk result (λ o. o ≡ operation_rule self.now.names.now.classes.tree.now labels.now.lines.now instruction.now) }
-    {
-        match instruction {
-            Instruction::LoadString(text) => Ok(self.load_string(text)),
-            Instruction::Switch(targets) => switch(alloc, labels, targets.as_slice()),
+/// What the names and labels in a body are looked up in.
+#[derive(Drop)]
+pub struct BodyResolver<'a> {
+    pub resolver: &'a Resolver<'a>,
+    pub labels: &'a Labels<'a>,
+}
+
+/// A line is resolved to what runs for its instruction.
+impl<'a> Resolve<Line> for BodyResolver<'a> {
+    type Resolved = Operation;
+
+    ghost rule = { λ r line. operation_rule r.resolver.now.names.now.classes.tree.now r.labels.now.lines.now line.instruction };
+
+    fn resolve(&self, alloc: Global, line: &Line) -> Result<Operation, ResolveError> {
+        let instruction = &line.instruction;
+        let operation = match instruction {
+            Instruction::LoadString(text) => self.resolver.load_string(text),
+            Instruction::Switch(targets) => {
+                let places = resolve_all(alloc, self.labels, targets.as_slice())?;
+                Some(Operation::Switch(places))
+            }
             Instruction::Branch(_)
             | Instruction::BranchTrue(_)
             | Instruction::BranchFalse(_)
-            | Instruction::BranchCompare(_, _) => Ok(branch(labels, instruction)),
+            | Instruction::BranchCompare(_, _) => branch(self.labels, instruction),
             Instruction::NewArray(_) | Instruction::CastClass(_) | Instruction::IsInstance(_) => {
-                Ok(self.type_operation(instruction))
+                self.resolver.type_operation(instruction)
             }
             Instruction::LoadField(_)
             | Instruction::StoreField(_)
             | Instruction::LoadStaticField(_)
-            | Instruction::StoreStaticField(_) => Ok(self.field_operation(instruction)),
+            | Instruction::StoreStaticField(_) => self.resolver.field_operation(instruction),
             Instruction::Call { .. }
             | Instruction::CallVirtual { .. }
-            | Instruction::NewObject(_, _) => Ok(self.call_operation(instruction)),
-            _ => Ok(plain_operation(instruction)),
-        }
+            | Instruction::NewObject(_, _) => self.resolver.call_operation(instruction),
+            _ => plain_operation(instruction),
+        };
+        operation.ok_or(ResolveError::Unresolved)
     }
 }

@@ -5,8 +5,10 @@
 pub mod classes;
 mod contents;
 pub mod entries;
+mod errors;
 mod identities;
 mod instructions;
+mod items;
 mod labels;
 pub mod laws;
 pub mod literals;
@@ -14,7 +16,7 @@ mod members;
 mod numbering;
 pub mod operations;
 mod program;
-pub mod resolved;
+mod resolved;
 pub mod type_tests;
 pub mod types;
 

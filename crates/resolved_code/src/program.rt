@@ -97,15 +97,4 @@ impl Program {
     {
         self.contents.literals.as_slice()
     }
-
-    /// The tree, without the program. Takes no memory.
-    pub fn into_tree(self) -> Tree
-        ensures { result ≡ self }
-    {
-        let Program {
-            tree,
-            contents: _contents,
-        } = self;
-        tree
-    }
 }

@@ -1,81 +1,58 @@
 // The resolved classes of a tree.
 
-ghost use Rattle.std.specs.Prelude.{◌≡◌, IfOk, IsSome, IfSome, map};
+ghost use Rattle.std.specs.Prelude.{◌≡◌, ◌≢◌, IfOk, Err};
 ghost use Rattle.cil_model.specs.Legality.{IsLegal};
-ghost use Rattle.name_tables.specs.Entries.{declaration_in, entry_of};
-ghost use Rattle.name_tables.specs.Numbers.{declarations};
+ghost use Rattle.name_tables.specs.Entries.{declaration_in};
+ghost use Rattle.resolved_code.specs.declared.errors.ResolveError.TheVariants.{Unresolved};
 ghost use Rattle.resolved_code.specs.Resolved.{AreResolved};
-ghost use Rattle.resolved_code.specs.Rules.{all_some, class_rule};
+ghost use Rattle.resolved_code.specs.Rules.{class_rule};
 
 use crate::classes::ResolvedClass;
+use crate::errors::ResolveError;
 use crate::identities::Identities;
 use crate::instructions::Resolver;
+use crate::items::{Resolve, resolve_all};
 use crate::literals::Literals;
-use crate::members::resolved_fields;
-use crate::numbering::{base_number, class_numbers};
-use cil_model::memory::NoMemory;
+use crate::numbering::base_number;
 use cil_model::sequences::Sequence;
 use name_tables::class_tables::ClassTable;
-use name_tables::classes::DeclaredClass;
 use name_tables::lookups::NameTables;
 use std::alloc::Global;
 
-impl<'a> Resolver<'a> {
-    /// A class or interface (ECMA-335 II.10). None where a name in it stands for nothing. Fails for want of memory alone.
-    fn class(&self, alloc: Global, class: &DeclaredClass) -> Result<Option<ResolvedClass>, NoMemory>
-        ensures { IfOk result (λ c. c ≡ class_rule self.now.names.now.classes.tree.now (declaration_in class.now)) }
-    {
-        let Some(base) = base_number(self.names, class.base) else {
-            return Ok(None);
-        };
-        let Some(interfaces) = class_numbers(alloc, self.names, class.interfaces)? else {
-            return Ok(None);
-        };
-        let Some(fields) = resolved_fields(alloc, self.names, class.fields.as_slice())? else {
-            return Ok(None);
-        };
-        let Some(methods) = self.methods(alloc, class.methods.as_slice())? else {
-            return Ok(None);
-        };
-        Ok(Some(ResolvedClass {
-            is_interface: class.is_interface,
-            is_abstract: class.is_abstract,
-            base,
-            interfaces,
-            fields,
-            methods,
-        }))
-    }
+/// A class or interface is resolved to the class by numbers (ECMA-335 II.10).
+impl<'a, 'b> Resolve<ClassTable<'b>> for Resolver<'a> {
+    type Resolved = ResolvedClass;
 
-    fn classes(
+    ghost rule = { λ r table. class_rule r.names.now.classes.tree.now (declaration_in table.class) };
+
+    fn resolve(
         &self,
         alloc: Global,
-        tables: &[ClassTable],
-    ) -> Result<Option<Sequence<ResolvedClass>>, NoMemory>
-        ensures { IfOk result (λ r. r ≡ all_some (map (λ t. class_rule self.now.names.now.classes.tree.now (declaration_in t.class)) tables.now)) }
-    {
-        let mut resolved = Vec::new(alloc);
-        for table in tables {
-            let Some(class) = self.class(alloc, &table.class)? else {
-                return Ok(None);
-            };
-            resolved.push(class)?;
-        }
-        Ok(Some(Sequence::new(resolved)))
+        table: &ClassTable<'b>,
+    ) -> Result<ResolvedClass, ResolveError> {
+        let class = &table.class;
+        Ok(ResolvedClass {
+            is_interface: class.is_interface,
+            is_abstract: class.is_abstract,
+            base: base_number(self.names, class.base)?,
+            interfaces: resolve_all(alloc, self.names, class.interfaces)?,
+            fields: resolve_all(alloc, self.names, class.fields.as_slice())?,
+            methods: resolve_all(alloc, self, class.methods.as_slice())?,
+        })
     }
 }
 
 /// All classes that a name of the tree may stand for, by their numbers: the built-in ones, then those of the source, in order.
-/// None comes only where a name of the tree stands for nothing, so never of a legal tree. The time is linear in the source.
-/// Fails for want of memory alone.
+/// Fails only where a name of the tree stands for nothing, so never of a legal tree, and for want of memory. The time is linear in
+/// the source.
 pub fn resolve_classes(
     alloc: Global,
     names: &NameTables,
     literals: &Literals,
-) -> Result<Option<Sequence<ResolvedClass>>, NoMemory>
+) -> Result<Sequence<ResolvedClass>, ResolveError>
     requires { literals.now.tree.now ≡ names.now.classes.tree.now }
-    ensures resolved { IfOk result (λ r. IfSome r (AreResolved names.now.classes.tree.now)) }
-    ensures legal { IfOk result (λ r. IsLegal names.now.classes.tree.now → IsSome r) }
+    ensures resolved { IfOk result (AreResolved names.now.classes.tree.now) }
+    ensures legal { IsLegal names.now.classes.tree.now → result ≢ Err Unresolved }
 {
     let identities = Identities::new(alloc, &names.classes)?;
     let resolver = Resolver {
@@ -83,5 +60,5 @@ pub fn resolve_classes(
         literals,
         identities: &identities,
     };
-    resolver.classes(alloc, names.classes.all())
+    resolve_all(alloc, &resolver, names.classes.all())
 }

@@ -1,9 +1,8 @@
-use Rattle.std.proofs.Common.{◌≡◌, option_map, sym, ap, subst}
+use Rattle.std.proofs.Common.{◌≡◌, option_map, sym, subst}
 use Rattle.std.proofs.lemmas.Option.{same_Some}
 use Rattle.cil_model.specs.declared.trees.Code.{Code}
 use Rattle.cil_model.specs.declared.trees.MethodKind.{MethodKind}
 use Rattle.cil_model.specs.Bodies.{code_of}
-use Rattle.resolved_code.specs.Rules.{kind_rule}
 use Rattle.resolved_code.proofs.instructions.Resolver.kind.Goals as goal
 
 pub body-requires : goal.body-requires
@@ -17,6 +16,3 @@ body-requires-in-Instance c =
 pub body-requires-in-Virtual : goal.body-requires-in-Virtual
 body-requires-in-Virtual c =
     sym (same_Some _ _ (subst (λ (k : MethodKind). option_map (λ (code : Code). code.lines) (code_of k) ≡ option_map (λ (code : Code). c.args.labels.now.lines.now) (code_of k)) c.in-Virtual.is c.requires))
-
-pub returns-in-Abstract : goal.returns-in-Abstract
-returns-in-Abstract c = ap (kind_rule c.args.self.now.names.now.classes.tree.now) (sym c.in-Abstract.is)
