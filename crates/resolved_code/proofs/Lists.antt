@@ -40,6 +40,6 @@ all_some_absent {X} {Y} rule (z ∷ zs) (suc i) x l e h = by_first (rule z) (all
 pub all_some_whole : {X Y : Type 0} (rule : X → Option Y) (xs : List X) (i : ℕ) (ys zs : List Y) → i ≡ length xs → all_some (map rule (take i xs)) ≡ Some ys → zs ≡ ys → all_some (map rule xs) ≡ Some zs
 all_some_whole rule xs i ys zs e h k = sym (ap (λ ws. all_some (map rule ws)) (take-length xs)) ∙ sym (ap (λ n. all_some (map rule (take n xs))) e) ∙ h ∙ ap Some (sym k)
 
--- the same of items that are seen through a view
+-- items that are seen through a view
 pub all_some_seen : {Z X Y : Type 0} (view : Z → X) (rule : X → Option Y) (ws zs : List Z) → ws ≡ zs → all_some (map (λ z. rule (view z)) ws) ≡ all_some (map rule (map view zs))
 all_some_seen view rule ws zs e = ap all_some (ap (map (λ z. rule (view z))) e ∙ sym (map_of_map view rule zs))

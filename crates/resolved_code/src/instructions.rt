@@ -75,15 +75,16 @@ fn plain_operation(instruction: &Instruction) -> Option<Operation>
 fn branch(labels: &Labels, instruction: &Instruction) -> Option<Operation>
     ensures { result ≡ branch_rule labels.now.lines.now instruction.now }
 {
-    match instruction {
-        Instruction::Branch(label) => labels.place(label).map(Operation::Branch),
-        Instruction::BranchTrue(label) => labels.place(label).map(Operation::BranchTrue),
-        Instruction::BranchFalse(label) => labels.place(label).map(Operation::BranchFalse),
+    let operation = match instruction {
+        Instruction::Branch(label) => Operation::Branch(labels.place(label)?),
+        Instruction::BranchTrue(label) => Operation::BranchTrue(labels.place(label)?),
+        Instruction::BranchFalse(label) => Operation::BranchFalse(labels.place(label)?),
         Instruction::BranchCompare(comparison, label) => {
-            Some(Operation::BranchCompare(*comparison, labels.place(label)?))
+            Operation::BranchCompare(*comparison, labels.place(label)?)
         }
-        _ => None,
-    }
+        _ => return None,
+    };
+    Some(operation)
 }
 
 /// A label is resolved to its place.
@@ -104,18 +105,19 @@ impl<'a> Resolver<'a> {
     fn type_operation(&self, instruction: &Instruction) -> Option<Operation>
         ensures { result ≡ type_operand_rule self.now.names.now.classes.tree.now instruction.now }
     {
-        match instruction {
+        let operation = match instruction {
             Instruction::NewArray(declared) => {
-                numbered_type(self.names, declared).map(Operation::NewArray)
+                Operation::NewArray(numbered_type(self.names, declared)?)
             }
             Instruction::CastClass(declared) => {
-                numbered_type(self.names, declared).map(Operation::CastClass)
+                Operation::CastClass(numbered_type(self.names, declared)?)
             }
             Instruction::IsInstance(declared) => {
-                numbered_type(self.names, declared).map(Operation::IsInstance)
+                Operation::IsInstance(numbered_type(self.names, declared)?)
             }
-            _ => None,
-        }
+            _ => return None,
+        };
+        Some(operation)
     }
 
     // ---- fields
@@ -139,23 +141,24 @@ impl<'a> Resolver<'a> {
     fn field_operation(&self, instruction: &Instruction) -> Option<Operation>
         ensures { result ≡ field_operand_rule self.now.names.now.classes.tree.now instruction.now }
     {
-        match instruction {
+        let operation = match instruction {
             Instruction::LoadField(reference) => {
                 let (owner, field) = self.instance_field(reference)?;
-                Some(Operation::LoadField { owner, field })
+                Operation::LoadField { owner, field }
             }
             Instruction::StoreField(reference) => {
                 let (owner, field) = self.instance_field(reference)?;
-                Some(Operation::StoreField { owner, field })
+                Operation::StoreField { owner, field }
             }
             Instruction::LoadStaticField(reference) => {
-                self.field(true, reference).map(Operation::LoadStaticField)
+                Operation::LoadStaticField(self.field(true, reference)?)
             }
             Instruction::StoreStaticField(reference) => {
-                self.field(true, reference).map(Operation::StoreStaticField)
+                Operation::StoreStaticField(self.field(true, reference)?)
             }
-            _ => None,
-        }
+            _ => return None,
+        };
+        Some(operation)
     }
 
     // ---- calls
@@ -213,8 +216,7 @@ impl<'a> Resolver<'a> {
     fn new_object(&self, class: &ClassName, parameters: &[DeclaredType]) -> Option<Operation>
         ensures { result ≡ option_map NewObject (method_rule self.now.names.now.classes.tree.now true (constructor_reference class.now parameters.now)) }
     {
-        self.constructor(class, parameters)
-            .map(Operation::NewObject)
+        Some(Operation::NewObject(self.constructor(class, parameters)?))
     }
 
     /// A call of one of these kinds. None where there is no such method.
@@ -244,7 +246,7 @@ impl<'a> Resolver<'a> {
     fn load_string(&self, text: &Text) -> Option<Operation>
         ensures { result ≡ option_map LoadString (position_from (same_text text.now) 0 (literals_of self.now.names.now.classes.tree.now)) }
     {
-        self.literals.number(text).map(Operation::LoadString)
+        Some(Operation::LoadString(self.literals.number(text)?))
     }
 }
 

@@ -10,32 +10,22 @@ use crate::errors::ResolveError;
 use crate::instructions::{BodyResolver, Resolver};
 use crate::items::{Resolve, resolve_all};
 use crate::labels::Labels;
-use crate::numbering::{numbered_return, numbered_type};
+use crate::numbering::numbered_return;
 use cil_model::trees::{Code, Field, Method, MethodKind};
 use name_tables::lookups::NameTables;
 use std::alloc::Global;
 
-/// A field (ECMA-335 II.16). None where the class that its type names stands for nothing.
-fn resolved_field(names: &NameTables, field: &Field) -> Option<ResolvedField>
-    ensures { result ≡ resolved_field_rule names.now.classes.tree.now field.now }
-{
-    match numbered_type(names, &field.field_type) {
-        None => None,
-        Some(field_type) => Some(ResolvedField {
-            is_static: field.is_static,
-            field_type,
-        }),
-    }
-}
-
-/// A field is resolved to the field by number.
+/// A field is resolved to the field by number (ECMA-335 II.16).
 impl<'a, 'b> Resolve<&'b Field> for NameTables<'a> {
     type Resolved = ResolvedField;
 
     ghost rule = { λ names field. resolved_field_rule names.classes.tree.now field.now };
 
-    fn resolve(&self, _alloc: Global, field: &&'b Field) -> Result<ResolvedField, ResolveError> {
-        resolved_field(self, field).ok_or(ResolveError::Unresolved)
+    fn resolve(&self, alloc: Global, field: &&'b Field) -> Result<ResolvedField, ResolveError> {
+        Ok(ResolvedField {
+            is_static: field.is_static,
+            field_type: self.resolve(alloc, &field.field_type)?,
+        })
     }
 }
 

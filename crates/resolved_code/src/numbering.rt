@@ -32,7 +32,7 @@ pub fn base_number(
         None => Ok(None),
         Some(class) => match class_number(names, class) {
             None => Err(ResolveError::Unresolved),
-            number => Ok(number),
+            found => Ok(found),
         },
     }
 }
@@ -51,26 +51,24 @@ impl<'a> Resolve<ClassName> for NameTables<'a> {
 fn numbered_element(names: &NameTables, element: &Element) -> Option<NumberedElement>
     ensures { result ≡ element_rule names.now.classes.tree.now element.now }
 {
-    match element {
-        Element::Int32 => Some(NumberedElement::Int32),
-        Element::Int64 => Some(NumberedElement::Int64),
-        Element::Object => Some(NumberedElement::Object),
-        Element::String => Some(NumberedElement::String),
-        Element::Class(class) => class_number(names, class).map(NumberedElement::Class),
-    }
+    let numbered = match element {
+        Element::Int32 => NumberedElement::Int32,
+        Element::Int64 => NumberedElement::Int64,
+        Element::Object => NumberedElement::Object,
+        Element::String => NumberedElement::String,
+        Element::Class(class) => NumberedElement::Class(class_number(names, class)?),
+    };
+    Some(numbered)
 }
 
 /// A type by number (ECMA-335 II.7.1). None where the class that it names stands for nothing.
 pub fn numbered_type(names: &NameTables, declared: &DeclaredType) -> Option<NumberedType>
     ensures { result ≡ type_rule names.now.classes.tree.now declared.now }
 {
-    match numbered_element(names, &declared.element) {
-        None => None,
-        Some(element) => Some(NumberedType {
-            element,
-            brackets: declared.brackets,
-        }),
-    }
+    Some(NumberedType {
+        element: numbered_element(names, &declared.element)?,
+        brackets: declared.brackets,
+    })
 }
 
 /// A type is resolved to the type by number.
@@ -99,7 +97,7 @@ pub fn numbered_return(
         None => Ok(None),
         Some(declared) => match numbered_type(names, declared) {
             None => Err(ResolveError::Unresolved),
-            number => Ok(number),
+            found => Ok(found),
         },
     }
 }
