@@ -6,7 +6,6 @@ ghost use Rattle.cil_model.specs.Bodies.{place_of, virtual_reference, constructo
 ghost use Rattle.cil_model.specs.Mentions.{literals_of};
 ghost use Rattle.cil_model.specs.Same.{same_text};
 ghost use Rattle.resolved_code.specs.declared.operations.Operation.TheVariants.{LoadString, Call, CallVirtual, NewObject};
-ghost use Rattle.name_tables.specs.Numbers.{field_number, method_number};
 ghost use Rattle.resolved_code.specs.Rules.{field_rule, method_rule, with_owner, branch_rule, type_operand_rule, field_operand_rule, call_rule, plain_rule, operation_rule};
 
 use crate::errors::ResolveError;
@@ -122,18 +121,12 @@ impl<'a> Resolver<'a> {
 
     // ---- fields
 
-    fn field(&self, is_static: bool, reference: &FieldReference) -> Option<MemberNumber>
-        ensures { result ≡ field_rule self.now.names.now.classes.tree.now is_static reference.now }
-    {
-        self.names.find_field(is_static, reference)
-    }
-
     /// A field of an object, behind the class that the text names.
     fn instance_field(&self, reference: &FieldReference) -> Option<(usize, MemberNumber)>
         ensures { result ≡ with_owner self.now.names.now.classes.tree.now reference.now.owner (λ owner field. (owner, field)) (field_rule self.now.names.now.classes.tree.now false reference.now) }
     {
         let owner = class_number(self.names, &reference.owner)?;
-        let field = self.field(false, reference)?;
+        let field = self.names.find_field(false, reference)?;
         Some((owner, field))
     }
 
@@ -151,10 +144,10 @@ impl<'a> Resolver<'a> {
                 Operation::StoreField { owner, field }
             }
             Instruction::LoadStaticField(reference) => {
-                Operation::LoadStaticField(self.field(true, reference)?)
+                Operation::LoadStaticField(self.names.find_field(true, reference)?)
             }
             Instruction::StoreStaticField(reference) => {
-                Operation::StoreStaticField(self.field(true, reference)?)
+                Operation::StoreStaticField(self.names.find_field(true, reference)?)
             }
             _ => return None,
         };
@@ -163,29 +156,6 @@ impl<'a> Resolver<'a> {
 
     // ---- calls
 
-    fn method(&self, is_instance: bool, reference: &MethodReference) -> Option<MemberNumber>
-        ensures { result ≡ method_rule self.now.names.now.classes.tree.now is_instance reference.now }
-    {
-        self.names.find_method(is_instance, reference)
-    }
-
-    fn virtual_method(
-        &self,
-        owner: &ClassName,
-        name: &Text,
-        signature: &Signature,
-    ) -> Option<MemberNumber>
-        ensures { result ≡ method_rule self.now.names.now.classes.tree.now true (virtual_reference owner.now name.now signature.now) }
-    {
-        self.names.find_virtual(owner, name, signature)
-    }
-
-    fn constructor(&self, class: &ClassName, parameters: &[DeclaredType]) -> Option<MemberNumber>
-        ensures { result ≡ method_rule self.now.names.now.classes.tree.now true (constructor_reference class.now parameters.now) }
-    {
-        self.names.find_constructor(class, parameters)
-    }
-
     /// A `call` (ECMA-335 III.3.19). None where there is no such method.
     fn call(&self, is_instance: bool, reference: &MethodReference) -> Option<Operation>
         ensures { result ≡ with_owner self.now.names.now.classes.tree.now reference.now.owner (Call is_instance) (method_rule self.now.names.now.classes.tree.now is_instance reference.now) }
@@ -193,7 +163,7 @@ impl<'a> Resolver<'a> {
         Some(Operation::Call {
             is_instance,
             owner: class_number(self.names, &reference.owner)?,
-            method: self.method(is_instance, reference)?,
+            method: self.names.find_method(is_instance, reference)?,
         })
     }
 
@@ -208,7 +178,7 @@ impl<'a> Resolver<'a> {
     {
         Some(Operation::CallVirtual {
             owner: class_number(self.names, owner)?,
-            method: self.virtual_method(owner, name, signature)?,
+            method: self.names.find_virtual(owner, name, signature)?,
         })
     }
 
@@ -216,7 +186,7 @@ impl<'a> Resolver<'a> {
     fn new_object(&self, class: &ClassName, parameters: &[DeclaredType]) -> Option<Operation>
         ensures { result ≡ option_map NewObject (method_rule self.now.names.now.classes.tree.now true (constructor_reference class.now parameters.now)) }
     {
-        Some(Operation::NewObject(self.constructor(class, parameters)?))
+        Some(Operation::NewObject(self.names.find_constructor(class, parameters)?))
     }
 
     /// A call of one of these kinds. None where there is no such method.
