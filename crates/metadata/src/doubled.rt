@@ -5,7 +5,6 @@ ghost use Rattle.std.specs.List.{list_any};
 ghost use Rattle.cil_model.specs.Same.{same_text, same_class};
 ghost use Rattle.cil_model.specs.Declarations.{field_members, method_members, interfaces_named};
 ghost use Rattle.cil_model.specs.Legality.{has_repeat, same_method, labels_before, class_doubles, doubles_name};
-ghost use Rattle.name_tables.specs.Keys.{text_of_key, class_of_key};
 
 use crate::violations::{Doubled, DoubledInClass, Repeat};
 use cil_model::memory::NoMemory;
@@ -15,50 +14,66 @@ use cil_model::types::ClassName;
 use name_tables::bodies::label_keys;
 use name_tables::class_tables::method_keys;
 use name_tables::classes::{field_members, method_members};
-use name_tables::keys::{ClassKey, TextKey};
+use name_tables::keys::ClassKey;
 use name_tables::places::Places;
 use std::alloc::Global;
 use std::cmp::Eq;
 use std::hash::Hash;
 
-fn text_keys(alloc: Global, texts: &[Text]) -> Result<Vec<TextKey<'_>>, NoMemory>
-    ensures { IfOk result (λ v. map text_of_key v.items ≡ texts.now) }
-{
-    let mut keys = Vec::new(alloc);
-    for text in texts {
-        keys.push(TextKey { text })?;
-    }
-    Ok(keys)
+/// What stands under a name, before which an assembly may stand.
+trait Named {
+    ghost use Rattle.cil_model.specs.declared.types.ClassName.{ClassName};
+    ghost use Rattle.name_tables.specs.Keys.{class_of_key};
+
+    ghost name_of: { Self → ClassName };
+
+    fn key(&self) -> ClassKey<'_>
+        ensures { class_of_key result ≡ name_of self.now };
 }
 
-fn class_names(alloc: Global, classes: &[Class]) -> Result<Vec<TextKey<'_>>, NoMemory>
-    ensures { IfOk result (λ v. map text_of_key v.items ≡ map (λ c. c.name) classes.now) }
-{
-    let mut keys = Vec::new(alloc);
-    for class in classes {
-        keys.push(TextKey { text: &class.name })?;
+/// An extern, by the assembly's name alone.
+impl Named for Text {
+    ghost use Rattle.std.specs.Prelude.{None};
+
+    ghost name_of = { λ t. record { assembly = None; name = t } };
+
+    fn key(&self) -> ClassKey<'_> {
+        ClassKey {
+            assembly: None,
+            name: self,
+        }
     }
-    Ok(keys)
 }
 
-fn field_names<'a>(alloc: Global, fields: &[&'a Field]) -> Result<Vec<TextKey<'a>>, NoMemory>
-    ensures { IfOk result (λ v. map text_of_key v.items ≡ map (λ f. f.name) (map (λ f. f.now) fields.now)) }
-{
-    let mut keys = Vec::new(alloc);
-    for field in fields {
-        keys.push(TextKey { text: &field.name })?;
+impl Named for Class {
+    ghost use Rattle.cil_model.specs.Declarations.{source_name};
+
+    ghost name_of = { source_name };
+
+    fn key(&self) -> ClassKey<'_> {
+        ClassKey::of_source(self)
     }
-    Ok(keys)
 }
 
-fn class_keys(alloc: Global, names: &[ClassName]) -> Result<Vec<ClassKey<'_>>, NoMemory>
-    ensures { IfOk result (λ v. map class_of_key v.items ≡ names.now) }
-{
-    let mut keys = Vec::new(alloc);
-    for name in names {
-        keys.push(ClassKey::of(name))?;
+impl Named for &Field {
+    ghost use Rattle.std.specs.Prelude.{None};
+
+    ghost name_of = { λ f. record { assembly = None; name = f.now.name } };
+
+    fn key(&self) -> ClassKey<'_> {
+        ClassKey {
+            assembly: None,
+            name: &self.name,
+        }
     }
-    Ok(keys)
+}
+
+impl Named for ClassName {
+    ghost name_of = { λ c. c };
+
+    fn key(&self) -> ClassKey<'_> {
+        ClassKey::of(self)
+    }
 }
 
 /// The next place behind the first one with that number.
@@ -91,9 +106,14 @@ fn repeated_key<K: Eq + Hash + Copy + Drop>(
     Ok(repeat_among(&places))
 }
 
-fn repeated_text(alloc: Global, keys: Vec<TextKey>) -> Result<Option<Repeat>, NoMemory>
-    ensures { IfOk result (λ r. is_some r ≡ has_repeat same_text (map text_of_key keys.entry.items)) }
+/// The same among the names of these items.
+fn repeated_name<T: Named>(alloc: Global, items: &[T]) -> Result<Option<Repeat>, NoMemory>
+    ensures { IfOk result (λ r. is_some r ≡ has_repeat (λ a b. same_class (T.name_of a) (T.name_of b)) items.now) }
 {
+    let mut keys = Vec::new(alloc);
+    for item in items {
+        keys.push(item.key())?;
+    }
     repeated_key(alloc, keys)
 }
 
@@ -101,8 +121,7 @@ fn repeated_field(alloc: Global, class: &Class) -> Result<Option<Repeat>, NoMemo
     ensures { IfOk result (λ r. is_some r ≡ has_repeat (λ a b. same_text a.name b.name) (field_members class.now)) }
 {
     let fields = field_members(alloc, class)?;
-    let names = field_names(alloc, fields.as_slice())?;
-    repeated_text(alloc, names)
+    repeated_name(alloc, fields.as_slice())
 }
 
 fn repeated_method(alloc: Global, class: &Class) -> Result<Option<Repeat>, NoMemory>
@@ -122,18 +141,11 @@ pub fn interfaces_named(kind: &ClassKind) -> &[ClassName]
     }
 }
 
-fn repeated_interface(alloc: Global, class: &Class) -> Result<Option<Repeat>, NoMemory>
-    ensures { IfOk result (λ r. is_some r ≡ has_repeat same_class (interfaces_named class.now.kind)) }
-{
-    let keys = class_keys(alloc, interfaces_named(&class.kind))?;
-    repeated_key(alloc, keys)
-}
-
 fn repeated_label(alloc: Global, method: &Method) -> Result<Option<Repeat>, NoMemory>
     ensures { IfOk result (λ r. is_some r ≡ has_repeat same_text (labels_before method.now)) }
 {
     let labels = label_keys(alloc, method)?;
-    repeated_text(alloc, labels)
+    repeated_key(alloc, labels)
 }
 
 /// The first of these methods with a label that stands twice, and its places among the labels of the method.
@@ -169,24 +181,10 @@ fn doubled_in_class(alloc: Global, class: &Class) -> Result<Option<DoubledInClas
     if let Some(methods) = repeated_method(alloc, class)? {
         return Ok(Some(DoubledInClass::Methods(methods)));
     }
-    if let Some(interfaces) = repeated_interface(alloc, class)? {
+    if let Some(interfaces) = repeated_name(alloc, interfaces_named(&class.kind))? {
         return Ok(Some(DoubledInClass::Interfaces(interfaces)));
     }
     doubled_in_methods(alloc, class)
-}
-
-fn repeated_extern(alloc: Global, tree: &Tree) -> Result<Option<Repeat>, NoMemory>
-    ensures { IfOk result (λ r. is_some r ≡ has_repeat same_text tree.now.externs) }
-{
-    let names = text_keys(alloc, tree.externs.as_slice())?;
-    repeated_text(alloc, names)
-}
-
-fn repeated_class(alloc: Global, tree: &Tree) -> Result<Option<Repeat>, NoMemory>
-    ensures { IfOk result (λ r. is_some r ≡ has_repeat (λ a b. same_text a.name b.name) tree.now.classes) }
-{
-    let names = class_names(alloc, tree.classes.as_slice())?;
-    repeated_text(alloc, names)
 }
 
 fn doubled_in_classes(alloc: Global, classes: &[Class]) -> Result<Option<Doubled>, NoMemory>
@@ -205,10 +203,10 @@ fn doubled_in_classes(alloc: Global, classes: &[Class]) -> Result<Option<Doubled
 pub fn doubled_name(alloc: Global, tree: &Tree) -> Result<Option<Doubled>, NoMemory>
     ensures { IfOk result (λ d. is_some d ≡ doubles_name tree.now) }
 {
-    if let Some(externs) = repeated_extern(alloc, tree)? {
+    if let Some(externs) = repeated_name(alloc, tree.externs.as_slice())? {
         return Ok(Some(Doubled::Externs(externs)));
     }
-    if let Some(classes) = repeated_class(alloc, tree)? {
+    if let Some(classes) = repeated_name(alloc, tree.classes.as_slice())? {
         return Ok(Some(Doubled::Classes(classes)));
     }
     doubled_in_classes(alloc, tree.classes.as_slice())

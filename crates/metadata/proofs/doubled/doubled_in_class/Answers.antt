@@ -15,5 +15,5 @@ returns c =
     let two : has_repeat (λ (x y : Field). same_text x.name y.name) (field_members k) || has_repeat same_method (method_members k) ≡ false =
     none_before _ _ (sym c.in_ok-fields.ensures ∙ ap is_some c.in_default.is) ∙ sym c.in_ok-methods.ensures ∙ ap is_some c.in_default-2.is in
     let three : has_repeat (λ (x y : Field). same_text x.name y.name) (field_members k) || has_repeat same_method (method_members k) || has_repeat same_class (interfaces_named k.kind) ≡ false =
-    none_before _ _ two ∙ sym c.in_ok-interfaces.ensures ∙ ap is_some c.in_default-3.is in
+    none_before _ _ two ∙ ap (has_repeat same_class) (sym c.interfaces_named.ensures) ∙ sym c.in_ok-interfaces.ensures ∙ ap is_some c.in_default-3.is in
     if_ok_then c.doubled_in_methods.result _ _ (λ v e. e ∙ sym (none_before _ _ three)) c.doubled_in_methods.ensures

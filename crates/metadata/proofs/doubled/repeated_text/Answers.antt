@@ -1,8 +1,0 @@
-use Rattle.std.proofs.Common.{sym, ◌∙◌}
-use Rattle.cil_model.specs.Same.{same_text}
-use Rattle.name_tables.specs.Keys.{text_of_key}
-use Rattle.resolved_code.proofs.Repeats.{has_repeat-map, if_ok_then}
-use Rattle.metadata.proofs.doubled.repeated_text.Goals as goal
-
-pub returns : goal.returns
-returns c = if_ok_then c.repeated_key.result _ _ (λ r e. e ∙ sym (has_repeat-map text_of_key same_text c.args.keys.items)) c.repeated_key.ensures
