@@ -6,8 +6,7 @@ ghost use Rattle.std.specs.Option.{option_map_or};
 ghost use Rattle.cil_model.specs.Chains.{base_of, is_virtual, is_abstract_method};
 ghost use Rattle.cil_model.specs.Declarations.{source_name};
 ghost use Rattle.cil_model.specs.Legality.{is_interface_method, has_abstract_slot, overrides_no_virtual, kinds_fit, misfits_kind};
-ghost use Rattle.resolved_code.specs.Found.{slot_filled_at, slot_over, slot_numbered, open_over, open_numbered, is_left_open, method_leaves_open, entry_leaves_open, class_leaves_open, plain_numbered};
-ghost use Rattle.name_tables.specs.Entries.{entry_of};
+ghost use Rattle.resolved_code.specs.Found.{slot_filled_at, slot_over, slot_numbered, open_over, open_numbered, is_left_open, method_leaves_open, class_leaves_open, plain_numbered};
 ghost use Rattle.name_tables.specs.Keys.{class_of_key, method_of_key};
 ghost use Rattle.name_tables.specs.Methods.{line_of};
 ghost use Rattle.name_tables.specs.Numbers.{class_number, method_found};
@@ -18,7 +17,7 @@ use crate::violations::{KindFault, Misfit};
 use cil_model::memory::NoMemory;
 use cil_model::trees::{Class, ClassKind, Method};
 use inheritance::Endless;
-use name_tables::classes::{DeclaredClass, method_members};
+use name_tables::classes::method_members;
 use name_tables::keys::{ClassKey, MethodKey};
 use name_tables::kinds::{is_abstract_method, is_new_slot_method, is_virtual};
 use name_tables::lookups::{MemberNumber, NameTables};
@@ -150,20 +149,17 @@ fn left_open_by(
     names: &NameTables,
     chain: &[usize],
     class: usize,
-) -> Result<Option<usize>, NoMemory>
-    ensures { IfOk result (λ place. is_some place ≡ class_leaves_open names.now.classes.tree.now chain.now class) }
+) -> Result<Option<MemberNumber>, NoMemory>
+    ensures { IfOk result (λ found. is_some found ≡ class_leaves_open names.now.classes.tree.now chain.now class) }
 {
-    match names.classes.class(class) {
+    let Some(declared) = names.classes.class(class) else {
+        return Ok(None);
+    };
+    let introduced = names.chain(alloc, declared.name)?;
+    let methods = declared.methods.as_slice();
+    match method_left_open(names, chain, introduced.as_slice(), methods) {
         None => Ok(None),
-        Some(declared) => {
-            let introduced = names.chain(alloc, declared.name)?;
-            Ok(method_left_open(
-                names,
-                chain,
-                introduced.as_slice(),
-                declared.methods.as_slice(),
-            ))
-        }
+        Some(place) => Ok(Some(MemberNumber { class, place })),
     }
 }
 
@@ -177,66 +173,32 @@ fn first_left_open(
     ensures { IfOk result (λ found. is_some found ≡ list_any (class_leaves_open names.now.classes.tree.now chain.now) classes.now) }
 {
     for class in classes {
-        if let Some(place) = left_open_by(alloc, names, chain, *class)? {
-            return Ok(Some(MemberNumber {
-                class: *class,
-                place,
-            }));
+        if let Some(open) = left_open_by(alloc, names, chain, *class)? {
+            return Ok(Some(open));
         }
     }
     Ok(None)
 }
 
-/// Whether the method at a place of a class is virtual, and its slot is filled by an abstract one along a chain.
-fn is_open_in(
+/// The first method of a class whose slot is filled by an abstract method along a chain; none where the class does not stand in the
+/// chain.
+fn left_open_in(
     alloc: Global,
     names: &NameTables,
     chain: &[usize],
-    declared: &DeclaredClass,
-    place: usize,
-) -> Result<bool, NoMemory>
-    ensures { IfOk result (λ is_open. is_open ≡ true → entry_leaves_open names.now.classes.tree.now chain.now (entry_of declared.now) ≡ true) }
+    class: usize,
+) -> Result<Option<MemberNumber>, NoMemory>
+    ensures { IfOk result (λ found. is_some found ≡ true → list_any (class_leaves_open names.now.classes.tree.now chain.now) chain.now ≡ true) }
 {
-    let Some(method) = declared.methods.as_slice().get(place) else {
-        return Ok(false);
-    };
-    let introduced = names.chain(alloc, declared.name)?;
-    Ok(method_leaves_open(names, chain, introduced.as_slice(), method))
-}
-
-/// The same of the method of a number.
-fn is_open_at(
-    alloc: Global,
-    names: &NameTables,
-    chain: &[usize],
-    number: MemberNumber,
-) -> Result<bool, NoMemory>
-    ensures { IfOk result (λ is_open. is_open ≡ true → class_leaves_open names.now.classes.tree.now chain.now number.class ≡ true) }
-{
-    match names.classes.class(number.class) {
-        None => Ok(false),
-        Some(declared) => is_open_in(alloc, names, chain, declared, number.place),
-    }
-}
-
-/// The same; false where the class does not stand in the chain.
-fn is_open_along(
-    alloc: Global,
-    names: &NameTables,
-    chain: &[usize],
-    number: MemberNumber,
-) -> Result<bool, NoMemory>
-    ensures { IfOk result (λ is_open. is_open ≡ true → list_any (class_leaves_open names.now.classes.tree.now chain.now) chain.now ≡ true) }
-{
-    for class in chain {
-        if *class == number.class {
-            return is_open_at(alloc, names, chain, number);
+    for along in chain {
+        if *along == class {
+            return left_open_by(alloc, names, chain, class);
         }
     }
-    Ok(false)
+    Ok(None)
 }
 
-/// The method that seems to be left open along a chain, where it is.
+/// A method that fills a slot with nothing along a chain, of the class that seems to leave one open.
 fn open_suspect(
     alloc: Global,
     slots: &OpenSlots,
@@ -244,13 +206,10 @@ fn open_suspect(
 ) -> Result<Option<MemberNumber>, NoMemory>
     ensures { IfOk result (λ found. is_some found ≡ true → list_any (class_leaves_open slots.now.methods.now.names.now.classes.tree.now chain.now) chain.now ≡ true) }
 {
-    let Some(open) = slots.suspect(chain) else {
-        return Ok(None);
-    };
-    if is_open_along(alloc, slots.methods.names, chain, open)? {
-        return Ok(Some(open));
+    match slots.suspect(chain) {
+        None => Ok(None),
+        Some(class) => left_open_in(alloc, slots.methods.names, chain, class),
     }
-    Ok(None)
 }
 
 /// A method that fills a slot with nothing along a chain.

@@ -206,47 +206,47 @@ impl<'a> OpenSlots<'a> {
         }
     }
 
-    /// Whether a method is abstract, and the nearest of its name and signature from the first class on.
-    fn is_top(&self, first: usize, at: MemberNumber, method: &Method) -> bool {
+    /// Whether a method of a class is abstract, and the nearest of its name and signature from the first class on.
+    fn is_top(&self, first: usize, class: usize, method: &Method) -> bool {
         if !is_abstract_method(&method.kind) {
             return false;
         }
         let key = MethodKey::new(&method.name, &method.signature);
         match self.methods.nearest(first, key) {
-            Ok(Some(found)) => found == at,
+            Ok(Some(found)) => found.class == class,
             _ => false,
         }
     }
 
-    /// The abstract method of a class that is nearest from the first class on, where there is one.
-    fn top_of(&self, first: usize, class: usize) -> Option<MemberNumber> {
-        let declared = self.methods.names.classes.class(class)?;
-        for (place, method) in declared.methods.as_slice().iter().enumerate() {
-            let at = MemberNumber { class, place };
-            if self.is_top(first, at, method) {
-                return Some(at);
+    /// Whether a class has an abstract method that is nearest from the first class on.
+    fn has_top(&self, first: usize, class: usize) -> bool {
+        let Some(declared) = self.methods.names.classes.class(class) else {
+            return false;
+        };
+        for method in declared.methods.as_slice() {
+            if self.is_top(first, class, method) {
+                return true;
             }
         }
-        None
+        false
     }
 
-    /// The abstract method that one hides from its class's base on, where there is one.
-    fn hidden_by(&self, base: usize, method: &Method) -> Option<MemberNumber> {
+    /// The class of the abstract method that one hides from its class's base on, where there is one.
+    fn hidden_by(&self, base: usize, method: &Method) -> Option<usize> {
         if is_override(method) {
             return None;
         }
         let key = MethodKey::new(&method.name, &method.signature);
-        if !may_be_top(self.methods, Some(base), key) {
-            return None;
-        }
         match self.methods.nearest(base, key) {
-            Ok(found) => found,
-            Err(Endless) => None,
+            Ok(Some(found)) if is_abstract_at(self.methods.names, key, found.class) => {
+                Some(found.class)
+            }
+            _ => None,
         }
     }
 
-    /// The abstract method that a method of a class hides, where there is one.
-    fn hidden_behind(&self, class: usize) -> Option<MemberNumber> {
+    /// The class of an abstract method that a method of a class hides, where there is one.
+    fn hidden_behind(&self, class: usize) -> Option<usize> {
         let names = self.methods.names;
         let declared = names.classes.class(class)?;
         let base = names.base(class)?;
@@ -258,19 +258,19 @@ impl<'a> OpenSlots<'a> {
         None
     }
 
-    /// The nearest abstract method along these classes that is not overridden.
-    fn first_top(&self, chain: &[usize]) -> Option<MemberNumber> {
+    /// The first of these classes with an abstract method that is not overridden.
+    fn first_top(&self, chain: &[usize]) -> Option<usize> {
         let first = *chain.first()?;
         for class in chain {
-            if let Some(top) = self.top_of(first, *class) {
-                return Some(top);
+            if self.has_top(first, *class) {
+                return Some(*class);
             }
         }
         None
     }
 
-    /// The nearest abstract method along these classes that is hidden.
-    fn first_hidden(&self, chain: &[usize]) -> Option<MemberNumber> {
+    /// The class of the nearest abstract method along these classes that is hidden.
+    fn first_hidden(&self, chain: &[usize]) -> Option<usize> {
         for class in chain {
             if let Some(hidden) = self.hidden_behind(*class) {
                 return Some(hidden);
@@ -279,9 +279,9 @@ impl<'a> OpenSlots<'a> {
         None
     }
 
-    /// A method that seems to be left open along these classes: the nearest one that is not overridden, or else one that is hidden. Its
-    /// contract says nothing: whoever asks tries the method.
-    pub fn suspect(&self, chain: &[usize]) -> Option<MemberNumber> {
+    /// The class that seems to leave a slot open along these classes: the nearest with an abstract method that is not overridden, or else
+    /// one with an abstract method that is hidden. Its contract says nothing: whoever asks tries the methods of the class.
+    pub fn suspect(&self, chain: &[usize]) -> Option<usize> {
         match self.first_top(chain) {
             None => self.first_hidden(chain),
             Some(top) => Some(top),
