@@ -16,10 +16,10 @@ has_all tree class interface = list_all (λ (m : Method). list_any (is_virtual_f
 abbrev pub IsTable : Tree → ℕ → List Bool → Type 0
 IsTable tree interface table = (class : ℕ) → slice_get table class ≡ Some false → has_all tree (Some class) interface ≡ true
 
--- the table of an interface, where there is one, says of a class that it lacks nothing
-abbrev pub IsTold : List (Option (Vec Bool Global)) → ℕ → ℕ → Type 0
-IsTold tables class interface = (table : Vec Bool Global) × (slice_get tables interface ≡ Some (Some table)) × (slice_get table.items class ≡ Some false)
+-- the table of an interface says of a class that it lacks nothing
+abbrev pub IsTold : List (Vec Bool Global) → ℕ → ℕ → Type 0
+IsTold tables class interface = (table : Vec Bool Global) × (slice_get tables interface ≡ Some table) × (slice_get table.items class ≡ Some false)
 
--- the tables of some interfaces
-abbrev pub AreTables : Tree → List (Option (Vec Bool Global)) → Type 0
-AreTables tree tables = (interface : ℕ) (table : Vec Bool Global) → slice_get tables interface ≡ Some (Some table) → IsTable tree interface table.items
+-- the tables of interfaces
+abbrev pub AreTables : Tree → List (Vec Bool Global) → Type 0
+AreTables tree tables = (interface : ℕ) (table : Vec Bool Global) → slice_get tables interface ≡ Some table → IsTable tree interface table.items

@@ -105,7 +105,7 @@ fn absent_at(methods: &MethodTables, class: Option<usize>, interface: usize) -> 
 /// The same; none where the interface's table says of the class that it lacks none.
 fn absent_from(
     methods: &MethodTables,
-    tables: &[Option<Vec<bool>>],
+    tables: &[Vec<bool>],
     class: Option<usize>,
     interface: usize,
 ) -> Option<usize>
@@ -121,7 +121,7 @@ fn absent_from(
 /// The first method of an interface for which no class from one on has a virtual one.
 fn absent_in(
     methods: &MethodTables,
-    tables: &[Option<Vec<bool>>],
+    tables: &[Vec<bool>],
     class: Option<usize>,
     interface: &ClassName,
 ) -> Option<usize>
@@ -137,7 +137,7 @@ fn absent_in(
 /// The first listed interface with a method for which no class from one on has a virtual one, and that method.
 fn absent_in_list(
     methods: &MethodTables,
-    tables: &[Option<Vec<bool>>],
+    tables: &[Vec<bool>],
     class: Option<usize>,
     interfaces: &[ClassName],
 ) -> Option<ListedMethod>
@@ -155,7 +155,7 @@ fn absent_in_list(
 /// The first method of an interface that a class lists for which the class's chain has no virtual one.
 fn absent_in_class(
     methods: &MethodTables,
-    tables: &[Option<Vec<bool>>],
+    tables: &[Vec<bool>],
     class: &Class,
 ) -> Option<ListedMethod>
     requires { AreTables methods.now.names.now.classes.tree.now tables.now }

@@ -1,7 +1,6 @@
 // The classes that lack a method of an interface, found for all classes at once where many list it.
 
 ghost use Rattle.std.specs.Prelude.{◌≡◌, IfOk, Some, true, false, slice_get};
-ghost use Rattle.std.specs.Option.{ForSome};
 ghost use Rattle.metadata.specs.Implemented.{IsTable, IsTold, AreTables};
 
 use crate::doubled::interfaces_named;
@@ -67,28 +66,28 @@ impl Listings {
     }
 }
 
-/// The classes that lack a method of an interface, where many list it. Fails for want of memory alone.
+/// Of each class, whether it may lack a method of an interface that many list. The table of another interface tells of no class. Fails for
+/// want of memory alone.
 fn table_of(
     alloc: Global,
     methods: &MethodTables,
     listings: &Listings,
     interface: usize,
-) -> Result<Option<Vec<bool>>, NoMemory>
-    ensures { IfOk result (λ table. ForSome table (λ t. IsTable methods.now.names.now.classes.tree.now interface t.items)) }
+) -> Result<Vec<bool>, NoMemory>
+    ensures { IfOk result (λ table. IsTable methods.now.names.now.classes.tree.now interface table.items) }
 {
     if !listings.are_many(methods.names, interface) {
-        return Ok(None);
+        return Ok(Vec::new(alloc));
     }
-    let table = methods.lacks_some(alloc, interface)?;
-    Ok(Some(table))
+    methods.lacks_some(alloc, interface)
 }
 
-/// Of each interface that many classes list: of each class, whether it may lack a method of the interface.
+/// The tables of all interfaces.
 fn tables_of(
     alloc: Global,
     methods: &MethodTables,
     listings: &Listings,
-) -> Result<Vec<Option<Vec<bool>>>, NoMemory>
+) -> Result<Vec<Vec<bool>>, NoMemory>
     ensures { IfOk result (λ tables. AreTables methods.now.names.now.classes.tree.now tables.items) }
 {
     let mut tables = Vec::new(alloc);
@@ -103,7 +102,7 @@ fn tables_of(
 pub(crate) fn lacking_tables(
     alloc: Global,
     methods: &MethodTables,
-) -> Result<Vec<Option<Vec<bool>>>, NoMemory>
+) -> Result<Vec<Vec<bool>>, NoMemory>
     ensures { IfOk result (λ tables. AreTables methods.now.names.now.classes.tree.now tables.items) }
 {
     let listings = Listings::new(alloc, methods.names)?;
@@ -120,12 +119,11 @@ fn is_false(table: &[bool], class: usize) -> bool
 }
 
 /// Whether the table of an interface says of a class that it lacks none of the methods.
-pub(crate) fn is_told(tables: &[Option<Vec<bool>>], class: usize, interface: usize) -> bool
+pub(crate) fn is_told(tables: &[Vec<bool>], class: usize, interface: usize) -> bool
     ensures { result ≡ true → IsTold tables.now class interface }
 {
     match tables.get(interface) {
         None => false,
-        Some(None) => false,
-        Some(Some(table)) => is_false(table.as_slice(), class),
+        Some(table) => is_false(table.as_slice(), class),
     }
 }
