@@ -19,7 +19,7 @@ use std::alloc::Global;
 use std::fmt;
 
 /// A rule that each legal program keeps. The number of each stands beside it.
-#[derive(Clone, Copy, Debug, PartialEq, Eq)]
+#[derive(Clone, Copy)]
 pub enum Rule {
     /// 201: names that have to stand once do so.
     NamesStandOnce,
@@ -57,17 +57,17 @@ impl Rule {
 /// What is so where the rule is broken.
 impl fmt::Display for Rule {
     fn fmt<W: fmt::Write>(&self, f: &mut fmt::Formatter<W>) -> fmt::Result {
-        match self {
-            Rule::NamesStandOnce => write!(f, "a name stands twice"),
-            Rule::NamesAreKnown => write!(f, "a name stands for nothing of the kind needed"),
-            Rule::BasesEnd => write!(f, "a class stands in the chain of its base"),
+        f.write_str(match self {
+            Rule::NamesStandOnce => "a name stands twice",
+            Rule::NamesAreKnown => "a name stands for nothing of the kind needed",
+            Rule::BasesEnd => "a class stands in the chain of its base",
             Rule::InterfacesAreImplemented => {
-                write!(f, "a method of an interface that the class lists is absent")
+                "a method of an interface that the class lists is absent"
             }
-            Rule::KindsFit => write!(f, "the kind of a method does not fit"),
-            Rule::OneEntryPoint => write!(f, "not exactly one entry point"),
-            Rule::LimitsAreKept => write!(f, "a limit is passed"),
-        }
+            Rule::KindsFit => "the kind of a method does not fit",
+            Rule::OneEntryPoint => "not exactly one entry point",
+            Rule::LimitsAreKept => "a limit is passed",
+        })
     }
 }
 

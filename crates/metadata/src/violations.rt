@@ -242,15 +242,13 @@ impl Violation {
 /// The rule that is broken.
 impl fmt::Display for Violation {
     fn fmt<W: fmt::Write>(&self, f: &mut fmt::Formatter<W>) -> fmt::Result {
-        let rule = self.rule();
-        write!(f, "{rule}")
+        fmt::Display::fmt(&self.rule(), f)
     }
 }
 
-/// Which rule is broken.
+/// The same.
 impl fmt::Debug for Violation {
     fn fmt<W: fmt::Write>(&self, f: &mut fmt::Formatter<W>) -> fmt::Result {
-        let rule = self.rule();
-        write!(f, "{rule:?}")
+        fmt::Display::fmt(&self.rule(), f)
     }
 }
