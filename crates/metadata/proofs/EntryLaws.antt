@@ -1,10 +1,11 @@
 -- One entry point, told by counting.
-use Rattle.std.proofs.Common.{◌≡◌, ◌==◌, ℕ, suc, Bool, true, false, ◌&&◌, ◌||◌, cond, List, [], ◌∷◌, ◌++◌, length, map, refl, sym, ap, ◌∙◌, arith}
+use Rattle.std.proofs.Common.{◌≡◌, ◌<◌, ◌+◌, ◌==◌, ℕ, suc, Bool, true, false, ◌&&◌, ◌||◌, cond, List, [], ◌∷◌, ◌++◌, length, map, drop, slice_get, Some, None, refl, sym, ap, subst, ◌∙◌, arith}
 use Rattle.std.specs.Prelude.{filter, flat_map, count_by}
-use Rattle.std.specs.List.{list_any}
+use Rattle.std.specs.List.{list_any, position_from}
 use Rattle.std.proofs.lemmas.List.{map-append}
-use Rattle.std.proofs.lemmas.List.Sums.{length-filter}
+use Rattle.std.proofs.lemmas.List.Sums.{length-filter, sum_by-cons}
 use Rattle.std.proofs.lemmas.Bool.{eqb-true}
+use Rattle.std.proofs.lemmas.Option.{same_Some, none-some}
 use Rattle.cil_model.specs.declared.types.ClassName.{ClassName}
 use Rattle.cil_model.specs.declared.trees.Tree.{Tree}
 use Rattle.cil_model.specs.declared.trees.Class.{Class}
@@ -18,6 +19,13 @@ use Rattle.name_tables.proofs.Lists.{map_of_map}
 abbrev second : ClassName × Method → Method
 second e = e.1
 
+more_than_one : (n : ℕ) → (suc (suc n) == 1) ≡ false
+more_than_one n = by_test (suc (suc n) == 1) refl
+  where
+    by_test : (b : Bool) → (suc (suc n) == 1) ≡ b → b ≡ false
+    by_test false e = refl
+    by_test true e = let h : suc (suc n) ≡ 1 = eqb-true _ _ e in absurd (omega (arith, h))
+
 -- a list of one
 one_of : (es : List (ClassName × Method)) → is_one_entry es ≡ (length es == 1) && list_any is_entry_method (map second es)
 one_of [] = refl
@@ -26,14 +34,7 @@ one_of (e ∷ []) = by_value (is_entry_method e.1)
     by_value : (b : Bool) → b ≡ true && (b || false)
     by_value true = refl
     by_value false = refl
-one_of (e ∷ e' ∷ es) = sym (ap (λ b. b && list_any is_entry_method (map second (e ∷ e' ∷ es))) (more (length es)))
-  where
-    by_test : (n : ℕ) (b : Bool) → (suc (suc n) == 1) ≡ b → b ≡ false
-    by_test n false p = refl
-    by_test n true p = let h : suc (suc n) ≡ 1 = eqb-true _ _ p in absurd (omega (arith, h))
-
-    more : (n : ℕ) → (suc (suc n) == 1) ≡ false
-    more n = by_test n (suc (suc n) == 1) refl
+one_of (e ∷ e' ∷ es) = sym (ap (λ b. b && list_any is_entry_method (map second (e ∷ e' ∷ es))) (more_than_one (length es)))
 
 length-filter-map : (es : List (ClassName × Method)) → length (filter (λ (e : ClassName × Method). is_entry_point e.1) es) ≡ length (filter is_entry_point (map second es))
 length-filter-map [] = refl
@@ -63,3 +64,94 @@ one_entry tree =
     one_of (entry_points tree) ∙ ap (λ n. (n == 1) && list_any is_entry_method (map second (entry_points tree))) (counted (source_methods tree)) ∙
     ap (λ b. (count_by is_entry_point (map second (source_methods tree)) == 1) && b) (among (source_methods tree)) ∙
     ap (λ ms. (count_by is_entry_point ms == 1) && list_any (λ m. is_entry_point m && is_entry_method m) ms) (flat_map_seconds tree.classes)
+
+-- ---- the first that passes, and those behind it
+
+-- what a count and a test of a list come to by the first item that passes
+record IsFirst {X : Type 0} (p q : X → Bool) (xs : List X) (place : ℕ) : Type 0 where
+  within : place < length xs
+  count : count_by p xs ≡ 1 + count_by p (drop (suc place) xs)
+  any : (x : X) → slice_get xs place ≡ Some x → list_any (λ y. p y && q y) xs ≡ q x || list_any (λ y. p y && q y) (drop (suc place) xs)
+
+module _ {X : Type 0} (p q : X → Bool) where
+  abbrev both : X → Bool
+  both x = p x && q x
+
+  count_step : (x : X) (xs : List X) (b : Bool) → p x ≡ b → count_by p (x ∷ xs) ≡ cond b 1 0 + count_by p xs
+  count_step x xs b h = sum_by-cons (λ y. cond (p y) 1 0) x xs ∙ ap (λ z. cond z 1 0 + count_by p xs) h
+
+  none_passes : (xs : List X) (k : ℕ) → position_from p k xs ≡ None → (count_by p xs ≡ 0) × (list_any both xs ≡ false)
+  none_passes [] k e = (refl, refl)
+  none_passes (x ∷ xs) k e = by_test (none_passes xs (k + 1)) (p x) refl
+    where
+      by_test : (position_from p (k + 1) xs ≡ None → (count_by p xs ≡ 0) × (list_any both xs ≡ false)) → (b : Bool) → p x ≡ b → (count_by p (x ∷ xs) ≡ 0) × (list_any both (x ∷ xs) ≡ false)
+      by_test rest true h = absurd (none-some k (sym e ∙ ap (λ b. cond b (Some k) (position_from p (k + 1) xs)) h))
+      by_test rest false h =
+          let further : (count_by p xs ≡ 0) × (list_any both xs ≡ false) = rest (sym (ap (λ b. cond b (Some k) (position_from p (k + 1) xs)) h) ∙ e) in
+          let step : count_by p (x ∷ xs) ≡ 0 + count_by p xs = count_step x xs false h in
+          let none : count_by p xs ≡ 0 = further.0 in
+          (omega (arith, step, none), ap (λ b. b && q x || list_any both xs) h ∙ further.1)
+
+  first_passes : (xs : List X) (k n : ℕ) → position_from p k xs ≡ Some n → (i : ℕ) × (n ≡ k + i) × IsFirst p q xs i
+  first_passes [] k n e = absurd (none-some n e)
+  first_passes (x ∷ xs) k n e = by_test (first_passes xs (k + 1) n) (p x) refl
+    where
+      by_test : (position_from p (k + 1) xs ≡ Some n → (i : ℕ) × (n ≡ k + 1 + i) × IsFirst p q xs i) → (b : Bool) → p x ≡ b → (i : ℕ) × (n ≡ k + i) × IsFirst p q (x ∷ xs) i
+      by_test rest true h =
+          let same : k ≡ n = same_Some k n (sym (ap (λ b. cond b (Some k) (position_from p (k + 1) xs)) h) ∙ e) in (
+            0,
+            omega (arith, same),
+            record {
+              within = omega arith;
+              count = count_step x xs true h;
+              any = λ y s. ap (λ b. b && q x || list_any both xs) h ∙ ap (λ z. q z || list_any both xs) (same_Some x y s);
+            },
+          )
+      by_test rest false h =
+          let further : (i : ℕ) × (n ≡ k + 1 + i) × IsFirst p q xs i = rest (sym (ap (λ b. cond b (Some k) (position_from p (k + 1) xs)) h) ∙ e) in
+          let first : IsFirst p q xs further.0 = further.2 in
+          let number : n ≡ k + 1 + further.0 = further.1 in
+          let here : further.0 < length xs = first.within in
+          let step : count_by p (x ∷ xs) ≡ 0 + count_by p xs = count_step x xs false h in
+          let count : count_by p xs ≡ 1 + count_by p (drop (suc further.0) xs) = first.count in (
+            suc further.0,
+            omega (arith, number),
+            record {
+              within = omega (arith, here);
+              count = omega (arith, step, count);
+              any = λ y s. ap (λ b. b && q x || list_any both xs) h ∙ first.any y s;
+            },
+          )
+
+  first_place : (xs : List X) (n : ℕ) → position_from p 0 xs ≡ Some n → IsFirst p q xs n
+  first_place xs n e =
+      let f : (i : ℕ) × (n ≡ 0 + i) × IsFirst p q xs i = first_passes xs 0 n e in
+      let number : n ≡ 0 + f.0 = f.1 in
+      let same : f.0 ≡ n = omega (arith, number) in
+      subst (IsFirst p q xs) same f.2
+
+  pub is_within : (xs : List X) (n : ℕ) → position_from p 0 xs ≡ Some n → n < length xs
+  is_within xs n e = (first_place xs n e).within
+
+  pub none_fits : (xs : List X) → position_from p 0 xs ≡ None → (count_by p xs == 1) && list_any both xs ≡ false
+  none_fits xs e = ap (λ n. (n == 1) && list_any both xs) (none_passes xs 0 e).0
+
+  pub one_fits : (xs : List X) (n : ℕ) (x : X) → position_from p 0 xs ≡ Some n → slice_get xs n ≡ Some x → position_from p 0 (drop (n + 1) xs) ≡ None → (count_by p xs == 1) && list_any both xs ≡ q x
+  one_fits xs n x e g f =
+      let k : suc n ≡ n + 1 = omega arith in
+      let first : IsFirst p q xs n = first_place xs n e in
+      let others : (count_by p (drop (suc n) xs) ≡ 0) × (list_any both (drop (suc n) xs) ≡ false) = none_passes (drop (suc n) xs) 0 (ap (λ i. position_from p 0 (drop i xs)) k ∙ f) in
+      ap (λ m. (m == 1) && list_any both xs) (first.count ∙ ap (λ m. 1 + m) others.0) ∙ first.any x g ∙ ap (λ b. q x || b) others.1 ∙ or_nothing (q x)
+    where
+      or_nothing : (b : Bool) → b || false ≡ b
+      or_nothing true = refl
+      or_nothing false = refl
+
+  pub two_pass : (xs : List X) (n m : ℕ) → position_from p 0 xs ≡ Some n → position_from p 0 (drop (n + 1) xs) ≡ Some m → (count_by p xs == 1) && list_any both xs ≡ false
+  two_pass xs n m e f =
+      let k : suc n ≡ n + 1 = omega arith in
+      let rest = drop (suc n) xs in
+      let one : count_by p xs ≡ 1 + count_by p rest = (first_place xs n e).count in
+      let other : count_by p rest ≡ 1 + count_by p (drop (suc m) rest) = (first_place rest m (ap (λ i. position_from p 0 (drop i xs)) k ∙ f)).count in
+      let more : count_by p xs ≡ suc (suc (count_by p (drop (suc m) rest))) = omega (arith, one, other) in
+      ap (λ i. (i == 1) && list_any both xs) more ∙ ap (λ b. b && list_any both xs) (more_than_one (count_by p (drop (suc m) rest)))

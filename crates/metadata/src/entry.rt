@@ -1,8 +1,8 @@
 // Why a source has no fit entry point.
 
-ghost use Rattle.std.specs.Prelude.{◌≡◌, ◌==◌, ◌&&◌, IfOk, is_some, map, count_by};
+ghost use Rattle.std.specs.Prelude.{◌≡◌, ◌<◌, ◌==◌, ◌&&◌, Some, IfOk, is_none, is_some, length, map, count_by};
 ghost use Rattle.cil_model.specs.Bodies.{is_entry_point};
-ghost use Rattle.std.specs.List.{list_any};
+ghost use Rattle.std.specs.List.{list_any, position_from};
 ghost use Rattle.cil_model.specs.Legality.{is_entry_method, lacks_entry};
 ghost use Rattle.cil_model.specs.Mentions.{methods_of_tree};
 
@@ -11,50 +11,17 @@ use cil_model::memory::NoMemory;
 use cil_model::trees::{Class, Member, Method, Tree};
 use name_tables::kinds::is_static;
 use name_tables::trees::methods_of_tree;
-use resolved_code::entries::{entry_place, is_entry_point};
+use resolved_code::entries::entry_place;
 use std::alloc::Global;
 
-/// Whether a method is static and void, without parameters.
-pub fn is_entry_method(method: &Method) -> bool
-    ensures { result ≡ is_entry_method method.now }
-{
-    is_static(&method.kind)
-        && method.signature.return_type.is_none()
-        && method.signature.parameters.as_slice().is_empty()
-}
-
-fn count_entry_points(methods: &[&Method]) -> usize
-    ensures { result ≡ count_by is_entry_point (map (λ m. m.now) methods.now) }
-{
-    methods.iter().filter(|m| is_entry_point(m)).count()
-}
-
-fn is_fit_entry(method: &Method) -> bool
-    ensures { result ≡ is_entry_point method.now && is_entry_method method.now }
-{
-    is_entry_point(method) && is_entry_method(method)
-}
-
-fn has_entry_method(methods: &[&Method]) -> bool
-    ensures { result ≡ list_any (λ m. is_entry_point m && is_entry_method m) (map (λ m. m.now) methods.now) }
-{
-    for method in methods {
-        if is_fit_entry(method) {
-            return true;
+fn count_methods(class: &Class) -> usize {
+    let mut count = 0;
+    for member in class.members.as_slice() {
+        if matches!(member, Member::Method(_)) {
+            count += 1;
         }
     }
-    false
-}
-
-fn has_one_entry(methods: &[&Method]) -> bool
-    ensures { result ≡ (count_by is_entry_point (map (λ m. m.now) methods.now) == 1) && list_any (λ m. is_entry_point m && is_entry_method m) (map (λ m. m.now) methods.now) }
-{
-    count_entry_points(methods) == 1 && has_entry_method(methods)
-}
-
-fn count_methods(class: &Class) -> usize {
-    let members = class.members.as_slice().iter();
-    members.filter(|m| matches!(m, Member::Method(_))).count()
+    count
 }
 
 /// The class and the place of the method that has this number among all methods of the source.
@@ -71,42 +38,46 @@ fn site_of(tree: &Tree, number: usize) -> SourceMember {
     SourceMember { class, place }
 }
 
-/// Why a method may not have an entry point. One that may is answered as one with parameters.
-fn fault_of(site: SourceMember, method: &Method) -> BadEntry {
+/// Why a method may not have an entry point; none where it is static and void, without parameters.
+fn fault_of(site: SourceMember, method: &Method) -> Option<BadEntry>
+    ensures { is_none result ≡ is_entry_method method.now }
+{
     if !is_static(&method.kind) {
-        return BadEntry::NotStatic(site);
+        return Some(BadEntry::NotStatic(site));
     }
     if method.signature.return_type.is_some() {
-        return BadEntry::Returns(site);
+        return Some(BadEntry::Returns(site));
     }
-    BadEntry::Takes(site)
+    if method.signature.parameters.as_slice().is_empty() {
+        return None;
+    }
+    Some(BadEntry::Takes(site))
 }
 
-/// The place of the first entry point among methods that stands behind another.
-fn entry_behind(methods: &[&Method], first: usize) -> Option<usize> {
-    for (place, method) in methods.iter().enumerate() {
-        if place > first && is_entry_point(method) {
-            return Some(place);
-        }
-    }
-    None
-}
-
-/// Why the methods of a source, which have not one fit entry point, have none.
-fn entry_fault(tree: &Tree, methods: &[&Method]) -> BadEntry {
-    let Some(first) = entry_place(methods) else {
-        return BadEntry::Absent;
-    };
-    let Some(method) = methods.get(first) else {
-        return BadEntry::Absent;
-    };
+/// Why the first entry point, which stands at this place among the methods of a source, is not fit or not the only one; none where it is.
+fn first_fault(tree: &Tree, methods: &[&Method], first: usize) -> Option<BadEntry>
+    requires within { first < length methods.now }
+    requires first { position_from is_entry_point 0 (map (λ m. m.now) methods.now) ≡ Some first }
+    ensures { is_none result ≡ (count_by is_entry_point (map (λ m. m.now) methods.now) == 1) && list_any (λ m. is_entry_point m && is_entry_method m) (map (λ m. m.now) methods.now) }
+{
     let site = site_of(tree, first);
-    match entry_behind(methods, first) {
-        None => fault_of(site, method),
-        Some(second) => BadEntry::Second {
+    let behind = first + 1;
+    match entry_place(&methods[behind..]) {
+        None => fault_of(site, methods[first]),
+        Some(further) => Some(BadEntry::Second {
             first: site,
-            second: site_of(tree, second),
-        },
+            second: site_of(tree, behind + further),
+        }),
+    }
+}
+
+/// Why the methods of a source have not one fit entry point; none where they have.
+fn entry_fault(tree: &Tree, methods: &[&Method]) -> Option<BadEntry>
+    ensures { is_none result ≡ (count_by is_entry_point (map (λ m. m.now) methods.now) == 1) && list_any (λ m. is_entry_point m && is_entry_method m) (map (λ m. m.now) methods.now) }
+{
+    match entry_place(methods) {
+        None => Some(BadEntry::Absent),
+        Some(first) => first_fault(tree, methods, first),
     }
 }
 
@@ -116,9 +87,5 @@ pub fn bad_entry(alloc: Global, tree: &Tree) -> Result<Option<BadEntry>, NoMemor
     ensures { IfOk result (λ e. is_some e ≡ lacks_entry tree.now) }
 {
     let methods = methods_of_tree(alloc, tree)?;
-    let methods = methods.as_slice();
-    if has_one_entry(methods) {
-        return Ok(None);
-    }
-    Ok(Some(entry_fault(tree, methods)))
+    Ok(entry_fault(tree, methods.as_slice()))
 }
