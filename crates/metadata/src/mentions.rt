@@ -178,11 +178,8 @@ fn add_types_of_fields<'a>(
 {
     let fields = field_members(alloc, declared)?;
     for (place, field) in fields.as_slice().iter().enumerate() {
-        let part = TypesPart::Field(SourceMember { class, place });
-        types.push(SitedType {
-            declared: &field.field_type,
-            site: TypeSite { part, place: 0 },
-        })?;
+        let field_type = NamedTypes::one(&field.field_type);
+        field_type.add_to(types, TypesPart::Field(SourceMember { class, place }))?;
     }
     Ok(())
 }

@@ -1,4 +1,4 @@
-use Rattle.std.proofs.Common.{◌≡◌, Some, List, Bool, slice_get, sym, ap, ◌∙◌}
+use Rattle.std.proofs.Common.{Some, List, Bool, slice_get, sym, ap, ◌∙◌}
 use Rattle.std.proofs.lemmas.Option.{slice_get-get_or}
 use Rattle.metadata.proofs.lacking.is_told.Goals as goal
 
