@@ -54,20 +54,12 @@ fn cut_bases(
     Ok(cut)
 }
 
-fn copy_of(alloc: Global, row: &[usize]) -> Result<Vec<usize>, NoMemory>
-    ensures { IfOk result (λ copy. copy.items ≡ row.now) }
-{
-    let mut copy = Vec::new(alloc);
-    copy.extend_from_slice(row)?;
-    Ok(copy)
-}
-
 fn copies_of(alloc: Global, rows: &[Vec<usize>]) -> Result<Vec<Vec<usize>>, NoMemory>
     ensures { IfOk result (λ copies. map (λ v. v.items) copies.items ≡ map (λ v. v.items) rows.now) }
 {
     let mut copies = Vec::new(alloc);
-    for place in 0..rows.len() {
-        copies.push(copy_of(alloc, rows[place].as_slice())?)?;
+    for row in rows {
+        copies.push(row.as_slice().to_vec(alloc)?)?;
     }
     Ok(copies)
 }

@@ -12,68 +12,61 @@ pub(crate) enum Step {
     Leave,
 }
 
-fn empty_rows(alloc: Global, count: usize) -> Result<Vec<Vec<usize>>, NoMemory> {
-    let mut rows = Vec::new(alloc);
-    for _ in 0..count {
-        rows.push(Vec::new(alloc))?;
-    }
-    Ok(rows)
+/// The classes without a base, and those that have each class as their base, as chains.
+#[derive(Drop)]
+struct Children {
+    /// The first class that has a class as its base; behind these, the first without a base.
+    first: Vec<Option<usize>>,
+    /// The next class with the same base.
+    next: Vec<Option<usize>>,
 }
 
-/// The classes that have each class as their base.
-fn children(alloc: Global, bases: &[Option<usize>]) -> Result<Vec<Vec<usize>>, NoMemory> {
-    let mut children = empty_rows(alloc, bases.len())?;
-    for class in 0..bases.len() {
-        let Some(base) = bases[class] else {
-            continue;
-        };
-        if base < children.len() {
-            children[base].push(class)?;
+impl Children {
+    fn new(alloc: Global, bases: &[Option<usize>]) -> Result<Self, NoMemory> {
+        let mut first = vec![in alloc; None; bases.len().saturating_add(1)]?;
+        let mut next = vec![in alloc; None; bases.len()]?;
+        for class in 0..bases.len() {
+            let base = bases[class].unwrap_or(bases.len());
+            if class < next.len() && base < first.len() {
+                next[class] = first[base];
+                first[base] = Some(class);
+            }
         }
+        Ok(Children { first, next })
     }
-    Ok(children)
 }
 
-/// The classes without a base.
-fn roots(alloc: Global, bases: &[Option<usize>]) -> Result<Vec<Step>, NoMemory> {
-    let mut roots = Vec::new(alloc);
-    for class in 0..bases.len() {
-        if bases[class].is_none() {
-            roots.push(Step::Enter(class))?;
-        }
+/// The class that a chain has at another.
+fn class_at(links: &[Option<usize>], class: usize) -> Option<usize> {
+    match links.get(class) {
+        None => None,
+        Some(link) => *link,
     }
-    Ok(roots)
-}
-
-/// What comes behind the step to a class: those to the classes below it, and then the step back.
-fn add_steps(
-    pending: &mut Vec<Step>,
-    children: &[Vec<usize>],
-    class: usize,
-) -> Result<(), NoMemory> {
-    pending.push(Step::Leave)?;
-    let Some(children) = children.get(class) else {
-        return Ok(());
-    };
-    for child in children.as_slice() {
-        pending.push(Step::Enter(*child))?;
-    }
-    Ok(())
 }
 
 /// A search through all classes whose bases end, each behind its base. Its contract says nothing, since what is found is right
 /// whatever the steps are: it is found fast for the classes that they enter.
 pub(crate) fn tour(alloc: Global, bases: &[Option<usize>]) -> Result<Vec<Step>, NoMemory> {
-    let children = children(alloc, bases)?;
-    let mut pending = roots(alloc, bases)?;
+    let children = Children::new(alloc, bases)?;
     let mut steps = Vec::new(alloc);
+    let mut class = bases.len();
+    let mut next = class_at(children.first.as_slice(), class);
     for _ in 0..bases.len().saturating_mul(2) {
-        let Some(step) = pending.pop() else {
-            return Ok(steps);
+        let step = match next {
+            Some(child) => {
+                class = child;
+                next = class_at(children.first.as_slice(), child);
+                Step::Enter(child)
+            }
+            None => {
+                let Some(base) = bases.get(class) else {
+                    break;
+                };
+                next = class_at(children.next.as_slice(), class);
+                class = base.unwrap_or(bases.len());
+                Step::Leave
+            }
         };
-        if let Step::Enter(class) = step {
-            add_steps(&mut pending, children.as_slice(), class)?;
-        }
         steps.push(step)?;
     }
     Ok(steps)

@@ -143,11 +143,3 @@ as_many tables numbers number e =
     lengths (t ∷ ts) =
         ap (λ n. n ∷ map (λ (x : ClassTable). length (map (λ (m : Method). number (identity_of m)) (declaration_in x.class).methods)) ts) (length-map (declaration_in t.class).methods (λ (m : Method). number (identity_of m))) ∙
         ap (λ ns. length (declaration_in t.class).methods ∷ ns) (lengths ts)
-
--- numbers of numbers
-pub numbers_again : (number : MethodIdentity → ℕ) (again : ℕ → ℕ) (es : List (ClassName × Declaration)) →
-    map (λ (e : ClassName × Declaration). map again (map (λ (m : Method). number (identity_of m)) e.1.methods)) es ≡ map (λ (e : ClassName × Declaration). map (λ (m : Method). again (number (identity_of m))) e.1.methods) es
-numbers_again number again [] = refl
-numbers_again number again (e ∷ es) =
-    ap (λ r. r ∷ map (λ (d : ClassName × Declaration). map again (map (λ (m : Method). number (identity_of m)) d.1.methods)) es) (map_of_map (λ (m : Method). number (identity_of m)) again e.1.methods) ∙
-    ap (λ rs. map (λ (m : Method). again (number (identity_of m))) e.1.methods ∷ rs) (numbers_again number again es)

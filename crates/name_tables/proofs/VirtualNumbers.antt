@@ -1,6 +1,6 @@
 -- The numbers of methods among the virtual ones.
 use Rattle.std.proofs.Common.{◌≡◌, ◌<◌, ℕ, zero, suc, Bool, true, ◌&&◌, ◌||◌, not, List, [], ◌∷◌, map, Option, Some, None, is_some, is_none, nat_lt, slice_get, slice_index_or, refl, ap, ◌∙◌, arith}
-use Rattle.std.proofs.lemmas.Bool.{le-leb}
+use Rattle.std.proofs.lemmas.Bool.{and_from, le-leb}
 use Rattle.std.specs.List.{list_all, list_any}
 use Rattle.std.specs.Option.{option_map_or}
 use Rattle.cil_model.specs.declared.types.ClassName.{ClassName}
@@ -13,7 +13,7 @@ use Rattle.name_tables.specs.Members.{IsMemberTable}
 use Rattle.name_tables.specs.Methods.{virtual_place, line_of, methods_at, AreNumbers}
 use Rattle.name_tables.specs.Numbers.{declarations, nearest_number}
 use Rattle.name_tables.specs.Sameness.{MethodIdentity, identity_of}
-use Rattle.name_tables.proofs.MemberLaws.{nearest_on_line, all_pass}
+use Rattle.name_tables.proofs.MemberLaws.{nearest_on_line}
 
 -- where something is none not all are some
 pub some_none : {X Y : Type 0} (f : X → Option Y) (xs : List X) → list_any (λ x. is_none (f x)) xs ≡ not (list_all (λ x. is_some (f x)) xs)
@@ -24,13 +24,18 @@ some_none {Y = Y} f (x ∷ xs) = by_first (some_none f xs) (f x)
     by_first further None = refl
     by_first further (Some y) = further
 
-all_of_map : {X Y : Type 0} (f : X → Y) (p : Y → Bool) (xs : List X) → list_all p (map f xs) ≡ list_all (λ x. p (f x)) xs
+pub all_of_map : {X Y : Type 0} (f : X → Y) (p : Y → Bool) (xs : List X) → list_all p (map f xs) ≡ list_all (λ x. p (f x)) xs
 all_of_map f p [] = refl
 all_of_map f p (x ∷ xs) = ap (λ b. p (f x) && b) (all_of_map f p xs)
 
 all_alike : {X : Type 0} (p q : X → Bool) → ((x : X) → p x ≡ q x) → (xs : List X) → list_all p xs ≡ list_all q xs
 all_alike p q same [] = refl
 all_alike p q same (x ∷ xs) = ap (λ b. b && list_all p xs) (same x) ∙ ap (λ b. q x && b) (all_alike p q same xs)
+
+-- numbers that are less than another
+pub are_keys : (again : ℕ → ℕ) (keys : ℕ) → ((n : ℕ) → again n < keys) → (row : List ℕ) → list_all (λ n. nat_lt n keys) (map again row) ≡ true
+are_keys again keys within [] = refl
+are_keys again keys within (n ∷ ns) = and_from _ _ (let low = within n in le-leb (suc (again n)) keys (omega (arith, low))) (are_keys again keys within ns)
 
 module _ (tree : Tree) (number : MethodIdentity → ℕ) (rows : List (List ℕ)) (numbered : AreNumbers tree number rows) where
   -- what is said of the numbers of a class's methods is said of these
@@ -43,16 +48,10 @@ module _ (tree : Tree) (number : MethodIdentity → ℕ) (rows : List (List ℕ)
       of (e ∷ es) zero = all_of_map (λ (m : Method). number (identity_of m)) q e.1.methods
       of (e ∷ es) (suc n) = of es n
 
-  module _ (forest : Forest) where
-    pub are_keys : ((k : MethodIdentity) → number k < forest.keys) → (interface : ℕ) → list_all (λ n. nat_lt n forest.keys) (slice_index_or rows interface []) ≡ true
-    are_keys within interface =
-        said_of_numbers (λ n. nat_lt n forest.keys) interface ∙ all_alike (λ (m : Method). nat_lt (number (identity_of m)) forest.keys) (λ m. true) (λ m. let low = within (identity_of m) in le-leb (suc (number (identity_of m))) forest.keys (omega (arith, low))) (methods_at tree interface) ∙
-        all_pass (methods_at tree interface)
-
-    -- all virtual methods that an interface wants are found by their numbers
-    pub found_by_numbers : IsMemberTable tree forest number (virtual_place tree) → (interface class : ℕ) →
-        list_all (λ n. is_some (nearest_from forest n forest.most (Some class))) (slice_index_or rows interface []) ≡ list_all (λ (m : Method). is_some (nearest_number (virtual_place tree (identity_of m)) (line_of tree (Some class)))) (methods_at tree interface)
-    found_by_numbers table interface class =
-        said_of_numbers (λ n. is_some (nearest_from forest n forest.most (Some class))) interface ∙
-        all_alike (λ (m : Method). is_some (nearest_from forest (number (identity_of m)) forest.most (Some class))) (λ (m : Method). is_some (nearest_number (virtual_place tree (identity_of m)) (line_of tree (Some class))))
-        (λ m. ap is_some (nearest_on_line tree forest number (virtual_place tree) table (identity_of m) class)) (methods_at tree interface)
+  -- all virtual methods that an interface wants are found by the numbers of these numbers
+  pub found_by_numbers : (again : ℕ → ℕ) (forest : Forest) → IsMemberTable tree forest (λ k. again (number k)) (virtual_place tree) → (interface class : ℕ) →
+      list_all (λ n. is_some (nearest_from forest (again n) forest.most (Some class))) (slice_index_or rows interface []) ≡ list_all (λ (m : Method). is_some (nearest_number (virtual_place tree (identity_of m)) (line_of tree (Some class)))) (methods_at tree interface)
+  found_by_numbers again forest table interface class =
+      said_of_numbers (λ n. is_some (nearest_from forest (again n) forest.most (Some class))) interface ∙
+      all_alike (λ (m : Method). is_some (nearest_from forest (again (number (identity_of m))) forest.most (Some class))) (λ (m : Method). is_some (nearest_number (virtual_place tree (identity_of m)) (line_of tree (Some class))))
+      (λ m. ap is_some (nearest_on_line tree forest (λ k. again (number k)) (virtual_place tree) table (identity_of m) class)) (methods_at tree interface)

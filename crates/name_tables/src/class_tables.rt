@@ -60,13 +60,6 @@ impl<'a> ClassTable<'a> {
         Ok(ClassTable { class, methods })
     }
 
-    /// What the methods are found by, by their places.
-    pub(crate) fn method_keys(&self) -> &[MethodKey<'a>]
-        ensures { map method_of_key result.now ≡ map identity_of (declaration_in self.now.class).methods }
-    {
-        self.methods.keys()
-    }
-
     /// Whether the first method of the name and signature of the one at a place is virtual.
     pub(crate) fn is_virtual_at(&self, place: usize) -> bool
         requires { place < length (declaration_in self.now.class).methods }

@@ -38,12 +38,15 @@ impl<K: Eq + Hash + Copy + Drop> Drop for Inherited<K> {
 }
 
 /// The keys of all rows, with where each stands first.
-fn all_keys<K: Eq + Hash + Copy + Drop>(alloc: Global, rows: &[&[K]]) -> Result<Places<K>, NoMemory>
-    ensures { IfOk result (λ keys. keys ≡ flat_map (λ row. row.now) rows.now) }
+fn all_keys<K: Eq + Hash + Copy + Drop>(
+    alloc: Global,
+    rows: &[Vec<K>],
+) -> Result<Places<K>, NoMemory>
+    ensures { IfOk result (λ keys. keys ≡ flat_map (λ row. row.items) rows.now) }
 {
     let mut keys = Vec::new(alloc);
     for row in rows {
-        keys.extend_from_slice(row)?;
+        keys.extend_from_slice(row.as_slice())?;
     }
     let places = Places::new(alloc, keys)?;
     Ok(places)
@@ -53,10 +56,10 @@ fn all_keys<K: Eq + Hash + Copy + Drop>(alloc: Global, rows: &[&[K]]) -> Result<
 fn own_numbers<K: Eq + Hash + Copy + Drop>(
     alloc: Global,
     keys: &Places<K>,
-    rows: &[&[K]],
+    rows: &[Vec<K>],
 ) -> Result<Vec<Vec<usize>>, NoMemory>
-    requires { keys.now ≡ flat_map (λ row. row.now) rows.now }
-    ensures { IfOk result (λ v. map (λ r. r.items) v.items ≡ map (λ row. map (number_in K.eq keys.now) row.now) rows.now) }
+    requires { keys.now ≡ flat_map (λ row. row.items) rows.now }
+    ensures { IfOk result (λ v. map (λ r. r.items) v.items ≡ map (λ row. map (number_in K.eq keys.now) row.items) rows.now) }
 {
     let mut numbers = Vec::with_capacity(alloc, rows.len())?;
     let mut rest = keys.numbers();
@@ -68,17 +71,6 @@ fn own_numbers<K: Eq + Hash + Copy + Drop>(
     Ok(numbers)
 }
 
-/// The rows as slices.
-pub(crate) fn slices<K>(alloc: Global, rows: &[Vec<K>]) -> Result<Vec<&[K]>, NoMemory>
-    ensures { IfOk result (λ v. map (λ row. row.now) v.items ≡ map (λ row. row.items) rows.now) }
-{
-    let mut slices = Vec::with_capacity(alloc, rows.len())?;
-    for row in rows {
-        slices.push(row.as_slice())?;
-    }
-    Ok(slices)
-}
-
 pub(crate) fn number_of<K: Eq + Hash + Copy + Drop>(keys: &Places<K>, key: K) -> usize
     ensures { result ≡ number_in K.eq keys.now key }
 {
@@ -88,7 +80,8 @@ pub(crate) fn number_of<K: Eq + Hash + Copy + Drop>(keys: &Places<K>, key: K) ->
     }
 }
 
-fn row_numbers<K: Eq + Hash + Copy + Drop>(
+/// The numbers of the keys of a row.
+pub(crate) fn row_numbers<K: Eq + Hash + Copy + Drop>(
     alloc: Global,
     keys: &Places<K>,
     row: &[K],
@@ -98,20 +91,6 @@ fn row_numbers<K: Eq + Hash + Copy + Drop>(
     let mut numbers = Vec::new(alloc);
     for place in 0..row.len() {
         numbers.push(number_of(keys, row[place]))?;
-    }
-    Ok(numbers)
-}
-
-pub(crate) fn numbers<K: Eq + Hash + Copy + Drop>(
-    alloc: Global,
-    keys: &Places<K>,
-    rows: &[&[K]],
-) -> Result<Vec<Vec<usize>>, NoMemory>
-    ensures { IfOk result (λ v. map (λ r. r.items) v.items ≡ map (λ row. map (number_in K.eq keys.now) row.now) rows.now) }
-{
-    let mut numbers = Vec::new(alloc);
-    for place in 0..rows.len() {
-        numbers.push(row_numbers(alloc, keys, rows[place])?)?;
     }
     Ok(numbers)
 }
@@ -130,14 +109,14 @@ fn numbered<K: Eq + Hash + Copy + Drop>(
     alloc: Global,
     bases: &[Option<usize>],
     keys: &Places<K>,
-    rows: &[&[K]],
+    rows: &[Vec<K>],
     most: usize,
 ) -> Result<Forest, NoMemory>
-    requires { keys.now ≡ flat_map (λ row. row.now) rows.now }
+    requires { keys.now ≡ flat_map (λ row. row.items) rows.now }
     ensures bases { IfOk result (λ f. f.bases.items ≡ bases.now) }
     ensures most { IfOk result (λ f. f.most ≡ most) }
     ensures keys { IfOk result (λ f. f.keys ≡ length keys.now + 1) }
-    ensures declared { IfOk result (λ f. map (λ r. r.items) f.declared.items ≡ map (λ row. map (number_in K.eq keys.now) row.now) rows.now) }
+    ensures declared { IfOk result (λ f. map (λ r. r.items) f.declared.items ≡ map (λ row. map (number_in K.eq keys.now) row.items) rows.now) }
 {
     let Some(count) = keys.keys().len().checked_add(1) else {
         return Err(NoMemory);
@@ -167,14 +146,14 @@ impl<K: Eq + Hash + Copy + Drop> Inherited<K> {
     pub fn new(
         alloc: Global,
         bases: &[Option<usize>],
-        rows: &[&[K]],
+        rows: &[Vec<K>],
         most: usize,
     ) -> Result<Self, NoMemory>
         ensures bases { IfOk result (λ t. t.inheritance.forest.bases.items ≡ bases.now) }
         ensures most { IfOk result (λ t. t.inheritance.forest.most ≡ most) }
-        ensures keys { IfOk result (λ t. t.keys ≡ flat_map (λ row. row.now) rows.now) }
-        ensures declared { IfOk result (λ t. map (λ r. r.items) t.inheritance.forest.declared.items ≡ map (λ row. map (number_in K.eq t.keys) row.now) rows.now) }
-        ensures places { IfOk result (λ t. (key : K) (class : ℕ) → place_in (map (λ r. r.items) t.inheritance.forest.declared.items) (number_in K.eq t.keys key) class ≡ position_from (K.eq key) 0 (slice_index_or (map (λ row. row.now) rows.now) class [])) }
+        ensures keys { IfOk result (λ t. t.keys ≡ flat_map (λ row. row.items) rows.now) }
+        ensures declared { IfOk result (λ t. map (λ r. r.items) t.inheritance.forest.declared.items ≡ map (λ row. map (number_in K.eq t.keys) row.items) rows.now) }
+        ensures places { IfOk result (λ t. (key : K) (class : ℕ) → place_in (map (λ r. r.items) t.inheritance.forest.declared.items) (number_in K.eq t.keys key) class ≡ position_from (K.eq key) 0 (slice_index_or (map (λ row. row.items) rows.now) class [])) }
     {
         let keys = all_keys(alloc, rows)?;
         let forest = numbered(alloc, bases, &keys, rows, most)?;

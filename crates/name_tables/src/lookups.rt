@@ -70,44 +70,6 @@ pub(crate) fn member_number(found: Option<Declared>) -> Option<MemberNumber>
     }
 }
 
-/// The methods of all classes by name and signature, and by these and their staticness.
-fn method_tables<'a>(
-    alloc: Global,
-    classes: &ClassTables<'a>,
-    bases: &[Option<usize>],
-) -> Result<(Inherited<MethodKey<'a>>, Inherited<CallNumber>), NoMemory>
-    requires { bases.now ≡ base_numbers classes.now.tree.now }
-    ensures methods { IfOk result (λ r. IsMethodTable classes.now.tree.now r.0.keys r.0.inheritance.forest) }
-    ensures calls { IfOk result (λ r. IsMemberTable classes.now.tree.now r.1.inheritance.forest (call_number r.0.keys r.1.keys) (call_place classes.now.tree.now)) }
-{
-    let methods = all_methods(alloc, classes, bases)?;
-    let calls = all_calls(alloc, classes, bases, &methods)?;
-    Ok((methods, calls))
-}
-
-/// The fields of all classes, their methods by name and signature, and by these and their staticness.
-fn member_tables<'a>(
-    alloc: Global,
-    classes: &ClassTables<'a>,
-    bases: &[Option<usize>],
-) -> Result<
-    (
-        Inherited<FieldKey<'a>>,
-        Inherited<MethodKey<'a>>,
-        Inherited<CallNumber>,
-    ),
-    NoMemory,
->
-    requires { bases.now ≡ base_numbers classes.now.tree.now }
-    ensures fields { IfOk result (λ r. IsMemberTable classes.now.tree.now r.0.inheritance.forest (field_key_number r.0.keys) (field_place classes.now.tree.now)) }
-    ensures methods { IfOk result (λ r. IsMethodTable classes.now.tree.now r.1.keys r.1.inheritance.forest) }
-    ensures calls { IfOk result (λ r. IsMemberTable classes.now.tree.now r.2.inheritance.forest (call_number r.1.keys r.2.keys) (call_place classes.now.tree.now)) }
-{
-    let fields = all_fields(alloc, classes, bases)?;
-    let (methods, calls) = method_tables(alloc, classes, bases)?;
-    Ok((fields, methods, calls))
-}
-
 impl<'a> NameTables<'a> {
     /// Makes the tables of a tree from it and the built-in classes. Fails for want of memory alone.
     pub fn new(alloc: Global, tree: &'a Tree, table: &'a [BuiltInClass]) -> Result<Self, NoMemory>
@@ -116,19 +78,9 @@ impl<'a> NameTables<'a> {
     {
         let classes = ClassTables::new(alloc, tree, table)?;
         let bases = base_numbers(alloc, &classes)?;
-        NameTables::of(alloc, classes, bases.as_slice())
-    }
-
-    /// The tables of these classes, from the number of the base of each. Fails for want of memory alone.
-    fn of(
-        alloc: Global,
-        classes: ClassTables<'a>,
-        bases: &[Option<usize>],
-    ) -> Result<Self, NoMemory>
-        requires { bases.now ≡ base_numbers classes.tree.now }
-        ensures { IfOk result (λ t. t.classes.tree.now ≡ classes.entry.tree.now) }
-    {
-        let (fields, methods, calls) = member_tables(alloc, &classes, bases)?;
+        let fields = all_fields(alloc, &classes, bases.as_slice())?;
+        let methods = all_methods(alloc, &classes, bases.as_slice())?;
+        let calls = all_calls(alloc, &classes, bases.as_slice(), &methods)?;
         Ok(NameTables {
             classes,
             fields,

@@ -7,8 +7,8 @@ ghost use Rattle.name_tables.specs.Members.{base_numbers, field_key_number, fiel
 ghost use Rattle.name_tables.specs.Methods.{call_number, call_of, call_place, IsMethodTable};
 ghost use Rattle.name_tables.specs.Sameness.{MethodIdentity, identity_of, called_of};
 
-use crate::class_tables::ClassTable;
-use crate::inherited::{Inherited, slices};
+use crate::class_tables::{ClassTable, method_keys};
+use crate::inherited::Inherited;
 use crate::keys::{CallNumber, ClassKey, FieldKey, MethodKey};
 use crate::kinds::is_static;
 use crate::tables::ClassTables;
@@ -97,21 +97,20 @@ pub(crate) fn all_fields<'a>(
     requires { bases.now ≡ base_numbers classes.now.tree.now }
     ensures { IfOk result (λ t. IsMemberTable classes.now.tree.now t.inheritance.forest (field_key_number t.keys) (field_place classes.now.tree.now)) }
 {
-    let keys = field_rows(alloc, classes.all())?;
-    let rows = slices(alloc, keys.as_slice())?;
+    let rows = field_rows(alloc, classes.all())?;
     let table = Inherited::new(alloc, bases, rows.as_slice(), classes.longest_chain())?;
     Ok(table)
 }
 
-fn method_rows<'t, 'a>(
+fn method_rows<'a>(
     alloc: Global,
-    tables: &'t [ClassTable<'a>],
-) -> Result<Vec<&'t [MethodKey<'a>]>, NoMemory>
-    ensures { IfOk result (λ v. map (λ row. map method_of_key row.now) v.items ≡ map (λ t. map identity_of (declaration_in t.class).methods) tables.now) }
+    tables: &[ClassTable<'a>],
+) -> Result<Vec<Vec<MethodKey<'a>>>, NoMemory>
+    ensures { IfOk result (λ v. map (λ row. map method_of_key row.items) v.items ≡ map (λ t. map identity_of (declaration_in t.class).methods) tables.now) }
 {
     let mut rows = Vec::with_capacity(alloc, tables.len())?;
     for table in tables {
-        rows.push(table.method_keys())?;
+        rows.push(method_keys(alloc, table.class.methods.as_slice())?)?;
     }
     Ok(rows)
 }
@@ -142,8 +141,7 @@ pub(crate) fn all_calls(
     ensures { IfOk result (λ t. IsMemberTable classes.now.tree.now t.inheritance.forest (call_number methods.now.keys t.keys) (call_place classes.now.tree.now)) }
 {
     let numbers = methods.inheritance.forest.declared.as_slice();
-    let keys = call_rows(alloc, classes.all(), numbers)?;
-    let rows = slices(alloc, keys.as_slice())?;
+    let rows = call_rows(alloc, classes.all(), numbers)?;
     let table = Inherited::new(alloc, bases, rows.as_slice(), classes.longest_chain())?;
     Ok(table)
 }

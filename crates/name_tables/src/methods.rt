@@ -1,32 +1,31 @@
 // The methods that classes have and inherit by name and signature, whether they are static or not: all, and the virtual ones.
 
-ghost use Rattle.std.specs.Prelude.{◌≡◌, ◌≢◌, ◌<◌, Bool, IfOk, OnErr, OnOk, Some, true, false, [], is_none, is_some, length, map, nat_lt, not, option_map, slice_get, slice_index_or, ℕ};
+ghost use Rattle.std.specs.Prelude.{◌≡◌, ◌≢◌, ◌<◌, ◌==◌, Bool, IfOk, OnErr, OnOk, Some, true, false, [], is_none, is_some, length, map, not, option_map, slice_get, slice_index_or, ℕ};
 ghost use Rattle.std.specs.List.{list_all};
 ghost use Rattle.inheritance.specs.Lines.{Ends};
 ghost use Rattle.inheritance.specs.Ledgers.{nearest_from};
 ghost use Rattle.inheritance.specs.Marked.{is_marked};
 ghost use Rattle.name_tables.specs.Entries.{declaration_in};
+ghost use Rattle.name_tables.specs.Inherited.{number_in};
 ghost use Rattle.name_tables.specs.Keys.{method_of_key};
 ghost use Rattle.name_tables.specs.Members.{base_numbers, EndsIn, IsMemberTable};
-ghost use Rattle.name_tables.specs.Methods.{method_place, virtual_place, virtual_number, virtuals_of, line_of, methods_at, AreNumbers};
+ghost use Rattle.name_tables.specs.Methods.{method_place, virtual_place, virtual_number, virtuals_of, line_of, methods_at};
 ghost use Rattle.name_tables.specs.Numbers.{nearest_number};
 ghost use Rattle.name_tables.specs.Sameness.{MethodIdentity, identity_of};
 
 use crate::class_tables::ClassTable;
-use crate::inherited::{Inherited, number_of, numbers, slices};
+use crate::inherited::{Inherited, number_of, row_numbers};
 use crate::keys::MethodKey;
 use crate::lookups::{MemberNumber, NameTables, member_number};
 use cil_model::memory::NoMemory;
 use inheritance::Endless;
 use std::alloc::Global;
 
-/// The methods of a tree by name and signature; and of the methods of each class the numbers of their keys among the virtual ones.
+/// The methods of a tree by name and signature, and the virtual ones by the numbers of these.
 #[derive(Drop)]
 pub struct MethodTables<'a> {
     pub names: &'a NameTables<'a>,
     overridable: Inherited<usize>,
-    declared: Vec<Vec<usize>>,
-    ghost declared_are: { AreNumbers names.now.classes.tree.now (virtual_number names.now.methods.keys overridable.keys) (map (λ r. r.items) declared.items) },
     ghost overridable_are: { IsMemberTable names.now.classes.tree.now overridable.inheritance.forest (virtual_number names.now.methods.keys overridable.keys) (virtual_place names.now.classes.tree.now) },
 }
 
@@ -69,34 +68,19 @@ fn all_virtual(alloc: Global, names: &NameTables) -> Result<Inherited<usize>, No
     ensures { IfOk result (λ t. IsMemberTable names.now.classes.tree.now t.inheritance.forest (virtual_number names.now.methods.keys t.keys) (virtual_place names.now.classes.tree.now)) }
 {
     let numbers = names.methods.inheritance.forest.declared.as_slice();
-    let keys = virtual_rows(alloc, names.classes.all(), numbers)?;
-    let rows = slices(alloc, keys.as_slice())?;
+    let rows = virtual_rows(alloc, names.classes.all(), numbers)?;
     let most = names.classes.longest_chain();
     let table = Inherited::new(alloc, names.bases(), rows.as_slice(), most)?;
     Ok(table)
 }
 
-/// The numbers of the methods of all classes among the virtual ones.
-fn all_numbers(
-    alloc: Global,
-    names: &NameTables,
-    overridable: &Inherited<usize>,
-) -> Result<Vec<Vec<usize>>, NoMemory>
-    ensures { IfOk result (λ v. AreNumbers names.now.classes.tree.now (virtual_number names.now.methods.keys overridable.now.keys) (map (λ r. r.items) v.items)) }
-{
-    let rows = slices(alloc, names.methods.inheritance.forest.declared.as_slice())?;
-    let declared = numbers(alloc, &overridable.keys, rows.as_slice())?;
-    Ok(declared)
-}
-
 /// Whether a class from one on declares a virtual method of this number. An error exactly where its bases do not end.
 fn finds(overridable: &Inherited<usize>, class: usize, number: usize) -> Result<bool, Endless>
-    requires { number < overridable.now.inheritance.forest.keys }
-    ensures found { IfOk result (λ found. found ≡ is_some (nearest_from overridable.now.inheritance.forest number overridable.now.inheritance.forest.most (Some class))) }
+    ensures found { IfOk result (λ found. found ≡ is_some (nearest_from overridable.now.inheritance.forest (number_in (λ a b. a == b) overridable.now.keys number) overridable.now.inheritance.forest.most (Some class))) }
     ensures ended { OnOk result (Ends overridable.now.inheritance.forest.bases.items overridable.now.inheritance.forest.most class) }
     ensures endless { OnErr result (¬ Ends overridable.now.inheritance.forest.bases.items overridable.now.inheritance.forest.most class) }
 {
-    match overridable.inheritance.nearest(class, number) {
+    match overridable.nearest(class, number) {
         Ok(found) => Ok(found.is_some()),
         Err(Endless) => Err(Endless),
     }
@@ -109,8 +93,7 @@ fn first_missing(
     class: usize,
     numbers: &[usize],
 ) -> Result<Option<usize>, Endless>
-    requires { list_all (λ n. nat_lt n overridable.now.inheritance.forest.keys) numbers.now ≡ true }
-    ensures found { IfOk result (λ place. is_none place ≡ list_all (λ n. is_some (nearest_from overridable.now.inheritance.forest n overridable.now.inheritance.forest.most (Some class))) numbers.now) }
+    ensures found { IfOk result (λ place. is_none place ≡ list_all (λ n. is_some (nearest_from overridable.now.inheritance.forest (number_in (λ a b. a == b) overridable.now.keys n) overridable.now.inheritance.forest.most (Some class))) numbers.now) }
     ensures ended { OnOk result (0 < length numbers.now → Ends overridable.now.inheritance.forest.bases.items overridable.now.inheritance.forest.most class) }
     ensures endless { OnErr result (¬ Ends overridable.now.inheritance.forest.bases.items overridable.now.inheritance.forest.most class) }
 {
@@ -128,24 +111,7 @@ impl<'a> MethodTables<'a> {
         ensures { IfOk result (λ t. t.names.now.classes.tree.now ≡ names.now.classes.tree.now) }
     {
         let overridable = all_virtual(alloc, names)?;
-        MethodTables::of(alloc, names, overridable)
-    }
-
-    /// Makes them from the tables of names and the virtual methods of all classes. Fails for want of memory alone.
-    fn of(
-        alloc: Global,
-        names: &'a NameTables<'a>,
-        overridable: Inherited<usize>,
-    ) -> Result<Self, NoMemory>
-        requires { IsMemberTable names.now.classes.tree.now overridable.inheritance.forest (virtual_number names.now.methods.keys overridable.keys) (virtual_place names.now.classes.tree.now) }
-        ensures { IfOk result (λ t. t.names.now.classes.tree.now ≡ names.now.classes.tree.now) }
-    {
-        let declared = all_numbers(alloc, names, &overridable)?;
-        Ok(MethodTables {
-            names,
-            overridable,
-            declared,
-        })
+        Ok(MethodTables { names, overridable })
     }
 
     /// The nearest method of this name and signature, from a class on through its bases. An error exactly where they do not end.
@@ -178,9 +144,9 @@ impl<'a> MethodTables<'a> {
 
     /// The numbers of the methods that a class declares.
     fn numbers_at(&self, class: usize) -> &[usize]
-        ensures { result.now ≡ slice_index_or (map (λ r. r.items) self.now.declared.items) class [] }
+        ensures { result.now ≡ slice_index_or (map (λ r. r.items) self.now.names.now.methods.inheritance.forest.declared.items) class [] }
     {
-        match self.declared.get(class) {
+        match self.names.methods.inheritance.forest.declared.get(class) {
             None => &[],
             Some(numbers) => numbers.as_slice(),
         }
@@ -208,8 +174,11 @@ impl<'a> MethodTables<'a> {
         ensures told { IfOk result (λ lacking. (class : ℕ) (b : Bool) → slice_get lacking.items class ≡ Some b → EndsIn self.now.names.now.classes.tree.now class → b ≡ not (list_all (λ m. is_some (nearest_number (virtual_place self.now.names.now.classes.tree.now (identity_of m)) (line_of self.now.names.now.classes.tree.now (Some class)))) (methods_at self.now.names.now.classes.tree.now interface))) }
         ensures ended { IfOk result (λ lacking. (class : ℕ) → slice_get lacking.items class ≡ Some false → EndsIn self.now.names.now.classes.tree.now class) }
     {
-        let numbers = self.numbers_at(interface);
-        let lacking = self.overridable.inheritance.finds_nothing(alloc, numbers)?;
+        let numbers = row_numbers(alloc, &self.overridable.keys, self.numbers_at(interface))?;
+        let lacking = self
+            .overridable
+            .inheritance
+            .finds_nothing(alloc, numbers.as_slice())?;
         Ok(lacking)
     }
 

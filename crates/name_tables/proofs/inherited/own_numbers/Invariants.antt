@@ -4,5 +4,5 @@ use Rattle.name_tables.proofs.inherited.own_numbers.Given as goal
 
 abbrev pub invariant-loop-row : goal.invariant-loop-row
 invariant-loop-row g l =
-    (map (λ r. r.items) l.numbers.items ≡ map (λ row. map (number_in g.K.PartialEq.eq l.keys) row.now) (take l.row-index l.rows)) ×
-    (l.rest ≡ map (number_in g.K.PartialEq.eq l.keys) (flat_map (λ row. row.now) (drop l.row-index l.rows)))
+    (map (λ r. r.items) l.numbers.items ≡ map (λ row. map (number_in g.K.PartialEq.eq l.keys) row.items) (take l.row-index l.rows)) ×
+    (l.rest ≡ map (number_in g.K.PartialEq.eq l.keys) (flat_map (λ row. row.items) (drop l.row-index l.rows)))

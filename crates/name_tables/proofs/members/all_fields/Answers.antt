@@ -12,10 +12,10 @@ use Rattle.name_tables.proofs.members.all_fields.Goals as goal
 
 pub returns : goal.returns
 returns c =
-    let rows = map (λ row. row.now) c.as_slice-2.result.now in
+    let rows = map (λ row. row.items) c.as_slice.result.now in
     let parts : map (map field_of_key) rows ≡ map (λ (e : ClassName × Declaration). e.1.fields) (declarations c.args.classes.now.tree.now) =
-    ap (map (map field_of_key)) (ap (map (λ row. row.now)) c.as_slice-2.ensures.value ∙ c.in_ok-rows.ensures ∙ ap (map (λ row. row.items)) c.as_slice.ensures.value) ∙
-    map_of_map (λ row. row.items) (map field_of_key) c.in_ok-keys.keys.items ∙ c.in_ok-keys.ensures ∙
+    ap (map (map field_of_key)) (ap (map (λ row. row.items)) c.as_slice.ensures.value) ∙
+    map_of_map (λ row. row.items) (map field_of_key) c.in_ok-rows.rows.items ∙ c.in_ok-rows.ensures ∙
     sym (map_of_map (λ (t : ClassTable). entry_of t.class) (λ (e : ClassName × Declaration). e.1.fields) c.all.result.now) ∙ ap (map (λ (e : ClassName × Declaration). e.1.fields)) c.all.ensures in
     record {
       bases = c.in_ok-table.ensures.bases ∙ c.requires;

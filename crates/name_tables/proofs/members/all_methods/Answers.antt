@@ -15,16 +15,16 @@ use Rattle.name_tables.proofs.members.all_methods.Goals as goal
 pub returns : goal.returns
 returns c =
     let t = c.args.classes.now.tree.now in
-    let rows = map (λ row. row.now) c.as_slice.result.now in
+    let rows = map (λ row. row.items) c.as_slice.result.now in
     let parts : map (map method_of_key) rows ≡ map identities (declarations t) =
-    map_of_map (λ row. row.now) (map method_of_key) c.as_slice.result.now ∙ ap (map (λ row. map method_of_key row.now)) c.as_slice.ensures.value ∙ c.in_ok-rows.ensures ∙
+    map_of_map (λ row. row.items) (map method_of_key) c.as_slice.result.now ∙ ap (map (λ row. map method_of_key row.items)) c.as_slice.ensures.value ∙ c.in_ok-rows.ensures ∙
     sym (map_of_map (λ (t : ClassTable). entry_of t.class) identities c.all.result.now) ∙ ap (map identities) c.all.ensures in
     let table = c.in_ok-table.table in
     let made = c.in_ok-table.ensures in
     let known : map method_of_key table.keys ≡ flat_map identities (declarations t) =
-    ap (map method_of_key) (made.keys ∙ sym (flat_map-map (λ (row : List MethodKey). row) (λ row. row.now) c.as_slice.result.now)) ∙ flat_parts method_of_key rows identities (declarations t) parts in
+    ap (map method_of_key) (made.keys ∙ sym (flat_map-map (λ (row : List MethodKey). row) (λ row. row.items) c.as_slice.result.now)) ∙ flat_parts method_of_key rows identities (declarations t) parts in
     let numbers : AreNumbers t (identity_number table.keys) (map (λ r. r.items) table.inheritance.forest.declared.items) =
-    made.declared ∙ sym (map_of_map (λ row. row.now) (map (number_in (λ (a b : MethodKey). same_identity (method_of_key a) (method_of_key b)) table.keys)) c.as_slice.result.now) ∙ declared_numbers t table.keys rows parts in
+    made.declared ∙ sym (map_of_map (λ row. row.items) (map (number_in (λ (a b : MethodKey). same_identity (method_of_key a) (method_of_key b)) table.keys)) c.as_slice.result.now) ∙ declared_numbers t table.keys rows parts in
     record {
       table = record {
         bases = made.bases ∙ c.requires;

@@ -5,4 +5,4 @@ use Rattle.name_tables.specs.Sameness.{identity_of}
 use Rattle.name_tables.proofs.members.method_rows.Given as goal
 
 abbrev pub invariant-loop-table : goal.invariant-loop-table
-invariant-loop-table l = map (λ row. map method_of_key row.now) l.rows.items ≡ map (λ t. map identity_of (declaration_in t.class).methods) (take l.table-index l.tables)
+invariant-loop-table l = map (λ row. map method_of_key row.items) l.rows.items ≡ map (λ t. map identity_of (declaration_in t.class).methods) (take l.table-index l.tables)

@@ -24,9 +24,9 @@ returns c =
     let tables = c.all.result.now in
     let numbers : map (λ (r : Vec ℕ Global). r.items) c.as_slice-numbers.result.now ≡ map (λ (t : ClassTable). map (λ (m : Method). number (identity_of m)) (declaration_in t.class).methods) tables =
     ap (map (λ (r : Vec ℕ Global). r.items)) c.as_slice-numbers.ensures.value ∙ names.methods_are.numbers ∙ of_tables tables t (λ (e : ClassName × Declaration). map (λ (m : Method). number (identity_of m)) e.1.methods) c.all.ensures in
-    let rows = map (λ row. row.now) c.as_slice-2.result.now in
+    let rows = map (λ (r : Vec ℕ Global). r.items) c.as_slice.result.now in
     let are : rows ≡ map (λ (e : ClassName × Declaration). map number (virtuals_of e.1)) (declarations t) =
-    ap (map (λ row. row.now)) c.as_slice-2.ensures.value ∙ c.in_ok-rows.ensures ∙ ap (map (λ (r : Vec ℕ Global). r.items)) c.as_slice.ensures.value ∙ c.in_ok-keys.ensures number numbers ∙
+    ap (map (λ (r : Vec ℕ Global). r.items)) c.as_slice.ensures.value ∙ c.in_ok-rows.ensures number numbers ∙
     sym (of_tables tables t (λ (e : ClassName × Declaration). map number (virtuals_of e.1)) c.all.ensures) in
     let made = c.in_ok-table.ensures in
     record {

@@ -6,12 +6,12 @@ use Rattle.name_tables.proofs.inherited.Inherited.new.Goals as goal
 
 pub returns-clause-places : goal.returns-clause-places
 returns-clause-places g c = λ key class.
-    place_in_rows g.K.PartialEq.eq g.met.K.Eq.laws (λ row. row.now) c.args.rows.now c.in_ok-keys.keys _ c.in_ok-keys.ensures
+    place_in_rows g.K.PartialEq.eq g.met.K.Eq.laws (λ row. row.items) c.args.rows.now c.in_ok-keys.keys _ c.in_ok-keys.ensures
     (ap (λ (f : Forest). map (λ r. r.items) f.declared.items) c.in_ok-inheritance.ensures.whole ∙ c.in_ok-forest.ensures.declared) key class
 
 pub invariant_of-result-clause-numbered : goal.invariant_of-result-clause-numbered
 invariant_of-result-clause-numbered g c =
-    numbered_in_rows g.K.PartialEq.eq g.met.K.Eq.laws (λ row. row.now) c.args.rows.now c.in_ok-keys.keys _ c.in_ok-keys.ensures
+    numbered_in_rows g.K.PartialEq.eq g.met.K.Eq.laws (λ row. row.items) c.args.rows.now c.in_ok-keys.keys _ c.in_ok-keys.ensures
     (ap (λ (f : Forest). map (λ r. r.items) f.declared.items) c.in_ok-inheritance.ensures.whole ∙ c.in_ok-forest.ensures.declared)
 
 pub invariant_of-result-clause-cut : goal.invariant_of-result-clause-cut

@@ -3,21 +3,21 @@ use Rattle.std.specs.List.{list_all}
 use Rattle.cil_model.specs.declared.trees.Method.{Method}
 use Rattle.inheritance.specs.Lines.{Ends}
 use Rattle.inheritance.specs.Ledgers.{nearest_from}
+use Rattle.name_tables.specs.Inherited.{number_in}
 use Rattle.name_tables.specs.Methods.{identity_number, virtual_number, virtual_place, line_of, methods_at}
 use Rattle.name_tables.specs.Numbers.{nearest_number}
 use Rattle.name_tables.specs.Sameness.{identity_of}
 use Rattle.name_tables.proofs.MemberLaws.{of_tree}
 use Rattle.name_tables.proofs.KeyNumbers.{number_within}
-use Rattle.name_tables.proofs.VirtualNumbers.{are_keys, found_by_numbers, some_none}
+use Rattle.name_tables.proofs.VirtualNumbers.{all_of_map, are_keys, found_by_numbers, some_none}
 use Rattle.name_tables.proofs.methods.MethodTables.lacks_some.Goals as goal
 
 pub finds_nothing-requires : goal.finds_nothing-requires
 finds_nothing-requires c =
-    let s = c.args.self.now in
-    let tables = s.overridable in
-    let forest = tables.inheritance.forest in
-    ap (list_all (λ n. nat_lt n forest.keys)) c.numbers_at-numbers.ensures ∙ are_keys s.names.now.classes.tree.now (virtual_number s.names.now.methods.keys tables.keys) (map (λ r. r.items) s.declared.items) s.declared_are forest
-    (λ k. let low = number_within (λ (a b : ℕ). a == b) tables.keys (identity_number s.names.now.methods.keys k) in omega (arith, low, tables.within)) c.args.interface
+    let tables = c.args.self.now.overridable in
+    let again : ℕ → ℕ = number_in (λ (a b : ℕ). a == b) tables.keys in
+    let keys = tables.inheritance.forest.keys in
+    ap (list_all (λ n. nat_lt n keys)) (c.as_slice.ensures.value ∙ c.in_ok-numbers.ensures) ∙ are_keys again keys (λ n. let low = number_within (λ (a b : ℕ). a == b) tables.keys n in omega (arith, low, tables.within)) c.numbers_at.result.now
 
 pub returns-clause-width : goal.returns-clause-width
 returns-clause-width c = c.in_ok-lacking.ensures.width ∙ ap length c.args.self.now.overridable_are.bases
@@ -34,9 +34,13 @@ returns-clause-told c = λ class b e.
     let t = s.names.now.classes.tree.now in
     let tables = s.overridable in
     let forest = tables.inheritance.forest in
+    let again : ℕ → ℕ = number_in (λ (a b : ℕ). a == b) tables.keys in
     let found : ℕ → Option (ℕ × ℕ) = λ n. nearest_from forest n forest.most (Some class) in
     let all : Bool = list_all (λ (m : Method). is_some (nearest_number (virtual_place t (identity_of m)) (line_of t (Some class)))) (methods_at t c.args.interface) in
+    let numbered : c.as_slice.result.now ≡ map again c.numbers_at.result.now = c.as_slice.ensures.value ∙ c.in_ok-numbers.ensures in
+    let of_numbers : list_all (λ n. is_some (found n)) c.as_slice.result.now ≡ all =
+    ap (list_all (λ n. is_some (found n))) numbered ∙ all_of_map again (λ n. is_some (found n)) c.numbers_at.result.now ∙ ap (list_all (λ n. is_some (found (again n)))) c.numbers_at.ensures ∙
+    found_by_numbers t (identity_number s.names.now.methods.keys) (map (λ r. r.items) s.names.now.methods.inheritance.forest.declared.items) s.names.now.methods_are.numbers again forest s.overridable_are c.args.interface class in
     let of_forest : Ends forest.bases.items forest.most class → b ≡ not all = λ ends.
-    c.in_ok-lacking.ensures.told class b e ends ∙ some_none found c.numbers_at-numbers.result.now ∙
-    ap not (ap (list_all (λ n. is_some (found n))) c.numbers_at-numbers.ensures ∙ found_by_numbers t (virtual_number s.names.now.methods.keys tables.keys) (map (λ r. r.items) s.declared.items) s.declared_are forest s.overridable_are c.args.interface class) in
+    c.in_ok-lacking.ensures.told class b e ends ∙ some_none found c.as_slice.result.now ∙ ap not of_numbers in
     of_tree t forest (virtual_number c.args.self.now.names.now.methods.keys tables.keys) (virtual_place t) s.overridable_are (λ bases most. Ends bases most class → b ≡ not all) of_forest

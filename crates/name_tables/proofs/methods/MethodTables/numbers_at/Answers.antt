@@ -5,7 +5,7 @@ use Rattle.name_tables.proofs.methods.MethodTables.numbers_at.Goals as goal
 
 pub returns-in-None : goal.returns-in-None
 returns-in-None c =
-    let declared = c.args.self.now.declared.items in
+    let declared = c.args.self.now.names.now.methods.inheritance.forest.declared.items in
     sym (get_or_past (map (λ r. r.items) declared) c.args.class [] (omega (arith, c.in-None.ensures.lookup.3, ap length c.deref.ensures.value, length-map declared (λ r. r.items))))
 
 pub returns-in-Some : goal.returns-in-Some
