@@ -28,11 +28,9 @@ pub fn code_of(kind: &MethodKind) -> Option<&Code>
 pub fn lines_of(method: &Method) -> &[Line]
     ensures { result.now ≡ lines_of method.now }
 {
-    match &method.kind {
-        MethodKind::Static(code) => code.lines.as_slice(),
-        MethodKind::Instance(code) => code.lines.as_slice(),
-        MethodKind::Virtual { code, .. } => code.lines.as_slice(),
-        MethodKind::Abstract { .. } => &[],
+    match code_of(&method.kind) {
+        None => &[],
+        Some(code) => code.lines.as_slice(),
     }
 }
 
@@ -40,11 +38,9 @@ pub fn lines_of(method: &Method) -> &[Line]
 pub fn locals_of(method: &Method) -> &[DeclaredType]
     ensures { result.now ≡ flat_map (λ c. c.locals) (codes_of method.now) }
 {
-    match &method.kind {
-        MethodKind::Static(code) => code.locals.as_slice(),
-        MethodKind::Instance(code) => code.locals.as_slice(),
-        MethodKind::Virtual { code, .. } => code.locals.as_slice(),
-        MethodKind::Abstract { .. } => &[],
+    match code_of(&method.kind) {
+        None => &[],
+        Some(code) => code.locals.as_slice(),
     }
 }
 

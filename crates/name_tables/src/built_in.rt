@@ -1,8 +1,9 @@
 // The built-in classes, made from their table.
 
-ghost use Rattle.std.specs.Prelude.{◌≡◌, ◌++◌, IfOk, Some, codes, option_to_list, map, slice_get, pos, ◌∷◌, [], true, false};
+ghost use Rattle.std.specs.Prelude.{◌≡◌, IfOk, Some, map, pos, [], false};
 ghost use Rattle.cil_model.specs.declared.instructions.Instruction.TheVariants.{Return};
-ghost use Rattle.cil_model.specs.Declarations.{built_ins, void_method, plain, object_constructor, no_code, return_alone, run_method};
+ghost use Rattle.cil_model.specs.Declarations.{built_ins, no_code, return_alone};
+ghost use Rattle.name_tables.specs.BuiltInTable.{base_of, built_in_entry, method_of, row_entry};
 
 use cil_model::instructions::{Instruction, MethodName};
 use cil_model::memory::NoMemory;
@@ -33,12 +34,6 @@ fn class_name(alloc: Global, assembly: &str, name: &str) -> Result<ClassName, No
         assembly: Some(text(alloc, assembly)?),
         name: text(alloc, name)?,
     })
-}
-
-fn object_name(alloc: Global) -> Result<ClassName, NoMemory>
-    ensures { IfOk result (λ c. c ≡ record { assembly = Some (codes "mscorlib"); name = codes "System.Object" }) }
-{
-    class_name(alloc, "mscorlib", "System.Object")
 }
 
 /// Code of these lines, without locals.
@@ -77,144 +72,148 @@ fn return_alone(alloc: Global) -> Result<Code, NoMemory>
     Ok(code_of(alloc, lines))
 }
 
-/// The types of at most one parameter.
-fn parameters_of(alloc: Global, parameter: Option<Element>) -> Result<Vec<DeclaredType>, NoMemory>
-    ensures { IfOk result (λ v. v.items ≡ map plain (option_to_list parameter)) }
-{
-    let mut parameters = Vec::new(alloc);
-    if let Some(element) = parameter {
-        parameters.push(DeclaredType {
-            element,
-            brackets: 0,
-        })?;
+/// The type of a parameter of a built-in method.
+#[derive(Clone, Copy)]
+enum Parameter {
+    Int32,
+    Int64,
+    String,
+    Object,
+}
+
+/// A method of a built-in class, without a result.
+#[derive(Clone, Copy)]
+enum BuiltInMethod<'a> {
+    /// A constructor without parameters.
+    Constructor,
+    /// What a thread runs.
+    Run,
+    /// An instance method of this name, without parameters.
+    Instance(&'a str),
+    /// A static method of this name, with one parameter.
+    Static(&'a str, Parameter),
+}
+
+/// A row of the table of built-in classes: a class of a library, with its methods. It is derived from `System.Object` or from nothing.
+#[derive(Clone, Copy)]
+struct BuiltInRow<'a> {
+    library: &'a str,
+    name: &'a str,
+    is_derived: bool,
+    methods: &'a [BuiltInMethod<'a>],
+}
+
+impl Parameter {
+    ghost use Rattle.name_tables.specs.BuiltInTable.{element_of};
+
+    fn element(self) -> Element
+        ensures { result ≡ element_of self }
+    {
+        match self {
+            Parameter::Int32 => Element::Int32,
+            Parameter::Int64 => Element::Int64,
+            Parameter::String => Element::String,
+            Parameter::Object => Element::Object,
+        }
     }
-    Ok(parameters)
 }
 
-/// Adds a method without a result, of at most one parameter.
-fn add_method(
-    alloc: Global,
-    methods: &mut Vec<Method>,
-    name: MethodName,
-    parameter: Option<Element>,
-    kind: MethodKind,
-) -> Result<(), NoMemory>
-    ensures { IfOk result (λ _. methods.new.items ≡ methods.old.items ++ void_method name (map plain (option_to_list parameter)) kind ∷ []) }
-{
-    let parameters = parameters_of(alloc, parameter)?;
-    methods.push(Method {
-        name,
-        signature: Signature {
-            parameters: Sequence::new(parameters),
-            return_type: None,
-        },
-        kind,
-    })?;
-    Ok(())
+impl BuiltInMethod<'_> {
+    ghost use Rattle.name_tables.specs.BuiltInTable.{method_of};
+
+    fn name(&self, alloc: Global) -> Result<MethodName, NoMemory>
+        ensures { IfOk result (λ name. name ≡ (method_of self.now).name) }
+    {
+        let name = match *self {
+            BuiltInMethod::Constructor => return Ok(MethodName::Constructor),
+            BuiltInMethod::Run => "Run",
+            BuiltInMethod::Instance(name) => name,
+            BuiltInMethod::Static(name, _) => name,
+        };
+        Ok(MethodName::Named(text(alloc, name)?))
+    }
+
+    fn parameters(&self, alloc: Global) -> Result<Vec<DeclaredType>, NoMemory>
+        ensures { IfOk result (λ v. v.items ≡ (method_of self.now).signature.parameters) }
+    {
+        let mut parameters = Vec::new(alloc);
+        if let BuiltInMethod::Static(_, parameter) = *self {
+            parameters.push(DeclaredType {
+                element: parameter.element(),
+                brackets: 0,
+            })?;
+        }
+        Ok(parameters)
+    }
+
+    fn kind(&self, alloc: Global) -> Result<MethodKind, NoMemory>
+        ensures { IfOk result (λ kind. kind ≡ (method_of self.now).kind) }
+    {
+        let kind = match *self {
+            BuiltInMethod::Static(_, _) => MethodKind::Static(no_code(alloc)),
+            BuiltInMethod::Run => MethodKind::Virtual {
+                is_new_slot: true,
+                code: return_alone(alloc)?,
+            },
+            _ => MethodKind::Instance(no_code(alloc)),
+        };
+        Ok(kind)
+    }
+
+    fn method(&self, alloc: Global) -> Result<Method, NoMemory>
+        ensures { IfOk result (λ m. m ≡ method_of self.now) }
+    {
+        let parameters = self.parameters(alloc)?;
+        Ok(Method {
+            name: self.name(alloc)?,
+            signature: Signature {
+                parameters: Sequence::new(parameters),
+                return_type: None,
+            },
+            kind: self.kind(alloc)?,
+        })
+    }
 }
 
-fn add_static(
-    alloc: Global,
-    methods: &mut Vec<Method>,
-    name: &str,
-    parameter: Element,
-) -> Result<(), NoMemory>
-    ensures { IfOk result (λ _. methods.new.items ≡ methods.old.items ++ void_method (MethodName.Named name.now) (plain parameter ∷ []) (MethodKind.Static no_code) ∷ []) }
+fn methods_of(alloc: Global, table: &[BuiltInMethod]) -> Result<Vec<Method>, NoMemory>
+    ensures { IfOk result (λ v. v.items ≡ map method_of table.now) }
 {
-    let name = MethodName::Named(text(alloc, name)?);
-    let kind = MethodKind::Static(no_code(alloc));
-    add_method(alloc, methods, name, Some(parameter), kind)
+    let mut methods = Vec::new(alloc);
+    for place in 0..table.len() {
+        methods.push(table[place].method(alloc)?)?;
+    }
+    Ok(methods)
 }
 
-fn add_instance(alloc: Global, methods: &mut Vec<Method>, name: &str) -> Result<(), NoMemory>
-    ensures { IfOk result (λ _. methods.new.items ≡ methods.old.items ++ void_method (MethodName.Named name.now) [] (MethodKind.Instance no_code) ∷ []) }
+/// The base of a class of the table.
+fn base_of(alloc: Global, is_derived: bool) -> Result<Option<ClassName>, NoMemory>
+    ensures { IfOk result (λ base. base ≡ base_of is_derived) }
 {
-    let name = MethodName::Named(text(alloc, name)?);
-    let kind = MethodKind::Instance(no_code(alloc));
-    add_method(alloc, methods, name, None, kind)
+    if is_derived {
+        Ok(Some(class_name(alloc, "mscorlib", "System.Object")?))
+    } else {
+        Ok(None)
+    }
 }
 
-fn add_constructor(alloc: Global, methods: &mut Vec<Method>) -> Result<(), NoMemory>
-    ensures { IfOk result (λ _. methods.new.items ≡ methods.old.items ++ object_constructor ∷ []) }
+fn classes_of(alloc: Global, table: &[BuiltInRow]) -> Result<Sequence<BuiltInClass>, NoMemory>
+    ensures { IfOk result (λ b. map built_in_entry b ≡ map row_entry table.now) }
 {
-    let kind = MethodKind::Instance(no_code(alloc));
-    add_method(alloc, methods, MethodName::Constructor, None, kind)
-}
-
-fn add_run(alloc: Global, methods: &mut Vec<Method>) -> Result<(), NoMemory>
-    ensures { IfOk result (λ _. methods.new.items ≡ methods.old.items ++ run_method ∷ []) }
-{
-    let name = MethodName::Named(text(alloc, "Run")?);
-    let kind = MethodKind::Virtual {
-        is_new_slot: true,
-        code: return_alone(alloc)?,
-    };
-    add_method(alloc, methods, name, None, kind)
+    let mut classes = Vec::new(alloc);
+    for place in 0..table.len() {
+        classes.push(BuiltInClass::of_row(alloc, &table[place])?)?;
+    }
+    Ok(Sequence::new(classes))
 }
 
 impl BuiltInClass {
-    ghost use Rattle.name_tables.specs.BuiltInTable.{built_in_entry};
-
-    fn object(alloc: Global) -> Result<Self, NoMemory>
-        ensures { IfOk result (λ b. Some (built_in_entry b) ≡ slice_get built_ins 0) }
+    fn of_row(alloc: Global, row: &BuiltInRow) -> Result<Self, NoMemory>
+        ensures { IfOk result (λ b. built_in_entry b ≡ row_entry row.now) }
     {
-        let mut methods = Vec::new(alloc);
-        add_constructor(alloc, &mut methods)?;
+        let methods = methods_of(alloc, row.methods)?;
         Ok(BuiltInClass {
-            name: object_name(alloc)?,
-            base: None,
-            methods: Sequence::new(methods),
-        })
-    }
-
-    fn string(alloc: Global) -> Result<Self, NoMemory>
-        ensures { IfOk result (λ b. Some (built_in_entry b) ≡ slice_get built_ins 1) }
-    {
-        Ok(BuiltInClass {
-            name: class_name(alloc, "mscorlib", "System.String")?,
-            base: Some(object_name(alloc)?),
-            methods: Sequence::new(Vec::new(alloc)),
-        })
-    }
-
-    fn console(alloc: Global) -> Result<Self, NoMemory>
-        ensures { IfOk result (λ b. Some (built_in_entry b) ≡ slice_get built_ins 2) }
-    {
-        let mut methods = Vec::new(alloc);
-        add_static(alloc, &mut methods, "WriteLine", Element::Int32)?;
-        add_static(alloc, &mut methods, "WriteLine", Element::Int64)?;
-        add_static(alloc, &mut methods, "WriteLine", Element::String)?;
-        Ok(BuiltInClass {
-            name: class_name(alloc, "mscorlib", "System.Console")?,
-            base: None,
-            methods: Sequence::new(methods),
-        })
-    }
-
-    fn monitor(alloc: Global) -> Result<Self, NoMemory>
-        ensures { IfOk result (λ b. Some (built_in_entry b) ≡ slice_get built_ins 3) }
-    {
-        let mut methods = Vec::new(alloc);
-        add_static(alloc, &mut methods, "Enter", Element::Object)?;
-        add_static(alloc, &mut methods, "Exit", Element::Object)?;
-        Ok(BuiltInClass {
-            name: class_name(alloc, "mscorlib", "System.Threading.Monitor")?,
-            base: None,
-            methods: Sequence::new(methods),
-        })
-    }
-
-    fn thread(alloc: Global) -> Result<Self, NoMemory>
-        ensures { IfOk result (λ b. Some (built_in_entry b) ≡ slice_get built_ins 4) }
-    {
-        let mut methods = Vec::new(alloc);
-        add_constructor(alloc, &mut methods)?;
-        add_run(alloc, &mut methods)?;
-        add_instance(alloc, &mut methods, "Start")?;
-        add_instance(alloc, &mut methods, "Join")?;
-        Ok(BuiltInClass {
-            name: class_name(alloc, "cilvm", "Cilvm.Thread")?,
-            base: Some(object_name(alloc)?),
+            name: class_name(alloc, row.library, row.name)?,
+            base: base_of(alloc, row.is_derived)?,
             methods: Sequence::new(methods),
         })
     }
@@ -223,12 +222,48 @@ impl BuiltInClass {
     pub fn all(alloc: Global) -> Result<Sequence<BuiltInClass>, NoMemory>
         ensures { IfOk result (λ b. map built_in_entry b ≡ built_ins) }
     {
-        let mut all = Vec::new(alloc);
-        all.push(BuiltInClass::object(alloc)?)?;
-        all.push(BuiltInClass::string(alloc)?)?;
-        all.push(BuiltInClass::console(alloc)?)?;
-        all.push(BuiltInClass::monitor(alloc)?)?;
-        all.push(BuiltInClass::thread(alloc)?)?;
-        Ok(Sequence::new(all))
+        let object = BuiltInRow {
+            library: "mscorlib",
+            name: "System.Object",
+            is_derived: false,
+            methods: &[BuiltInMethod::Constructor],
+        };
+        let string = BuiltInRow {
+            library: "mscorlib",
+            name: "System.String",
+            is_derived: true,
+            methods: &[],
+        };
+        let console = BuiltInRow {
+            library: "mscorlib",
+            name: "System.Console",
+            is_derived: false,
+            methods: &[
+                BuiltInMethod::Static("WriteLine", Parameter::Int32),
+                BuiltInMethod::Static("WriteLine", Parameter::Int64),
+                BuiltInMethod::Static("WriteLine", Parameter::String),
+            ],
+        };
+        let monitor = BuiltInRow {
+            library: "mscorlib",
+            name: "System.Threading.Monitor",
+            is_derived: false,
+            methods: &[
+                BuiltInMethod::Static("Enter", Parameter::Object),
+                BuiltInMethod::Static("Exit", Parameter::Object),
+            ],
+        };
+        let thread = BuiltInRow {
+            library: "cilvm",
+            name: "Cilvm.Thread",
+            is_derived: true,
+            methods: &[
+                BuiltInMethod::Constructor,
+                BuiltInMethod::Run,
+                BuiltInMethod::Instance("Start"),
+                BuiltInMethod::Instance("Join"),
+            ],
+        };
+        classes_of(alloc, &[object, string, console, monitor, thread])
     }
 }

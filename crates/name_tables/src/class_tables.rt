@@ -35,16 +35,6 @@ pub fn method_keys<'a>(
     Ok(keys)
 }
 
-fn method_places<'a>(
-    alloc: Global,
-    methods: &[&'a Method],
-) -> Result<Places<MethodKey<'a>>, NoMemory>
-    ensures { IfOk result (λ places. map method_of_key places ≡ map identity_of (map (λ m. m.now) methods.now)) }
-{
-    let places = Places::new(alloc, method_keys(alloc, methods)?)?;
-    Ok(places)
-}
-
 fn method_at<'a>(methods: &[&'a Method], place: usize) -> Option<&'a Method>
     ensures { result ≡ slice_get methods.now place }
 {
@@ -56,7 +46,7 @@ impl<'a> ClassTable<'a> {
     pub fn new(alloc: Global, class: DeclaredClass<'a>) -> Result<Self, NoMemory>
         ensures { IfOk result (λ t. t.class ≡ class.entry) }
     {
-        let methods = method_places(alloc, class.methods.as_slice())?;
+        let methods = Places::new(alloc, method_keys(alloc, class.methods.as_slice())?)?;
         Ok(ClassTable { class, methods })
     }
 

@@ -54,11 +54,7 @@ pub fn method_members(alloc: Global, class: &Class) -> Result<Vec<&Method>, NoMe
 fn referenced(alloc: Global, methods: &[Method]) -> Result<Vec<&Method>, NoMemory>
     ensures { IfOk result (λ v. map (λ m. m.now) v.items ≡ methods.now) }
 {
-    let mut references = Vec::with_capacity(alloc, methods.len())?;
-    for method in methods {
-        references.push(method)?;
-    }
-    Ok(references)
+    Ok(methods.iter().collect(alloc)?)
 }
 
 impl<'a> DeclaredClass<'a> {

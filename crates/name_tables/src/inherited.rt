@@ -130,16 +130,6 @@ fn numbered<K: Eq + Hash + Copy + Drop>(
     })
 }
 
-/// The nearest declarations of all keys, and where some classes' bases do not end, those with the cycles cut.
-fn searched(alloc: Global, forest: Forest) -> Result<(Inheritance, Option<CutCycles>), NoMemory>
-    ensures whole { IfOk result (λ r. r.0.forest ≡ forest) }
-    ensures cut { IfOk result (λ r. ForSome r.1 (λ c. IsCut forest c.cut.forest)) }
-{
-    let cycles = CutCycles::new(alloc, &forest)?;
-    let inheritance = Inheritance::new(alloc, forest)?;
-    Ok((inheritance, cycles))
-}
-
 impl<K: Eq + Hash + Copy + Drop> Inherited<K> {
     /// From the base of each class and the keys that it declares. No chain has more classes than the most. Fails for want of memory
     /// alone.
@@ -157,7 +147,8 @@ impl<K: Eq + Hash + Copy + Drop> Inherited<K> {
     {
         let keys = all_keys(alloc, rows)?;
         let forest = numbered(alloc, bases, &keys, rows, most)?;
-        let (inheritance, cycles) = searched(alloc, forest)?;
+        let cycles = CutCycles::new(alloc, &forest)?;
+        let inheritance = Inheritance::new(alloc, forest)?;
         Ok(Inherited {
             keys,
             inheritance,

@@ -137,7 +137,7 @@ impl<'a> NameTables<'a> {
     {
         match self.classes.number(name) {
             None => Ok(Vec::new(alloc)),
-            Some(class) => Ok(self.line(alloc, class)?),
+            Some(class) => self.line(alloc, class),
         }
     }
 

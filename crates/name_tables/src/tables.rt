@@ -14,7 +14,7 @@ use crate::classes::DeclaredClass;
 use crate::keys::{ClassKey, MethodKey};
 use crate::places::Places;
 use cil_model::memory::NoMemory;
-use cil_model::trees::{Class, Method, Tree};
+use cil_model::trees::{Method, Tree};
 use std::alloc::Global;
 
 /// Every class that a name may stand for: the built-in ones, then those of the source, in order. A class's number is its
@@ -38,28 +38,15 @@ impl Drop for ClassTables<'_> {
     }
 }
 
-fn add_built_in<'a>(
+/// Adds a class with where its methods are found.
+fn add_table<'a>(
     alloc: Global,
     classes: &mut Vec<ClassTable<'a>>,
-    class: &'a BuiltInClass,
+    class: DeclaredClass<'a>,
 ) -> Result<(), NoMemory>
-    ensures { IfOk result (λ _. map (λ t. entry_of t.class) classes.new.items ≡ map (λ t. entry_of t.class) classes.old.items ++ built_in_entry class.now ∷ []) }
+    ensures { IfOk result (λ _. map (λ t. entry_of t.class) classes.new.items ≡ map (λ t. entry_of t.class) classes.old.items ++ entry_of class.entry ∷ []) }
 {
-    let declared = DeclaredClass::of_built_in(alloc, class)?;
-    let table = ClassTable::new(alloc, declared)?;
-    classes.push(table)?;
-    Ok(())
-}
-
-fn add_source<'a>(
-    alloc: Global,
-    classes: &mut Vec<ClassTable<'a>>,
-    class: &'a Class,
-) -> Result<(), NoMemory>
-    ensures { IfOk result (λ _. map (λ t. entry_of t.class) classes.new.items ≡ map (λ t. entry_of t.class) classes.old.items ++ source_entry class.now ∷ []) }
-{
-    let declared = DeclaredClass::of_source(alloc, class)?;
-    let table = ClassTable::new(alloc, declared)?;
+    let table = ClassTable::new(alloc, class)?;
     classes.push(table)?;
     Ok(())
 }
@@ -73,10 +60,14 @@ fn class_tables<'a>(
 {
     let mut classes = Vec::new(alloc);
     for class in table {
-        add_built_in(alloc, &mut classes, class)?;
+        add_table(
+            alloc,
+            &mut classes,
+            DeclaredClass::of_built_in(alloc, class)?,
+        )?;
     }
     for class in tree.classes.as_slice() {
-        add_source(alloc, &mut classes, class)?;
+        add_table(alloc, &mut classes, DeclaredClass::of_source(alloc, class)?)?;
     }
     Ok(classes)
 }

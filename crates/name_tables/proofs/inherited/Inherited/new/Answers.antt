@@ -7,12 +7,12 @@ use Rattle.name_tables.proofs.inherited.Inherited.new.Goals as goal
 pub returns-clause-places : goal.returns-clause-places
 returns-clause-places g c = λ key class.
     place_in_rows g.K.PartialEq.eq g.met.K.Eq.laws (λ row. row.items) c.args.rows.now c.in_ok-keys.keys _ c.in_ok-keys.ensures
-    (ap (λ (f : Forest). map (λ r. r.items) f.declared.items) c.in_ok-inheritance.ensures.whole ∙ c.in_ok-forest.ensures.declared) key class
+    (ap (λ (f : Forest). map (λ r. r.items) f.declared.items) c.in_ok-inheritance.ensures ∙ c.in_ok-forest.ensures.declared) key class
 
 pub invariant_of-result-clause-numbered : goal.invariant_of-result-clause-numbered
 invariant_of-result-clause-numbered g c =
     numbered_in_rows g.K.PartialEq.eq g.met.K.Eq.laws (λ row. row.items) c.args.rows.now c.in_ok-keys.keys _ c.in_ok-keys.ensures
-    (ap (λ (f : Forest). map (λ r. r.items) f.declared.items) c.in_ok-inheritance.ensures.whole ∙ c.in_ok-forest.ensures.declared)
+    (ap (λ (f : Forest). map (λ r. r.items) f.declared.items) c.in_ok-inheritance.ensures ∙ c.in_ok-forest.ensures.declared)
 
 pub invariant_of-result-clause-cut : goal.invariant_of-result-clause-cut
-invariant_of-result-clause-cut g c = λ cycles e. subst (λ (f : Forest). IsCut f cycles.cut.forest) (sym c.in_ok-inheritance.ensures.whole) (c.in_ok-inheritance.ensures.cut cycles e)
+invariant_of-result-clause-cut g c = λ cycles e. subst (λ (f : Forest). IsCut f cycles.cut.forest) (sym c.in_ok-inheritance.ensures) (c.in_ok-cycles.ensures cycles e)
