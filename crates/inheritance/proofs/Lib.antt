@@ -3,3 +3,4 @@ pub mod LineLaws
 mod CutLaws
 mod SoughtLaws
 mod LedgerLaws
+mod Results

@@ -138,7 +138,7 @@ impl Inheritance {
             keys,
             sought,
         );
-        Ok(reach_of(alloc, ends.as_slice())?)
+        reach_of(alloc, ends.as_slice())
     }
 
     /// Whether one of some keys finds what is sought from a class on, found by going along the bases for each key.
@@ -195,8 +195,7 @@ impl Inheritance {
         ensures ended { IfOk result (λ found. (class : ℕ) → slice_get found.items class ≡ Some false → Ends self.now.forest.bases.items self.now.forest.most class) }
     {
         let keys = numbers_below(alloc, self.forest.keys)?;
-        let found = self.finds(alloc, keys.as_slice(), Sought::Marked(marks))?;
-        Ok(found)
+        self.finds(alloc, keys.as_slice(), Sought::Marked(marks))
     }
 
     /// Of each class, whether one of some keys finds nothing from it on; so it is said too where the class's bases do not end. Takes
@@ -208,7 +207,6 @@ impl Inheritance {
         ensures told { IfOk result (λ found. (class : ℕ) (b : Bool) → slice_get found.items class ≡ Some b → Ends self.now.forest.bases.items self.now.forest.most class → b ≡ list_any (λ key. is_none (nearest_from self.now.forest key self.now.forest.most (Some class))) keys.now) }
         ensures ended { IfOk result (λ found. (class : ℕ) → slice_get found.items class ≡ Some false → Ends self.now.forest.bases.items self.now.forest.most class) }
     {
-        let found = self.finds(alloc, keys, Sought::Absent)?;
-        Ok(found)
+        self.finds(alloc, keys, Sought::Absent)
     }
 }

@@ -48,8 +48,7 @@ fn all_keys<K: Eq + Hash + Copy + Drop>(
     for row in rows {
         keys.extend_from_slice(row.as_slice())?;
     }
-    let places = Places::new(alloc, keys)?;
-    Ok(places)
+    Places::new(alloc, keys)
 }
 
 /// The numbers of all keys, row by row.

@@ -98,8 +98,7 @@ pub(crate) fn all_fields<'a>(
     ensures { IfOk result (λ t. IsMemberTable classes.now.tree.now t.inheritance.forest (field_key_number t.keys) (field_place classes.now.tree.now)) }
 {
     let rows = field_rows(alloc, classes.all())?;
-    let table = Inherited::new(alloc, bases, rows.as_slice(), classes.longest_chain())?;
-    Ok(table)
+    Inherited::new(alloc, bases, rows.as_slice(), classes.longest_chain())
 }
 
 fn method_rows<'a>(
@@ -125,8 +124,7 @@ pub(crate) fn all_methods<'a>(
     ensures { IfOk result (λ t. IsMethodTable classes.now.tree.now t.keys t.inheritance.forest) }
 {
     let rows = method_rows(alloc, classes.all())?;
-    let table = Inherited::new(alloc, bases, rows.as_slice(), classes.longest_chain())?;
-    Ok(table)
+    Inherited::new(alloc, bases, rows.as_slice(), classes.longest_chain())
 }
 
 /// The methods of all classes by name, signature and staticness. Fails for want of memory alone.
@@ -142,6 +140,5 @@ pub(crate) fn all_calls(
 {
     let numbers = methods.inheritance.forest.declared.as_slice();
     let rows = call_rows(alloc, classes.all(), numbers)?;
-    let table = Inherited::new(alloc, bases, rows.as_slice(), classes.longest_chain())?;
-    Ok(table)
+    Inherited::new(alloc, bases, rows.as_slice(), classes.longest_chain())
 }

@@ -70,8 +70,7 @@ fn all_virtual(alloc: Global, names: &NameTables) -> Result<Inherited<usize>, No
     let numbers = names.methods.inheritance.forest.declared.as_slice();
     let rows = virtual_rows(alloc, names.classes.all(), numbers)?;
     let most = names.classes.longest_chain();
-    let table = Inherited::new(alloc, names.bases(), rows.as_slice(), most)?;
-    Ok(table)
+    Inherited::new(alloc, names.bases(), rows.as_slice(), most)
 }
 
 /// Whether a class from one on declares a virtual method of this number. An error exactly where its bases do not end.
@@ -175,11 +174,9 @@ impl<'a> MethodTables<'a> {
         ensures ended { IfOk result (λ lacking. (class : ℕ) → slice_get lacking.items class ≡ Some false → EndsIn self.now.names.now.classes.tree.now class) }
     {
         let numbers = row_numbers(alloc, &self.overridable.keys, self.numbers_at(interface))?;
-        let lacking = self
-            .overridable
+        self.overridable
             .inheritance
-            .finds_nothing(alloc, numbers.as_slice())?;
-        Ok(lacking)
+            .finds_nothing(alloc, numbers.as_slice())
     }
 
     /// Of each class, whether the nearest method of some name and signature is marked, by its class and place; so it is said too where
@@ -190,7 +187,6 @@ impl<'a> MethodTables<'a> {
         ensures unmarked { IfOk result (λ found. (class : ℕ) (k : MethodIdentity) → slice_get found.items class ≡ Some false → is_marked (map (λ v. v.items) marks.now) (nearest_number (method_place self.now.names.now.classes.tree.now k) (line_of self.now.names.now.classes.tree.now (Some class))) ≡ false) }
         ensures ended { IfOk result (λ found. (class : ℕ) → slice_get found.items class ≡ Some false → EndsIn self.now.names.now.classes.tree.now class) }
     {
-        let found = self.names.methods.inheritance.finds_marked(alloc, marks)?;
-        Ok(found)
+        self.names.methods.inheritance.finds_marked(alloc, marks)
     }
 }

@@ -9,6 +9,7 @@ use Rattle.name_tables.specs.Methods.{identity_number, call_of}
 use Rattle.name_tables.specs.Numbers.{declarations}
 use Rattle.name_tables.specs.Sameness.{identity_of, called_of}
 use Rattle.name_tables.proofs.MethodNumbers.{of_tables, as_many, calls_by_numbers}
+use Rattle.name_tables.proofs.Results.{if_three}
 use Rattle.name_tables.proofs.members.all_calls.Goals as goal
 
 pub call_rows-requires : goal.call_rows-requires
@@ -19,19 +20,19 @@ call_rows-requires c =
 
 pub returns : goal.returns
 returns c =
-    let t = c.args.classes.now.tree.now in
+    let tree = c.args.classes.now.tree.now in
     let methods = c.args.methods.now in
     let number = identity_number methods.keys in
     let tables = c.all.result.now in
     let numbers : map (λ (r : Vec ℕ Global). r.items) c.as_slice-numbers.result.now ≡ map (λ (t : ClassTable). map (λ (m : Method). number (identity_of m)) (declaration_in t.class).methods) tables =
-    ap (map (λ (r : Vec ℕ Global). r.items)) c.as_slice-numbers.ensures.value ∙ c.requires.methods.numbers ∙ of_tables tables t (λ (e : ClassName × Declaration). map (λ (m : Method). number (identity_of m)) e.1.methods) c.all.ensures in
+    ap (map (λ (r : Vec ℕ Global). r.items)) c.as_slice-numbers.ensures.value ∙ c.requires.methods.numbers ∙ of_tables tables tree (λ (e : ClassName × Declaration). map (λ (m : Method). number (identity_of m)) e.1.methods) c.all.ensures in
     let rows = map (λ (r : Vec CallNumber Global). r.items) c.as_slice.result.now in
-    let are : rows ≡ map (λ (e : ClassName × Declaration). map (λ (m : Method). call_of number (called_of m)) e.1.methods) (declarations t) =
+    let are : rows ≡ map (λ (e : ClassName × Declaration). map (λ (m : Method). call_of number (called_of m)) e.1.methods) (declarations tree) =
     ap (map (λ (r : Vec CallNumber Global). r.items)) c.as_slice.ensures.value ∙ c.in_ok-rows.ensures number numbers ∙
-    sym (of_tables tables t (λ (e : ClassName × Declaration). map (λ (m : Method). call_of number (called_of m)) e.1.methods) c.all.ensures) in
-    let made = c.in_ok-table.ensures in
-    record {
-      bases = made.bases ∙ c.requires.bases;
-      most = made.most ∙ c.longest_chain.ensures;
-      places = λ k class. made.places (call_of number k) class ∙ calls_by_numbers t methods.keys c.requires.methods.known rows are k class;
-    }
+    sym (of_tables tables tree (λ (e : ClassName × Declaration). map (λ (m : Method). call_of number (called_of m)) e.1.methods) c.all.ensures) in
+    let made = c.new.ensures in
+    if_three c.new.result made.bases made.most made.places (λ t bases most places. record {
+      bases = bases ∙ c.requires.bases;
+      most = most ∙ c.longest_chain.ensures;
+      places = λ k class. places (call_of number k) class ∙ calls_by_numbers tree methods.keys c.requires.methods.known rows are k class;
+    })

@@ -8,6 +8,7 @@ use Rattle.name_tables.specs.Numbers.{declarations}
 use Rattle.name_tables.specs.Sameness.{same_field}
 use Rattle.name_tables.proofs.Lists.{map_of_map}
 use Rattle.name_tables.proofs.MemberLaws.{place_of_row}
+use Rattle.name_tables.proofs.Results.{if_three}
 use Rattle.name_tables.proofs.members.all_fields.Goals as goal
 
 pub returns : goal.returns
@@ -17,8 +18,9 @@ returns c =
     ap (map (map field_of_key)) (ap (map (λ row. row.items)) c.as_slice.ensures.value) ∙
     map_of_map (λ row. row.items) (map field_of_key) c.in_ok-rows.rows.items ∙ c.in_ok-rows.ensures ∙
     sym (map_of_map (λ (t : ClassTable). entry_of t.class) (λ (e : ClassName × Declaration). e.1.fields) c.all.result.now) ∙ ap (map (λ (e : ClassName × Declaration). e.1.fields)) c.all.ensures in
-    record {
-      bases = c.in_ok-table.ensures.bases ∙ c.requires;
-      most = c.in_ok-table.ensures.most ∙ c.longest_chain.ensures;
-      places = λ key class. c.in_ok-table.ensures.places key class ∙ place_of_row field_of_key (λ (e : ClassName × Declaration). e.1.fields) (same_field (field_of_key key)) rows (declarations c.args.classes.now.tree.now) parts class;
-    }
+    let made = c.new.ensures in
+    if_three c.new.result made.bases made.most made.places (λ t bases most places. record {
+      bases = bases ∙ c.requires;
+      most = most ∙ c.longest_chain.ensures;
+      places = λ key class. places key class ∙ place_of_row field_of_key (λ (e : ClassName × Declaration). e.1.fields) (same_field (field_of_key key)) rows (declarations c.args.classes.now.tree.now) parts class;
+    })

@@ -10,6 +10,7 @@ use Rattle.name_tables.specs.Numbers.{declarations}
 use Rattle.name_tables.specs.Sameness.{same_identity}
 use Rattle.name_tables.proofs.Lists.{map_of_map}
 use Rattle.name_tables.proofs.MethodNumbers.{identities, flat_parts, declared_numbers, methods_by_numbers}
+use Rattle.name_tables.proofs.Results.{if_four}
 use Rattle.name_tables.proofs.members.all_methods.Goals as goal
 
 pub returns : goal.returns
@@ -19,18 +20,18 @@ returns c =
     let parts : map (map method_of_key) rows ≡ map identities (declarations t) =
     map_of_map (λ row. row.items) (map method_of_key) c.as_slice.result.now ∙ ap (map (λ row. map method_of_key row.items)) c.as_slice.ensures.value ∙ c.in_ok-rows.ensures ∙
     sym (map_of_map (λ (t : ClassTable). entry_of t.class) identities c.all.result.now) ∙ ap (map identities) c.all.ensures in
-    let table = c.in_ok-table.table in
-    let made = c.in_ok-table.ensures in
+    let made = c.new.ensures in
+    if_four c.new.result made.bases made.most made.keys made.declared (λ table bases most keys declared.
     let known : map method_of_key table.keys ≡ flat_map identities (declarations t) =
-    ap (map method_of_key) (made.keys ∙ sym (flat_map-map (λ (row : List MethodKey). row) (λ row. row.items) c.as_slice.result.now)) ∙ flat_parts method_of_key rows identities (declarations t) parts in
+    ap (map method_of_key) (keys ∙ sym (flat_map-map (λ (row : List MethodKey). row) (λ row. row.items) c.as_slice.result.now)) ∙ flat_parts method_of_key rows identities (declarations t) parts in
     let numbers : AreNumbers t (identity_number table.keys) (map (λ r. r.items) table.inheritance.forest.declared.items) =
-    made.declared ∙ sym (map_of_map (λ row. row.items) (map (number_in (λ (a b : MethodKey). same_identity (method_of_key a) (method_of_key b)) table.keys)) c.as_slice.result.now) ∙ declared_numbers t table.keys rows parts in
+    declared ∙ sym (map_of_map (λ row. row.items) (map (number_in (λ (a b : MethodKey). same_identity (method_of_key a) (method_of_key b)) table.keys)) c.as_slice.result.now) ∙ declared_numbers t table.keys rows parts in
     record {
       table = record {
-        bases = made.bases ∙ c.requires;
-        most = made.most ∙ c.longest_chain.ensures;
+        bases = bases ∙ c.requires;
+        most = most ∙ c.longest_chain.ensures;
         places = methods_by_numbers t table.keys known (map (λ r. r.items) table.inheritance.forest.declared.items) numbers;
       };
       known = known;
       numbers = numbers;
-    }
+    })

@@ -8,6 +8,7 @@ use Rattle.name_tables.specs.Methods.{identity_number, virtuals_of}
 use Rattle.name_tables.specs.Numbers.{declarations}
 use Rattle.name_tables.specs.Sameness.{identity_of}
 use Rattle.name_tables.proofs.MethodNumbers.{of_tables, as_many, virtuals_by_numbers}
+use Rattle.name_tables.proofs.Results.{if_three}
 use Rattle.name_tables.proofs.methods.all_virtual.Goals as goal
 
 pub virtual_rows-requires : goal.virtual_rows-requires
@@ -28,9 +29,9 @@ returns c =
     let are : rows ≡ map (λ (e : ClassName × Declaration). map number (virtuals_of e.1)) (declarations t) =
     ap (map (λ (r : Vec ℕ Global). r.items)) c.as_slice.ensures.value ∙ c.in_ok-rows.ensures number numbers ∙
     sym (of_tables tables t (λ (e : ClassName × Declaration). map number (virtuals_of e.1)) c.all.ensures) in
-    let made = c.in_ok-table.ensures in
-    record {
-      bases = made.bases ∙ c.bases.ensures;
-      most = made.most ∙ c.longest_chain-most.ensures;
-      places = λ k class. made.places (number k) class ∙ virtuals_by_numbers t names.methods.keys names.methods_are.known rows are k class;
-    }
+    let made = c.new.ensures in
+    if_three c.new.result made.bases made.most made.places (λ table bases most places. record {
+      bases = bases ∙ c.bases.ensures;
+      most = most ∙ c.longest_chain-most.ensures;
+      places = λ k class. places (number k) class ∙ virtuals_by_numbers t names.methods.keys names.methods_are.known rows are k class;
+    })

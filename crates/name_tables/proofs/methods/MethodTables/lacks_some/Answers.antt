@@ -10,6 +10,7 @@ use Rattle.name_tables.specs.Sameness.{identity_of}
 use Rattle.name_tables.proofs.MemberLaws.{of_tree}
 use Rattle.name_tables.proofs.KeyNumbers.{number_within}
 use Rattle.name_tables.proofs.VirtualNumbers.{all_of_map, are_keys, found_by_numbers, some_none}
+use Rattle.name_tables.proofs.Results.{if_ok}
 use Rattle.name_tables.proofs.methods.MethodTables.lacks_some.Goals as goal
 
 pub finds_nothing-requires : goal.finds_nothing-requires
@@ -20,16 +21,16 @@ finds_nothing-requires c =
     ap (list_all (λ n. nat_lt n keys)) (c.as_slice.ensures.value ∙ c.in_ok-numbers.ensures) ∙ are_keys again keys (λ n. let low = number_within (λ (a b : ℕ). a == b) tables.keys n in omega (arith, low, tables.within)) c.numbers_at.result.now
 
 pub returns-clause-width : goal.returns-clause-width
-returns-clause-width c = c.in_ok-lacking.ensures.width ∙ ap length c.args.self.now.overridable_are.bases
+returns-clause-width c = if_ok c.finds_nothing.result c.finds_nothing.ensures.width (λ lacking width. width ∙ ap length c.args.self.now.overridable_are.bases)
 
 pub returns-clause-ended : goal.returns-clause-ended
-returns-clause-ended c = λ class e.
+returns-clause-ended c = if_ok c.finds_nothing.result c.finds_nothing.ensures.ended (λ lacking ended class e.
     let t = c.args.self.now.names.now.classes.tree.now in
     let tables = c.args.self.now.overridable in
-    of_tree t tables.inheritance.forest (virtual_number c.args.self.now.names.now.methods.keys tables.keys) (virtual_place t) c.args.self.now.overridable_are (λ bases most. Ends bases most class) (c.in_ok-lacking.ensures.ended class e)
+    of_tree t tables.inheritance.forest (virtual_number c.args.self.now.names.now.methods.keys tables.keys) (virtual_place t) c.args.self.now.overridable_are (λ bases most. Ends bases most class) (ended class e))
 
 pub returns-clause-told : goal.returns-clause-told
-returns-clause-told c = λ class b e.
+returns-clause-told c = if_ok c.finds_nothing.result c.finds_nothing.ensures.told (λ lacking told class b e.
     let s = c.args.self.now in
     let t = s.names.now.classes.tree.now in
     let tables = s.overridable in
@@ -42,5 +43,5 @@ returns-clause-told c = λ class b e.
     ap (list_all (λ n. is_some (found n))) numbered ∙ all_of_map again (λ n. is_some (found n)) c.numbers_at.result.now ∙ ap (list_all (λ n. is_some (found (again n)))) c.numbers_at.ensures ∙
     found_by_numbers t (identity_number s.names.now.methods.keys) (map (λ r. r.items) s.names.now.methods.inheritance.forest.declared.items) s.names.now.methods_are.numbers again forest s.overridable_are c.args.interface class in
     let of_forest : Ends forest.bases.items forest.most class → b ≡ not all = λ ends.
-    c.in_ok-lacking.ensures.told class b e ends ∙ some_none found c.as_slice.result.now ∙ ap not of_numbers in
-    of_tree t forest (virtual_number c.args.self.now.names.now.methods.keys tables.keys) (virtual_place t) s.overridable_are (λ bases most. Ends bases most class → b ≡ not all) of_forest
+    told class b e ends ∙ some_none found c.as_slice.result.now ∙ ap not of_numbers in
+    of_tree t forest (virtual_number c.args.self.now.names.now.methods.keys tables.keys) (virtual_place t) s.overridable_are (λ bases most. Ends bases most class → b ≡ not all) of_forest)
