@@ -132,10 +132,8 @@ impl<'a> ClassTables<'a> {
     pub fn base(&self, number: usize) -> Option<ClassKey<'a>>
         ensures { option_map class_of_key result ≡ option_and_then (λ e. e.1.base) (slice_get (declarations self.now.tree.now) number) }
     {
-        match self.class(number) {
-            None => None,
-            Some(class) => class.base.map(|base| ClassKey::of(base)),
-        }
+        let base = self.class(number)?.base?;
+        Some(ClassKey::of(base))
     }
 
     /// The number of the base of the class of a number.
