@@ -103,6 +103,24 @@ struct BuiltInRow<'a> {
     methods: &'a [BuiltInMethod<'a>],
 }
 
+const CONSOLE_METHODS: [BuiltInMethod<'static>; 3] = [
+    BuiltInMethod::Static("WriteLine", Parameter::Int32),
+    BuiltInMethod::Static("WriteLine", Parameter::Int64),
+    BuiltInMethod::Static("WriteLine", Parameter::String),
+];
+
+const MONITOR_METHODS: [BuiltInMethod<'static>; 2] = [
+    BuiltInMethod::Static("Enter", Parameter::Object),
+    BuiltInMethod::Static("Exit", Parameter::Object),
+];
+
+const THREAD_METHODS: [BuiltInMethod<'static>; 4] = [
+    BuiltInMethod::Constructor,
+    BuiltInMethod::Run,
+    BuiltInMethod::Instance("Start"),
+    BuiltInMethod::Instance("Join"),
+];
+
 impl Parameter {
     ghost use Rattle.name_tables.specs.BuiltInTable.{element_of};
 
@@ -238,31 +256,19 @@ impl BuiltInClass {
             library: "mscorlib",
             name: "System.Console",
             is_derived: false,
-            methods: &[
-                BuiltInMethod::Static("WriteLine", Parameter::Int32),
-                BuiltInMethod::Static("WriteLine", Parameter::Int64),
-                BuiltInMethod::Static("WriteLine", Parameter::String),
-            ],
+            methods: &CONSOLE_METHODS,
         };
         let monitor = BuiltInRow {
             library: "mscorlib",
             name: "System.Threading.Monitor",
             is_derived: false,
-            methods: &[
-                BuiltInMethod::Static("Enter", Parameter::Object),
-                BuiltInMethod::Static("Exit", Parameter::Object),
-            ],
+            methods: &MONITOR_METHODS,
         };
         let thread = BuiltInRow {
             library: "cilvm",
             name: "Cilvm.Thread",
             is_derived: true,
-            methods: &[
-                BuiltInMethod::Constructor,
-                BuiltInMethod::Run,
-                BuiltInMethod::Instance("Start"),
-                BuiltInMethod::Instance("Join"),
-            ],
+            methods: &THREAD_METHODS,
         };
         classes_of(alloc, &[object, string, console, monitor, thread])
     }
