@@ -3,4 +3,4 @@ pub mod LineLaws
 mod CutLaws
 mod SoughtLaws
 mod LedgerLaws
-mod Results
+pub mod Results

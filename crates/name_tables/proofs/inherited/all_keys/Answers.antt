@@ -1,6 +1,6 @@
 use Rattle.std.proofs.Common.{◌++◌, flat_map, take, ap, sym, ◌∙◌}
 use Rattle.name_tables.proofs.Lists.{at_end, flat_map-take_more}
-use Rattle.name_tables.proofs.Results.{if_ok}
+use Rattle.inheritance.proofs.Results.{if_ok}
 use Rattle.name_tables.proofs.inherited.all_keys.Goals as goal
 
 pub returns : goal.returns

@@ -9,7 +9,7 @@ use Rattle.name_tables.specs.Methods.{identity_number, call_of}
 use Rattle.name_tables.specs.Numbers.{declarations}
 use Rattle.name_tables.specs.Sameness.{identity_of, called_of}
 use Rattle.name_tables.proofs.MethodNumbers.{of_tables, as_many, calls_by_numbers}
-use Rattle.name_tables.proofs.Results.{if_three}
+use Rattle.inheritance.proofs.Results.{if_three}
 use Rattle.name_tables.proofs.members.all_calls.Goals as goal
 
 pub call_rows-requires : goal.call_rows-requires

@@ -8,7 +8,7 @@ use Rattle.name_tables.specs.Numbers.{declarations}
 use Rattle.name_tables.specs.Sameness.{same_field}
 use Rattle.name_tables.proofs.Lists.{map_of_map}
 use Rattle.name_tables.proofs.MemberLaws.{place_of_row}
-use Rattle.name_tables.proofs.Results.{if_three}
+use Rattle.inheritance.proofs.Results.{if_three}
 use Rattle.name_tables.proofs.members.all_fields.Goals as goal
 
 pub returns : goal.returns

@@ -10,7 +10,7 @@ use Rattle.name_tables.specs.Numbers.{declarations}
 use Rattle.name_tables.specs.Sameness.{same_identity}
 use Rattle.name_tables.proofs.Lists.{map_of_map}
 use Rattle.name_tables.proofs.MethodNumbers.{identities, flat_parts, declared_numbers, methods_by_numbers}
-use Rattle.name_tables.proofs.Results.{if_four}
+use Rattle.inheritance.proofs.Results.{if_four}
 use Rattle.name_tables.proofs.members.all_methods.Goals as goal
 
 pub returns : goal.returns

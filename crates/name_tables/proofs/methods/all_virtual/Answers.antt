@@ -8,7 +8,7 @@ use Rattle.name_tables.specs.Methods.{identity_number, virtuals_of}
 use Rattle.name_tables.specs.Numbers.{declarations}
 use Rattle.name_tables.specs.Sameness.{identity_of}
 use Rattle.name_tables.proofs.MethodNumbers.{of_tables, as_many, virtuals_by_numbers}
-use Rattle.name_tables.proofs.Results.{if_three}
+use Rattle.inheritance.proofs.Results.{if_three}
 use Rattle.name_tables.proofs.methods.all_virtual.Goals as goal
 
 pub virtual_rows-requires : goal.virtual_rows-requires

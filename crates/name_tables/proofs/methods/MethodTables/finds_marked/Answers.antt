@@ -11,7 +11,7 @@ use Rattle.name_tables.specs.Numbers.{nearest_number}
 use Rattle.name_tables.specs.Sameness.{MethodIdentity, same_identity}
 use Rattle.name_tables.proofs.KeyNumbers.{number_within, number_of_view}
 use Rattle.name_tables.proofs.MemberLaws.{nearest_on_line, of_tree, marked_place, mapped_from}
-use Rattle.name_tables.proofs.Results.{if_ok}
+use Rattle.inheritance.proofs.Results.{if_ok}
 use Rattle.name_tables.proofs.methods.MethodTables.finds_marked.Goals as goal
 
 pub returns-clause-unmarked : goal.returns-clause-unmarked

@@ -10,7 +10,7 @@ use Rattle.name_tables.specs.Sameness.{identity_of}
 use Rattle.name_tables.proofs.MemberLaws.{of_tree}
 use Rattle.name_tables.proofs.KeyNumbers.{number_within}
 use Rattle.name_tables.proofs.VirtualNumbers.{all_of_map, are_keys, found_by_numbers, some_none}
-use Rattle.name_tables.proofs.Results.{if_ok}
+use Rattle.inheritance.proofs.Results.{if_ok}
 use Rattle.name_tables.proofs.methods.MethodTables.lacks_some.Goals as goal
 
 pub finds_nothing-requires : goal.finds_nothing-requires
