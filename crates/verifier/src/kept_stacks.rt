@@ -182,15 +182,4 @@ impl KeptStack {
             Form::Wide(entries) => wide_at(entries.as_slice(), place),
         }
     }
-
-    /// The entries, the top first. Fails for want of memory alone.
-    pub fn entries(&self, alloc: Global) -> Result<Vec<StackEntry>, NoMemory>
-        ensures { IfOk result (λ entries. entries.items ≡ self.now) }
-    {
-        let mut entries = Vec::with_capacity(alloc, self.len())?;
-        for place in 0..self.len() {
-            entries.push(self.entry(place))?;
-        }
-        Ok(entries)
-    }
 }

@@ -16,13 +16,6 @@ enum Step {
     Leave(usize),
 }
 
-/// Places in an order, and the rank of each place in it.
-#[derive(Drop)]
-pub(crate) struct Order {
-    places: Vec<usize>,
-    ranks: Vec<usize>,
-}
-
 /// Comes to a place. What is behind it is walked through before the step back, and what stands further on in the code first, which so
 /// comes last in the order, as what is behind a loop mostly stands behind it in the code too.
 fn enter(
@@ -41,21 +34,25 @@ fn enter(
     is_entered[place] = true;
     pending.push(Step::Leave(place))?;
     let mut ways = ways_on(operation, place.saturating_add(1), alloc)?;
-    ways.sort()?;
+    ways.sort_unstable();
     for way in ways.as_slice() {
         pending.push(Step::Enter(*way))?;
     }
     Ok(())
 }
 
-/// The places in the order of the steps back.
-fn places_left(operations: &[Operation], alloc: Global) -> Result<Vec<usize>, NoMemory> {
+/// The places of a method in the reverse of the order in which a walk from the first place on comes back from them. Fails for want of
+/// memory alone.
+pub(crate) fn places_in_order(
+    operations: &[Operation],
+    alloc: Global,
+) -> Result<Vec<usize>, NoMemory> {
     let mut is_entered = vec![in alloc; false; operations.len()]?;
     let mut pending = vec![in alloc; Step::Enter(0)]?;
     let mut left = Vec::new(alloc);
     for _ in 0..operations.len().saturating_mul(MOST_TARGETS + 3) {
         let Some(step) = pending.pop() else {
-            return Ok(left);
+            break;
         };
         match step {
             Step::Enter(place) => enter(
@@ -68,42 +65,6 @@ fn places_left(operations: &[Operation], alloc: Global) -> Result<Vec<usize>, No
             Step::Leave(place) => left.push(place)?,
         }
     }
+    left.reverse();
     Ok(left)
-}
-
-impl Order {
-    /// The reverse of the order in which a walk from the first place on comes back from the places. Fails for want of memory alone.
-    pub fn new(operations: &[Operation], alloc: Global) -> Result<Self, NoMemory> {
-        let mut places = places_left(operations, alloc)?;
-        places.reverse();
-        let mut ranks = vec![in alloc; usize::MAX; operations.len()]?;
-        for rank in 0..places.len() {
-            let place = places[rank];
-            if place < ranks.len() {
-                ranks[place] = rank;
-            }
-        }
-        Ok(Order { places, ranks })
-    }
-
-    /// How many places are in it.
-    pub fn count(&self) -> usize {
-        self.places.len()
-    }
-
-    /// The place of a rank; beyond all places where there is none.
-    pub fn place(&self, rank: usize) -> usize {
-        match self.places.get(rank) {
-            None => usize::MAX,
-            Some(place) => *place,
-        }
-    }
-
-    /// The rank of a place; beyond all ranks where it has none.
-    pub fn rank(&self, place: usize) -> usize {
-        match self.ranks.get(place) {
-            None => usize::MAX,
-            Some(rank) => *rank,
-        }
-    }
 }

@@ -20,8 +20,8 @@ ghost use Rattle.verifier.specs.declared.search.RaiseError.TheVariants as OfRais
 use crate::failures::{FailurePoint, IncomingStack, Reason, TypingError};
 use crate::kept_stacks::KeptStack;
 use crate::merging::{MergeError, StackMerge, merge_stacks};
-use crate::order::Order;
-use crate::stacks::stack_after;
+use crate::order::places_in_order;
+use crate::stacks::{copy_of, stack_after};
 use crate::ways::ways_on;
 use cil_model::memory::NoMemory;
 use cil_model::sequences::Sequence;
@@ -35,12 +35,12 @@ use resolved_code::types::NumberedType;
 use std::alloc::{AllocError, Global};
 
 /// The stacks found so far, one a place where control was found to go; a flag a place, set where its ways on are still to be looked at;
-/// the order in which these places are taken; and the rank in it at which the look for the next of them begins.
+/// the places in the order in which these are taken; and the rank in it at which the look for the next of them begins.
 #[derive(Drop)]
 struct Search {
     rows: Vec<Option<KeptStack>>,
     is_pending: Vec<bool>,
-    order: Order,
+    order: Vec<usize>,
     from: usize,
 }
 
@@ -86,10 +86,9 @@ fn mapped_at(rows: &[Option<KeptStack>], place: usize) -> Option<&KeptStack>
     ensures mapped { IfSome result (λ stack. slice_get rows.now place ≡ Some (Some stack.now)) }
     ensures none { result ≡ None → (stack : List entries.StackEntry) → slice_get rows.now place ≡ Some (Some stack) → ⊥ }
 {
-    match rows.get(place) {
-        None => None,
-        Some(None) => None,
-        Some(Some(stack)) => Some(stack),
+    match row_at(rows, place) {
+        Row::Mapped(stack) => Some(stack),
+        Row::Absent | Row::Unmapped => None,
     }
 }
 
@@ -108,16 +107,6 @@ fn place_behind(operations: &[Operation], place: usize) -> usize
 {
     let places = operations.len();
     if place < places { place + 1 } else { places }
-}
-
-/// The entries of a stack that is kept. Fails for want of memory alone.
-fn shown(kept: &KeptStack, alloc: Global) -> Result<Sequence<StackEntry>, NoMemory>
-    ensures { IfOk result (λ shown. shown ≡ kept.now) }
-{
-    match kept.entries(alloc) {
-        Ok(entries) => Ok(Sequence::new(entries)),
-        Err(_) => Err(NoMemory),
-    }
 }
 
 /// Why a stack can't be taken to a place.
@@ -154,7 +143,7 @@ fn not_begun(error: RaiseError, alloc: Global) -> TypingError
 fn no_result(place: usize, mismatch: Mismatch, before: &KeptStack, alloc: Global) -> TypingError
     ensures { IsStackOf place before.now result }
 {
-    match shown(before, alloc) {
+    match copy_of(before, alloc) {
         Ok(stack) => TypingError::Untyped(FailurePoint {
             place,
             reason: Reason::NoResult(mismatch),
@@ -162,7 +151,7 @@ fn no_result(place: usize, mismatch: Mismatch, before: &KeptStack, alloc: Global
             stack,
             incoming: None,
         }),
-        Err(NoMemory) => TypingError::OutOfMemory,
+        Err(_) => TypingError::OutOfMemory,
     }
 }
 
@@ -246,50 +235,57 @@ fn none_pending(places: usize, alloc: Global) -> Result<Vec<bool>, AllocError>
     vec![in alloc; false; places]
 }
 
+/// A place whose ways on are still to be looked at, and the rank at which the look for the next one begins: its own, where it has one.
+#[derive(Clone, Copy)]
+struct Pending {
+    place: usize,
+    rank: usize,
+}
+
 /// The first pending place that isn't before this one.
-fn pending_from(is_pending: &[bool], from: usize) -> Option<usize>
-    ensures found { IfSome result (λ place. IsPending is_pending.now place) }
+fn pending_from(is_pending: &[bool], from: usize) -> Option<Pending>
+    ensures found { IfSome result (λ pending. IsPending is_pending.now pending.place) }
     ensures none { result ≡ None → (place : ℕ) → from ≤ place → IsPending is_pending.now place → ⊥ }
 {
     for place in from..is_pending.len() {
         if is_pending[place] {
-            return Some(place);
+            return Some(Pending { place, rank: 0 });
         }
     }
     None
 }
 
 /// The first pending place of an order from a rank on.
-fn pending_in_order(is_pending: &[bool], order: &Order, from: usize) -> Option<usize>
-    ensures { IfSome result (λ place. IsPending is_pending.now place) }
+fn pending_in_order(is_pending: &[bool], order: &[usize], from: usize) -> Option<Pending>
+    ensures { IfSome result (λ pending. IsPending is_pending.now pending.place) }
 {
-    for rank in from..order.count() {
-        let place = order.place(rank);
+    for rank in from..order.len() {
+        let place = order[rank];
         if place < is_pending.len() && is_pending[place] {
-            return Some(place);
+            return Some(Pending { place, rank });
         }
     }
     None
 }
 
 /// The first pending place of an order, or else any.
-fn pending_again(is_pending: &[bool], order: &Order) -> Option<usize>
-    ensures found { IfSome result (λ place. IsPending is_pending.now place) }
+fn pending_again(is_pending: &[bool], order: &[usize]) -> Option<Pending>
+    ensures found { IfSome result (λ pending. IsPending is_pending.now pending.place) }
     ensures none { result ≡ None → (place : ℕ) → IsPending is_pending.now place → ⊥ }
 {
     match pending_in_order(is_pending, order, 0) {
-        Some(place) => Some(place),
+        Some(pending) => Some(pending),
         None => pending_from(is_pending, 0),
     }
 }
 
 /// The next pending place: the first of the order from a rank on, or else the first of the order, or else any.
-fn pending_after(is_pending: &[bool], order: &Order, from: usize) -> Option<usize>
-    ensures found { IfSome result (λ place. IsPending is_pending.now place) }
+fn pending_after(is_pending: &[bool], order: &[usize], from: usize) -> Option<Pending>
+    ensures found { IfSome result (λ pending. IsPending is_pending.now pending.place) }
     ensures none { result ≡ None → (place : ℕ) → IsPending is_pending.now place → ⊥ }
 {
     match pending_in_order(is_pending, order, from) {
-        Some(place) => Some(place),
+        Some(pending) => Some(pending),
         None => pending_again(is_pending, order),
     }
 }
@@ -302,7 +298,7 @@ impl Search {
     {
         let is_pending = none_pending(operations.len(), alloc)?;
         let rows = unmapped(operations.len(), alloc)?;
-        let order = Order::new(operations, alloc)?;
+        let order = places_in_order(operations, alloc)?;
         Ok(Search {
             rows,
             is_pending,
@@ -411,11 +407,11 @@ impl Search {
     }
 
     /// A copy of the stack of a place; an empty one where control was not found to go there. Fails for want of memory alone.
-    fn stack_at(&self, place: usize, alloc: Global) -> Result<Sequence<StackEntry>, NoMemory>
+    fn stack_at(&self, place: usize, alloc: Global) -> Result<Sequence<StackEntry>, FlowError>
         ensures { IfOk result (λ copy. IsShown self.now.rows.items place copy) }
     {
         match mapped_at(self.rows.as_slice(), place) {
-            Some(stack) => shown(stack, alloc),
+            Some(stack) => copy_of(stack, alloc),
             None => Ok(Sequence::new(Vec::new(alloc))),
         }
     }
@@ -443,7 +439,7 @@ impl Search {
                 stack,
                 incoming: Some(incoming),
             }),
-            Err(NoMemory) => TypingError::OutOfMemory,
+            Err(_) => TypingError::OutOfMemory,
         }
     }
 
@@ -473,10 +469,11 @@ impl Search {
         ensures empty { result ≡ None → (place : ℕ) → IsPending self.old.is_pending.items place → ⊥ }
         ensures rows { self.new.rows ≡ self.old.rows }
     {
-        let place = pending_after(self.is_pending.as_slice(), &self.order, self.from)?;
-        self.is_pending[place] = false;
-        self.from = self.order.rank(place);
-        Some(place)
+        let order = self.order.as_slice();
+        let pending = pending_after(self.is_pending.as_slice(), order, self.from)?;
+        self.is_pending[pending.place] = false;
+        self.from = pending.rank;
+        Some(pending.place)
     }
 
     /// Takes the stack behind the instruction at a place to where control goes on.

@@ -53,6 +53,14 @@ fn entries_of(mut stack: TypeStack, alloc: Global) -> Result<Sequence<StackEntry
     Ok(Sequence::new(entries))
 }
 
+/// The entries of a stack that is kept, the top first. Fails for want of memory alone.
+pub(crate) fn copy_of(kept: &KeptStack, alloc: Global) -> Result<Sequence<StackEntry>, FlowError>
+    ensures { IfOk result (λ copy. copy ≡ kept.now) }
+{
+    let stack = stack_of(kept, alloc)?;
+    entries_of(stack, alloc)
+}
+
 /// The stack after the instruction that an operation stands for, by the flow rule (ECMA-335 III.1.8), both with the top first. At a
 /// mismatch the rule has no answer.
 pub fn stack_after(

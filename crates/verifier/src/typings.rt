@@ -14,6 +14,7 @@ ghost use Rattle.verifier.specs.Verdicts.{AreVerdicts, IsMethodVerdict};
 use crate::arguments::arguments_of;
 use crate::failures::TypingError;
 use crate::kept_stacks::KeptStack;
+use crate::members::source_members;
 use crate::refusals::{VerifyError, refused};
 use crate::search::find_typing;
 use cil_model::sequences::Sequence;
@@ -91,16 +92,13 @@ fn typings_by(
     Ok(Sequence::new(typings))
 }
 
-/// A typing of each method of these numbers.
-pub(crate) fn typings_of(
-    alloc: Global,
-    program: &Program,
-    members: &[MemberNumber],
-) -> Result<Sequence<Typing>, VerifyError>
-    ensures { methods_at program.now members.now ≡ map Some (source_methods program.now) → AreVerdicts program.now result }
+/// A typing of each method of the source.
+pub(crate) fn typings_of(alloc: Global, program: &Program) -> Result<Sequence<Typing>, VerifyError>
+    ensures { AreVerdicts program.now result }
 {
+    let members = source_members(alloc, program.tree())?;
     let types = TypeTree::new(program.tree(), program.classes(), alloc)?;
-    typings_by(alloc, &types, program, members)
+    typings_by(alloc, &types, program, members.as_slice())
 }
 
 /// The typing of a number.

@@ -9,7 +9,6 @@ ghost use Rattle.class_layout.specs.Laid.{IsLayout};
 ghost use Rattle.verifier.specs.Answers.{typing_of};
 ghost use Rattle.verifier.specs.Verdicts.{IsVerdict};
 
-use crate::members::source_members;
 use crate::refusals::VerifyError;
 use crate::typings::{Typing, typing_at, typings_of};
 use cil_model::sequences::Sequence;
@@ -98,8 +97,7 @@ pub fn verify(alloc: Global, program: Program, layout: Layout) -> Result<Verifie
     requires { IsLayout program layout }
     ensures { IsVerdict program result }
 {
-    let members = source_members(alloc, program.tree())?;
-    let typings = typings_of(alloc, &program, members.as_slice())?;
+    let typings = typings_of(alloc, &program)?;
     Ok(Verified {
         program,
         layout,
