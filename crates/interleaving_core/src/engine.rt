@@ -1,6 +1,6 @@
 //! What a machine does on each event.
 
-ghost use Rattle.std.specs.Prelude.{◌≡◌, ◌≢◌, ◌<◌, ◌≤◌, ℕ, IfOk, OnErr, IsSome, None, Some, length, slice_get, true};
+ghost use Rattle.std.specs.Prelude.{◌≡◌, ◌≢◌, ◌<◌, ◌≤◌, ℕ, IfOk, OnErr, IsSome, None, Some, length, option_map, slice_get, true};
 ghost use Rattle.std.specs.List.{count_by};
 ghost use Rattle.cil_model.specs.Ranges.{are_in_range};
 ghost use Rattle.object_memory.specs.Cells.{null};
@@ -200,27 +200,32 @@ impl Engine {
         Ok(effect)
     }
 
+    /// The thread of a number. None where none of this number was started.
+    fn thread(&self, number: u8) -> Option<&Thread>
+        ensures { option_map (λ thread. thread.now) result ≡ slice_get self.now.threads.items number }
+    {
+        self.threads.get(usize::from(number))
+    }
+
     /// Whether the thread was started and hasn't ended.
     pub fn is_live(&self, thread: u8) -> bool
         ensures { result ≡ is_live_at self.now.threads.items thread }
     {
-        self.threads
-            .get(usize::from(thread))
-            .is_some_and(Thread::is_live)
+        self.thread(thread).is_some_and(Thread::is_live)
     }
 
     /// How the thread ended. None where it is live or was never started.
     pub fn end_of(&self, thread: u8) -> Option<End>
         ensures { result ≡ end_at self.now.threads.items thread }
     {
-        self.threads.get(usize::from(thread))?.end()
+        self.thread(thread)?.end()
     }
 
     /// Where the thread is. None where it has ended or was never started.
     pub fn position_of(&self, thread: u8) -> Option<Position>
         ensures { result ≡ position_at self.now.threads.items thread }
     {
-        position_in(&self.threads.get(usize::from(thread))?.standing)
+        position_in(&self.thread(thread)?.standing)
     }
 
     /// What the thread waits for. None where its next step is not blocked, and where it has ended or was never started.
@@ -229,7 +234,7 @@ impl Engine {
         requires few { length self.now.threads.items ≤ MOST_THREADS }
         ensures { result ≡ wait_at (content_of self.now) thread }
     {
-        match &self.threads.get(usize::from(thread))?.standing {
+        match &self.thread(thread)?.standing {
             Standing::Live(frames) => wait_in(self, thread, frames),
             Standing::Ended(_) => None,
         }

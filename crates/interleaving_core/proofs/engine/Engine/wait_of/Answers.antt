@@ -4,15 +4,13 @@ use Rattle.simulation.specs.Turns.{live_thread}
 use Rattle.interleaving_core.specs.Views.{content_of}
 use Rattle.interleaving_core.specs.Waits.{standing_wait}
 use Rattle.interleaving_core.proofs.AwaitedObjects.{has_object}
-use Rattle.interleaving_core.proofs.Indexed.{read_there}
 use Rattle.interleaving_core.proofs.Stepping.{thread_is}
 use Rattle.interleaving_core.proofs.engine.Engine.wait_of.Goals as goal
 
 pub wait_in-requires-clause-object : goal.wait_in-requires-clause-object
 wait_in-requires-clause-object c =
     let thread : Thread = c.in_ok-frames.field-0.now in
-    let there : slice_get c.args.self.now.threads.items c.args.thread ≡ Some thread =
-    read_there c.args.self.now.threads.items c.deref.result.now c.args.thread c.from.result thread c.deref.ensures.value c.from.ensures c.in_ok-frames.ensures.lookup.3.0 c.in_ok-frames.ensures.lookup.1 in
+    let there : slice_get c.args.self.now.threads.items c.args.thread ≡ Some thread = sym c.in_ok-frames.ensures in
     let live : slice_get c.args.self.now.threads.items c.args.thread ≡ Some (live_thread thread.steps_left c.in-Live.frames) = there ∙ ap Some (thread_is thread c.in-Live.frames c.in-Live.is) in
     has_object (content_of c.args.self.now) c.args.thread thread.steps_left c.in-Live.frames (c.requires.ready.ready c.args.thread thread.steps_left c.in-Live.frames live) (c.requires.ready.answerable c.args.thread thread.steps_left c.in-Live.frames live)
 
@@ -22,15 +20,13 @@ wait_in-requires-clause-few c = c.requires.few
 pub returns-in-Live : goal.returns-in-Live
 returns-in-Live c =
     let thread : Thread = c.in_ok-frames.field-0.now in
-    let there : slice_get c.args.self.now.threads.items c.args.thread ≡ Some thread =
-    read_there c.args.self.now.threads.items c.deref.result.now c.args.thread c.from.result thread c.deref.ensures.value c.from.ensures c.in_ok-frames.ensures.lookup.3.0 c.in_ok-frames.ensures.lookup.1 in
+    let there : slice_get c.args.self.now.threads.items c.args.thread ≡ Some thread = sym c.in_ok-frames.ensures in
     let own = λ (x : Thread). standing_wait (content_of c.args.self.now) c.args.thread x.standing in
     c.wait_in.ensures ∙ sym (ap (option_and_then own) there ∙ ap (standing_wait (content_of c.args.self.now) c.args.thread) c.in-Live.is)
 
 pub returns-in-Ended : goal.returns-in-Ended
 returns-in-Ended c =
     let thread : Thread = c.in_ok-frames.field-0.now in
-    let there : slice_get c.args.self.now.threads.items c.args.thread ≡ Some thread =
-    read_there c.args.self.now.threads.items c.deref.result.now c.args.thread c.from.result thread c.deref.ensures.value c.from.ensures c.in_ok-frames.ensures.lookup.3.0 c.in_ok-frames.ensures.lookup.1 in
+    let there : slice_get c.args.self.now.threads.items c.args.thread ≡ Some thread = sym c.in_ok-frames.ensures in
     let own = λ (x : Thread). standing_wait (content_of c.args.self.now) c.args.thread x.standing in
     sym (ap (option_and_then own) there ∙ ap (standing_wait (content_of c.args.self.now) c.args.thread) c.in-Ended.is)

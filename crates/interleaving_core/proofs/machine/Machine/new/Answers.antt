@@ -1,4 +1,5 @@
 use Rattle.std.proofs.Common.{◌≡◌, ◌∙◌, [], arith, refl, sym, true}
+use Rattle.std.proofs.lemmas.Result.{IfOk-from_err}
 use Rattle.cil_model.specs.Ranges.{are_in_range}
 use Rattle.interleaving_core.specs.Views.{content_of}
 use Rattle.interleaving_core.proofs.Doing.{has_done}
@@ -25,3 +26,21 @@ pub returns-clause-done : goal.returns-clause-done
 returns-clause-done c =
     let first = content_of c.in_ok-opened.field-0 in
     has_done c.args.program c.args.limits first first [] [] c.in_ok-opened.ensures.accepted (sym c.are_in_range.ensures ∙ c.if-not-are_in_range.false) c.in_ok-opened.ensures.opening (refl, refl)
+
+pub returns-in_err-opened-clause-program : goal.returns-in_err-opened-clause-program
+returns-in_err-opened-clause-program c = IfOk-from_err c.from_residual.result _ c.from_residual.ensures.0
+
+pub returns-in_err-opened-clause-begins : goal.returns-in_err-opened-clause-begins
+returns-in_err-opened-clause-begins c = IfOk-from_err c.from_residual.result _ c.from_residual.ensures.0
+
+pub returns-in_err-opened-clause-opening : goal.returns-in_err-opened-clause-opening
+returns-in_err-opened-clause-opening c = IfOk-from_err c.from_residual.result _ c.from_residual.ensures.0
+
+pub returns-in_err-opened-clause-done : goal.returns-in_err-opened-clause-done
+returns-in_err-opened-clause-done c = IfOk-from_err c.from_residual.result _ c.from_residual.ensures.0
+
+pub returns-clause-program : goal.returns-clause-program
+returns-clause-program c = c.in_ok-opened.ensures.program
+
+pub returns-clause-begins : goal.returns-clause-begins
+returns-clause-begins c = c.in_ok-opened.ensures.opening
