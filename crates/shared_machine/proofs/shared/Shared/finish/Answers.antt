@@ -1,4 +1,4 @@
-use Rattle.std.proofs.Common.{◌<◌, refl, subst, below_more}
+use Rattle.std.proofs.Common.{◌<◌, arith, refl, subst, below_more}
 use Rattle.shared_machine.proofs.shared.Shared.finish.Goals as goal
 
 pub loop-worker-preserved : goal.loop-worker-preserved
@@ -7,3 +7,15 @@ loop-worker-preserved g c = below_more _ _ c.loop-worker.invariant (c.if-not-has
 pub returns-then-not-has_ticket-clause-exact : goal.returns-then-not-has_ticket-clause-exact
 returns-then-not-has_ticket-clause-exact g c =
     (c.loop-worker.worker, subst (λ n. c.loop-worker.worker < n) c.self.view_is c.loop-worker-test.true, λ has. absurd (cc (c.has_ticket.ensures.1 has, c.if-not-has_ticket.true)))
+
+pub returns-clause-exact : goal.returns-clause-exact
+returns-clause-exact g c = λ worker below. c.loop-worker.invariant worker (omega (arith, below, c.self.view_is, c.loop-worker-test.false))
+
+pub returns-clause-ran : goal.returns-clause-ran
+returns-clause-ran g c = c.end.ensures.ran
+
+pub returns-clause-theirs : goal.returns-clause-theirs
+returns-clause-theirs g c = c.end.ensures.theirs
+
+pub returns-clause-counts : goal.returns-clause-counts
+returns-clause-counts g c = c.end.ensures.counts
