@@ -1,4 +1,4 @@
-// Births of objects.
+//! Births of objects.
 
 ghost use Rattle.std.specs.Prelude.{◌≡◌, ◌≤◌, ◌^◌, true};
 ghost use Rattle.barriers.specs.Barriers.{can_bear, object_born};

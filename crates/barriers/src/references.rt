@@ -1,4 +1,4 @@
-// Comparisons of references.
+//! Comparisons of references.
 
 ghost use Rattle.std.specs.Prelude.{◌≡◌, true};
 ghost use Rattle.object_memory.specs.Spaces.{forward, is_there};

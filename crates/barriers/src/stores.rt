@@ -1,4 +1,4 @@
-// Stores to slots of objects, to monitors and to static fields.
+//! Stores to slots of objects, to monitors and to static fields.
 
 ghost use Rattle.std.specs.Prelude.{◌≡◌, ◌<◌, true, IsSome, length};
 ghost use Rattle.object_memory.specs.Cells.{store_slot};

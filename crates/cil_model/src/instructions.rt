@@ -1,4 +1,4 @@
-// The instructions of a method's body, each in its long form (ECMA-335 III.3 and III.4).
+//! The instructions of a method's body, each in its long form (ECMA-335 III.3 and III.4).
 
 use crate::sequences::Sequence;
 use crate::texts::Text;

@@ -1,4 +1,4 @@
-// Want of memory, as the machine tells it.
+//! Want of memory, as the machine tells it.
 
 ghost use Rattle.std.specs.Prelude.{◌≡◌};
 

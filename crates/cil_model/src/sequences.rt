@@ -1,4 +1,4 @@
-// A list that is kept in a vector.
+//! A list that is kept in a vector.
 
 ghost use Rattle.std.specs.Prelude.{◌≡◌};
 

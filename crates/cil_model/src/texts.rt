@@ -1,4 +1,4 @@
-// A text of bytes below 128.
+//! A text of bytes below 128.
 
 ghost use Rattle.std.specs.Prelude.{◌≡◌, string_bytes};
 

@@ -1,4 +1,4 @@
-// The tree of a source: assemblies, classes, members and code (ECMA-335 II.5 and II.6 to II.16).
+//! The tree of a source: assemblies, classes, members and code (ECMA-335 II.5 and II.6 to II.16).
 
 use crate::instructions::{Instruction, MethodName};
 use crate::sequences::Sequence;

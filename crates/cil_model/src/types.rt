@@ -1,4 +1,4 @@
-// Types and names of classes, as they stand in the text.
+//! Types and names of classes, as they stand in the text.
 
 ghost use Rattle.std.specs.Prelude.{◌≡◌};
 

@@ -1,4 +1,4 @@
-// Operations on integers (ECMA-335 III.1.5 and III.3). Those on 32 bits are made in 64 bits, where their exact results fit.
+//! Operations on integers (ECMA-335 III.1.5 and III.3). Those on 32 bits are made in 64 bits, where their exact results fit.
 
 ghost use Rattle.std.specs.Prelude.{◌<◌};
 

@@ -1,4 +1,4 @@
-// Calls of built-in members: one event, and no frame (ECMA-335 Partition IV; Cilvm.Thread is this profile's).
+//! Calls of built-in members: one event, and no frame (ECMA-335 Partition IV; Cilvm.Thread is this profile's).
 
 use crate::classes::{Classes, Found, name_of};
 use crate::effects::{Done, Effect, Halt};

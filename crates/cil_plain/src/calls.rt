@@ -1,4 +1,4 @@
-// Calls of methods, and constructors (ECMA-335 III.3.19, III.3.57, III.4.2 and III.4.21).
+//! Calls of methods, and constructors (ECMA-335 III.3.19, III.3.57, III.4.2 and III.4.21).
 
 use crate::built_in::action_of;
 use crate::classes::Found;

@@ -1,4 +1,4 @@
-// What the classes of a program are to one another (ECMA-335 I.8.7, II.10.3 and II.12.2), by the tables of their names.
+//! What the classes of a program are to one another (ECMA-335 I.8.7, II.10.3 and II.12.2), by the tables of their names.
 
 use crate::effects::Halt;
 use crate::names::PlainNames;

@@ -1,4 +1,4 @@
-// What an instruction comes to.
+//! What an instruction comes to.
 
 use crate::frames::Frame;
 use crate::values::Value;

@@ -1,4 +1,4 @@
-// Method states (ECMA-335 I.12.3.2).
+//! Method states (ECMA-335 I.12.3.2).
 
 use crate::effects::{Done, Effect, Halt};
 use crate::heap::set_value;
@@ -73,6 +73,7 @@ impl<'a> Frame<'a> {
         }
     }
 
+    /// Takes the value on top of the stack. An empty stack sticks.
     pub fn pop(&mut self) -> Result<Value, Halt> {
         self.stack.pop().ok_or(Halt::Sticks)
     }

@@ -1,4 +1,4 @@
-// Objects, which have names and never move (ECMA-335 I.12.1; that they do not move is this profile's).
+//! Objects, which have names and never move (ECMA-335 I.12.1; that they do not move is this profile's).
 
 use crate::classes::Classes;
 use crate::effects::Halt;
@@ -110,10 +110,12 @@ impl<'a> Heap<'a> {
         self.give_birth(Contents::Literal(characters))
     }
 
+    /// The object of a name. A name of none sticks.
     pub fn object(&self, name: usize) -> Result<&PlainObject<'a>, Halt> {
         self.objects.get(name).ok_or(Halt::Sticks)
     }
 
+    /// The same, to change it.
     pub fn object_mut(&mut self, name: usize) -> Result<&mut PlainObject<'a>, Halt> {
         self.objects.get_mut(name).ok_or(Halt::Sticks)
     }

@@ -1,4 +1,4 @@
-// What each instruction does (ECMA-335 III.3 and III.4).
+//! What each instruction does (ECMA-335 III.3 and III.4).
 
 use crate::arithmetic::{binary, compare, is_set, is_taken, shift, to_int32, to_int64, unary};
 use crate::calls::return_from;

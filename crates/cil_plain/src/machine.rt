@@ -1,4 +1,4 @@
-// The reference machine of a program.
+//! The reference machine of a program.
 
 use crate::classes::Found;
 use crate::effects::Halt;

@@ -1,4 +1,4 @@
-// Fields, arrays and casts (ECMA-335 III.4).
+//! Fields, arrays and casts (ECMA-335 III.4).
 
 use crate::effects::{Done, Effect, Halt};
 use crate::frames::Frame;

@@ -1,4 +1,4 @@
-// The state of a run, with the program that it is of.
+//! The state of a run, with the program that it is of.
 
 use crate::classes::{Classes, Found};
 use crate::effects::Halt;

@@ -1,4 +1,4 @@
-// One step of one thread.
+//! One step of one thread.
 
 use crate::effects::{Effect, Halt};
 use crate::frames::Frame;

@@ -1,4 +1,4 @@
-// Types, and what a location holds (ECMA-335 I.8.2.1, I.12.1 and II.7.1).
+//! Types, and what a location holds (ECMA-335 I.8.2.1, I.12.1 and II.7.1).
 
 use crate::effects::Halt;
 use cil_model::reports::Fault;

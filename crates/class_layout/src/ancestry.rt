@@ -1,4 +1,4 @@
-// Which types may stand for which, by the numbers of their classes (ECMA-335 I.8.7).
+//! Which types may stand for which, by the numbers of their classes (ECMA-335 I.8.7).
 
 ghost use Rattle.std.specs.Prelude.{◌≡◌, ◌<◌, ◌==◌, ℕ, IfOk, Some, map, length, flat_map, slice_get};
 ghost use Rattle.std.specs.List.{list_any};

@@ -1,4 +1,4 @@
-// The classes of a program by their numbers, with their chains of bases (ECMA-335 I.8.9.9).
+//! The classes of a program by their numbers, with their chains of bases (ECMA-335 I.8.9.9).
 
 ghost use Rattle.std.specs.Prelude.{◌≡◌, [], IfOk, Some, length, map, slice_get, unwrap_or};
 ghost use Rattle.cil_model.specs.declared.trees.Tree.{Tree};

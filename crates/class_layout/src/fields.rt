@@ -1,4 +1,4 @@
-// Slots of fields, and what each slot of an object holds (ECMA-335 II.16; the hidden field is this profile's).
+//! Slots of fields, and what each slot of an object holds (ECMA-335 II.16; the hidden field is this profile's).
 
 ghost use Rattle.std.specs.Prelude.{◌≡◌, ◌==◌, IfOk, false, map, filter_map, reverse, slice_get};
 ghost use Rattle.std.specs.List.{list_any};

@@ -1,4 +1,4 @@
-// What the slots of objects hold.
+//! What the slots of objects hold.
 
 /// What a slot of an object holds.
 #[derive(Clone, Copy)]

@@ -1,4 +1,4 @@
-// The layout of a program.
+//! The layout of a program.
 
 ghost use Rattle.std.specs.Prelude.{◌≡◌, IfOk, Some, true, false, length, option_map, slice_get};
 ghost use Rattle.std.specs.Option.{option_map_or};

@@ -1,4 +1,4 @@
-// Where the fields of a legal program lie, which methods its virtual calls run, and which types stand for others: by tables of numbers.
+//! Where the fields of a legal program lie, which methods its virtual calls run, and which types stand for others: by tables of numbers.
 #![tactic(auto)]
 
 mod ancestry;

@@ -1,4 +1,4 @@
-// The methods of one name and signature, and the slots that they fill (ECMA-335 II.10.3 and II.12.2).
+//! The methods of one name and signature, and the slots that they fill (ECMA-335 II.10.3 and II.12.2).
 
 ghost use Rattle.std.specs.Prelude.{◌≡◌, ◌==◌, IfOk, false, map, find};
 ghost use Rattle.std.specs.Option.{option_map_or};

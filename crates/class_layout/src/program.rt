@@ -1,4 +1,4 @@
-// The layout of a program.
+//! The layout of a program.
 
 ghost use Rattle.std.specs.Prelude.{IfOk};
 ghost use Rattle.class_layout.specs.Laid.{IsLayout};

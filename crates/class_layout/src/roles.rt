@@ -1,4 +1,4 @@
-// What methods are to the slots of their names and signatures (ECMA-335 II.10.3).
+//! What methods are to the slots of their names and signatures (ECMA-335 II.10.3).
 
 ghost use Rattle.std.specs.Prelude.{◌≡◌, ◌==◌, ◌&&◌, not, IfOk, find, map, option_map};
 ghost use Rattle.std.specs.List.{position_from};

@@ -1,4 +1,4 @@
-// Look-ups in tables whose rows have the numbers of classes.
+//! Look-ups in tables whose rows have the numbers of classes.
 
 ghost use Rattle.std.specs.Prelude.{◌≡◌, [], None, false, map, slice_get, unwrap_or};
 

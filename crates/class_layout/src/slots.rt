@@ -1,4 +1,4 @@
-// The numbers of static fields and the slots of instance fields (ECMA-335 II.16; the numbers are this profile's).
+//! The numbers of static fields and the slots of instance fields (ECMA-335 II.16; the numbers are this profile's).
 
 ghost use Rattle.std.specs.Prelude.{◌≡◌, ◌+◌, ◌<◌, ◌^◌, [], IfOk, if◌then◌else◌, length, map, slice_get, unwrap_or};
 ghost use Rattle.resolved_code.specs.Resolved.{AreResolved};

@@ -1,4 +1,4 @@
-// Which method runs where a method is called on an object of a class (ECMA-335 II.10.3 and II.12.2).
+//! Which method runs where a method is called on an object of a class (ECMA-335 II.10.3 and II.12.2).
 
 ghost use Rattle.std.specs.Prelude.{◌≡◌, [], IfOk, Some, false, map, slice_get, unwrap_or, option_map, option_and_then};
 ghost use Rattle.cil_model.specs.declared.types.ClassName.{ClassName};

@@ -1,4 +1,4 @@
-// The work of Allocate and of Copy: each marked object of the old block gets its replica in the new one, and then its words.
+//! The work of Allocate and of Copy: each marked object of the old block gets its replica in the new one, and then its words.
 
 ghost use Rattle.std.specs.Prelude.{◌≡◌, ◌≤◌, ◌<◌, ◌-◌, Some, IsSome, length};
 ghost use Rattle.cil_model.specs.declared.phases.Phase.TheVariants.{Allocate, Copy};

@@ -1,4 +1,4 @@
-// The work of HeapFlip and of Reclaim: static fields get forwards, and the new block becomes the only one.
+//! The work of HeapFlip and of Reclaim: static fields get forwards, and the new block becomes the only one.
 
 ghost use Rattle.std.specs.Prelude.{◌≡◌, ◌<◌, ◌^◌, true, length};
 ghost use Rattle.cil_model.specs.declared.phases.Phase.TheVariants.{Reclaim};

@@ -1,4 +1,4 @@
-// The work of Mark: what static fields, frames and marked objects refer to is marked.
+//! The work of Mark: what static fields, frames and marked objects refer to is marked.
 
 ghost use Rattle.std.specs.Prelude.{◌≡◌, true, Some};
 ghost use Rattle.cil_model.specs.declared.phases.Phase.TheVariants.{Mark};

@@ -1,4 +1,4 @@
-// How far a collector is with the work of a phase.
+//! How far a collector is with the work of a phase.
 
 ghost use Rattle.std.specs.Prelude.{◌≡◌};
 

@@ -1,4 +1,4 @@
-// Which slots of objects hold references.
+//! Which slots of objects hold references.
 
 ghost use Rattle.std.specs.Prelude.{◌≡◌};
 ghost use Rattle.cil_model.specs.declared.trees.Tree.{Tree};

@@ -1,4 +1,4 @@
-// The next object of a block that there is work at, from a place on.
+//! The next object of a block that there is work at, from a place on.
 
 ghost use Rattle.std.specs.Prelude.{◌≡◌, ◌+◌, Some, IfSome, IsSome, option_map};
 ghost use Rattle.object_memory.specs.Cells.{Cell, cell_in};

@@ -1,4 +1,4 @@
-// Laws of deadlocked threads. Each function has an empty body, and its contract is the law.
+//! Laws of deadlocked threads. Each function has an empty body, and its contract is the law.
 
 ghost use Rattle.std.specs.Prelude.{Bool, List};
 ghost use Rattle.std.specs.List.{zip};

@@ -1,4 +1,4 @@
-// Arrays and casts (ECMA-335 III.4).
+//! Arrays and casts (ECMA-335 III.4).
 
 ghost use Rattle.std.specs.Prelude.{◌≡◌, ◌∷◌, Some, option_map};
 ghost use Rattle.cil_model.specs.declared.trees.Tree.{Tree};

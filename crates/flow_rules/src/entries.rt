@@ -1,4 +1,4 @@
-// What a verifier knows of a value on the stack, and the tests that the flow rule makes of it.
+//! What a verifier knows of a value on the stack, and the tests that the flow rule makes of it.
 
 ghost use Rattle.std.specs.Prelude.{◌≡◌};
 ghost use Rattle.cil_model.specs.declared.trees.Tree.{Tree};

@@ -1,4 +1,4 @@
-// The flow rule (ECMA-335 III.1.8 and the verifiability parts of III.3 and III.4).
+//! The flow rule (ECMA-335 III.1.8 and the verifiability parts of III.3 and III.4).
 
 ghost use Rattle.std.specs.Prelude.{◌≡◌, List};
 ghost use Rattle.cil_model.specs.declared.trees.Line.{Line};

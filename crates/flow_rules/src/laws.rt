@@ -1,4 +1,4 @@
-// Laws of the tree of types. Each function has an empty body, and its contract is the law.
+//! Laws of the tree of types. Each function has an empty body, and its contract is the law.
 
 ghost use Rattle.std.specs.Prelude.{IsTrue};
 ghost use Rattle.cil_model.specs.declared.trees.Tree.{Tree};

@@ -1,4 +1,4 @@
-// What an instruction does to a stack of types, and what two stacks have in common (ECMA-335 III.1.8.1.3), by numbers.
+//! What an instruction does to a stack of types, and what two stacks have in common (ECMA-335 III.1.8.1.3), by numbers.
 #![tactic(auto)]
 
 pub mod arrays;

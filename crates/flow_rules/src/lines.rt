@@ -1,4 +1,4 @@
-// The lines of elements above the classes, by which it is seen at once that a type is above another.
+//! The lines of elements above the classes, by which it is seen at once that a type is above another.
 
 ghost use Rattle.std.specs.Prelude.{◌≡◌, ℕ, true, [], map, Some, IfSome, slice_get, slice_index_or};
 ghost use Rattle.cil_model.specs.declared.trees.Tree.{Tree};

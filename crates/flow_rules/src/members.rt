@@ -1,4 +1,4 @@
-// Fields and calls (ECMA-335 III.3.19, III.4).
+//! Fields and calls (ECMA-335 III.3.19, III.4).
 
 ghost use Rattle.std.specs.Prelude.{◌≡◌, ◌∷◌, ℕ, Bool, true, false, None, Some, List, if◌then◌else◌, IfSome, IfOk, IfErr, option_map, slice_get};
 ghost use Rattle.cil_model.specs.declared.types.ClassName.{ClassName};

@@ -1,4 +1,4 @@
-// The types of a method's arguments, locals and result.
+//! The types of a method's arguments, locals and result.
 
 use crate::type_tree::TypeTree;
 use resolved_code::types::NumberedType;

@@ -1,4 +1,4 @@
-// Why an instruction has no result on a stack.
+//! Why an instruction has no result on a stack.
 
 use crate::entries::StackEntry;
 use cil_model::memory::NoMemory;

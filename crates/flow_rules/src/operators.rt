@@ -1,4 +1,4 @@
-// Instructions on integers and on what lies topmost, whatever it is (ECMA-335 III.3).
+//! Instructions on integers and on what lies topmost, whatever it is (ECMA-335 III.3).
 
 ghost use Rattle.std.specs.Prelude.{◌≡◌, ◌∷◌, Some, option_map};
 ghost use Rattle.cil_model.specs.declared.trees.Tree.{Tree};

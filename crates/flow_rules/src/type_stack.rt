@@ -1,4 +1,4 @@
-// A stack of types.
+//! A stack of types.
 
 ghost use Rattle.std.specs.Prelude.{◌≡◌, ◌∷◌, ◌<◌, [], IfOk, IfErr, IfSome, OnOk, None, length};
 ghost use Rattle.flow_rules.specs.declared.mismatches.FlowError as errors;

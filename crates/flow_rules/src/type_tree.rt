@@ -1,4 +1,4 @@
-// The tree of types, and merges in it (ECMA-335 III.1.8.1.3; the tree is this profile's).
+//! The tree of types, and merges in it (ECMA-335 III.1.8.1.3; the tree is this profile's).
 
 ghost use Rattle.std.specs.Prelude.{◌≡◌, ◌≤◌, ◌+◌, ◌-◌, ◌==◌, ◌||◌, if◌then◌else◌, ℕ, true, false, Some, None, option_map, map, slice_get, IfOk, IfSome};
 ghost use Rattle.cil_model.specs.declared.trees.Tree.{Tree};

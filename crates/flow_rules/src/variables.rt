@@ -1,4 +1,4 @@
-// Operands that have to fit a type, and the arguments and locals of a method (ECMA-335 III.3).
+//! Operands that have to fit a type, and the arguments and locals of a method (ECMA-335 III.3).
 
 ghost use Rattle.std.specs.Prelude.{◌≡◌, ◌∷◌, [], Some, option_map};
 ghost use Rattle.cil_model.specs.Bodies.{at_place};

@@ -1,4 +1,4 @@
-// What keys find, as it changes while the classes are gone through.
+//! What keys find, as it changes while the classes are gone through.
 
 ghost use Rattle.std.specs.Prelude.{◌≡◌, ◌<◌, true, None, OnOk, length, map};
 ghost use Rattle.inheritance.specs.Changes.{changes_of, is_ordered, known, known_of, found_from, is_earlier, AreOrdered, AreUpTo, AddsChange, AddsChanges};

@@ -1,4 +1,4 @@
-// Cycles of bases, each cut at one class, so that lines along them end.
+//! Cycles of bases, each cut at one class, so that lines along them end.
 
 ghost use Rattle.std.specs.Prelude.{◌≡◌, Some, IfOk, IsTrue, map};
 ghost use Rattle.inheritance.specs.Lines.{base_in};

@@ -1,4 +1,4 @@
-// What keys find where bases lead round, by the cycles that are cut.
+//! What keys find where bases lead round, by the cycles that are cut.
 
 ghost use Rattle.std.specs.Prelude.{◌≡◌, ◌<◌, ℕ, Some, None, IfOk};
 ghost use Rattle.std.specs.Option.{ForSome};

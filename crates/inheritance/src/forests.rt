@@ -1,4 +1,4 @@
-// What is given: classes by numbers.
+//! What is given: classes by numbers.
 
 ghost use Rattle.std.specs.Prelude.{◌≡◌, ◌↔◌, IsTrue, slice_index_or, map, [], None};
 ghost use Rattle.inheritance.specs.Lines.{base_in, Ends};

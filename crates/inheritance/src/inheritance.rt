@@ -1,4 +1,4 @@
-// The nearest declaration of each key, from each class on.
+//! The nearest declaration of each key, from each class on.
 
 ghost use Rattle.std.specs.Prelude.{◌≡◌, ◌==◌, ◌<◌, ◌↔◌, ℕ, Some, IfOk, IsTrue, OnErr, OnOk, length, map};
 ghost use Rattle.inheritance.specs.declared.ledgers.Entry.{Entry};

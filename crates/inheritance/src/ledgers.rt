@@ -1,4 +1,4 @@
-// What is known while the classes are gone through, each behind its base.
+//! What is known while the classes are gone through, each behind its base.
 
 ghost use Rattle.std.specs.Prelude.{◌≡◌, ◌+◌, [], OnOk, IfOk, map, replicate};
 
@@ -47,6 +47,7 @@ impl Ledger {
         })
     }
 
+    /// What is entered for a class; None where nothing is.
     pub fn entry(&self, class: usize) -> Option<Entry>
         ensures { result ≡ entry_in self.now.entries.items class }
     {

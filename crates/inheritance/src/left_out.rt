@@ -1,4 +1,4 @@
-// The classes that the search leaves out.
+//! The classes that the search leaves out.
 
 ghost use Rattle.std.specs.Prelude.{◌≡◌, ◌↔◌, ℕ, IsTrue};
 ghost use Rattle.inheritance.specs.Lines.{Ends};

@@ -1,4 +1,4 @@
-// Trees of classes by numbers: which class, from one on through its bases, declares a key first.
+//! Trees of classes by numbers: which class, from one on through its bases, declares a key first.
 #![tactic(auto)]
 
 mod changes;

@@ -1,4 +1,4 @@
-// The nearest declaration of a key, found by going along bases.
+//! The nearest declaration of a key, found by going along bases.
 
 ghost use Rattle.std.specs.Prelude.{◌≡◌, ◌==◌, Some};
 ghost use Rattle.std.specs.List.{position_from};

@@ -1,4 +1,4 @@
-// Bases that lead round.
+//! Bases that lead round.
 
 use cil_model::memory::NoMemory;
 use std::alloc::Global;

@@ -1,4 +1,4 @@
-// From which classes on one of some keys finds what is sought: a declaration that is marked, or nothing.
+//! From which classes on one of some keys finds what is sought: a declaration that is marked, or nothing.
 
 ghost use Rattle.std.specs.Prelude.{◌≡◌, ◌≤◌, ◌<◌, ◌↔◌, ◌∷◌, ℕ, Bool, true, false, None, Some, IfOk, IsTrue, is_none, length, map, nat_lt, slice_get, slice_index_or};
 ghost use Rattle.std.specs.List.{list_all, list_any};

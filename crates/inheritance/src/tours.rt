@@ -1,4 +1,4 @@
-// The order in which classes are gone through.
+//! The order in which classes are gone through.
 
 use cil_model::memory::NoMemory;
 use std::alloc::Global;

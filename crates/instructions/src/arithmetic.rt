@@ -1,4 +1,4 @@
-// Arithmetic, comparisons and conversions.
+//! Arithmetic, comparisons and conversions.
 
 ghost use Rattle.std.specs.Prelude.{◌≡◌, ◌==◌, IsSome, Some};
 ghost use Rattle.instructions.specs.Frames.{binary_turn, unary_turn, shift_turn, compare_turn, convert_32_turn, convert_64_turn, comparison, in_32_bits, in_64_bits, one_or_zero};

@@ -1,4 +1,4 @@
-// Arrays.
+//! Arrays.
 
 ghost use Rattle.std.specs.Prelude.{◌≡◌, IsSome, Some};
 ghost use Rattle.instructions.specs.ObjectTurns.{load_length_turn, load_element_turn, store_element_turn, new_array_turn, leaves_born, index_in, place_in};

@@ -1,4 +1,4 @@
-// `newobj`.
+//! `newobj`.
 
 ghost use Rattle.std.specs.Prelude.{◌≡◌, IsSome, Some};
 ghost use Rattle.instructions.specs.Calls.{called, new_object_turn, new_plain_object_turn};

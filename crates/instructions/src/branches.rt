@@ -1,4 +1,4 @@
-// Branches.
+//! Branches.
 
 ghost use Rattle.std.specs.Prelude.{◌≡◌, IsSome, Some, slice_get};
 ghost use Rattle.std.specs.Int.{w32, cast_unsigned};

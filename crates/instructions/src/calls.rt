@@ -1,4 +1,4 @@
-// Calls of methods with code.
+//! Calls of methods with code.
 
 ghost use Rattle.std.specs.Prelude.{◌≡◌, ◌<◌, ◌+◌, length, IsSome, Some};
 ghost use Rattle.instructions.specs.Calls.{called, call_turn, construct_turn};

@@ -1,4 +1,4 @@
-// Casts, and stores of references to arrays.
+//! Casts, and stores of references to arrays.
 
 ghost use Rattle.std.specs.Prelude.{◌≡◌, IsSome, Some};
 ghost use Rattle.class_layout.specs.Laid.{IsLayout};

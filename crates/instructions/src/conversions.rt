@@ -1,4 +1,4 @@
-// From one size of integers to the other.
+//! From one size of integers to the other.
 
 ghost use Rattle.std.specs.Prelude.{◌≡◌, ◌%◌, ◌^◌};
 ghost use Rattle.std.specs.Int.{w32, w64, cast_signed, cast_unsigned};

@@ -1,4 +1,4 @@
-// Fields of objects.
+//! Fields of objects.
 
 ghost use Rattle.std.specs.Prelude.{◌≡◌, IsSome, Some};
 ghost use Rattle.instructions.specs.ObjectTurns.{load_field_turn, store_field_turn, load_slot, store_slot};

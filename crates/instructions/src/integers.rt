@@ -1,4 +1,4 @@
-// The operations of the machine on two integers of one size, or on one.
+//! The operations of the machine on two integers of one size, or on one.
 
 ghost use Rattle.std.specs.Prelude.{◌≡◌, ℤ, pos, Some};
 ghost use Rattle.std.specs.Int.{Width, w32, w64};

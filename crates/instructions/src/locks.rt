@@ -1,4 +1,4 @@
-// `Monitor.Enter` and `Monitor.Exit`.
+//! `Monitor.Enter` and `Monitor.Exit`.
 
 ghost use Rattle.std.specs.Prelude.{◌≡◌, IsSome, Some};
 ghost use Rattle.instructions.specs.BuiltInTurns.{enter_turn, exit_turn};

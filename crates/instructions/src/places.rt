@@ -1,4 +1,4 @@
-// Where a frame goes on, and what it leaves on its stack.
+//! Where a frame goes on, and what it leaves on its stack.
 
 ghost use Rattle.std.specs.Prelude.{◌≡◌, IsSome, Some};
 ghost use Rattle.instructions.specs.Frames.{jump, onward, branch_if, leaves, leaves_result};

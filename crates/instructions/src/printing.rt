@@ -1,4 +1,4 @@
-// `Console.WriteLine`.
+//! `Console.WriteLine`.
 
 ghost use Rattle.std.specs.Prelude.{◌≡◌, ◌++◌, ◌∷◌, [], if◌then◌else◌, is_ok, IsSome, Some, IfOk, OnOk, OnErr, option_map};
 ghost use Rattle.std.specs.Fmt.{signed_decimal};

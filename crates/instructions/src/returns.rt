@@ -1,4 +1,4 @@
-// Returns.
+//! Returns.
 
 ghost use Rattle.std.specs.Prelude.{◌≡◌, IsSome, Some};
 ghost use Rattle.instructions.specs.Calls.{gives, return_turn};

@@ -1,4 +1,4 @@
-// Arguments, locals and the stack.
+//! Arguments, locals and the stack.
 
 ghost use Rattle.std.specs.Prelude.{◌≡◌, IsSome, Some};
 ghost use Rattle.instructions.specs.Frames.{argument_turn, local_turn, store_argument_turn, store_local_turn, duplicate_turn, pop_turn};

@@ -1,4 +1,4 @@
-// Static fields.
+//! Static fields.
 
 ghost use Rattle.std.specs.Prelude.{◌≡◌, IsSome, Some};
 ghost use Rattle.instructions.specs.ObjectTurns.{load_static_turn, store_static_turn};

@@ -1,4 +1,4 @@
-// The types of objects, and what may stand where.
+//! The types of objects, and what may stand where.
 
 ghost use Rattle.std.specs.Prelude.{◌≡◌, IsSome, Some};
 ghost use Rattle.cil_model.specs.declared.trees.Tree.{Tree};

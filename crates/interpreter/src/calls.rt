@@ -1,4 +1,4 @@
-// Calls and `newobj`.
+//! Calls and `newobj`.
 
 ghost use Rattle.std.specs.Prelude.{◌≡◌, IsSome, Some, IfOk, OnErr, true};
 ghost use Rattle.loaded_program.specs.Prepared.{action_named};

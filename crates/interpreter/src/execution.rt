@@ -1,4 +1,4 @@
-// One linked instruction.
+//! One linked instruction.
 
 ghost use Rattle.std.specs.Prelude.{◌≡◌, IsSome, Some, IfOk, OnErr, true};
 ghost use Rattle.interpreter.specs.Instructions.{is_printing, answer_of};

@@ -1,4 +1,4 @@
-// What an instruction comes to.
+//! What an instruction comes to.
 
 use object_memory::Addr;
 use threads_monitors::Effect;

@@ -1,4 +1,4 @@
-// The instruction at a frame's place.
+//! The instruction at a frame's place.
 
 ghost use Rattle.std.specs.Prelude.{◌≡◌, IsSome, IfOk, OnErr};
 ghost use Rattle.resolved_code.specs.declared.operations.Operation.{Operation as AnyOperation};

@@ -1,4 +1,4 @@
-// What threads share.
+//! What threads share.
 
 use object_memory::{Heap, Value};
 

@@ -1,4 +1,4 @@
-// What the built-in members without code do (ECMA-335 Partition IV; Cilvm.Thread is this profile's).
+//! What the built-in members without code do (ECMA-335 Partition IV; Cilvm.Thread is this profile's).
 
 ghost use Rattle.std.specs.Prelude.{◌≡◌, Some, option_map};
 ghost use Rattle.cil_model.specs.declared.types.ClassName.{ClassName};

@@ -1,4 +1,4 @@
-// Linked instructions (ECMA-335 III.3 and III.4).
+//! Linked instructions (ECMA-335 III.3 and III.4).
 
 use cil_model::instructions::{
     BinaryOperation, BranchComparison, Comparison, ShiftOperation, UnaryOperation,

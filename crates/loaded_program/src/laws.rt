@@ -1,4 +1,4 @@
-// Laws of the methods' numbers. Each function has an empty body, and its contract is the law.
+//! Laws of the methods' numbers. Each function has an empty body, and its contract is the law.
 
 ghost use Rattle.std.specs.Prelude.{◌≡◌, ℕ, Some, slice_get};
 ghost use Rattle.cil_model.specs.declared.types.ClassName.{ClassName};

@@ -1,4 +1,4 @@
-// Linked methods.
+//! Linked methods.
 
 ghost use Rattle.std.specs.Prelude.{◌≡◌, Some, IfOk, slice_get};
 ghost use Rattle.cil_model.specs.Chains.{is_virtual};

@@ -1,4 +1,4 @@
-// Instructions are linked one by one.
+//! Instructions are linked one by one.
 
 ghost use Rattle.std.specs.Prelude.{◌≡◌, ℕ, Some, FitsSigned, IfOk, length, slice_get};
 ghost use Rattle.std.specs.Int.{w32, w64};

@@ -1,4 +1,4 @@
-// Loaded programs.
+//! Loaded programs.
 
 ghost use Rattle.std.specs.Prelude.{◌≡◌, ◌<◌, Some, length, IsSome, IfOk, option_and_then, slice_get};
 ghost use Rattle.cil_model.specs.declared.trees.Method.{Method};

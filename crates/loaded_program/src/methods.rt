@@ -1,4 +1,4 @@
-// What a call needs to know of a method.
+//! What a call needs to know of a method.
 
 ghost use Rattle.std.specs.Prelude.{◌≡◌, IfOk, Some, map, slice_get};
 ghost use Rattle.cil_model.specs.declared.types.ClassName.{ClassName};

@@ -1,4 +1,4 @@
-// Operands of instructions, by numbers of fewer bits.
+//! Operands of instructions, by numbers of fewer bits.
 
 ghost use Rattle.std.specs.Prelude.{◌≡◌, ◌<◌, ◌^◌, ℕ, Some};
 ghost use Rattle.object_memory.specs.declared.addresses.Addr.{Addr as AnyAddr};

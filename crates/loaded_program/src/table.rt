@@ -1,4 +1,4 @@
-// The methods of a program, by flat numbers.
+//! The methods of a program, by flat numbers.
 
 ghost use Rattle.std.specs.Prelude.{◌≡◌, ◌+◌, ◌<◌, ◌^◌, IfOk, Some, length, map, option_map, slice_get};
 ghost use Rattle.std.specs.List.{sum_by};

@@ -1,4 +1,4 @@
-// Bases that lead round.
+//! Bases that lead round.
 
 ghost use Rattle.std.specs.Prelude.{◌≡◌, ◌==◌, IfOk, is_some};
 ghost use Rattle.std.specs.List.{list_any};

@@ -1,4 +1,4 @@
-// Names that stand twice where they must stand once.
+//! Names that stand twice where they must stand once.
 
 ghost use Rattle.std.specs.Prelude.{◌≡◌, IfOk, is_some, map};
 ghost use Rattle.std.specs.List.{list_any};
@@ -132,6 +132,7 @@ fn repeated_method(alloc: Global, class: &Class) -> Result<Option<Repeat>, NoMem
     repeated_key(alloc, keys)
 }
 
+/// The interfaces that a class lists (ECMA-335 II.12.1); an interface lists none in this profile.
 pub fn interfaces_named(kind: &ClassKind) -> &[ClassName]
     ensures { result.now ≡ interfaces_named kind.now }
 {

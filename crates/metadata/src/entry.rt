@@ -1,4 +1,4 @@
-// Why a source has no fit entry point.
+//! Why a source has no fit entry point.
 
 ghost use Rattle.std.specs.Prelude.{◌≡◌, ◌<◌, ◌==◌, ◌&&◌, Some, IfOk, is_none, is_some, length, map, count_by};
 ghost use Rattle.cil_model.specs.Bodies.{is_entry_point};

@@ -1,4 +1,4 @@
-// The methods of listed interfaces.
+//! The methods of listed interfaces.
 
 ghost use Rattle.std.specs.Prelude.{◌≡◌, IfOk, Some, is_none, is_some, map};
 ghost use Rattle.std.specs.List.{list_any, list_all};

@@ -1,4 +1,4 @@
-// Methods whose kinds do not fit.
+//! Methods whose kinds do not fit.
 
 ghost use Rattle.std.specs.Prelude.{◌≡◌, ◌==◌, ◌&&◌, ◌||◌, not, false, true, Some, IfOk, is_none, is_some, map, option_and_then};
 ghost use Rattle.std.specs.List.{list_any, list_all};

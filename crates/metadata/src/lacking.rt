@@ -1,4 +1,4 @@
-// The classes that lack a method of an interface, found for all classes at once where many list it.
+//! The classes that lack a method of an interface, found for all classes at once where many list it.
 
 ghost use Rattle.std.specs.Prelude.{◌≡◌, IfOk, Some, true, false, slice_get};
 ghost use Rattle.metadata.specs.Implemented.{IsTable, IsTold, AreTables};

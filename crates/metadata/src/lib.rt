@@ -1,4 +1,4 @@
-// Which trees are legal programs.
+//! Which trees are legal programs.
 #![tactic(auto)]
 
 mod cycles;

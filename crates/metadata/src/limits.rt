@@ -1,4 +1,4 @@
-// Limits that are passed, all of which are this profile's.
+//! Limits that are passed, all of which are this profile's.
 
 ghost use Rattle.std.specs.Prelude.{◌≡◌, ◌≤◌, ◌+◌, ◌&&◌, nat_le, int_le, pos, IfOk, is_none, is_some, length, map, sum, count_by};
 ghost use Rattle.std.specs.List.{list_all, sum_by};

@@ -1,4 +1,4 @@
-// What a tree names: its types, in source order, and what its instructions name.
+//! What a tree names: its types, in source order, and what its instructions name.
 
 ghost use Rattle.std.specs.Prelude.{◌≡◌, [], ◌∷◌, ◌++◌, IfOk, map, option_map, option_to_list, flat_map};
 ghost use Rattle.cil_model.specs.Bodies.{labels_of};

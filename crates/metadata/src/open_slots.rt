@@ -1,4 +1,4 @@
-// Which classes leave no slot open to an abstract method, found in one walk over all classes.
+//! Which classes leave no slot open to an abstract method, found in one walk over all classes.
 
 ghost use Rattle.std.specs.Prelude.{◌≡◌, ℕ, true, false, Some, IfOk, map, slice_get};
 ghost use Rattle.std.specs.List.{list_any};

@@ -1,4 +1,4 @@
-// The program of a legal tree, and why a tree is none.
+//! The program of a legal tree, and why a tree is none.
 
 ghost use Rattle.std.specs.Prelude.{◌≡◌, ◌≢◌, Some, IfOk, IfErr, map};
 ghost use Rattle.cil_model.specs.Declarations.{built_ins};

@@ -1,4 +1,4 @@
-// The rules of legality, in the order of their numbers.
+//! The rules of legality, in the order of their numbers.
 
 ghost use Rattle.std.specs.Prelude.{◌≡◌, IfOk, option_map};
 ghost use Rattle.cil_model.specs.Legality.{first_broken, least_broken};

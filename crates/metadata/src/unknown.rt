@@ -1,4 +1,4 @@
-// Names that stand for nothing of the kind needed.
+//! Names that stand for nothing of the kind needed.
 
 ghost use Rattle.std.specs.Prelude.{◌≡◌, ◌&&◌, ◌++◌, IfOk, Some, is_none, is_some, map, option_map, true};
 ghost use Rattle.std.specs.List.{list_any, list_all};

@@ -1,5 +1,5 @@
-// What breaks a rule of legality: which clause, and at which class, member, line or label, all by numbers. Externs and classes are
-// counted from 0 in source order, fields and methods among those of their class, and lines among the instructions of their method.
+//! What breaks a rule of legality: which clause, and at which class, member, line or label, all by numbers. Externs and classes are
+//! counted from 0 in source order, fields and methods among those of their class, and lines among the instructions of their method.
 
 use crate::rules::Rule;
 use name_tables::lookups::MemberNumber;

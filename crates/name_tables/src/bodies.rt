@@ -1,4 +1,4 @@
-// The parts of a method's body.
+//! The parts of a method's body.
 
 ghost use Rattle.std.specs.Prelude.{◌≡◌, IfOk, map, option_map, flat_map};
 ghost use Rattle.cil_model.specs.Bodies.{code_of, lines_of};

@@ -1,4 +1,4 @@
-// The built-in classes, made from their table.
+//! The built-in classes, made from their table.
 
 ghost use Rattle.std.specs.Prelude.{◌≡◌, IfOk, Some, map, pos, [], false};
 ghost use Rattle.cil_model.specs.declared.instructions.Instruction.TheVariants.{Return};

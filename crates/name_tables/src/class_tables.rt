@@ -1,4 +1,4 @@
-// A class with where each of its methods is found.
+//! A class with where each of its methods is found.
 
 ghost use Rattle.std.specs.Prelude.{◌≡◌, ◌<◌, IfOk, Some, length, map, find, option_map, slice_get};
 ghost use Rattle.name_tables.specs.Entries.{declaration_in};
@@ -22,6 +22,7 @@ pub struct ClassTable<'a> {
     ghost methods_are: { map method_of_key methods ≡ map identity_of (declaration_in class).methods },
 }
 
+/// The keys of methods, in their order. Fails for want of memory alone.
 pub fn method_keys<'a>(
     alloc: Global,
     methods: &[&'a Method],

@@ -1,4 +1,4 @@
-// Classes with what they declare, each found by its name or its number.
+//! Classes with what they declare, each found by its name or its number.
 
 ghost use Rattle.std.specs.Prelude.{◌≡◌, IfOk, map};
 ghost use Rattle.cil_model.specs.Declarations.{field_members, method_members};

@@ -1,4 +1,4 @@
-// The members that classes have and inherit, each found by its key.
+//! The members that classes have and inherit, each found by its key.
 
 ghost use Rattle.std.specs.Prelude.{◌≡◌, ◌+◌, ◌<◌, ℕ, Some, IfOk, OnErr, OnOk, length, map, flat_map, option_map, slice_index_or, []};
 ghost use Rattle.std.specs.List.{position_from};

@@ -1,4 +1,4 @@
-// The keys of the tables: what texts, classes, fields and methods are found by.
+//! The keys of the tables: what texts, classes, fields and methods are found by.
 
 ghost use Rattle.std.specs.Prelude.{◌≡◌, option_map};
 ghost use Rattle.cil_model.specs.Same.{same_options, same_lists, same_text, same_type};
@@ -293,6 +293,7 @@ impl<'a> ClassKey<'a> {
     ghost use Rattle.cil_model.specs.Declarations.{source_name};
     ghost use Rattle.name_tables.specs.Keys.{class_of_key};
 
+    /// A class by the name that an instruction, a type or a list has of it (ECMA-335 II.7.1).
     pub fn of(name: &'a ClassName) -> Self
         ensures { class_of_key result ≡ name.now }
     {
@@ -316,6 +317,7 @@ impl<'a> ClassKey<'a> {
 impl<'a> FieldKey<'a> {
     ghost use Rattle.name_tables.specs.Keys.{field_of_key};
 
+    /// A field by all that its declaration says of it (ECMA-335 II.16.1).
     pub fn of(field: &'a Field) -> Self
         ensures { field_of_key result ≡ field.now }
     {
@@ -331,6 +333,7 @@ impl<'a> MethodKey<'a> {
     ghost use Rattle.cil_model.specs.declared.instructions.MethodName.TheVariants.{Constructor, Named};
     ghost use Rattle.name_tables.specs.Keys.{method_of_key};
 
+    /// A method by its name and signature (ECMA-335 II.15.4).
     pub fn new(name: &'a MethodName, signature: &'a Signature) -> Self
         ensures { method_of_key result ≡ record { name = name.now; signature = signature.now } }
     {

@@ -1,10 +1,11 @@
-// What a method's kind says of it.
+//! What a method's kind says of it.
 
 ghost use Rattle.std.specs.Prelude.{◌≡◌};
 ghost use Rattle.cil_model.specs.Chains.{is_static, is_virtual, is_abstract_method, is_new_slot_method};
 
 use cil_model::trees::MethodKind;
 
+/// Whether it is called without an object (ECMA-335 II.15.2).
 pub fn is_static(kind: &MethodKind) -> bool
     ensures { result ≡ is_static kind.now }
 {
@@ -21,6 +22,7 @@ pub fn is_virtual(kind: &MethodKind) -> bool
     )
 }
 
+/// Whether it has no body, and a class below has to bring one (ECMA-335 II.15.4.2.4).
 pub fn is_abstract_method(kind: &MethodKind) -> bool
     ensures { result ≡ is_abstract_method kind.now }
 {

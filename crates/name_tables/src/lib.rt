@@ -1,4 +1,4 @@
-// Look-ups of classes and members by hash, each of which finds what the definitions find.
+//! Look-ups of classes and members by hash, each of which finds what the definitions find.
 #![tactic(auto)]
 
 pub mod bodies;

@@ -1,4 +1,4 @@
-// What the references of a tree find, by numbers.
+//! What the references of a tree find, by numbers.
 
 ghost use Rattle.std.specs.Prelude.{◌≡◌, ◌↔◌, ◌∷◌, [], IfOk, IsTrue, map, option_map, Some, true};
 ghost use Rattle.inheritance.specs.Lines.{base_in, line_within};

@@ -1,4 +1,4 @@
-// The fields and methods that the classes of a tree have and inherit.
+//! The fields and methods that the classes of a tree have and inherit.
 
 ghost use Rattle.std.specs.Prelude.{◌≡◌, ℕ, IfOk, length, map, option_map};
 ghost use Rattle.name_tables.specs.Entries.{declaration_in};

@@ -1,4 +1,4 @@
-// The methods that classes have and inherit by name and signature, whether they are static or not: all, and the virtual ones.
+//! The methods that classes have and inherit by name and signature, whether they are static or not: all, and the virtual ones.
 
 ghost use Rattle.std.specs.Prelude.{◌≡◌, ◌≢◌, ◌<◌, ◌==◌, Bool, IfOk, OnErr, OnOk, Some, true, false, [], is_none, is_some, length, map, not, option_map, slice_get, slice_index_or, ℕ};
 ghost use Rattle.std.specs.List.{list_all};

@@ -1,4 +1,4 @@
-// A list of keys, with the first place of each found by hash.
+//! A list of keys, with the first place of each found by hash.
 
 ghost use Rattle.std.specs.Prelude.{◌≡◌, ◌||◌, [], IfOk, OnOk, is_some, map};
 ghost use Rattle.std.specs.List.{position_from};

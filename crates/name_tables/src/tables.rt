@@ -1,4 +1,4 @@
-// Every class of a tree with its members, found by name and by number.
+//! Every class of a tree with its members, found by name and by number.
 
 ghost use Rattle.std.specs.Prelude.{◌≡◌, ◌++◌, ◌∷◌, [], IfOk, map, option_map, option_and_then, slice_get};
 ghost use Rattle.cil_model.specs.Declarations.{built_ins, declaration_of};

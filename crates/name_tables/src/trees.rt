@@ -1,4 +1,4 @@
-// The methods and the instructions of a whole tree.
+//! The methods and the instructions of a whole tree.
 
 ghost use Rattle.std.specs.Prelude.{◌≡◌, ◌++◌, IfOk, map};
 ghost use Rattle.cil_model.specs.Mentions.{instructions_of, methods_of_tree, instructions_of_tree};

@@ -1,4 +1,4 @@
-// Addresses of objects, and the number that stands for one in a word.
+//! Addresses of objects, and the number that stands for one in a word.
 
 ghost use Rattle.std.specs.Prelude.{◌≡◌, ◌-◌, ◌<◌, ◌≤◌, ◌==◌};
 

@@ -1,4 +1,4 @@
-// Objects in one block, or in two during a cycle.
+//! Objects in one block, or in two during a cycle.
 
 ghost use Rattle.cil_model.specs.declared.limits.TheConstants.{MOST_WORDS};
 ghost use Rattle.std.specs.Prelude.{◌≡◌, ◌≢◌, ℕ, ◌+◌, ◌*◌, ◌<◌, ◌≤◌, [], true, false, length, drop, replicate, slice_index, slice_get, Some, None, IfOk, IfSome, IsSome, option_map, vec_capacity};

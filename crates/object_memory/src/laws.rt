@@ -1,5 +1,5 @@
-// What lies where after a birth, a mark or a store, and that there is room for shells. Each function has an empty body, and its
-// contract is the law.
+//! What lies where after a birth, a mark or a store, and that there is room for shells. Each function has an empty body, and its
+//! contract is the law.
 
 ghost use Rattle.std.specs.Prelude.{◌≡◌, ◌≢◌, ◌≤◌, ◌+◌, ℕ, length, replicate, Some, None, IsSome};
 ghost use Rattle.cil_model.specs.declared.phases.Phase.{Phase};

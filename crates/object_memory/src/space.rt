@@ -1,4 +1,4 @@
-// The objects of one block.
+//! The objects of one block.
 
 ghost use Rattle.cil_model.specs.declared.limits.TheConstants.{MOST_WORDS};
 ghost use Rattle.object_memory.specs.Cells.{first, size, free_words, used_words, begins_behind, cell_in, slots_in, change_in, new_cell, with_last, next_address, store_slot, store_monitor, store_copies};

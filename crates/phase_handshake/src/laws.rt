@@ -1,4 +1,4 @@
-// Laws of handshakes. Each function has an empty body, and its contract is the law.
+//! Laws of handshakes. Each function has an empty body, and its contract is the law.
 
 ghost use Rattle.std.specs.Prelude.{◌≡◌, ◌↔◌, ℕ, true, Some};
 ghost use Rattle.phase_handshake.specs.declared.posts.Seat.{Seat};

@@ -1,4 +1,4 @@
-// What a collector posts, and what the threads acknowledge.
+//! What a collector posts, and what the threads acknowledge.
 
 ghost use Rattle.std.specs.Prelude.{◌≡◌, map, IsTrue};
 ghost use Rattle.std.specs.List.{list_all};

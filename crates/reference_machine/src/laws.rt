@@ -1,4 +1,4 @@
-// Laws of the reference machine. Each function has an empty body, and its contract is the law.
+//! Laws of the reference machine. Each function has an empty body, and its contract is the law.
 
 ghost use Rattle.std.specs.Prelude.{◌≡◌, ℕ, List, Some, None, slice_get, Bool, replicate, false, true, length, ◌∷◌, ◌++◌, [], codes};
 ghost use Rattle.std.specs.List.{zip};

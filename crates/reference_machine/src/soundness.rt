@@ -1,4 +1,4 @@
-// Laws of typed states. Each function has an empty body, and its contract is the law.
+//! Laws of typed states. Each function has an empty body, and its contract is the law.
 
 ghost use Rattle.std.specs.Prelude.{◌≡◌, ◌≤◌, ◌⊎◌, ℕ, ◌+◌, Bool, List, length, Some};
 ghost use Rattle.cil_model.specs.declared.trees.Tree.{Tree};

@@ -1,4 +1,4 @@
-// Laws of threads that wait. Each function has an empty body, and its contract is the law.
+//! Laws of threads that wait. Each function has an empty body, and its contract is the law.
 
 ghost use Rattle.std.specs.Prelude.{◌≡◌, ◌≢◌, ◌⊎◌, ℕ, Bool, List, None, Some};
 ghost use Rattle.cil_model.specs.declared.limits.Limits.{Limits};

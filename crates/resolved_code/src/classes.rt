@@ -1,4 +1,4 @@
-// Classes with their members, the types of these by number (ECMA-335 II.10 to II.16).
+//! Classes with their members, the types of these by number (ECMA-335 II.10 to II.16).
 
 ghost use Rattle.std.specs.Prelude.{option_map};
 ghost use Rattle.cil_model.specs.Bodies.{code_of};

@@ -1,4 +1,4 @@
-// The names and signatures of methods by numbers.
+//! The names and signatures of methods by numbers.
 
 ghost use Rattle.std.specs.Prelude.{◌≡◌, IfOk, map, flat_map};
 ghost use Rattle.name_tables.specs.Entries.{declaration_in};

@@ -1,4 +1,4 @@
-// Instructions with their operands looked up, one group after the other.
+//! Instructions with their operands looked up, one group after the other.
 
 ghost use Rattle.std.specs.Prelude.{◌≡◌, Some, option_map, false, true};
 ghost use Rattle.std.specs.List.{position_from};

@@ -1,4 +1,4 @@
-// The labels of a method, with the places of the instructions that they stand before.
+//! The labels of a method, with the places of the instructions that they stand before.
 
 ghost use Rattle.std.specs.Prelude.{◌≡◌, ◌++◌, IfOk, map, flat_map, option_and_then, slice_get};
 ghost use Rattle.cil_model.specs.Bodies.{lines_of, place_of};

@@ -1,4 +1,4 @@
-// Laws of numbers. Each function has an empty body, and its contract is the law.
+//! Laws of numbers. Each function has an empty body, and its contract is the law.
 
 ghost use Rattle.std.specs.Prelude.{◌≡◌, ℕ, List, Some, slice_get};
 ghost use Rattle.cil_model.specs.Legality.{IsLegal};

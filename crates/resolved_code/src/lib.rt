@@ -1,5 +1,5 @@
-// The classes, members and instructions of a tree by numbers, for the layers that run without names; and legal programs: a tree, with
-// its classes, literals and entry point by numbers.
+//! The classes, members and instructions of a tree by numbers, for the layers that run without names; and legal programs: a tree, with
+//! its classes, literals and entry point by numbers.
 #![tactic(auto)]
 
 pub mod classes;

@@ -1,4 +1,4 @@
-// The string literals of a tree by their numbers.
+//! The string literals of a tree by their numbers.
 
 ghost use Rattle.std.specs.Prelude.{◌≡◌, IfOk, map, filter_map};
 ghost use Rattle.std.specs.List.{position_from};

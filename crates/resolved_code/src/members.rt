@@ -1,4 +1,4 @@
-// Fields, methods and bodies by numbers.
+//! Fields, methods and bodies by numbers.
 
 ghost use Rattle.std.specs.Prelude.{◌≡◌, option_map};
 ghost use Rattle.cil_model.specs.Bodies.{code_of};

@@ -1,4 +1,4 @@
-// Types and classes by their numbers.
+//! Types and classes by their numbers.
 
 ghost use Rattle.std.specs.Prelude.{◌≡◌, option_map};
 ghost use Rattle.cil_model.specs.Same.{same_text};

@@ -1,4 +1,4 @@
-// Instructions with their operands resolved (ECMA-335 III.3 and III.4).
+//! Instructions with their operands resolved (ECMA-335 III.3 and III.4).
 
 use crate::types::NumberedType;
 use cil_model::instructions::{

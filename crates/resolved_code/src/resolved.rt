@@ -1,4 +1,4 @@
-// The resolved classes of a tree.
+//! The resolved classes of a tree.
 
 ghost use Rattle.std.specs.Prelude.{◌≡◌, ◌≢◌, IfOk, Err};
 ghost use Rattle.cil_model.specs.Legality.{IsLegal};

@@ -1,4 +1,4 @@
-// Whether a value of one type may stand where another is wanted, up to a test of two classes (ECMA-335 I.8.7).
+//! Whether a value of one type may stand where another is wanted, up to a test of two classes (ECMA-335 I.8.7).
 
 ghost use Rattle.std.specs.Prelude.{◌≡◌, Some};
 ghost use Rattle.cil_model.specs.declared.trees.Tree.{Tree};

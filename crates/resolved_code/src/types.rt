@@ -1,4 +1,4 @@
-// Types, their classes by number.
+//! Types, their classes by number.
 
 /// A type without brackets (ECMA-335 II.7.1). A class or interface has its number among the built-in classes and then those of the
 /// source, in order.

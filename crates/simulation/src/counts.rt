@@ -1,4 +1,4 @@
-// Laws of monitors and budgets. Each function has an empty body, and its contract is the law.
+//! Laws of monitors and budgets. Each function has an empty body, and its contract is the law.
 
 ghost use Rattle.std.specs.Prelude.{◌≡◌, ◌≤◌, ℕ, Bool, Some};
 ghost use Rattle.interpreter.specs.cil_model.declared.trees.Tree.{Tree};

@@ -1,4 +1,4 @@
-// Laws of machines. Each function has an empty body, and its contract is the law.
+//! Laws of machines. Each function has an empty body, and its contract is the law.
 
 ghost use Rattle.std.specs.Prelude.{◌≡◌, ◌≢◌, ◌↔◌, ◌≤◌, ◌++◌, ℕ, true, false, IsTrue, List, [], ◌∷◌, Some, length, slice_get};
 ghost use Rattle.std.specs.List.{zip};

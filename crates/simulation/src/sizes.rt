@@ -1,4 +1,4 @@
-// Laws of legal programs. Each function has an empty body, and its contract is the law.
+//! Laws of legal programs. Each function has an empty body, and its contract is the law.
 
 ghost use Rattle.std.specs.Prelude.{◌≡◌, ◌≤◌, ◌<◌, ◌≤ℤ◌, ◌*◌, ◌^◌, ℕ, List, Some, length, slice_get};
 ghost use Rattle.interpreter.specs.cil_model.declared.trees.Tree.{Tree};

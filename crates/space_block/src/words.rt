@@ -1,4 +1,4 @@
-// Words behind a pointer. No function but the four of this file follows one.
+//! Words behind a pointer. No function but the four of this file follows one.
 
 ghost use Rattle.std.specs.Prelude.{◌≡◌, ◌-◌, ◌<◌, ◌≤◌, ◌++◌, ℕ, List, Option, Some, None, length, take, drop, replicate, get_or, slice_set, IfOk};
 ghost use denote.RawPtr.{Ptr};

@@ -1,4 +1,4 @@
-// What an instruction comes to for the thread that made it.
+//! What an instruction comes to for the thread that made it.
 
 use cil_model::reports::Fault;
 

@@ -1,4 +1,4 @@
-// The frames of a thread.
+//! The frames of a thread.
 
 ghost use Rattle.std.specs.Prelude.{◌≡◌, ◌<◌, ◌≤◌, ◌+◌, ◌*◌, ◌^◌, ◌∷◌, ◌++◌, [], length, map, slice_get, None, Some, IfOk, ◌==◌, vec_len, vec_capacity};
 ghost use Rattle.std.specs.Prelude.{◌-◌, All, IfSome, drop, option_map, take};

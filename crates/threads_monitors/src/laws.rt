@@ -1,4 +1,4 @@
-// Laws of frames. Each function has an empty body, and its contract is the law.
+//! Laws of frames. Each function has an empty body, and its contract is the law.
 
 ghost use Rattle.std.specs.Prelude.{◌≡◌, map};
 ghost use Rattle.object_memory.specs.declared.addresses.Addr.{Addr};

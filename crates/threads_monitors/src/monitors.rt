@@ -1,4 +1,4 @@
-// Who enters and leaves the monitors of objects and literals.
+//! Who enters and leaves the monitors of objects and literals.
 
 ghost use Rattle.std.specs.Prelude.{◌≡◌, ◌≢◌, ◌<◌, ◌-◌, ◌^◌, IsSome, Some, true};
 ghost use Rattle.object_memory.specs.Cells.{null};

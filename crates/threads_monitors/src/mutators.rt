@@ -1,4 +1,4 @@
-// A thread, as the collector sees it.
+//! A thread, as the collector sees it.
 
 use cil_model::phases::Phase;
 

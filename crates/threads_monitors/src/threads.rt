@@ -1,4 +1,4 @@
-// Threads: what each step takes from their budgets, and how they start, wait for one another and end.
+//! Threads: what each step takes from their budgets, and how they start, wait for one another and end.
 
 ghost use Rattle.std.specs.Prelude.{◌≡◌, ◌≢◌, ◌<◌, ◌≤◌, ◌+◌, ◌*◌, ◌^◌, ◌∷◌, [], length, Some, None, IfOk, OnErr, true};
 ghost use Rattle.object_memory.specs.Cells.{null};

@@ -1,4 +1,4 @@
-// The types of a method's arguments, and its code.
+//! The types of a method's arguments, and its code.
 
 ghost use Rattle.std.specs.Prelude.{◌≡◌, IfOk, Some};
 ghost use Rattle.cil_model.specs.declared.trees.Tree.{Tree};

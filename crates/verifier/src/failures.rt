@@ -1,4 +1,4 @@
-// Why a method has no typing.
+//! Why a method has no typing.
 
 ghost use Rattle.std.specs.Prelude.{◌≡◌};
 ghost use Rattle.verifier.specs.declared.failures.TypingError.TheVariants.{OutOfMemory};

@@ -1,4 +1,4 @@
-// Stacks as typings keep them, which have one for each instruction of a program: each value in eight bytes.
+//! Stacks as typings keep them, which have one for each instruction of a program: each value in eight bytes.
 
 ghost use Rattle.std.specs.Prelude.{◌≡◌, ◌<◌, length, map, slice_get, Some, IfOk, IfSome};
 ghost use Rattle.flow_rules.specs.declared.entries.StackEntry.TheVariants.{Declared};

@@ -1,5 +1,5 @@
-// Which programs are accepted: each method of a legal program has a typing (ECMA-335 III.1.8), and the search for the least one
-// (III.1.8.1.3), by numbers.
+//! Which programs are accepted: each method of a legal program has a typing (ECMA-335 III.1.8), and the search for the least one
+//! (III.1.8.1.3), by numbers.
 #![tactic(auto)]
 
 mod arguments;

@@ -1,4 +1,4 @@
-// The numbers of the methods of a source.
+//! The numbers of the methods of a source.
 
 ghost use Rattle.std.specs.Prelude.{◌≡◌, ◌++◌, map, IfOk, OnOk, Some, slice_get};
 ghost use Rattle.cil_model.specs.declared.trees.Tree.{Tree as SourceTree};

@@ -1,4 +1,4 @@
-// Merges of stacks of types (ECMA-335 III.1.8.1.3).
+//! Merges of stacks of types (ECMA-335 III.1.8.1.3).
 
 ghost use Rattle.std.specs.Prelude.{◌≡◌, ◌<◌, ◌^◌, ◌||◌, true, false, IfOk, IfErr, IfSome, OnOk, Some, None, option_map, ◌++◌, ◌∷◌, [], is_some};
 ghost use Rattle.cil_model.specs.declared.trees.Tree.{Tree};

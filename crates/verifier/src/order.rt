@@ -1,5 +1,5 @@
-// The order in which the places of a method are taken. No contract speaks of it, since what a search finds is the same in every order: it
-// is found in few rounds where each place comes behind those from which control comes to it, but for the ways back of loops.
+//! The order in which the places of a method are taken. No contract speaks of it, since what a search finds is the same in every order: it
+//! is found in few rounds where each place comes behind those from which control comes to it, but for the ways back of loops.
 
 use crate::ways::ways_on;
 use cil_model::limits::MOST_TARGETS;

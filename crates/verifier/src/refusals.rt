@@ -1,4 +1,4 @@
-// Why a program is not accepted.
+//! Why a program is not accepted.
 
 ghost use Rattle.std.specs.Prelude.{◌≡◌};
 ghost use Rattle.verifier.specs.declared.failures.TypingError.TheVariants as OfMethod;

@@ -1,4 +1,4 @@
-// The least typing of a method, by flags for the places whose ways on are still to be looked at (ECMA-335 III.1.8.1.3).
+//! The least typing of a method, by flags for the places whose ways on are still to be looked at (ECMA-335 III.1.8.1.3).
 
 ghost use Rattle.std.specs.Prelude.{◌≡◌, ◌+◌, ◌<◌, ◌≤◌, pos, ℕ, ◌∷◌, [], List, IfOk, IfErr, IfSome, OnOk, length, replicate, slice_get, slice_set, true, false, Some, None, option_map};
 ghost use Rattle.cil_model.specs.declared.trees.Tree.{Tree};

@@ -1,4 +1,4 @@
-// The stack after an instruction, from the entries before it.
+//! The stack after an instruction, from the entries before it.
 
 ghost use Rattle.std.specs.Prelude.{◌≡◌, IfOk, IfErr, OnOk, ◌++◌, ◌∷◌, [], List};
 ghost use Rattle.cil_model.specs.declared.trees.Line.{Line};

@@ -1,4 +1,4 @@
-// A typing of each method.
+//! A typing of each method.
 
 ghost use Rattle.std.specs.Prelude.{◌≡◌, [], map, option_map, slice_get, Some};
 ghost use Rattle.cil_model.specs.declared.trees.Code.{Code};

@@ -1,4 +1,4 @@
-// Programs that are accepted.
+//! Programs that are accepted.
 
 ghost use Rattle.std.specs.Prelude.{◌≡◌, IfSome, None, Some, slice_get};
 ghost use Rattle.cil_model.specs.declared.trees.Method.{Method};

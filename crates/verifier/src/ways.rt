@@ -1,4 +1,4 @@
-// Where control goes on to behind an instruction (ECMA-335 III.1.7.2).
+//! Where control goes on to behind an instruction (ECMA-335 III.1.7.2).
 
 ghost use Rattle.std.specs.Prelude.{◌≡◌, ◌+◌, ◌++◌, ◌∷◌, [], IfOk, OnOk};
 ghost use Rattle.verifier.specs.Ways.{targets, falls, ways_on};

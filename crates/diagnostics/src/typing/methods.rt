@@ -25,6 +25,7 @@ impl<'a> SourceMethod<'a> {
         })
     }
 
+    /// Its name, as a source writes it.
     pub fn name(self) -> &'a str {
         match &self.method.name {
             MethodName::Constructor => ".ctor",
