@@ -3,4 +3,7 @@ pub mod LineLaws
 mod CutLaws
 mod SoughtLaws
 mod LedgerLaws
+mod CycleLaws
+mod WalkLaws
+mod CyclesFound
 pub mod Results

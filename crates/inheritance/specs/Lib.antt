@@ -4,3 +4,4 @@ pub mod Ledgers
 pub mod Marked
 pub mod Sought
 pub mod CutCycles
+pub mod Cycles

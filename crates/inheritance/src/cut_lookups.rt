@@ -8,9 +8,9 @@ ghost use Rattle.inheritance.specs.CutCycles.{part_in, IsCut};
 
 use crate::changes::Declared;
 use crate::cut_cycles::{CutCycles, Part, are_parts, cut_forest, part_in, parts_of};
+use crate::cycles::Cycles;
 use crate::forests::Forest;
 use crate::inheritance::{Endless, Inheritance};
-use crate::rounds::cycle_classes;
 use cil_model::memory::NoMemory;
 use std::alloc::Global;
 
@@ -20,11 +20,12 @@ impl CutCycles {
     pub fn new(alloc: Global, forest: &Forest) -> Result<Option<Self>, NoMemory>
         ensures { IfOk result (λ found. ForSome found (λ cycles. IsCut forest.now cycles.cut.forest)) }
     {
-        let classes = cycle_classes(alloc, forest.bases.as_slice())?;
-        if classes.as_slice().is_empty() {
+        let cycles = Cycles::new(alloc, forest.bases.as_slice())?;
+        let classes = cycles.classes.as_slice();
+        if classes.is_empty() {
             return Ok(None);
         }
-        let cut = Inheritance::new(alloc, cut_forest(alloc, forest, classes.as_slice())?)?;
+        let cut = Inheritance::new(alloc, cut_forest(alloc, forest, classes)?)?;
         let parts = parts_of(alloc, cut.forest.bases.as_slice())?;
         if !are_parts(&cut.forest, parts.as_slice()) {
             return Ok(None);

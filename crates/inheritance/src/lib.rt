@@ -4,18 +4,18 @@
 mod changes;
 mod cut_cycles;
 mod cut_lookups;
+mod cycles;
 mod forests;
 mod inheritance;
 mod ledgers;
 mod left_out;
 mod nearest;
-mod rounds;
 mod sought;
 mod tours;
 
 pub use changes::Declared;
 pub use cut_cycles::CutCycles;
+pub use cycles::least_own_base;
 pub use forests::Forest;
 pub use inheritance::{Endless, Inheritance};
-pub use rounds::least_own_base;
 pub use tours::classes_behind_bases;
