@@ -6,4 +6,7 @@ mod LedgerLaws
 mod CycleLaws
 mod WalkLaws
 mod CyclesFound
+mod OrderLaws
+mod OrdersFound
+mod WrittenLists
 pub mod Results

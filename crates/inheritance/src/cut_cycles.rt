@@ -6,7 +6,7 @@ ghost use Rattle.inheritance.specs.CutCycles.{part_in, part_of, AreParts, HasBas
 
 use crate::forests::Forest;
 use crate::inheritance::Inheritance;
-use crate::tours::classes_behind_bases;
+use crate::orders::classes_behind_bases;
 use cil_model::memory::NoMemory;
 use std::alloc::Global;
 

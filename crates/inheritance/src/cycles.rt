@@ -9,7 +9,7 @@ use cil_model::memory::NoMemory;
 use std::alloc::Global;
 
 /// What a list has at the number of a class.
-fn entry_at(entries: &[Option<usize>], class: usize) -> Option<usize>
+pub(crate) fn entry_at(entries: &[Option<usize>], class: usize) -> Option<usize>
     ensures { result ≡ base_in entries.now class }
 {
     match entries.get(class) {

@@ -10,6 +10,7 @@ mod inheritance;
 mod ledgers;
 mod left_out;
 mod nearest;
+mod orders;
 mod sought;
 mod tours;
 
@@ -18,4 +19,4 @@ pub use cut_cycles::CutCycles;
 pub use cycles::least_own_base;
 pub use forests::Forest;
 pub use inheritance::{Endless, Inheritance};
-pub use tours::classes_behind_bases;
+pub use orders::classes_behind_bases;

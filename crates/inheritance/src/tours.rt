@@ -1,5 +1,6 @@
 //! The order in which classes are gone through.
 
+use crate::cycles::entry_at;
 use cil_model::memory::NoMemory;
 use std::alloc::Global;
 
@@ -36,33 +37,25 @@ impl Children {
     }
 }
 
-/// The class that a chain has at another.
-fn class_at(links: &[Option<usize>], class: usize) -> Option<usize> {
-    match links.get(class) {
-        None => None,
-        Some(link) => *link,
-    }
-}
-
 /// A search through all classes whose bases end, each behind its base. Its contract says nothing, since what is found is right
 /// whatever the steps are: it is found fast for the classes that they enter.
 pub(crate) fn tour(alloc: Global, bases: &[Option<usize>]) -> Result<Vec<Step>, NoMemory> {
     let children = Children::new(alloc, bases)?;
     let mut steps = Vec::new(alloc);
     let mut class = bases.len();
-    let mut next = class_at(children.first.as_slice(), class);
+    let mut next = entry_at(children.first.as_slice(), class);
     for _ in 0..bases.len().saturating_mul(2) {
         let step = match next {
             Some(child) => {
                 class = child;
-                next = class_at(children.first.as_slice(), child);
+                next = entry_at(children.first.as_slice(), child);
                 Step::Enter(child)
             }
             None => {
                 let Some(base) = bases.get(class) else {
                     break;
                 };
-                next = class_at(children.next.as_slice(), class);
+                next = entry_at(children.next.as_slice(), class);
                 class = base.unwrap_or(bases.len());
                 Step::Leave
             }
@@ -70,19 +63,4 @@ pub(crate) fn tour(alloc: Global, bases: &[Option<usize>]) -> Result<Vec<Step>, 
         steps.push(step)?;
     }
     Ok(steps)
-}
-
-/// The classes whose bases end, each behind its base. Its contract says nothing, as that of the steps.
-pub fn classes_behind_bases(
-    alloc: Global,
-    bases: &[Option<usize>],
-) -> Result<Vec<usize>, NoMemory> {
-    let mut classes = Vec::new(alloc);
-    let steps = tour(alloc, bases)?;
-    for step in steps.as_slice() {
-        if let Step::Enter(class) = step {
-            classes.push(*class)?;
-        }
-    }
-    Ok(classes)
 }

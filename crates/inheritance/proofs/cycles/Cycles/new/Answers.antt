@@ -1,6 +1,6 @@
-use Rattle.std.proofs.Common.{rules, ◌≡◌, ◌++◌, ℕ, length, take, drop, List, Option, sym, ap, subst, ◌∙◌, arith}
-use Rattle.std.proofs.Math.Seq.{take-append_seam}
+use Rattle.std.proofs.Common.{rules, ◌≡◌, length, sym, subst, ◌∙◌, arith}
 use Rattle.inheritance.specs.Cycles.{HasWalked}
+use Rattle.inheritance.proofs.WrittenLists.{written_whole}
 use Rattle.inheritance.proofs.CyclesFound.{HaveWalked, none_walked, met_none, met_one, all_marked}
 use Rattle.inheritance.proofs.cycles.Cycles.new.Goals as goal
 use Rattle.inheritance.proofs.cycles.Cycles.new.Goals.{in-Some+in_ok-push, in_default}
@@ -9,10 +9,6 @@ pub loop-start-init : goal.loop-start-init
 loop-start-init c =
     rw (c.in_ok-walks.ensures.items_if_clones_equal (search rules), c.in_ok-marks.ensures.items_if_clones_equal (search rules)) (none_walked c.args.bases.now)
 
--- a list that is written whole
-whole : (n : ℕ) (new old : List (Option ℕ)) → n ≡ length new → take n (new ++ drop (length new) old) ≡ new
-whole n new old e = ap (λ k. take k (new ++ drop (length new) old)) e ∙ take-append_seam new (drop (length new) old)
-
 pub loop-start-preserved : goal.loop-start-preserved
 loop-start-preserved c =
     let bases = c.args.bases.now in
@@ -20,12 +16,12 @@ loop-start-preserved c =
     let after = c.met_again.new.walks in
     let walked = subst (λ old. HasWalked bases old l.start l.start after c.met_again.result) c.as_mut_slice.ensures.value c.met_again.ensures in
     let width : l.walks.len ≡ length after = l.walks.ok.0 ∙ sym walked.width in
-    rw (whole l.walks.len after l.walks.items width) (elim c.match-met_again.branch [
+    rw (written_whole l.walks.len after l.walks.items width) (elim c.match-met_again.branch [
       | in-Some+in_ok-push w ↦ (
           let marks = w.met_again-in-Some.new.walks in
           let round = subst (λ old. HasWalked bases old w.in-Some.class l.start marks w.met_again-in-Some.result) w.as_mut_slice-in-Some.ensures.value w.met_again-in-Some.ensures in
           let width : l.marks.len ≡ length marks = l.marks.ok.0 ∙ sym round.width in
-          rw (w.marks-is, whole l.marks.len marks l.marks.items width)
+          rw (w.marks-is, written_whole l.marks.len marks l.marks.items width)
           (met_one bases l.walks.items l.marks.items l.start l.invariant c.loop-start-test.true after c.met_again.result walked w.in-Some.class marks w.met_again-in-Some.result round w.in-Some.is)
           )
       | in_default w ↦ rw w.marks-is (met_none bases l.walks.items l.marks.items l.start l.invariant c.loop-start-test.true after c.met_again.result walked w.in_default.is)
