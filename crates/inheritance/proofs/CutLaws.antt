@@ -1,5 +1,7 @@
 -- Laws of cycles that are cut.
-use Rattle.std.proofs.Common.{◌≡◌, ◌<◌, ◌≤◌, ◌+◌, ◌-◌, ◌⊎◌, inl, inr, ℕ, zero, suc, List, [], ◌∷◌, Option, Some, None, option_map, refl, sym, ap, ◌∙◌, arith}
+use Rattle.std.proofs.Common.{◌≡◌, ◌<◌, ◌≤◌, ◌+◌, ◌-◌, ◌⊎◌, inl, inr, ℕ, zero, suc, true, false, is_some, List, [], ◌∷◌, length, Option, Some, None, option_map, slice_set, refl, sym, ap, subst, ◌∙◌, arith}
+use Rattle.std.proofs.lemmas.Bool.Decides.{eqb_tells}
+use Rattle.std.proofs.lemmas.List.{get_or-set_same, get_or-set_other}
 use Rattle.std.proofs.lemmas.Option.{same_Some, none-some}
 use Rattle.std.specs.Option.{option_map_or}
 use Rattle.inheritance.specs.declared.cut_cycles.Part.{Part}
@@ -138,3 +140,27 @@ module _ (at : ℕ → Option ℕ) (bases cut : List (Option ℕ)) (parts : List
       by_part : IsAlone class part ⊎ HasNext class part → IsNothingRound m → nearest at (line_within bases (suc m) (Some class)) ≡ None
       by_part (inl a) more = one_further m class (base_in bases last) (has_nothing class h) (ap (base_in bases) (sym a.1 ∙ f)) ∙ by_last (base_in bases last) refl more
       by_part (inr s) more = one_further m class (Some s.0) (has_nothing class h) (has class s.0 s.2) ∙ more s.0 last s.1 s.3 (sym s.4 ∙ f) (rest_finds_nothing class s.0 s.2 h) again
+
+-- ---- parts that are written down
+
+module _ (bases : List (Option ℕ)) (parts : List (Option Part)) (are : AreParts bases parts) (class : ℕ) (within : class < length parts) (none : part_in parts class ≡ None) (new : Option Part) (follows : (part : Part) → new ≡ Some part → part_of parts class (base_in bases class) ≡ Some part) where
+  abbrev parts' : List (Option Part)
+  parts' = slice_set parts class new
+
+  -- a part that follows still does, since that of the class was not known before
+  still_follows : (c : ℕ) (part : Part) (o : Option ℕ) → part_of parts c o ≡ Some part → part_of parts' c o ≡ Some part
+  still_follows c part None e = e
+  still_follows c part (Some base) e = elim (eqb_tells base class) [
+    | inl h ↦ absurd (none-some part (sym (ap (λ o. option_map (λ (p : Part). record { last = p.last; length = p.length + 1 }) o) (ap (part_in parts) h.1 ∙ none)) ∙ e))
+    | inr h ↦ ap (λ o. option_map (λ (p : Part). record { last = p.last; length = p.length + 1 }) o) (get_or-set_other parts class base new None h.1) ∙ e
+  ]
+
+  pub one_part_more : AreParts bases parts'
+  one_part_more c part e = elim (eqb_tells c class) [
+    | inl h ↦ still_follows c part (base_in bases c) (subst (λ d. part_of parts d (base_in bases d) ≡ Some part) (sym h.1) (follows part (sym (get_or-set_same parts class new None within) ∙ ap (part_in parts') (sym h.1) ∙ e)))
+    | inr h ↦ still_follows c part (base_in bases c) (are c part (sym (get_or-set_other parts class c new None h.1) ∙ e))
+  ]
+
+pub no_part : (o : Option Part) → is_some o ≡ false → o ≡ None
+no_part None e = refl
+no_part (Some part) e = let wrong : true ≡ false = e in cc wrong

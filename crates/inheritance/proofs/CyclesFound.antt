@@ -1,6 +1,6 @@
 -- Laws of cycles that are found by walks from all classes, one after another.
-use Rattle.std.proofs.Common.{◌≡◌, ◌≤◌, ◌<◌, ◌+◌, ◌⊎◌, inl, inr, ℕ, Bool, true, false, List, Option, Some, None, length, replicate, position, cond, is_some, refl, sym, ap, subst, ◌∙◌, arith}
-use Rattle.std.proofs.lemmas.List.{get_or-replicate, get_or_past, length-replicate}
+use Rattle.std.proofs.Common.{◌≡◌, ◌≤◌, ◌<◌, ◌+◌, ◌⊎◌, inl, inr, ℕ, Bool, true, false, List, Option, Some, None, length, replicate, position, cond, is_some, refl, sym, ap, subst, ◌∙◌, arith, [], ◌∷◌, ◌++◌}
+use Rattle.std.proofs.lemmas.List.{get_or-replicate, get_or_past, length-replicate, length_push}
 use Rattle.std.proofs.lemmas.List.Quantifiers.{position-Some}
 use Rattle.std.proofs.lemmas.List.Sums.{fails_before_first}
 use Rattle.std.proofs.lemmas.Bool.{cases_lt, lt-ltb}
@@ -137,6 +137,20 @@ module _ (bases walks marks : List (Option ℕ)) (start : ℕ) (is : HaveWalked 
         ]
 
 -- ---- when all have been made
+
+-- where no walk met itself, nothing is marked
+abbrev pub MetNone : List ℕ → List (Option ℕ) → Type 0
+MetNone classes marks = classes ≡ [] → (class : ℕ) → IsMarked marks class → ⊥
+
+pub none_met : (bases : List (Option ℕ)) → MetNone [] (none_of (length bases))
+none_met bases e class m = is_none (length bases) class m.0 m.1
+
+pub met_some : (classes : List ℕ) (class : ℕ) (marks : List (Option ℕ)) → MetNone (classes ++ class ∷ []) marks
+met_some classes class marks e = let wrong : length (classes ++ class ∷ []) ≡ 0 = ap length e in absurd (omega (arith, wrong, length_push classes class))
+
+-- so that no bases lead round
+pub none_round : (bases marks : List (Option ℕ)) (classes : List ℕ) → MarksOwnBases bases marks → MetNone classes marks → classes ≡ [] → (class : ℕ) → IsOwnBase bases class → ⊥
+none_round bases marks classes exact none e class own = none e class ((exact class).1 own)
 
 pub all_marked : (bases walks marks : List (Option ℕ)) → HaveWalked bases walks marks (length bases) → MarksOwnBases bases marks
 all_marked bases walks marks is class = (

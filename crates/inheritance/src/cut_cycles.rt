@@ -1,9 +1,10 @@
 //! Cycles of bases, each cut at one class, so that lines along them end.
 
-ghost use Rattle.std.specs.Prelude.{◌≡◌, Some, IfOk, IsTrue, map};
-ghost use Rattle.inheritance.specs.Lines.{base_in};
+ghost use Rattle.std.specs.Prelude.{◌≡◌, Some, IfOk, map};
+ghost use Rattle.inheritance.specs.declared.cut_cycles.Part.{Part};
 ghost use Rattle.inheritance.specs.CutCycles.{part_in, part_of, AreParts, HasBasesOf, IsCut};
 
+use crate::cycles::entry_at;
 use crate::forests::Forest;
 use crate::inheritance::Inheritance;
 use crate::orders::classes_behind_bases;
@@ -89,8 +90,10 @@ pub(crate) fn part_in(parts: &[Option<Part>], class: usize) -> Option<Part>
     }
 }
 
-/// The part of a class's line by that of its base.
-fn part_of(parts: &[Option<Part>], class: usize, base: Option<usize>) -> Option<Part> {
+/// The part of a class's line by that of its base; none where that is not known.
+fn part_of(parts: &[Option<Part>], class: usize, base: Option<usize>) -> Option<Part>
+    ensures { (part : Part) → result ≡ Some part → part_of parts.now class base ≡ Some part }
+{
     let Some(base) = base else {
         return Some(Part {
             last: class,
@@ -104,46 +107,19 @@ fn part_of(parts: &[Option<Part>], class: usize, base: Option<usize>) -> Option<
     })
 }
 
-/// The parts of all lines. Its contract says nothing: whoever asks tries them.
+/// The parts of all lines that end. Fails for want of memory alone.
 pub(crate) fn parts_of(
     alloc: Global,
     bases: &[Option<usize>],
-) -> Result<Vec<Option<Part>>, NoMemory> {
+) -> Result<Vec<Option<Part>>, NoMemory>
+    ensures { IfOk result (λ parts. AreParts bases.now parts.items) }
+{
     let mut parts = vec![in alloc; None; bases.len()]?;
     let classes = classes_behind_bases(alloc, bases)?;
     for class in classes.as_slice() {
-        if *class < parts.len() && *class < bases.len() {
-            parts[*class] = part_of(parts.as_slice(), *class, bases[*class]);
+        if *class < parts.len() && parts[*class].is_none() {
+            parts[*class] = part_of(parts.as_slice(), *class, entry_at(bases, *class));
         }
     }
     Ok(parts)
-}
-
-/// Whether a class's part follows from that of its base.
-fn is_part(cut: &Forest, parts: &[Option<Part>], class: usize, part: Part) -> bool
-    ensures { IsTrue result → part_of parts.now class (base_in cut.now.bases.items class) ≡ Some part }
-{
-    match cut.base(class) {
-        None => part.last == class && part.length == 1,
-        Some(base) => match part_in(parts, base) {
-            None => false,
-            Some(next) => {
-                next.last == part.last && part.length > 0 && next.length == part.length - 1
-            }
-        },
-    }
-}
-
-/// Whether all parts follow from those of bases.
-pub(crate) fn are_parts(cut: &Forest, parts: &[Option<Part>]) -> bool
-    ensures { IsTrue result → AreParts cut.now.bases.items parts.now }
-{
-    for class in 0..parts.len() {
-        if let Some(part) = parts[class] {
-            if !is_part(cut, parts, class, part) {
-                return false;
-            }
-        }
-    }
-    true
 }

@@ -5,9 +5,10 @@ ghost use Rattle.std.specs.Option.{ForSome};
 ghost use Rattle.inheritance.specs.declared.changes.Declared.{Declared};
 ghost use Rattle.inheritance.specs.Ledgers.{pair_of, nearest_from};
 ghost use Rattle.inheritance.specs.CutCycles.{part_in, IsCut};
+ghost use Rattle.inheritance.specs.Cycles.{IsOwnBase};
 
 use crate::changes::Declared;
-use crate::cut_cycles::{CutCycles, Part, are_parts, cut_forest, part_in, parts_of};
+use crate::cut_cycles::{CutCycles, Part, cut_forest, part_in, parts_of};
 use crate::cycles::Cycles;
 use crate::forests::Forest;
 use crate::inheritance::{Endless, Inheritance};
@@ -15,10 +16,11 @@ use cil_model::memory::NoMemory;
 use std::alloc::Global;
 
 impl CutCycles {
-    /// Cuts each cycle of bases at one class; none where no bases lead round. Takes time and memory with the number of classes and of
+    /// Cuts each cycle of bases at one class; none only where no bases lead round. Takes time and memory with the number of classes and of
     /// declarations, but for logarithms. Fails for want of memory alone.
     pub fn new(alloc: Global, forest: &Forest) -> Result<Option<Self>, NoMemory>
-        ensures { IfOk result (λ found. ForSome found (λ cycles. IsCut forest.now cycles.cut.forest)) }
+        ensures cut { IfOk result (λ found. ForSome found (λ cycles. IsCut forest.now cycles.cut.forest)) }
+        ensures none { IfOk result (λ found. found ≡ None → (class : ℕ) → IsOwnBase forest.now.bases.items class → ⊥) }
     {
         let cycles = Cycles::new(alloc, forest.bases.as_slice())?;
         let classes = cycles.classes.as_slice();
@@ -27,9 +29,6 @@ impl CutCycles {
         }
         let cut = Inheritance::new(alloc, cut_forest(alloc, forest, classes)?)?;
         let parts = parts_of(alloc, cut.forest.bases.as_slice())?;
-        if !are_parts(&cut.forest, parts.as_slice()) {
-            return Ok(None);
-        }
         Ok(Some(CutCycles { cut, parts }))
     }
 

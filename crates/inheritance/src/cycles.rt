@@ -1,9 +1,9 @@
 //! Bases that lead round.
 
-ghost use Rattle.std.specs.Prelude.{◌≡◌, ℕ, Some, IfOk, is_some, length};
+ghost use Rattle.std.specs.Prelude.{◌≡◌, ℕ, [], Some, IfOk, is_some, length};
 ghost use Rattle.std.specs.List.{position};
 ghost use Rattle.inheritance.specs.Lines.{base_in};
-ghost use Rattle.inheritance.specs.Cycles.{walk_at, HasWalked, IsLeastOwnBase, MarksOwnBases};
+ghost use Rattle.inheritance.specs.Cycles.{walk_at, HasWalked, IsOwnBase, IsLeastOwnBase, MarksOwnBases};
 
 use cil_model::memory::NoMemory;
 use std::alloc::Global;
@@ -54,7 +54,8 @@ impl Cycles {
     /// Goes along all bases: a class at which a walk meets itself is on a cycle, which is then gone round once more and marked. Takes
     /// time with the number of classes. Fails for want of memory alone.
     pub(crate) fn new(alloc: Global, bases: &[Option<usize>]) -> Result<Self, NoMemory>
-        ensures { IfOk result (λ cycles. MarksOwnBases bases.now cycles.marks.items) }
+        ensures marks { IfOk result (λ cycles. MarksOwnBases bases.now cycles.marks.items) }
+        ensures classes { IfOk result (λ cycles. cycles.classes.items ≡ [] → (class : ℕ) → IsOwnBase bases.now class → ⊥) }
     {
         let mut classes = Vec::new(alloc);
         let mut marks = vec![in alloc; None; bases.len()]?;

@@ -15,4 +15,4 @@ invariant_of-result-clause-numbered g c =
     (ap (λ (f : Forest). map (λ r. r.items) f.declared.items) c.in_ok-inheritance.ensures ∙ c.in_ok-forest.ensures.declared)
 
 pub invariant_of-result-clause-cut : goal.invariant_of-result-clause-cut
-invariant_of-result-clause-cut g c = λ cycles e. subst (λ (f : Forest). IsCut f cycles.cut.forest) (sym c.in_ok-inheritance.ensures) (c.in_ok-cycles.ensures cycles e)
+invariant_of-result-clause-cut g c = λ cycles e. subst (λ (f : Forest). IsCut f cycles.cut.forest) (sym c.in_ok-inheritance.ensures) (c.in_ok-cycles.ensures.cut cycles e)
