@@ -6,7 +6,7 @@ mod LedgerLaws
 mod CycleLaws
 mod WalkLaws
 mod CyclesFound
-mod OrderLaws
-mod OrdersFound
+mod BehindBasesLaws
+mod BehindBasesFound
 mod WrittenLists
 pub mod Results

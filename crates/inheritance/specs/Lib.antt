@@ -5,4 +5,4 @@ pub mod Marked
 pub mod Sought
 pub mod CutCycles
 pub mod Cycles
-pub mod Orders
+pub mod BehindBases

@@ -4,10 +4,10 @@ ghost use Rattle.std.specs.Prelude.{◌≡◌, Some, IfOk, map};
 ghost use Rattle.inheritance.specs.declared.cut_cycles.Part.{Part};
 ghost use Rattle.inheritance.specs.CutCycles.{part_in, part_of, AreParts, HasBasesOf, IsCut};
 
+use crate::behind_bases::classes_behind_bases;
 use crate::cycles::entry_at;
 use crate::forests::Forest;
 use crate::inheritance::Inheritance;
-use crate::orders::classes_behind_bases;
 use cil_model::memory::NoMemory;
 use std::alloc::Global;
 

@@ -1,7 +1,7 @@
 //! Classes, each behind its base.
 
 ghost use Rattle.std.specs.Prelude.{◌≡◌, ◌++◌, ◌<◌, ℕ, [], true, false, Some, None, IfOk, reverse, length};
-ghost use Rattle.inheritance.specs.Orders.{is_met, is_listed_next, AreBehindBases, HasMet, IsMetNext, MarksMore};
+ghost use Rattle.inheritance.specs.BehindBases.{is_met, is_listed_next, AreBehindBases, HasMet, IsMetNext, MarksMore};
 
 use crate::cycles::entry_at;
 use cil_model::memory::NoMemory;

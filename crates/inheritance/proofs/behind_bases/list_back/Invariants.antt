@@ -1,5 +1,5 @@
-use Rattle.inheritance.proofs.OrderLaws.{IsListing}
-use Rattle.inheritance.proofs.orders.list_back.Given as goal
+use Rattle.inheritance.proofs.BehindBasesLaws.{IsListing}
+use Rattle.inheritance.proofs.behind_bases.list_back.Given as goal
 
 abbrev pub invariant-loop-class : goal.invariant-loop-class
 invariant-loop-class l = IsListing l.fn.listed l.fn.path.items l.fn.classes.items l.listed l.path.items l.classes.items

@@ -8,7 +8,7 @@ use Rattle.std.proofs.lemmas.List.Sums.{sum_by_push, sum_by-set, sum_by-cons, su
 use Rattle.std.proofs.Math.Seq.{take-append_seam}
 use Rattle.std.proofs.lemmas.Option.{same_Some, none-some}
 use Rattle.inheritance.specs.Lines.{base_in, Ends}
-use Rattle.inheritance.specs.Orders.{times, IsPath, is_met, HasMet}
+use Rattle.inheritance.specs.BehindBases.{times, IsPath, is_met, HasMet}
 use Rattle.inheritance.proofs.LineLaws.{EndsFrom, ends_from_none, ends_step}
 
 -- ---- how often a class stands in a list

@@ -1,7 +1,7 @@
 use Rattle.std.specs.List.{sum_by}
-use Rattle.inheritance.specs.Orders.{HasMet}
-use Rattle.inheritance.proofs.OrderLaws.{unmet}
-use Rattle.inheritance.proofs.orders.walk_up.Given as goal
+use Rattle.inheritance.specs.BehindBases.{HasMet}
+use Rattle.inheritance.proofs.BehindBasesLaws.{unmet}
+use Rattle.inheritance.proofs.behind_bases.walk_up.Given as goal
 
 abbrev pub invariant-loop-class : goal.invariant-loop-class
 invariant-loop-class l = HasMet l.bases l.fn.met l.first l.met l.path.items l.next

@@ -1,9 +1,9 @@
 use Rattle.std.proofs.Common.{rules, ◌≡◌, ◌∙◌, length, sym, ap, arith, subst}
-use Rattle.inheritance.specs.Orders.{HasMet, MarksMore, is_listed_next}
+use Rattle.inheritance.specs.BehindBases.{HasMet, MarksMore, is_listed_next}
 use Rattle.inheritance.proofs.WrittenLists.{written_whole}
-use Rattle.inheritance.proofs.OrdersFound.{HaveListed, none_walked, path_listed, path_dropped, all_listed}
-use Rattle.inheritance.proofs.orders.classes_behind_bases.Goals as goal
-use Rattle.inheritance.proofs.orders.classes_behind_bases.Goals.{then-is_listed_next+in_ok-list_back, else-is_listed_next}
+use Rattle.inheritance.proofs.BehindBasesFound.{HaveListed, none_walked, path_listed, path_dropped, all_listed}
+use Rattle.inheritance.proofs.behind_bases.classes_behind_bases.Goals as goal
+use Rattle.inheritance.proofs.behind_bases.classes_behind_bases.Goals.{then-is_listed_next+in_ok-list_back, else-is_listed_next}
 
 pub loop-start-init : goal.loop-start-init
 loop-start-init c = (

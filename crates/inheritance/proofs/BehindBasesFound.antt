@@ -4,9 +4,9 @@ use Rattle.std.proofs.lemmas.Bool.{cases_lt}
 use Rattle.std.proofs.lemmas.List.{get_or-replicate, get_or_past, get_or_default, length-replicate}
 use Rattle.std.proofs.lemmas.Option.{same_Some}
 use Rattle.inheritance.specs.Lines.{base_in}
-use Rattle.inheritance.specs.Orders.{times, AreBehindBases, IsPath, is_met, HasMet, IsMetNext, is_listed_next, MarksMore}
+use Rattle.inheritance.specs.BehindBases.{times, AreBehindBases, IsPath, is_met, HasMet, IsMetNext, is_listed_next, MarksMore}
 use Rattle.inheritance.proofs.LineLaws.{kind_never_ends}
-use Rattle.inheritance.proofs.OrderLaws.{IsOrder, IsListedNext, none_listed, list_path, path_base, one_at, one_here, times_first, times_both, not_both}
+use Rattle.inheritance.proofs.BehindBasesLaws.{IsOrder, IsListedNext, none_listed, list_path, path_base, one_at, one_here, times_first, times_both, not_both}
 
 -- a class that is met and not listed, so that its bases do not end
 abbrev pub IsEndless : List Bool → List Bool → ℕ → Type 0

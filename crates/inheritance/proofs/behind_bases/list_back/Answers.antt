@@ -1,6 +1,6 @@
 use Rattle.std.proofs.Common.{arith, subst}
-use Rattle.inheritance.proofs.OrderLaws.{IsListing, list_in, list_out}
-use Rattle.inheritance.proofs.orders.list_back.Goals as goal
+use Rattle.inheritance.proofs.BehindBasesLaws.{IsListing, list_in, list_out}
+use Rattle.inheritance.proofs.behind_bases.list_back.Goals as goal
 
 pub loop-class-preserved-then-class-listed : goal.loop-class-preserved-then-class-listed
 loop-class-preserved-then-class-listed c =

@@ -1,6 +1,6 @@
 use Rattle.std.proofs.Common.{refl}
-use Rattle.inheritance.proofs.OrderLaws.{nothing_met, one_more_met, fewer_unmet}
-use Rattle.inheritance.proofs.orders.walk_up.Goals as goal
+use Rattle.inheritance.proofs.BehindBasesLaws.{nothing_met, one_more_met, fewer_unmet}
+use Rattle.inheritance.proofs.behind_bases.walk_up.Goals as goal
 
 pub bounds-met-class : goal.bounds-met-class
 bounds-met-class c = (c.in-Some.ensures.found c.in-Some.class refl).1
