@@ -19,7 +19,7 @@ use instruction_text::CharactersText;
 use name_tables::built_in::BuiltInClass;
 use name_tables::lookups::NameTables;
 use orders::read_source;
-use schedule_text::{Item, write_schedule};
+use schedule_text::{Item, insert_at, write_schedule};
 use std::alloc::Global;
 use std::collections::HashMap;
 use std::io;
@@ -57,7 +57,7 @@ pub fn came_to(name: &'static str, is_as_expected: bool) -> Call
 }
 
 /// Makes the calls. One that wants memory counts as one that came to something else.
-pub fn calls(threads: &(impl Threads + Sync), alloc: Global) -> [Call; 9] {
+pub fn calls(threads: &(impl Threads + Sync), alloc: Global) -> [Call; 10] {
     [
         came_to(
             "a source that is too long",
@@ -67,6 +67,7 @@ pub fn calls(threads: &(impl Threads + Sync), alloc: Global) -> [Call; 9] {
             "a schedule as text",
             writes_schedules(alloc).unwrap_or(false),
         ),
+        came_to("events among others", inserts_events(alloc)),
         came_to(
             "characters as text",
             writes_characters(alloc).unwrap_or(false),
@@ -121,6 +122,26 @@ fn writes_schedules(alloc: Global) -> Result<bool, NoMemory> {
         text.is_some_and(|text| text.as_str() == "s15*2 g a0 s15")
             && refused.map(|error| error.number()) == Some(502),
     )
+}
+
+/// Whether events are put among others, and not where there would be too many.
+fn inserts_events(alloc: Global) -> bool {
+    let cycle = [once(Event::Gc), once(Event::Ack(0))];
+    let steps = [Item {
+        event: Event::Step(0),
+        count: 5,
+    }];
+    let many = [Item {
+        event: Event::Gc,
+        count: 999_999,
+    }];
+    let Ok(all) = insert_at(alloc, &steps, 3, &cycle) else {
+        return false;
+    };
+    let text = write_schedule(alloc, all.as_slice()).ok();
+    let refused = insert_at(alloc, &many, 0, &cycle).err();
+    text.is_some_and(|text| text.as_str() == "s0*3 g a0 s0*2")
+        && refused.map(|error| error.number()) == Some(503)
 }
 
 /// Whether characters that no source can hold are written by their octal numbers, and want of memory in words.

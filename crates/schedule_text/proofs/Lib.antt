@@ -6,3 +6,4 @@ pub mod WritingLemmas
 pub mod TextLemmas
 pub mod RunLemmas
 pub mod SoFar
+pub mod InsertLemmas

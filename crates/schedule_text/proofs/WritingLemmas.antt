@@ -6,14 +6,11 @@ use Rattle.std.proofs.lemmas.Grind.{flat_map-append}
 use Rattle.std.proofs.lemmas.List.{append-nil, drop_more, length-replicate, replicate-append-replicate, take-append-drop, take_more}
 use Rattle.std.proofs.lemmas.List.Elements.{All-cons, All-head, All-nil}
 use Rattle.std.proofs.lemmas.List.Folds.{list_all-append}
-use Rattle.std.proofs.lemmas.Bool.Decides.{nat_tests}
-use Rattle.std.specs.Prelude.{nat_le}
 use borrow.Author.Tests.{eqb-true, eq-eqb}
 use Rattle.cil_model.specs.declared.events.Event.{Event}
 use Rattle.cil_model.specs.declared.events.Event.TheVariants.{Step, Ack, Gc}
 use Rattle.schedule_text.specs.Items.{events_of, has_good_events, is_numbered, item_text, name_of, same_event, separated}
 use Rattle.schedule_text.specs.Writings.{AreRuns, IsTextOf}
-use Rattle.schedule_text.specs.declared.errors.TheConstants.{MOST_EVENTS}
 use Rattle.schedule_text.specs.declared.items.Item.{Item}
 
 -- the text of more items behind a text
@@ -233,8 +230,5 @@ events_at_least items i =
     omega (arith, split)
 
 -- so they are too many
-pub too_many : (items : List Item) (i : ℕ) (d : Item) (left : ℕ) → i < length items → left + length (events_of (take i items)) ≡ MOST_EVENTS → left < (get_or items i d).count →
-    false ≡ nat_le (length (events_of items)) MOST_EVENTS
-too_many items i d left below so_far more =
-    let many : MOST_EVENTS < length (events_of items) = omega (arith, so_far, more, events_more items i d below, events_at_least items (i + 1)) in
-    grind (arith, nat_tests)
+pub too_many : (items : List Item) (i : ℕ) (d : Item) (most room : ℕ) → i < length items → room + length (events_of (take i items)) ≡ most → ¬ ((get_or items i d).count ≤ room) → most < length (events_of items)
+too_many items i d most room below so_far more = omega (arith, so_far, more, events_more items i d below, events_at_least items (i + 1))

@@ -1,4 +1,5 @@
 pub mod Errors
+pub mod Insertions
 pub mod Items
 pub mod Readings
 pub mod Writings

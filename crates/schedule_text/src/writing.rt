@@ -5,6 +5,7 @@ ghost use Rattle.schedule_text.specs.Items.{events_of, has_good_events, is_numbe
 ghost use Rattle.schedule_text.specs.Writings.{IsNotWritten, IsTextOf, IsWritten};
 
 use crate::errors::{MOST_EVENTS, ScheduleError};
+use crate::inserting::room_behind;
 use crate::items::{Item, is_numbered};
 use cil_model::events::Event;
 use std::alloc::{AllocError, Global};
@@ -34,14 +35,7 @@ pub fn write_schedule(alloc: Global, items: &[Item]) -> Result<String, ScheduleE
 fn are_few(items: &[Item]) -> bool
     ensures { result ≡ nat_le (length (events_of items.now)) MOST_EVENTS }
 {
-    let mut left = MOST_EVENTS;
-    for item in items {
-        if item.count > left {
-            return false;
-        }
-        left -= item.count;
-    }
-    true
+    room_behind(items, MOST_EVENTS).is_some()
 }
 
 /// Whether each event's thread is one that a machine can have.
