@@ -9,6 +9,7 @@ mod LegalityTrials
 mod SlotTrials
 mod TypeTrials
 mod JoinTrials
+mod GrammarTrials
 mod TokenTrials
 mod LexemeTrials
 mod CollectorTrials

@@ -30,7 +30,7 @@ use Rattle.cil_model.specs.declared.instructions.Instruction.TheVariants as inst
 use Rattle.cil_model.specs.Bodies.{constructor_reference, virtual_reference}
 use Rattle.cil_model.specs.Spans.{◌▸◌, item, maybe, present}
 use Rattle.cil_model.specs.Words.{short_constants, short_argument_loads, short_local_loads, short_local_stores}
-use Rattle.cil_model.specs.Grammar.{Span, word, sign, name, commas, parentheses, in_assembly, ref, elem, elem_alone, brackets, type_of, ret, parameter, method_name, field_reference, method_reference, binary_word, unary_word, shift_word, comparison_word, branch_word, instr}
+use Rattle.cil_model.specs.Grammar.{Span, word, sign, name, commas, parentheses, in_assembly, ref, elem, brackets, type_of, ret, parameter, method_name, field_reference, method_reference, binary_word, unary_word, shift_word, comparison_word, branch_word, instr}
 use Rattle.ilasm_tokens.specs.declared.words.Form.{Form}
 use Rattle.ilasm_tokens.specs.declared.words.Form.TheVariants as forms
 use Rattle.ilasm_tokens.specs.declared.words.Bare as bare_type
@@ -38,13 +38,14 @@ use Rattle.ilasm_tokens.specs.declared.words.Bare.TheVariants as bares
 use Rattle.ilasm_tokens.specs.declared.words.WithInteger.TheVariants as integers
 use Rattle.ilasm_tokens.specs.declared.words.Jump.TheVariants as jumps
 use Rattle.ilasm_tokens.specs.declared.words.FieldAccess.TheVariants as accesses
-use Rattle.ilasm_tokens.specs.declared.words.TypeTest.TheVariants as tests
+use Rattle.ilasm_tokens.specs.declared.words.WithType.TheVariants as with_types
 use Rattle.ilasm_tokens.specs.Steps.{bind, choice, with_front, bind_at, choice_at, choice_past, Sound}
 use Rattle.ilasm_tokens.specs.Vocabulary.{use_of}
 use Rattle.ilasm_tokens.proofs.Many.{CompleteBefore, Complete, ends, many_complete}
-use Rattle.ilasm_reader.specs.Parsing.{Parser, word_at, number_of, sign_at, any_word_at, name_at, integer_at, quoted_at, flag_at, starts_comma, after_comma, commas_at, closed_commas_at, parentheses_at, empty_block_at, before_sign_at, pair_at, in_block, assembly_name_at, class_of_assembly_at, class_name_at, element_at, brackets_at, type_at, parameter_at, return_type_at, field_of_owner_at, field_reference_at, method_name_at, method_of_owner_at, method_reference_at, instance_method_at, bare, virtual_call, creation, has_32_bits, operands_at, form_of, instruction_at}
+use Rattle.ilasm_reader.specs.Parsing.{Parser, word_at, number_of, sign_at, any_word_at, name_at, integer_at, quoted_at, flag_at, starts_comma, after_comma, commas_at, closed_commas_at, parentheses_at, empty_block_at, before_sign_at, pair_at, in_block, assembly_name_at, class_of_assembly_at, class_name_at, element_at, brackets_at, all_brackets_at, type_at, parameter_at, return_type_at, field_of_owner_at, field_reference_at, method_name_at, method_of_owner_at, method_reference_at, instance_method_at, bare, virtual_call, creation, has_32_bits, operands_at, form_of, instruction_at}
 use Rattle.ilasm_reader.specs.Forms.{operands}
 use Rattle.ilasm_reader.specs.Sound.{name_sound, after_comma_sound, type_sound}
+use Rattle.ilasm_reader.proofs.BracketPairs.{no_more}
 
 -- ---- single tokens
 
@@ -248,19 +249,15 @@ element_complete (ClassElement c) ts rest (a, p, q) =
     (choice_past _ (word_no_word (codes "object") (codes "class") refl p) (choice_past _ (word_no_word (codes "string") (codes "class") refl p)
     (bind_at _ (word_complete (codes "class") p) (bind_at _ (class_name_complete c a rest q) refl)))))
 
-brackets_complete : {ts rest : List Token} → brackets 1 ts rest → brackets_at ts ≡ Some rest
-unfolding brackets_at
-brackets_complete (a, p, q) = bind_at _ (sign_complete OpenBracket p) (sign_complete CloseBracket q)
-
-type_part : (n : ℕ) (e : Element) (mid rest : List Token) → EndsType rest → brackets n mid rest
-    → choice {B = Option (DeclaredType × List Token)} (brackets_at mid) (λ after. Some (record { element = e; brackets = 1 }, after)) (Some (record { element = e; brackets = 0 }, mid)) ≡ Some (record { element = e; brackets = n }, rest)
-type_part zero e mid rest h p = choice_past _ (rw p h) (rw p refl)
-type_part (suc zero) e mid rest h p = choice_at _ _ (brackets_complete p) refl
-type_part (suc (suc n)) e mid rest h p = absurd p
+all_brackets_complete : (n : ℕ) (ts rest : List Token) → EndsType rest → brackets n ts rest → all_brackets_at ts ≡ (n, rest)
+unfolding all_brackets_at
+all_brackets_complete zero ts rest e p = rw p (no_more rest e)
+all_brackets_complete (suc n) ts rest e (a, p, (b, q, r)) = rw (p, q) (ap (λ (x : ℕ × List Token). (suc x.0, x.1)) (all_brackets_complete n b rest e r))
 
 pub type_complete : CompleteBefore EndsType type_at type_of
 unfolding type_at
-type_complete x ts rest e (a, p, q) = bind_at _ (element_complete x.element ts a p) (type_part x.brackets x.element a rest e q)
+type_complete x ts rest e (a, p, q) =
+    bind_at _ (element_complete x.element ts a p) (ap (λ (y : ℕ × List Token). Some (record { element = x.element; brackets = y.0 }, y.1)) (all_brackets_complete x.brackets a rest e q))
 
 type_before : CompleteBefore EndsItem type_at type_of
 type_before x ts rest e p = type_complete x ts rest e.1 p
@@ -367,7 +364,6 @@ operands_complete (forms.Jump which) x ts rest e (l, i, p) = bind_at _ (name_com
 operands_complete forms.Switch x ts rest e (ls, i, p) =
     bind_at _ (parentheses_complete name_at name name_sound (λ n us vs _ q. name_complete n q) (λ n us vs q. name_no_sign CloseParenthesis n q) ls ts rest p) (rw i refl)
 operands_complete (forms.Field which) x ts rest e (r, i, p) = bind_at _ (field_reference_complete r ts rest p) (rw i refl)
-operands_complete forms.NewArray x ts rest e (t, i, p) = bind_at _ (element_complete t ts rest p) (rw i refl)
 operands_complete (forms.Type which) x ts rest e (t, i, p) = bind_at _ (type_complete t ts rest e p) (rw i refl)
 operands_complete forms.Call x ts rest e (b, r, i, (a, p, q)) =
     let flag = flag_complete (codes "instance") b ts a (return_no_instance r.signature.return_type a q.0 q.1) p in
@@ -456,13 +452,6 @@ branch_form branch.Less = refl
 spelled_bare : (i : Instruction) (w : List ℕ) (which : bare_type.Bare) (ts rest : List Token) → form_of (use_of w) ≡ Some (forms.Bare which) → i ≡ bare which → word w ts rest → Spelled i ts rest
 spelled_bare i w which ts rest h e p = record { word_is = w; form = forms.Bare which; has = h; mid = rest; first = p; behind = (e, refl) }
 
-new_array : (t : DeclaredType) (ts rest : List Token) → elem_alone t.brackets t.element ts rest → operands forms.NewArray (instructions.NewArray t) ts rest
-new_array t ts rest p = by t.brackets t.element p
-  where
-    by : (n : ℕ) (e : Element) → elem_alone n e ts rest → operands forms.NewArray (instructions.NewArray (record { element = e; brackets = n })) ts rest
-    by zero e p = (e, refl, p)
-    by (suc n) e p = absurd p
-
 pub spelled : (i : Instruction) (ts rest : List Token) → instr i ts rest → Spelled i ts rest
 unfolding use_of form_of
 spelled instructions.NoOperation ts rest p = spelled_bare instructions.NoOperation (codes "nop") bares.NoOperation ts rest refl refl p
@@ -503,9 +492,9 @@ spelled (instructions.LoadField r) ts rest (a, p, q) = record { word_is = codes 
 spelled (instructions.StoreField r) ts rest (a, p, q) = record { word_is = codes "stfld"; form = forms.Field accesses.Store; has = refl; mid = a; first = p; behind = (r, refl, q) }
 spelled (instructions.LoadStaticField r) ts rest (a, p, q) = record { word_is = codes "ldsfld"; form = forms.Field accesses.LoadStatic; has = refl; mid = a; first = p; behind = (r, refl, q) }
 spelled (instructions.StoreStaticField r) ts rest (a, p, q) = record { word_is = codes "stsfld"; form = forms.Field accesses.StoreStatic; has = refl; mid = a; first = p; behind = (r, refl, q) }
-spelled (instructions.NewArray t) ts rest (a, p, q) = let alone = new_array t a rest q in record { word_is = codes "newarr"; form = forms.NewArray; has = refl; mid = a; first = p; behind = alone }
-spelled (instructions.CastClass t) ts rest (a, p, q) = record { word_is = codes "castclass"; form = forms.Type tests.Cast; has = refl; mid = a; first = p; behind = (t, refl, q) }
-spelled (instructions.IsInstance t) ts rest (a, p, q) = record { word_is = codes "isinst"; form = forms.Type tests.IsInstance; has = refl; mid = a; first = p; behind = (t, refl, q) }
+spelled (instructions.NewArray t) ts rest (a, p, q) = record { word_is = codes "newarr"; form = forms.Type with_types.NewArray; has = refl; mid = a; first = p; behind = (t, refl, q) }
+spelled (instructions.CastClass t) ts rest (a, p, q) = record { word_is = codes "castclass"; form = forms.Type with_types.Cast; has = refl; mid = a; first = p; behind = (t, refl, q) }
+spelled (instructions.IsInstance t) ts rest (a, p, q) = record { word_is = codes "isinst"; form = forms.Type with_types.IsInstance; has = refl; mid = a; first = p; behind = (t, refl, q) }
 spelled (instructions.Call b r) ts rest (a, p, q) = record { word_is = codes "call"; form = forms.Call; has = refl; mid = a; first = p; behind = (b, r, refl, q) }
 spelled (instructions.CallVirtual c n g) ts rest (a, p, q) = record { word_is = codes "callvirt"; form = forms.CallVirtual; has = refl; mid = a; first = p; behind = (c, n, g, refl, q) }
 spelled (instructions.NewObject c ps) ts rest (a, p, q) = record { word_is = codes "newobj"; form = forms.NewObject; has = refl; mid = a; first = p; behind = (c, ps, refl, q) }

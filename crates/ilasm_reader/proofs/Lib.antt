@@ -1,3 +1,4 @@
+mod BracketPairs
 mod Commas
 mod Complete
 mod Whole

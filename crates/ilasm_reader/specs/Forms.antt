@@ -9,7 +9,6 @@ use Rattle.std.proofs.lemmas.Bool.Decides.{Decides-int_eq}
 use Rattle.cil_model.specs.declared.tokens.Token.{Token}
 use Rattle.cil_model.specs.declared.tokens.Token.TheVariants.{Integer, Quoted as QuotedToken}
 use Rattle.cil_model.specs.declared.types.ClassName.{ClassName}
-use Rattle.cil_model.specs.declared.types.Element.{Element}
 use Rattle.cil_model.specs.declared.types.DeclaredType.{DeclaredType}
 use Rattle.cil_model.specs.declared.types.Signature.{Signature}
 use Rattle.cil_model.specs.declared.instructions.FieldReference.{FieldReference}
@@ -19,17 +18,17 @@ use Rattle.cil_model.specs.declared.instructions.Instruction.TheVariants as inst
 use Rattle.cil_model.specs.Bodies.{constructor_reference, virtual_reference}
 use Rattle.cil_model.specs.Spans.{◌▸◌, present}
 use Rattle.cil_model.specs.Words.{short_constants, short_argument_loads, short_local_loads, short_local_stores}
-use Rattle.cil_model.specs.Grammar.{Span, word, name, parentheses, elem, type_of, field_reference, method_reference, binary_word, unary_word, shift_word, comparison_word, branch_word, instr}
+use Rattle.cil_model.specs.Grammar.{Span, word, name, parentheses, type_of, field_reference, method_reference, binary_word, unary_word, shift_word, comparison_word, branch_word, instr}
 use Rattle.ilasm_tokens.specs.declared.words.WordUse.{WordUse}
 use Rattle.ilasm_tokens.specs.declared.words.WordUse.TheVariants.{Grammar as OfGrammar, Instruction as OfInstruction}
 use Rattle.ilasm_tokens.specs.declared.words.Form.{Form}
-use Rattle.ilasm_tokens.specs.declared.words.Form.TheVariants.{Bare, Int32, Integer as WithInteger, Quoted, Jump, Switch, Field, NewArray, «Type» as OfType, Call, CallVirtual, NewObject}
+use Rattle.ilasm_tokens.specs.declared.words.Form.TheVariants.{Bare, Int32, Integer as WithInteger, Quoted, Jump, Switch, Field, «Type» as OfType, Call, CallVirtual, NewObject}
 use Rattle.ilasm_tokens.specs.declared.words.Bare as bare_type
 use Rattle.ilasm_tokens.specs.declared.words.Bare.TheVariants as bares
 use Rattle.ilasm_tokens.specs.declared.words.WithInteger.TheVariants as integers
 use Rattle.ilasm_tokens.specs.declared.words.Jump.TheVariants as jumps
 use Rattle.ilasm_tokens.specs.declared.words.FieldAccess.TheVariants as accesses
-use Rattle.ilasm_tokens.specs.declared.words.TypeTest.TheVariants as tests
+use Rattle.ilasm_tokens.specs.declared.words.WithType.TheVariants as with_types
 use Rattle.ilasm_tokens.specs.Vocabulary.{use_of}
 use Rattle.ilasm_tokens.proofs.Reserved.{both, of_entries}
 use Rattle.ilasm_reader.specs.Parsing.{bare, with_integer, jump, with_field, with_type, form_of}
@@ -43,7 +42,6 @@ operands Quoted i ts rest = (t : List ℕ) × (i ≡ instructions.LoadString t) 
 operands (Jump which) i ts rest = (l : List ℕ) × (i ≡ jump which l) × name l ts rest
 operands Switch i ts rest = (ls : List (List ℕ)) × (i ≡ instructions.Switch ls) × parentheses name ls ts rest
 operands (Field which) i ts rest = (r : FieldReference) × (i ≡ with_field which r) × field_reference r ts rest
-operands NewArray i ts rest = (e : Element) × (i ≡ instructions.NewArray (record { element = e; brackets = 0 })) × elem e ts rest
 operands (OfType which) i ts rest = (t : DeclaredType) × (i ≡ with_type which t) × type_of t ts rest
 operands Call i ts rest = (b : Bool) × (r : MethodReference) × (i ≡ instructions.Call b r) × (present b (word (codes "instance")) ▸ method_reference r) ts rest
 operands CallVirtual i ts rest =
@@ -91,9 +89,9 @@ long_name (Field accesses.Load) = codes "ldfld"
 long_name (Field accesses.Store) = codes "stfld"
 long_name (Field accesses.LoadStatic) = codes "ldsfld"
 long_name (Field accesses.StoreStatic) = codes "stsfld"
-long_name NewArray = codes "newarr"
-long_name (OfType tests.Cast) = codes "castclass"
-long_name (OfType tests.IsInstance) = codes "isinst"
+long_name (OfType with_types.NewArray) = codes "newarr"
+long_name (OfType with_types.Cast) = codes "castclass"
+long_name (OfType with_types.IsInstance) = codes "isinst"
 long_name Call = codes "call"
 long_name CallVirtual = codes "callvirt"
 long_name NewObject = codes "newobj"
@@ -183,9 +181,9 @@ instr_from (Field accesses.Load) w s i ts mid rest p (r, e, q) = rw e (mid, same
 instr_from (Field accesses.Store) w s i ts mid rest p (r, e, q) = rw e (mid, same_word (codes "stfld") s p, q)
 instr_from (Field accesses.LoadStatic) w s i ts mid rest p (r, e, q) = rw e (mid, same_word (codes "ldsfld") s p, q)
 instr_from (Field accesses.StoreStatic) w s i ts mid rest p (r, e, q) = rw e (mid, same_word (codes "stsfld") s p, q)
-instr_from NewArray w s i ts mid rest p (t, e, q) = rw e (mid, same_word (codes "newarr") s p, q)
-instr_from (OfType tests.Cast) w s i ts mid rest p (t, e, q) = rw e (mid, same_word (codes "castclass") s p, q)
-instr_from (OfType tests.IsInstance) w s i ts mid rest p (t, e, q) = rw e (mid, same_word (codes "isinst") s p, q)
+instr_from (OfType with_types.NewArray) w s i ts mid rest p (t, e, q) = rw e (mid, same_word (codes "newarr") s p, q)
+instr_from (OfType with_types.Cast) w s i ts mid rest p (t, e, q) = rw e (mid, same_word (codes "castclass") s p, q)
+instr_from (OfType with_types.IsInstance) w s i ts mid rest p (t, e, q) = rw e (mid, same_word (codes "isinst") s p, q)
 instr_from Call w s i ts mid rest p (b, r, e, q) = rw e (mid, same_word (codes "call") s p, q)
 instr_from CallVirtual w s i ts mid rest p (c, n, g, e, q) = rw e (mid, same_word (codes "callvirt") s p, q)
 instr_from NewObject w s i ts mid rest p (c, ps, e, q) = rw e (mid, same_word (codes "newobj") s p, q)

@@ -1,8 +1,9 @@
 -- Reading the parts of a source from its tokens, from left to right.
-use Rattle.std.specs.Prelude.{◌≡◌, ◌==◌, ℕ, ℤ, List, [], ◌∷◌, length, Option, Some, None, Bool, true, false, is_some, is_none, if◌then◌else◌, codes, bytes_eq, nat_le, pos, negsuc}
+use Rattle.std.specs.Prelude.{◌≡◌, ◌==◌, ℕ, suc, ℤ, List, [], ◌∷◌, length, Option, Some, None, Bool, true, false, is_some, is_none, if◌then◌else◌, codes, bytes_eq, nat_le, pos, negsuc}
 use Rattle.cil_model.specs.declared.tokens.Symbol as symbols
 use Rattle.cil_model.specs.declared.tokens.Symbol.TheVariants.{OpenBrace, CloseBrace, OpenParenthesis, CloseParenthesis, OpenBracket, CloseBracket, Comma, Colon, DoubleColon}
 use Rattle.cil_model.specs.declared.tokens.Token.{Token}
+use Rattle.cil_model.specs.declared.tokens.Token.TheVariants.{Symbol}
 use Rattle.cil_model.specs.declared.types.ClassName.{ClassName}
 use Rattle.cil_model.specs.declared.types.Element.{Element}
 use Rattle.cil_model.specs.declared.types.Element.TheVariants.{Int32, Int64, Object, String, Class as ClassElement}
@@ -37,8 +38,8 @@ use Rattle.ilasm_tokens.specs.declared.words.Jump.{Jump}
 use Rattle.ilasm_tokens.specs.declared.words.Jump.TheVariants as jumps
 use Rattle.ilasm_tokens.specs.declared.words.FieldAccess.{FieldAccess}
 use Rattle.ilasm_tokens.specs.declared.words.FieldAccess.TheVariants as accesses
-use Rattle.ilasm_tokens.specs.declared.words.TypeTest.{TypeTest}
-use Rattle.ilasm_tokens.specs.declared.words.TypeTest.TheVariants as tests
+use Rattle.ilasm_tokens.specs.declared.words.WithType.{WithType}
+use Rattle.ilasm_tokens.specs.declared.words.WithType.TheVariants as with_types
 use Rattle.ilasm_tokens.specs.Steps.{◌>>=◌, choice, ParserOf, with_front, many}
 use Rattle.ilasm_tokens.specs.Vocabulary.{use_of}
 use Rattle.ilasm_tokens.specs.Parts.{reserved_in, name_in, integer_in, quoted_in, symbol_in}
@@ -181,15 +182,21 @@ element_at ts = choice (word_at (codes "int32") ts) (λ rest. Some (Int32, rest)
       class ← class_name_at rest
       Some (ClassElement class.0, class.1)))))
 
+-- a pair of brackets
 unfoldable pub brackets_at : List Token → Option (List Token)
 brackets_at ts = do
   rest ← sign_at OpenBracket ts
   sign_at CloseBracket rest
 
+-- how many pairs stand here, one behind the other, and what is behind them
+unfoldable pub all_brackets_at : List Token → ℕ × List Token
+all_brackets_at (Symbol OpenBracket ∷ Symbol CloseBracket ∷ rest) = (suc (all_brackets_at rest).0, (all_brackets_at rest).1)
+all_brackets_at ts = (0, ts)
+
 unfoldable pub type_at : Parser DeclaredType
 type_at ts = do
   element ← element_at ts
-  choice (brackets_at element.1) (λ rest. Some (record { element = element.0; brackets = 1 }, rest)) (Some (record { element = element.0; brackets = 0 }, element.1))
+  Some (record { element = element.0; brackets = (all_brackets_at element.1).0 }, (all_brackets_at element.1).1)
 
 unfoldable pub parameter_at : Parser DeclaredType
 parameter_at ts = do
@@ -282,9 +289,10 @@ with_field accesses.Store r = instructions.StoreField r
 with_field accesses.LoadStatic r = instructions.LoadStaticField r
 with_field accesses.StoreStatic r = instructions.StoreStaticField r
 
-abbrev pub with_type : TypeTest → DeclaredType → Instruction
-with_type tests.Cast t = instructions.CastClass t
-with_type tests.IsInstance t = instructions.IsInstance t
+abbrev pub with_type : WithType → DeclaredType → Instruction
+with_type with_types.NewArray t = instructions.NewArray t
+with_type with_types.Cast t = instructions.CastClass t
+with_type with_types.IsInstance t = instructions.IsInstance t
 
 -- the virtual call of a method, unless it is a constructor
 unfoldable pub virtual_call : ClassName → Signature → MethodName → Option Instruction
@@ -321,9 +329,6 @@ operands_at forms.Switch ts = do
 operands_at (forms.Field which) ts = do
   field ← field_reference_at ts
   Some (with_field which field.0, field.1)
-operands_at forms.NewArray ts = do
-  element ← element_at ts
-  Some (instructions.NewArray (record { element = element.0; brackets = 0 }), element.1)
 operands_at (forms.Type which) ts = do
   type ← type_at ts
   Some (with_type which type.0, type.1)

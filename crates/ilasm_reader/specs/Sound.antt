@@ -28,7 +28,7 @@ use Rattle.ilasm_tokens.specs.Steps.{Consumes, choice, with_front, Yields, yield
 use Rattle.ilasm_tokens.specs.Vocabulary.{use_of}
 use Rattle.ilasm_reader.specs.declared.methods.Beginning.{Beginning}
 use Rattle.ilasm_reader.specs.declared.methods.Beginning.TheVariants.{Static, Instance, Virtual, Abstract, Constructor}
-use Rattle.ilasm_reader.specs.Parsing.{Parser, word_at, number_of, sign_at, any_word_at, name_at, integer_at, quoted_at, flag_at, before_sign_at, pair_at, starts_comma, after_comma, commas_at, closed_commas_at, parentheses_at, empty_block_at, in_block, assembly_name_at, class_of_assembly_at, class_name_at, element_at, brackets_at, type_at, parameter_at, return_type_at, field_of_owner_at, field_reference_at, method_name_at, method_of_owner_at, method_reference_at, instance_method_at, bare, virtual_call, creation, has_32_bits, operands_at, form_of, instruction_at, label_at, starts_label, line_at, some_locals_at, locals_at, max_stack_at, code_start_at, lines_at, code_at, virtual_words_at, constructor_words_at, first_words_at, named_head_at, constructor_head_at, head_at, signature_at, kind_with, code_body_at, body_at, managed_body_at, method_words_at, method_at, field_words_at, field_at, interface_member_at, member_at, block_at, implements_at, interface_words_at, interface_at, class_words_at, base_at, class_body_at, plain_class_at, class_at, named_assembly_at, starts_extern, extern_at, assembly_at, tree_at}
+use Rattle.ilasm_reader.specs.Parsing.{Parser, word_at, number_of, sign_at, any_word_at, name_at, integer_at, quoted_at, flag_at, before_sign_at, pair_at, starts_comma, after_comma, commas_at, closed_commas_at, parentheses_at, empty_block_at, in_block, assembly_name_at, class_of_assembly_at, class_name_at, element_at, brackets_at, all_brackets_at, type_at, parameter_at, return_type_at, field_of_owner_at, field_reference_at, method_name_at, method_of_owner_at, method_reference_at, instance_method_at, bare, virtual_call, creation, has_32_bits, operands_at, form_of, instruction_at, label_at, starts_label, line_at, some_locals_at, locals_at, max_stack_at, code_start_at, lines_at, code_at, virtual_words_at, constructor_words_at, first_words_at, named_head_at, constructor_head_at, head_at, signature_at, kind_with, code_body_at, body_at, managed_body_at, method_words_at, method_at, field_words_at, field_at, interface_member_at, member_at, block_at, implements_at, interface_words_at, interface_at, class_words_at, base_at, class_body_at, plain_class_at, class_at, named_assembly_at, starts_extern, extern_at, assembly_at, tree_at}
 use Rattle.ilasm_reader.specs.Forms.{operands, instr_from, has_form}
 
 -- ---- single tokens
@@ -181,16 +181,18 @@ element_sound ts =
     (yields_choice (word_sound (codes "string") ts) (λ a p. yields_some (p.0, p.1))
     (yields_bind (word_sound (codes "class") ts) (λ a p. yields_bind (class_name_sound a) (λ b q. yields_some ((a, p.0, q.0), omega (arith, p.1, q.1))))))))
 
-brackets_sound : (ts : List Token) → Yields (brackets_at ts) (λ rest. brackets 1 ts rest × (length rest < length ts))
+pub brackets_sound : (ts : List Token) → Yields (brackets_at ts) (λ rest. (sign OpenBracket ▸ sign CloseBracket) ts rest × (length rest < length ts))
 unfolding brackets_at
 brackets_sound ts = yields_bind (sign_sound OpenBracket ts) (λ a p. record { out = λ y e. let q = (sign_sound CloseBracket a).out y e in ((a, p.0, q.0), omega (arith, p.1, q.1)) })
 
+all_brackets_sound : (ts : List Token) → brackets (all_brackets_at ts).0 ts (all_brackets_at ts).1 × (length (all_brackets_at ts).1 ≤ length ts)
+unfolding all_brackets_at
+all_brackets_sound (Symbol OpenBracket ∷ Symbol CloseBracket ∷ rest) = let p = all_brackets_sound rest in ((Symbol CloseBracket ∷ rest, refl, (rest, refl, p.0)), omega (arith, p.1))
+all_brackets_sound ts = (refl, omega arith)
+
 pub type_sound : Sound type_at type_of
 unfolding type_at
-type_sound ts =
-    yields_bind (element_sound ts) (λ a p.
-    yields_choice (brackets_sound a.1) (λ b q. yields_some ((a.1, p.0, q.0), omega (arith, p.1, q.1)))
-    (yields_some ((a.1, p.0, refl), p.1)))
+type_sound ts = yields_bind (element_sound ts) (λ a p. let q = all_brackets_sound a.1 in yields_some ((a.1, p.0, q.0), omega (arith, p.1, q.1)))
 
 pub parameter_sound : Sound parameter_at parameter
 unfolding parameter_at
@@ -274,7 +276,6 @@ operands_sound forms.Quoted ts = yields_bind (quoted_sound ts) (λ a p. yields_s
 operands_sound (forms.Jump which) ts = yields_bind (name_sound ts) (λ a p. yields_some ((a.0, refl, p.0), omega (arith, p.1)))
 operands_sound forms.Switch ts = yields_bind (parentheses_sound name_at name name_sound ts) (λ a p. yields_some ((a.0, refl, p.0), omega (arith, p.1)))
 operands_sound (forms.Field which) ts = yields_bind (field_reference_sound ts) (λ a p. yields_some ((a.0, refl, p.0), omega (arith, p.1)))
-operands_sound forms.NewArray ts = yields_bind (element_sound ts) (λ a p. yields_some ((a.0, refl, p.0), omega (arith, p.1)))
 operands_sound (forms.Type which) ts = yields_bind (type_sound ts) (λ a p. yields_some ((a.0, refl, p.0), omega (arith, p.1)))
 operands_sound forms.Call ts =
     let flag = flag_sound (codes "instance") ts in

@@ -8,14 +8,14 @@ ghost use Rattle.ilasm_reader.specs.Parsing.{bare, creation, virtual_call, with_
 use crate::lists::{Parse, parentheses};
 use crate::operands::{Target, field_reference, instance_method, method_reference};
 use crate::single::{any_word, integer, name, quoted, take_word};
-use crate::types::{AnyType, element};
+use crate::types::AnyType;
 use cil_model::instructions::{FieldReference, Instruction, MethodName, MethodReference};
 use cil_model::texts::Text;
 use cil_model::types::{DeclaredType, Signature};
 use ilasm_tokens::expected::Expected;
 use ilasm_tokens::failure::Failure;
 use ilasm_tokens::source_tokens::Tokens;
-use ilasm_tokens::words::{Bare, FieldAccess, Form, Jump, TypeTest, WithInteger, WordUse, use_of};
+use ilasm_tokens::words::{Bare, FieldAccess, Form, Jump, WithInteger, WithType, WordUse, use_of};
 use std::alloc::Global;
 
 fn bare(which: Bare) -> Instruction
@@ -81,12 +81,13 @@ fn with_field(which: FieldAccess, field: FieldReference) -> Instruction
     }
 }
 
-fn with_type(which: TypeTest, its_type: DeclaredType) -> Instruction
+fn with_type(which: WithType, its_type: DeclaredType) -> Instruction
     ensures { result ≡ with_type which its_type }
 {
     match which {
-        TypeTest::Cast => Instruction::CastClass(its_type),
-        TypeTest::IsInstance => Instruction::IsInstance(its_type),
+        WithType::NewArray => Instruction::NewArray(its_type),
+        WithType::Cast => Instruction::CastClass(its_type),
+        WithType::IsInstance => Instruction::IsInstance(its_type),
     }
 }
 
@@ -231,11 +232,6 @@ fn instruction_of(
         Form::Field(which) => {
             let field = field_reference(alloc, tokens)?;
             Ok(with_field(which, field))
-        }
-        Form::NewArray => {
-            let element = element(alloc, tokens, Expected::ElementType)?;
-            let brackets = 0;
-            Ok(Instruction::NewArray(DeclaredType { element, brackets }))
         }
         Form::Type(which) => {
             let its_type = AnyType::parse(alloc, tokens)?;

@@ -1,7 +1,8 @@
 //! Types and names of classes.
 
+ghost use Rattle.std.specs.Prelude.{Some};
 ghost use Rattle.ilasm_tokens.specs.Steps.{Gives};
-ghost use Rattle.ilasm_reader.specs.Parsing.{Takes, assembly_name_at, brackets_at, class_name_at, class_of_assembly_at, element_at, name_at, parameter_at, return_type_at, type_at};
+ghost use Rattle.ilasm_reader.specs.Parsing.{Takes, all_brackets_at, assembly_name_at, brackets_at, class_name_at, class_of_assembly_at, element_at, name_at, parameter_at, return_type_at, type_at};
 
 use crate::lists::Parse;
 use crate::single::{expect_symbol, expect_word_of, name, take_name, take_symbol, take_word};
@@ -100,13 +101,9 @@ impl Parse for ClassReference {
     ghost consumes = { λ ts x rest e. ((class_name_sound ts).out (x, rest) e).1 };
 }
 
-/// A type without brackets. Where there is none, the grammar has what is told as expected.
+/// What stands before the brackets of a type. Where there is none, the grammar has what is told as expected.
 #[tactic(auto, unfolding(crate::specs::Parsing::element_at, ilasm_tokens::specs::Steps::bind, ilasm_tokens::specs::Steps::choice))]
-pub fn element(
-    alloc: Global,
-    tokens: &mut Tokens<'_>,
-    expected: Expected,
-) -> Result<Element, Failure>
+fn element(alloc: Global, tokens: &mut Tokens<'_>, expected: Expected) -> Result<Element, Failure>
     ensures { Gives (λ x. (x, tokens.new.now)) result (element_at tokens.old.now) }
 {
     if take_word(tokens, b"int32") {
@@ -140,8 +137,23 @@ fn take_brackets(tokens: &mut Tokens<'_>) -> bool
     false
 }
 
+/// Takes the pairs of brackets that stand here, one behind the other, and tells how many. More than 32 bits can count, for which no source
+/// has the bytes, are want of memory.
+fn take_all_brackets(tokens: &mut Tokens<'_>) -> Result<u32, Failure>
+    ensures { Gives (λ count. (count, tokens.new.now)) result (Some (all_brackets_at tokens.old.now)) }
+{
+    let mut count: u32 = 0;
+    while take_brackets(tokens) {
+        let Some(next) = count.checked_add(1) else {
+            return Err(Failure::OutOfMemory);
+        };
+        count = next;
+    }
+    Ok(count)
+}
+
 /// A type. Where there is none, the grammar has what is told as expected.
-#[tactic(auto, unfolding(crate::specs::Parsing::type_at, ilasm_tokens::specs::Steps::bind, ilasm_tokens::specs::Steps::choice))]
+#[tactic(auto, unfolding(crate::specs::Parsing::type_at, ilasm_tokens::specs::Steps::bind))]
 fn declared_type(
     alloc: Global,
     tokens: &mut Tokens<'_>,
@@ -150,7 +162,7 @@ fn declared_type(
     ensures { Gives (λ x. (x, tokens.new.now)) result (type_at tokens.old.now) }
 {
     let element = element(alloc, tokens, expected)?;
-    let brackets = if take_brackets(tokens) { 1 } else { 0 };
+    let brackets = take_all_brackets(tokens)?;
     Ok(DeclaredType { element, brackets })
 }
 

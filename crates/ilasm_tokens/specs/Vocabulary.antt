@@ -12,7 +12,7 @@ use Rattle.ilasm_tokens.specs.declared.words.Bare.TheVariants as bares
 use Rattle.ilasm_tokens.specs.declared.words.WithInteger.TheVariants as with_integers
 use Rattle.ilasm_tokens.specs.declared.words.Jump.TheVariants as jumps
 use Rattle.ilasm_tokens.specs.declared.words.FieldAccess.TheVariants as accesses
-use Rattle.ilasm_tokens.specs.declared.words.TypeTest.TheVariants as tests
+use Rattle.ilasm_tokens.specs.declared.words.WithType.TheVariants as with_types
 
 abbrev pub Entry : Type 0
 Entry = List ℕ × WordUse
@@ -26,7 +26,7 @@ bucket_from sum (c ∷ cs) = bucket_from ((sum + c) % 64) cs
 abbrev pub groups : List (List (List Entry))
 groups =
     (([]) ∷
-    ((codes "conv.i4", OfInstruction (forms.Bare bares.ConvertInt32)) ∷ (codes "castclass", OfInstruction (forms.Type tests.Cast)) ∷ []) ∷
+    ((codes "conv.i4", OfInstruction (forms.Bare bares.ConvertInt32)) ∷ (codes "castclass", OfInstruction (forms.Type with_types.Cast)) ∷ []) ∷
     ((codes "specialname", OfGrammar) ∷ (codes "ldc.i8", OfInstruction (forms.Integer with_integers.LoadInt64)) ∷ (codes "blt", OfInstruction (forms.Jump (jumps.Compare branch.Less))) ∷ (codes "ldelem.i8", OfInstruction (forms.Bare bares.LoadElementInt64)) ∷ []) ∷
     ((codes "sub.ovf", OfInstruction (forms.Bare (bares.Binary binary.SubtractOverflow))) ∷ (codes "div", OfInstruction (forms.Bare (bares.Binary binary.Divide))) ∷ (codes "clt", OfInstruction (forms.Bare (bares.Compare comparison.Less))) ∷ (codes "stloc.0", OfInstruction (forms.Bare (bares.SetLocal (pos 0)))) ∷ []) ∷
     ((codes ".class", OfGrammar) ∷ (codes "rem", OfInstruction (forms.Bare (bares.Binary binary.Remainder))) ∷ (codes "stloc.1", OfInstruction (forms.Bare (bares.SetLocal (pos 1)))) ∷ []) ∷
@@ -40,7 +40,7 @@ groups =
     ((codes "newslot", OfGrammar) ∷ []) ∷
     ((codes "managed", OfGrammar) ∷ (codes "nop", OfInstruction (forms.Bare bares.NoOperation)) ∷ (codes "shr", OfInstruction (forms.Bare (bares.Shift shift.Right))) ∷ []) ∷
     ((codes ".assembly", OfGrammar) ∷ (codes "ldloc", OfInstruction (forms.Integer with_integers.LoadLocal)) ∷ (codes "mul", OfInstruction (forms.Bare (bares.Binary binary.Multiply))) ∷ []) ∷
-    ((codes "pop", OfInstruction (forms.Bare bares.Pop)) ∷ (codes "newarr", OfInstruction forms.NewArray) ∷ (codes "ldlen", OfInstruction (forms.Bare bares.LoadLength)) ∷ []) ∷ []) ∷
+    ((codes "pop", OfInstruction (forms.Bare bares.Pop)) ∷ (codes "newarr", OfInstruction (forms.Type with_types.NewArray)) ∷ (codes "ldlen", OfInstruction (forms.Bare bares.LoadLength)) ∷ []) ∷ []) ∷
     (((codes "stsfld", OfInstruction (forms.Field accesses.StoreStatic)) ∷ []) ∷
     ((codes "not", OfInstruction (forms.Bare (bares.Unary unary.Complement))) ∷ []) ∷
     ((codes "switch", OfInstruction forms.Switch) ∷ []) ∷
@@ -51,7 +51,7 @@ groups =
     ((codes "string", OfGrammar) ∷ []) ∷ []) ∷
     (([]) ∷
     ((codes "xor", OfInstruction (forms.Bare (bares.Binary binary.ExclusiveOr))) ∷ (codes "stelem.i8", OfInstruction (forms.Bare bares.StoreElementInt64)) ∷ []) ∷
-    ((codes "isinst", OfInstruction (forms.Type tests.IsInstance)) ∷ []) ∷
+    ((codes "isinst", OfInstruction (forms.Type with_types.IsInstance)) ∷ []) ∷
     ([]) ∷
     ((codes "call", OfInstruction forms.Call) ∷ (codes "ldc.i4.0", OfInstruction (forms.Bare (bares.Int32 (pos 0)))) ∷ []) ∷
     ((codes "stfld", OfInstruction (forms.Field accesses.Store)) ∷ (codes "ldc.i4.1", OfInstruction (forms.Bare (bares.Int32 (pos 1)))) ∷ []) ∷

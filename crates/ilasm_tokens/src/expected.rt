@@ -20,8 +20,6 @@ pub enum Expected {
     Int32,
     StringLiteral,
     Type,
-    /// A type without brackets.
-    ElementType,
     /// A type or `void`.
     ReturnType,
     /// What stands behind `call`: `instance`, or what the method returns.

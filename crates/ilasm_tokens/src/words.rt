@@ -33,10 +33,8 @@ pub enum Form {
     Switch,
     /// A field.
     Field(FieldAccess),
-    /// A type without brackets, of `newarr`.
-    NewArray,
     /// A type.
-    Type(TypeTest),
+    Type(WithType),
     /// A method, of `call`.
     Call,
     /// A method, of `callvirt`.
@@ -106,7 +104,8 @@ pub enum FieldAccess {
 
 /// Instructions with a type.
 #[derive(Clone, Copy)]
-pub enum TypeTest {
+pub enum WithType {
+    NewArray,
     Cast,
     IsInstance,
 }
@@ -130,7 +129,7 @@ static BUCKETS_0_TO_7: Group = [
         ),
         (
             b"castclass",
-            WordUse::Instruction(Form::Type(TypeTest::Cast)),
+            WordUse::Instruction(Form::Type(WithType::Cast)),
         ),
     ],
     &[
@@ -261,7 +260,10 @@ static BUCKETS_8_TO_15: Group = [
     ],
     &[
         (b"pop", WordUse::Instruction(Form::Bare(Bare::Pop))),
-        (b"newarr", WordUse::Instruction(Form::NewArray)),
+        (
+            b"newarr",
+            WordUse::Instruction(Form::Type(WithType::NewArray)),
+        ),
         (b"ldlen", WordUse::Instruction(Form::Bare(Bare::LoadLength))),
     ],
 ];
@@ -309,7 +311,7 @@ static BUCKETS_24_TO_31: Group = [
     ],
     &[(
         b"isinst",
-        WordUse::Instruction(Form::Type(TypeTest::IsInstance)),
+        WordUse::Instruction(Form::Type(WithType::IsInstance)),
     )],
     &[],
     &[

@@ -20,7 +20,7 @@ use std::sync::Wait;
 use std::thread::Threads;
 
 /// The groups of cases. Those of `NAME` stand in the file `NAME.txt`.
-const GROUPS: [&str; 12] = [
+const GROUPS: [&str; 13] = [
     "command_line",
     "commands",
     "schedules",
@@ -28,6 +28,7 @@ const GROUPS: [&str; 12] = [
     "refusals",
     "hostile",
     "machine",
+    "nested",
     "collections",
     "traces",
     "deadlocks",

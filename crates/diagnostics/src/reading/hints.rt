@@ -53,7 +53,6 @@ fn words_of(expected: Expected) -> &'static str {
         Expected::Int32 => "an integer of 32 bits",
         Expected::StringLiteral => "a string literal",
         Expected::Type => "a type",
-        Expected::ElementType => "a type without brackets",
         Expected::ReturnType => "`void` or a type",
         Expected::CalledMethod => "`instance`, `void` or a type",
         Expected::VirtualMethod => "a method that is no constructor",

@@ -139,8 +139,9 @@ fn instead_by_token<'a>(expected: Expected, spot: Spot<'a>) -> Option<Instead<'a
         Expected::Symbol(Symbol::DoubleColon) if !is_name(spot.found) => {
             Some(instead_of_member(spot.before))
         }
-        Expected::Type | Expected::ElementType | Expected::ReturnType | Expected::CalledMethod
-            if is_name(spot.found) => { Some(Instead::class_type(spot.found)) }
+        Expected::Type | Expected::ReturnType | Expected::CalledMethod if is_name(spot.found) => {
+            Some(Instead::class_type(spot.found))
+        }
         _ => None,
     }
 }

@@ -213,17 +213,17 @@ fn advice_on_reserved(expected: Expected) -> Option<&'static str> {
     }
 }
 
-/// Where a bracket stands behind a type which can't have it.
-fn advice_on_array(expected: Expected, spot: Spot) -> &'static str {
-    if spot.after == "," {
-        return "write an array with one index, and compute it";
+/// Where a bracket stands behind a type and is not closed at once. Where a line is wanted the type is that of `newarr`.
+fn advice_on_array(expected: Expected, after: &str) -> Option<&'static str> {
+    if after == "," {
+        return Some("write an array of arrays, or one index that is computed");
     }
-    if let Form::Number = form_of(spot.after) {
-        return "write `[]`: `newarr` takes the length from the stack";
-    }
-    match expected {
-        Expected::Line if spot.before != "]" => "write `newarr object` for an array of arrays",
-        _ => "write `object[]` for an array of arrays",
+    match (form_of(after), expected) {
+        (Form::Number, Expected::Line) => {
+            Some("leave out the brackets: `newarr` takes the length from the stack")
+        }
+        (Form::Number, _) => Some("write `[]`: `newarr` takes the length from the stack"),
+        _ => None,
     }
 }
 
@@ -244,13 +244,13 @@ fn advice_on_type(after: &str) -> &'static str {
 fn advice_on_bracket(expected: Expected, spot: Spot) -> Option<&'static str> {
     match expected {
         Expected::Line | Expected::ListEnd(_) | Expected::Name => {
-            Some(advice_on_array(expected, spot))
+            advice_on_array(expected, spot.after)
         }
         Expected::CalledMethod => {
             Some("write `void` or a type first; a class stands behind `class`")
         }
         Expected::Type => Some(advice_on_type(spot.after)),
-        Expected::ElementType | Expected::ReturnType => Some(TYPE),
+        Expected::ReturnType => Some(TYPE),
         _ => None,
     }
 }
@@ -269,9 +269,6 @@ fn advice_on_form(expected: Expected, spot: Spot) -> Option<&'static str> {
 
 fn advice_behind(expected: Expected, spot: Spot) -> Option<&'static str> {
     match expected {
-        Expected::Name if spot.before == "[" && spot.found == "]" => {
-            Some(advice_on_array(expected, spot))
-        }
         Expected::Type if spot.before == "(" && spot.found == ")" => {
             Some("leave out `.locals init ()`")
         }
