@@ -52,6 +52,7 @@ module _ (tree : Tree) (has_round : Bool) (words : ℕ) (p : Progress) (m : Spac
       room = λ e. absurd (idle_is_not Idle e refl);
     };
     place = HasPlace-else Idle p m (λ e. absurd cc) (λ e. absurd cc);
+    loaded = λ e. absurd cc;
     marks = λ e. absurd (idle_is_not Idle (inl e) refl);
     cleared = λ e. absurd cc;
   }

@@ -1,5 +1,5 @@
 -- What is true of a heap stays true when an object is born, in each place where one may be.
-use Rattle.std.proofs.Common.{◌≡◌, ◌≢◌, ◌⊎◌, inl, inr, ℕ, ◌+◌, ◌<◌, ◌≤◌, Bool, true, false, List, [], ◌∷◌, ◌++◌, replicate, refl, sym, ap, subst, ◌∙◌, arith}
+use Rattle.std.proofs.Common.{◌≡◌, ◌≢◌, ◌⊎◌, inl, inr, ℕ, zero, suc, ◌+◌, ◌<◌, ◌≤◌, Bool, true, false, List, [], ◌∷◌, ◌++◌, replicate, refl, sym, ap, subst, ◌∙◌, arith}
 use Rattle.std.specs.Prelude.{if◌then◌else◌, get_or, is_some, Option, Some, None, slice_get, All}
 use Rattle.cil_model.proofs.Lists.{no_item}
 use Rattle.std.proofs.lemmas.List.{get_or-replicate, length-replicate}
@@ -16,8 +16,8 @@ use Rattle.object_memory.proofs.Births.{AreSpaces-born, HasShellRoom-born, born-
 use Rattle.object_memory.proofs.Places.{IsPlace-last}
 use Rattle.object_memory.proofs.TwoBlocks.{forward_new, forward_null}
 use Rattle.collector.specs.References.{SlotsPass, Test, holds_reference, reference_in}
-use Rattle.collector.specs.Phases.{HasCopied, HasLooked, is_before_copies, is_live, is_marked_address, is_marked_cell, is_marked_old, is_new_address, is_of_cycle, is_read, slot_word}
-use Rattle.collector.specs.Soundness.{AreBlocks, IsCleared, AreCopied, AreCopies, AreMarked, IsCopiedSlot, IsListed, IsSoundHeap, copied_word}
+use Rattle.collector.specs.Phases.{HasCopied, HasLooked, is_before_copies, is_live, is_marked_address, is_marked_cell, is_marked_old, is_new_address, is_of_cycle, is_read}
+use Rattle.collector.specs.Soundness.{AreBlocks, IsCleared, AreCopied, AreCopies, AreMarked, IsCopiedSlot, IsCopiedWord, IsInCopy, IsListed, IsLoaded, IsSoundHeap, copied_word}
 use Rattle.collector.specs.Holding.{HasNotBegun, Hold, passes}
 use Rattle.collector.specs.declared.progress.Progress.{Progress}
 use Rattle.collector.proofs.PlaceLaws.{HasPlace-born}
@@ -62,15 +62,19 @@ zeros_copied tree m h from to n empty empty' slot word there =
 
 -- ---- what is copied is read
 
-pub read_once_copied : (posted : Phase) (p : Progress) (m : Spaces) (a : Addr) (word : ℕ) (c : Cell) → HasCopied posted p m a word → c.marked ≡ true → is_read posted c ≡ true
-read_once_copied Idle p m a word c h marked = elim h [ ]
-read_once_copied Mark p m a word c h marked = elim h [ ]
-read_once_copied Allocate p m a word c h marked = elim h [ ]
-read_once_copied Copy p m a word c h marked = marked
-read_once_copied PreFlip p m a word c h marked = marked
-read_once_copied HeapFlip p m a word c h marked = marked
-read_once_copied ThreadFlip p m a word c h marked = marked
-read_once_copied Reclaim p m a word c h marked = elim h [ ]
+read_by : (posted : Phase) (p : Progress) (m : Spaces) (a : Addr) (word : ℕ) (c : Cell) → HasCopied posted p m a word → c.marked ≡ true → is_read posted c ≡ true
+read_by Idle p m a word c h marked = elim h [ ]
+read_by Mark p m a word c h marked = elim h [ ]
+read_by Allocate p m a word c h marked = elim h [ ]
+read_by Copy p m a word c h marked = marked
+read_by PreFlip p m a word c h marked = marked
+read_by HeapFlip p m a word c h marked = marked
+read_by ThreadFlip p m a word c h marked = marked
+read_by Reclaim p m a word c h marked = elim h [ ]
+
+pub read_once_copied : (posted : Phase) (p : Progress) (m : Spaces) (a : Addr) (word : ℕ) (c : Cell) → IsInCopy posted p m a c word → c.marked ≡ true → is_read posted c ≡ true
+read_once_copied posted p m a word c (inl h) marked = read_by posted p m a word c h marked
+read_once_copied posted p m a word c (inr h) marked = ap (λ q. is_read q c) h.copying ∙ marked
 
 -- how far the collector is depends on no cells
 module _ (p : Progress) (m m' : Spaces) (start : m'.old.start ≡ m.old.start) (a : Addr) where
@@ -83,6 +87,10 @@ module _ (p : Progress) (m m' : Spaces) (start : m'.old.start ≡ m.old.start) (
   copied_before HeapFlip word h = h
   copied_before ThreadFlip word h = h
   copied_before Reclaim word h = h
+
+  pub in_copy_before : (posted : Phase) (from : Cell) (word : ℕ) → IsInCopy posted p m' a from word → IsInCopy posted p m a from word
+  in_copy_before posted from word (inl h) = inl (copied_before posted word h)
+  in_copy_before posted from word (inr h) = inr (record { copying = h.copying; here = h.here ∙ ap (λ s. s + p.place) start; next = h.next; stored = h.stored; same = h.same })
 
   pub looked_before : (posted : Phase) → HasLooked posted p m' a → HasLooked posted p m a
   looked_before Idle h = h
@@ -217,9 +225,13 @@ module _ (m : Spaces) (k : Kind) (n : ℕ) where
       kind = refl;
       count = refl;
       back = λ e. refl;
-      monitor = λ e. refl;
-      slots = λ slot e. zeros_copied tree (born InBoth m k n) h' (empty_cell k n true (Some (next_address m.new))) (empty_cell k n true (Some (next_address m.old))) n refl refl slot;
+      words = words;
     }
+      where
+        words : (word : ℕ) → IsInCopy posted p (born InBoth m k n) (next_address m.old) (empty_cell k n true (Some (next_address m.new))) word
+            → IsCopiedWord tree (born InBoth m k n) (empty_cell k n true (Some (next_address m.new))) (empty_cell k n true (Some (next_address m.old))) word
+        words zero e = refl
+        words (suc slot) e = zeros_copied tree (born InBoth m k n) h' (empty_cell k n true (Some (next_address m.new))) (empty_cell k n true (Some (next_address m.old))) n refl refl slot
 
     -- what the old part refers to as its copy is there, and is its copy
     out_part : (place : Place) → AreSpaces (born place m k n) → (a b : Addr) (c : Cell) → a.number ≡ (next_address m.old).number → old_part place m k n ≡ Some c → c.other ≡ Some b
@@ -333,15 +345,15 @@ module _ (tree : Tree) (hold : Hold) (posted : Phase) (has_round : Bool) (words 
     kind = are.kind;
     count = are.count;
     back = are.back;
-    monitor = λ e. are.monitor (copied_before p m m' (born_start m k n place) a posted 0 e);
-    slots = copied_slots;
+    words = words_stay;
   }
     where
-      copied_slots : (slot : ℕ) → HasCopied posted p m' a (slot_word slot) → IsCopiedSlot tree m' c d slot
-      copied_slots slot e word there =
-          let before = copied_before p m m' (born_start m k n place) a posted (slot_word slot) e in
-          let read = read_once_copied posted p m a (slot_word slot) c before marked in
-          are.slots slot before word there ∙ ap Some (word_stays c read a lies slot word there)
+      words_stay : (word : ℕ) → IsInCopy posted p m' a c word → IsCopiedWord tree m' c d word
+      words_stay zero e = are.words 0 (in_copy_before p m m' (born_start m k n place) a posted c 0 e)
+      words_stay (suc slot) e = λ word there. (
+          let before = in_copy_before p m m' (born_start m k n place) a posted c (suc slot) e in
+          let read = read_once_copied posted p m a (suc slot) c before marked in
+          are.words (suc slot) before word there ∙ ap Some (word_stays c read a lies slot word there))
 
   -- each old object that refers to a copy has it
   born_out : (a b : Addr) (c : Cell) → cell_in m'.old a ≡ Some c → c.other ≡ Some b → (d : Cell) × (cell_in m'.new b ≡ Some d) × AreCopies tree posted p m' a c d
@@ -530,9 +542,18 @@ module _ (tree : Tree) (hold : Hold) (posted : Phase) (has_round : Bool) (words 
     ];
   }
 
+  -- what the collector has loaded is live still
+  born_loaded : posted ≡ Copy → IsLoaded tree p m'
+  born_loaded copying is c lies slot next holds =
+      let one = sound.place.words copying (λ none. absurd (omega (arith, next, none))) in
+      let there = subst (λ s. cell_in m'.old (record { number = s + p.place }) ≡ Some c) (born_start m k n place) lies in
+      let same : one.0 ≡ c = same_Some one.0 c (sym (kept_old (record { number = m.old.start + p.place }) one.0 one.1) ∙ there) in
+      let held = ap (λ (z : Cell). holds_reference tree z.kind slot) same ∙ holds in
+      live_stays m m' born_stays (reference_in p.attempt.word) Copy (sound.loaded copying is one.0 one.1 slot next held)
+
   -- the heap is sound
   pub born_heap : IsSoundHeap tree posted has_round words p m'
-  born_heap = record { blocks = born_blocks; copies = born_copied; place = HasPlace-born posted p m sound.place place k n; marks = born_marked; cleared = born_cleared }
+  born_heap = record { blocks = born_blocks; copies = born_copied; place = HasPlace-born posted p m sound.place place k n; loaded = born_loaded; marks = born_marked; cleared = born_cleared }
 
   -- where the collector has not begun, it has not begun still
   pub born_not_begun : HasNotBegun posted has_round p m → HasNotBegun posted has_round p m'

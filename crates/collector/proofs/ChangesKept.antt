@@ -1,5 +1,5 @@
 -- A change of one cell of each block keeps a heap sound, where what it stores is right: all else rests on what such a change keeps.
-use Rattle.std.proofs.Common.{◌≡◌, ◌⊎◌, inl, inr, ℕ, ◌+◌, ◌<◌, Bool, true, false, List, ◌∷◌, refl, sym, ap, ◌∙◌, subst, arith}
+use Rattle.std.proofs.Common.{◌≡◌, ◌⊎◌, inl, inr, ℕ, zero, suc, ◌+◌, ◌<◌, Bool, true, false, List, ◌∷◌, refl, sym, ap, ◌∙◌, subst, arith}
 use Rattle.std.specs.Prelude.{◌==◌, if◌then◌else◌, is_some, option_map, Option, Some, None, slice_get, slice_index_or, All}
 use Rattle.std.proofs.lemmas.Option.{same_Some}
 use Rattle.cil_model.specs.declared.phases.Phase.{Phase}
@@ -13,8 +13,8 @@ use Rattle.object_memory.proofs.Blocks.{used_in}
 use Rattle.object_memory.proofs.Rooms.{HasShellRoom-change}
 use Rattle.object_memory.proofs.TwoBlocks.{change-is_space}
 use Rattle.collector.specs.References.{SlotsPass, Test, holds_reference, reference_in}
-use Rattle.collector.specs.Phases.{HasCopied, HasLooked, is_live, is_marked_address, is_marked_cell, is_marked_old, is_new_address, is_read, slot_word}
-use Rattle.collector.specs.Soundness.{AreBlocks, AreCopied, AreCopies, AreMarked, IsListed, IsSoundHeap, copied_word}
+use Rattle.collector.specs.Phases.{HasCopied, HasLooked, is_live, is_marked_address, is_marked_cell, is_marked_old, is_new_address, is_read}
+use Rattle.collector.specs.Soundness.{AreBlocks, AreCopied, AreCopies, AreMarked, IsCopiedWord, IsInCopy, IsListed, IsLoaded, IsSoundHeap, copied_word}
 use Rattle.collector.specs.Holding.{HasNotBegun}
 use Rattle.collector.specs.declared.progress.Progress.{Progress}
 use Rattle.collector.proofs.CopyPlaces.{IsPlace-change}
@@ -101,6 +101,10 @@ module _ (tree : Tree) (posted : Phase) (has_round : Bool) (words : ℕ) (p : Pr
   copied_back ThreadFlip x word h = h
   copied_back Reclaim x word h = h
 
+  in_copy_back : (x : Addr) (from : Cell) (word : ℕ) → IsInCopy posted p n x from word → IsInCopy posted p m x from word
+  in_copy_back x from word (inl done) = inl (copied_back posted x word done)
+  in_copy_back x from word (inr stored) = inr (record { copying = stored.copying; here = stored.here; next = stored.next; stored = stored.stored; same = stored.same })
+
   read_was : (q : Phase) (c d : Cell) → d.marked ≡ c.marked → is_read q d ≡ is_read q c
   read_was Idle c d e = refl
   read_was Mark c d e = refl
@@ -162,14 +166,19 @@ module _ (tree : Tree) (posted : Phase) (has_round : Bool) (words : ℕ) (p : Pr
 
     copies_stay : (x y : Addr) (c d : Cell) → cell_in m.old x ≡ Some c → c.other ≡ Some y → cell_in m.new y ≡ Some d → AreCopies tree posted p m x c d → AreCopies tree posted p n x (F x c) (G y d)
     copies_stay x y c d lies other lies' were =
-        let now = fits.copies x y c d lies other lies' were in
         record {
           kind = now.kind;
           count = now.count;
           back = now.back;
-          monitor = λ done. now.monitor (copied_back posted x 0 done);
-          slots = λ slot done word is. now.slots slot (copied_back posted x (slot_word slot) done) word is ∙ ap Some (copied_word_stays (F x c) slot word);
+          words = same_words;
         }
+      where
+        now : AreCopies tree posted p m x (F x c) (G y d)
+        now = fits.copies x y c d lies other lies' were
+
+        same_words : (word : ℕ) → IsInCopy posted p n x (F x c) word → IsCopiedWord tree n (F x c) (G y d) word
+        same_words zero is = now.words 0 (in_copy_back x (F x c) 0 is)
+        same_words (suc slot) is = λ word there. now.words (suc slot) (in_copy_back x (F x c) (suc slot) is) word there ∙ ap Some (copied_word_stays (F x c) slot word)
 
     out_stays : (x y : Addr) (c : Cell) → cell_in n.old x ≡ Some c → c.other ≡ Some y → (d : Cell) × (cell_in n.new y ≡ Some d) × AreCopies tree posted p n x c d
     out_stays x y c is other =
@@ -218,6 +227,14 @@ module _ (tree : Tree) (posted : Phase) (has_round : Bool) (words : ℕ) (p : Pr
       new_references = new_references_stay;
       room = λ early. room_stays (sound.copies.room early);
     }
+
+    -- what is loaded
+
+    loaded_stays : posted ≡ Copy → IsLoaded tree p n
+    loaded_stays copying is c lies slot next holds =
+        let o = old_before (record { number = m.old.start + p.place }) c lies in
+        let held : holds_reference tree o.0.kind slot ≡ true = ap (λ k. holds_reference tree k slot) (sym ((old_tags (record { number = m.old.start + p.place })).kind o.0) ∙ ap (λ (z : Cell). z.kind) o.2) ∙ holds in
+        live_stays m n alike Copy (reference_in p.attempt.word) ∙ sound.loaded copying is o.0 o.1 slot next held
 
     -- marks
 
@@ -286,6 +303,7 @@ module _ (tree : Tree) (posted : Phase) (has_round : Bool) (words : ℕ) (p : Pr
       blocks = blocks;
       copies = copies;
       place = HasPlace-change posted p m n sound.place f keeps.count keeps.other a refl;
+      loaded = loaded_stays;
       marks = marks_stay;
       cleared = λ last. record {
         place = IsPlace-change g (keeps_size g keeps') m.new b (m.new.start + p.place) (sound.cleared last).place;

@@ -88,8 +88,7 @@ module _ (tree : Tree) (has_round : Bool) (words : ℕ) (p : Progress) (m : Spac
     kind = are.kind;
     count = are.count;
     back = λ e. elim e [ inl ne ↦ elim (ne refl) [ ] | inr some ↦ elim (some refl) [ ] ];
-    monitor = λ e. elim e [ ];
-    slots = λ slot e. elim e [ ];
+    words = λ word e. elim e [ inl done ↦ elim done [ ] | inr stored ↦ (let wrong = stored.copying in absurd cc) ];
   }
 
   -- copies elsewhere are copies still
@@ -98,8 +97,7 @@ module _ (tree : Tree) (has_round : Bool) (words : ℕ) (p : Progress) (m : Spac
     kind = are.kind;
     count = are.count;
     back = are.back;
-    monitor = λ e. elim e [ ];
-    slots = λ slot e. elim e [ ];
+    words = λ word e. elim e [ inl done ↦ elim done [ ] | inr stored ↦ (let wrong = stored.copying in absurd cc) ];
   }
 
   -- in each case
@@ -183,7 +181,7 @@ module _ (tree : Tree) (has_round : Bool) (words : ℕ) (p : Progress) (m : Spac
 
   -- the heap is sound
   one_sound : IsSoundHeap tree Reclaim has_round words p' (clear m there)
-  one_sound = subst (IsSoundHeap tree Reclaim has_round words p') (sym clear_is) (record { blocks = clear_blocks; copies = clear_copied; place = HasPlace-else Reclaim p' m' (λ is. absurd cc) (λ is. absurd cc); marks = λ is. absurd cc; cleared = λ is. clear_cleared })
+  one_sound = subst (IsSoundHeap tree Reclaim has_round words p') (sym clear_is) (record { blocks = clear_blocks; copies = clear_copied; place = HasPlace-else Reclaim p' m' (λ is. absurd cc) (λ is. absurd cc); loaded = λ is. absurd cc; marks = λ is. absurd cc; cleared = λ is. clear_cleared })
 
   -- what is old, marked or new stays so
   one_stays : TestsStay m (clear m there)
@@ -329,7 +327,7 @@ module _ (tree : Tree) (has_round : Bool) (words : ℕ) (p : Progress) (o : Obje
 
     -- the heap of the new block alone is sound between cycles
     pub retired_sound : IsSoundHeap tree Idle has_round words no_progress (retired o).spaces
-    retired_sound = record { blocks = closed_blocks; copies = closed_copied; place = HasPlace-begun Idle (closed m); marks = λ is. absurd cc; cleared = λ is. absurd cc }
+    retired_sound = record { blocks = closed_blocks; copies = closed_copied; place = HasPlace-begun Idle (closed m); loaded = λ is. absurd cc; marks = λ is. absurd cc; cleared = λ is. absurd cc }
 
 -- ---- what may be held between cycles
 

@@ -1,6 +1,6 @@
 -- Which stores of words and monitors are right in one cell, and which leave the two copies of an object alike.
 use Rattle.std.proofs.Common.{◌≡◌, ◌≢◌, ◌⊎◌, inl, inr, ℕ, zero, suc, ◌<◌, Bool, true, false, List, [], ◌∷◌, length, refl, sym, ap, ◌∙◌, subst, arith}
-use Rattle.std.specs.Prelude.{◌==◌, Some, slice_get, slice_set}
+use Rattle.std.specs.Prelude.{◌==◌, Option, Some, slice_get, slice_set, unwrap_or}
 use Rattle.std.proofs.Math.ListN.{length-set}
 use Rattle.std.proofs.lemmas.Bool.Decides.{nat_tests}
 use Rattle.std.proofs.lemmas.Option.{same_Some, slice_get_within}
@@ -12,8 +12,8 @@ use Rattle.object_memory.specs.declared.monitors.Monitor.{Monitor}
 use Rattle.object_memory.specs.Cells.{Cell, store_monitor, store_slot}
 use Rattle.object_memory.specs.Spaces.{Spaces}
 use Rattle.collector.specs.References.{Test, holds_reference, reference_in}
-use Rattle.collector.specs.Phases.{HasCopied, slot_word}
-use Rattle.collector.specs.Soundness.{AreCopies, IsCopiedSlot, copied_word}
+use Rattle.collector.specs.Attempts.{has_loaded}
+use Rattle.collector.specs.Soundness.{AreCopies, IsCopiedSlot, IsCopiedWord, IsInCopy, copied_word}
 use Rattle.collector.specs.declared.progress.Progress.{Progress}
 use Rattle.collector.proofs.TagChanges.{KeepsTags, monitor_keeps_tags, slot_keeps_tags}
 use Rattle.collector.proofs.ChangesKept.{AreStored}
@@ -59,22 +59,25 @@ monitor_stored tree test c m j x is link = inl is
 -- ---- two copies
 
 module _ (tree : Tree) (posted : Phase) (p : Progress) (m : Spaces) where
-  -- copies that a change leaves alike in monitor and slots
+  -- copies that a change leaves alike in each word
   pub copies_by : (f g : Cell → Cell) → KeepsTags f → KeepsTags g → (x : Addr) (c d : Cell) → AreCopies tree posted p m x c d
-      → (HasCopied posted p m x 0 → (g d).monitor ≡ (f c).monitor)
-      → ((slot : ℕ) → HasCopied posted p m x (slot_word slot) → IsCopiedSlot tree m (f c) (g d) slot)
+      → ((word : ℕ) → IsInCopy posted p m x (f c) word → IsCopiedWord tree m (f c) (g d) word)
       → AreCopies tree posted p m x (f c) (g d)
-  copies_by f g keeps keeps' x c d were monitor slots = record {
+  copies_by f g keeps keeps' x c d were words = record {
     kind = keeps'.kind d ∙ were.kind ∙ sym (keeps.kind c);
     count = keeps'.count d ∙ were.count ∙ sym (keeps.count c);
     back = λ h. keeps'.other d ∙ were.back (elim h [ inl e ↦ inl e | inr e ↦ inr (λ k. e (keeps'.other d ∙ k)) ]);
-    monitor = monitor;
-    slots = slots;
+    words = words;
   }
+
+  -- what is in the copy was so before, where the old copy has the word that it had
+  was_in_copy : (x : Addr) (c c' : Cell) (word : ℕ) → has_loaded p.attempt c' word ≡ has_loaded p.attempt c word → IsInCopy posted p m x c' word → IsInCopy posted p m x c word
+  was_in_copy x c c' word same (inl done) = inl done
+  was_in_copy x c c' word same (inr stored) = inr (record { copying = stored.copying; here = stored.here; next = stored.next; stored = stored.stored; same = sym same ∙ stored.same })
 
   -- a word in a slot of the old copy, and its copy in the new one
   module _ (slot w w' : ℕ) (x : Addr) (c d : Cell) (were : AreCopies tree posted p m x c d) (copied : w' ≡ copied_word tree m c slot w) where
-    copied_at : (j : ℕ) → IsCopiedSlot tree m c d j → IsCopiedSlot tree m (store_slot slot w c) (store_slot slot w' d) j
+    copied_at : (j : ℕ) → (slot ≢ j → IsCopiedSlot tree m c d j) → IsCopiedSlot tree m (store_slot slot w c) (store_slot slot w' d) j
     copied_at j was word is = by_test (slot == j) refl
       where
         by_test : (t : Bool) → (slot == j) ≡ t → slice_get (slice_set d.slots slot w') j ≡ Some (copied_word tree m c j word)
@@ -88,12 +91,21 @@ module _ (tree : Tree) (posted : Phase) (p : Progress) (m : Spaces) where
             (set_own d.slots slot w' inside' ∙ ap Some (copied ∙ ap (copied_word tree m c slot) value))
         by_test false e =
             let ne : slot ≢ j = λ h. absurd (grind (arith, nat_tests)) in
-            set_other d.slots slot j w' ne ∙ was word (sym (set_other c.slots slot j w ne) ∙ is)
+            set_other d.slots slot j w' ne ∙ was ne word (sym (set_other c.slots slot j w ne) ∙ is)
+
+    words_alike : (word : ℕ) → IsInCopy posted p m x (store_slot slot w c) word → IsCopiedWord tree m (store_slot slot w c) (store_slot slot w' d) word
+    words_alike zero is = were.words 0 (was_in_copy x c (store_slot slot w c) 0 refl is)
+    words_alike (suc j) is =
+        copied_at j (λ ne. were.words (suc j) (was_in_copy x c (store_slot slot w c) (suc j) (ap (λ (o : Option ℕ). unwrap_or o 0 == p.attempt.word) (set_other c.slots slot j w ne)) is))
 
     -- the copies are alike
     pub slots_alike : AreCopies tree posted p m x (store_slot slot w c) (store_slot slot w' d)
-    slots_alike = copies_by (store_slot slot w) (store_slot slot w') (slot_keeps_tags slot w) (slot_keeps_tags slot w') x c d were were.monitor (λ j done. copied_at j (were.slots j done))
+    slots_alike = copies_by (store_slot slot w) (store_slot slot w') (slot_keeps_tags slot w) (slot_keeps_tags slot w') x c d were words_alike
 
   -- one monitor in both
   pub monitors_alike : (monitor : Monitor) (x : Addr) (c d : Cell) → AreCopies tree posted p m x c d → AreCopies tree posted p m x (store_monitor monitor c) (store_monitor monitor d)
-  monitors_alike monitor x c d were = copies_by (store_monitor monitor) (store_monitor monitor) (monitor_keeps_tags monitor) (monitor_keeps_tags monitor) x c d were (λ done. refl) were.slots
+  monitors_alike monitor x c d were = copies_by (store_monitor monitor) (store_monitor monitor) (monitor_keeps_tags monitor) (monitor_keeps_tags monitor) x c d were each
+    where
+      each : (word : ℕ) → IsInCopy posted p m x (store_monitor monitor c) word → IsCopiedWord tree m (store_monitor monitor c) (store_monitor monitor d) word
+      each zero is = refl
+      each (suc j) is = were.words (suc j) (was_in_copy x c (store_monitor monitor c) (suc j) refl is)

@@ -15,11 +15,12 @@ use Rattle.collector.specs.References.{is_permanent}
 use Rattle.collector.specs.Phases.{is_live, is_marked_cell, is_marked_old}
 use Rattle.collector.specs.Soundness.{IsSoundHeap}
 use Rattle.collector.specs.Copying.{address_behind, copied_on, looked_on}
+use Rattle.collector.specs.declared.progress.Attempt.{Attempt}
 use Rattle.collector.specs.declared.progress.Progress.{Progress}
 use Rattle.collector.proofs.CopyTests.{marks_same, same_address}
 use Rattle.collector.proofs.CopyWords.{filled, filled_count, filled_kind, filled_marked, filled_other, filled_size}
 use Rattle.collector.proofs.Shells.{looked_cases}
-use Rattle.collector.proofs.Copies.{copied_cases}
+use Rattle.collector.proofs.Copies.{IsStep, copied_cases, none_stored, one_stored}
 
 -- an object shows what it showed, and may have got another copy
 pub record IsStill (c d : Cell) : Type 0 where
@@ -141,69 +142,77 @@ module _ (p : Progress) (o : Objects) where
 -- ---- a word is copied
 
 module _ (tree : Tree) (p : Progress) (o : Objects) where
-  -- a new object stays, or it is the other copy of an old one, and gets that one's next word
+  -- a new object stays, or it is the other copy of an old one, and gets what was loaded of that one's next word
   pub data IsFilling (y : Addr) (d e : Cell) : Type 0 where
     same : e ≡ d → IsFilling y d e
-    word : (a : Addr) (c : Cell) → cell_in o.spaces.old a ≡ Some c → c.other ≡ Some y → e ≡ filled tree o.spaces c p.copied_words d → IsFilling y d e
+    word : (a : Addr) (c : Cell) (t : Attempt) → cell_in o.spaces.old a ≡ Some c → c.other ≡ Some y → e ≡ filled tree o.spaces c t p.copied_words d → IsFilling y d e
+
+  -- a new object after a step, by what the step was
+  new_then : (o' : Objects) → IsStep tree p o o' → (y : Addr) (d : Cell) → cell_in o.spaces.new y ≡ Some d → (e : Cell) × (cell_in o'.spaces.new y ≡ Some e) × IsFilling y d e
+  new_then o' (none_stored equal) y d there = (d, ap (λ (z : Objects). cell_in z.spaces.new y) equal ∙ there, same refl)
+  new_then o' (one_stored at c b t lies other is) y d there =
+      let f = filled tree o.spaces c t p.copied_words in
+      let r = before_in f (λ z. filled_size tree o.spaces c t p.copied_words z) o.spaces.new b y d there in (
+        r.0,
+        ap (λ (z : Objects). cell_in z.spaces.new y) is ∙ r.1,
+        elim r.2 [
+          | own number equal ↦ word (record { number = at }) c t lies (other ∙ ap Some (same_address b y (sym number))) equal
+          | still ne equal ↦ same equal
+        ],
+      )
 
   pub copied_new : (y : Addr) (d : Cell) → cell_in o.spaces.new y ≡ Some d → (e : Cell) × (cell_in (copied_on tree p o).1.spaces.new y ≡ Some e) × IsFilling y d e
-  copied_new y d there = elim (copied_cases tree p o) [
-    | inl equal ↦ (d, ap (λ (z : Objects). cell_in z.spaces.new y) equal ∙ there, same refl)
-    | inr h ↦ (
-        let f = filled tree o.spaces h.1 p.copied_words in
-        let r = before_in f (λ z. filled_size tree o.spaces h.1 p.copied_words z) o.spaces.new h.2 y d there in (
-          r.0,
-          ap (λ (z : Objects). cell_in z.spaces.new y) h.6 ∙ r.1,
-          elim r.2 [
-            | own number equal ↦ word (record { number = h.0 }) h.1 h.4 (h.5 ∙ ap Some (same_address h.2 y (sym number))) equal
-            | still ne equal ↦ same equal
-          ],
-        ))
-  ]
+  copied_new y d there = new_then (copied_on tree p o).1 (copied_cases tree p o) y d there
+
+  new_was : (o' : Objects) → IsStep tree p o o' → (y : Addr) (e : Cell) → cell_in o'.spaces.new y ≡ Some e → (d : Cell) × (cell_in o.spaces.new y ≡ Some d) × IsFilling y d e
+  new_was o' (none_stored equal) y e there = (e, sym (ap (λ (z : Objects). cell_in z.spaces.new y) equal) ∙ there, same refl)
+  new_was o' (one_stored at c b t lies other is) y e there =
+      let f = filled tree o.spaces c t p.copied_words in
+      let now = sym (ap (λ (z : Objects). cell_in z.spaces.new y) is) ∙ there in
+      let r = after_in f (λ z. filled_size tree o.spaces c t p.copied_words z) o.spaces.new b y e now in (
+        r.0,
+        r.1,
+        elim r.2 [
+          | own number equal ↦ word (record { number = at }) c t lies (other ∙ ap Some (same_address b y (sym number))) equal
+          | still ne equal ↦ same equal
+        ],
+      )
 
   pub copied_was_new : (y : Addr) (e : Cell) → cell_in (copied_on tree p o).1.spaces.new y ≡ Some e → (d : Cell) × (cell_in o.spaces.new y ≡ Some d) × IsFilling y d e
-  copied_was_new y e there = elim (copied_cases tree p o) [
-    | inl equal ↦ (e, sym (ap (λ (z : Objects). cell_in z.spaces.new y) equal) ∙ there, same refl)
-    | inr h ↦ (
-        let f = filled tree o.spaces h.1 p.copied_words in
-        let now = sym (ap (λ (z : Objects). cell_in z.spaces.new y) h.6) ∙ there in
-        let r = after_in f (λ z. filled_size tree o.spaces h.1 p.copied_words z) o.spaces.new h.2 y e now in (
-          r.0,
-          r.1,
-          elim r.2 [
-            | own number equal ↦ word (record { number = h.0 }) h.1 h.4 (h.5 ∙ ap Some (same_address h.2 y (sym number))) equal
-            | still ne equal ↦ same equal
-          ],
-        ))
-  ]
+  copied_was_new y e there = new_was (copied_on tree p o).1 (copied_cases tree p o) y e there
 
   -- its kind, its count of slots and what the collector notes at it stay
   pub filling_keeps : (y : Addr) (d e : Cell) → IsFilling y d e → (e.kind ≡ d.kind) × (e.marked ≡ d.marked) × (e.other ≡ d.other) × (length e.slots ≡ length d.slots)
   filling_keeps y d e (same is) = (ap (λ (z : Cell). z.kind) is, ap (λ (z : Cell). z.marked) is, ap (λ (z : Cell). z.other) is, ap (λ (z : Cell). length z.slots) is)
-  filling_keeps y d e (word a c lies other is) = (
-    ap (λ (z : Cell). z.kind) is ∙ filled_kind tree o.spaces c p.copied_words d,
-    ap (λ (z : Cell). z.marked) is ∙ filled_marked tree o.spaces c p.copied_words d,
-    ap (λ (z : Cell). z.other) is ∙ filled_other tree o.spaces c p.copied_words d,
-    ap (λ (z : Cell). length z.slots) is ∙ filled_count tree o.spaces c p.copied_words d,
+  filling_keeps y d e (word a c t lies other is) = (
+    ap (λ (z : Cell). z.kind) is ∙ filled_kind tree o.spaces c t p.copied_words d,
+    ap (λ (z : Cell). z.marked) is ∙ filled_marked tree o.spaces c t p.copied_words d,
+    ap (λ (z : Cell). z.other) is ∙ filled_other tree o.spaces c t p.copied_words d,
+    ap (λ (z : Cell). length z.slots) is ∙ filled_count tree o.spaces c t p.copied_words d,
   )
 
+  else_still : (o' : Objects) → IsStep tree p o o' → IsElseStill o o'
+  else_still o' (none_stored equal) = same_else_still o o' equal
+  else_still o' (one_stored at c b t lies other e) = record {
+    literals = ap (λ (x : Objects). x.literals) e;
+    grey = ap (λ (x : Objects). x.spaces.grey) e;
+    has_marked = ap (λ (x : Objects). x.spaces.has_marked) e;
+    is_open = ap (λ (x : Objects). x.spaces.is_open) e;
+  }
+
   pub copied_else : IsElseStill o (copied_on tree p o).1
-  copied_else = elim (copied_cases tree p o) [
-    | inl equal ↦ same_else_still o (copied_on tree p o).1 equal
-    | inr h ↦ (
-        let e = h.6 in
-        record { literals = ap (λ (x : Objects). x.literals) e; grey = ap (λ (x : Objects). x.spaces.grey) e; has_marked = ap (λ (x : Objects). x.spaces.has_marked) e; is_open = ap (λ (x : Objects). x.spaces.is_open) e })
-  ]
+  copied_else = else_still (copied_on tree p o).1 (copied_cases tree p o)
 
   -- the old block stays as it is
+  old_still : (has_round : Bool) (words : ℕ) → IsSoundHeap tree Copy has_round words p o.spaces → (o' : Objects) → IsStep tree p o o' → o'.spaces.old ≡ o.spaces.old
+  old_still has_round words sound o' (none_stored equal) = ap (λ (z : Objects). z.spaces.old) equal
+  old_still has_round words sound o' (one_stored at c b t lies other is) =
+      let d = sound.copies.out (record { number = at }) b c lies other in
+      let none = not_old o.spaces sound.blocks.spaces b d.0 d.1 in
+      ap (λ (z : Objects). z.spaces.old) is ∙ unchanged_in (filled tree o.spaces c t p.copied_words) o.spaces.old b none
+
   pub copied_old : (has_round : Bool) (words : ℕ) → IsSoundHeap tree Copy has_round words p o.spaces → (copied_on tree p o).1.spaces.old ≡ o.spaces.old
-  copied_old has_round words sound = elim (copied_cases tree p o) [
-    | inl equal ↦ ap (λ (z : Objects). z.spaces.old) equal
-    | inr h ↦ (
-        let d = sound.copies.out (record { number = h.0 }) h.2 h.1 h.4 h.5 in
-        let none = not_old o.spaces sound.blocks.spaces h.2 d.0 d.1 in
-        ap (λ (z : Objects). z.spaces.old) h.6 ∙ unchanged_in (filled tree o.spaces h.1 p.copied_words) o.spaces.old h.2 none)
-  ]
+  copied_old has_round words sound = old_still has_round words sound (copied_on tree p o).1 (copied_cases tree p o)
 
   -- and so does what is live, and each forward
   pub copied_live : (has_round : Bool) (words : ℕ) → IsSoundHeap tree Copy has_round words p o.spaces → (x : Addr) → is_live Copy (copied_on tree p o).1.spaces x ≡ is_live Copy o.spaces x

@@ -1,5 +1,5 @@
 -- What readers see of objects with two copies: from Copy on each marked object has one, and from PreFlip on both show the same.
-use Rattle.std.proofs.Common.{◌≡◌, ◌≢◌, ◌⊎◌, inl, inr, ℕ, ◌<◌, Bool, true, false, length, refl, sym, ap, subst, ◌∙◌, arith}
+use Rattle.std.proofs.Common.{◌≡◌, ◌≢◌, ◌⊎◌, inl, inr, ℕ, suc, ◌<◌, Bool, true, false, length, refl, sym, ap, subst, ◌∙◌, arith}
 use Rattle.std.specs.Prelude.{Option, Some, None, is_some, slice_get}
 use Rattle.std.proofs.Math.Nat.{mod-eq_of_lt}
 use Rattle.std.proofs.lemmas.Bool.{or_cases, or_left, or_right}
@@ -14,7 +14,7 @@ use Rattle.object_memory.specs.Cells.{Cell, cell_in}
 use Rattle.object_memory.specs.Spaces.{Spaces, AreSpaces, forward, forward_word}
 use Rattle.object_memory.proofs.TwoBlocks.{forward_bare, forward_copy, forward_else, forward_new, new_is_cell, not_new, told_apart}
 use Rattle.collector.specs.References.{is_permanent, reference_in}
-use Rattle.collector.specs.Phases.{HasCopied, HasLooked, is_live, is_live_object, is_marked_cell, is_marked_old, is_new, is_new_address, slot_word}
+use Rattle.collector.specs.Phases.{HasCopied, HasLooked, is_live, is_live_object, is_marked_cell, is_marked_old, is_new, is_new_address}
 use Rattle.collector.specs.Soundness.{AreCopies, AreCopied, IsCopiedSlot, copied_word}
 use Rattle.collector.specs.declared.progress.Progress.{Progress}
 use Rattle.collector.proofs.CopyTests.{marked_there, other_there, permanent_no_cell, some_there}
@@ -167,9 +167,9 @@ module _ (tree : Tree) (posted : Phase) (p : Progress) (m : Spaces) (spaces : Ar
     show : (a : Addr) (c d : Cell) → AreCopies tree posted p m a c d → ShowSame tree m c d
     show a c d h = record {
       kind = h.kind;
-      monitor = h.monitor (copied_by posted p m a 0 late);
+      monitor = h.words 0 (inl (copied_by posted p m a 0 late));
       count = h.count;
-      slots = λ slot. h.slots slot (copied_by posted p m a (slot_word slot) late);
+      slots = λ slot. h.words (suc slot) (inl (copied_by posted p m a (suc slot) late));
     }
 
     -- through the old address, and through the new one

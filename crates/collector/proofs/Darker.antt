@@ -176,6 +176,7 @@ module _ (tree : Tree) (has_round : Bool) (words : ℕ) (p : Progress) (m n : Sp
     blocks = AreBlocks-darker m n darker words sound.blocks;
     copies = AreCopied-darker q;
     place = HasPlace-else Mark q n (λ e. absurd cc) (λ e. absurd cc);
+    loaded = λ e. absurd cc;
     marks = λ posted. marks;
     cleared = λ posted. absurd cc;
   }

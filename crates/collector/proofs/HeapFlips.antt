@@ -17,7 +17,7 @@ use Rattle.object_memory.proofs.Blocks.{range_in}
 use Rattle.object_memory.proofs.TwoBlocks.{forward_copy, forward_new}
 use Rattle.barriers.specs.Barriers.{forwarded}
 use Rattle.collector.specs.References.{SlotsPass, ValuePasses, is_permanent}
-use Rattle.collector.specs.Phases.{HasCopied, HasLooked, is_before_copies, is_live, is_marked_old, is_new, is_new_address, is_of_cycle, is_read, no_progress, slot_word}
+use Rattle.collector.specs.Phases.{HasCopied, HasLooked, is_before_copies, is_live, is_marked_old, is_new, is_new_address, is_of_cycle, is_read, no_progress}
 use Rattle.collector.specs.Soundness.{AreBlocks, IsCleared, AreCopied, AreCopies, IsSoundHeap}
 use Rattle.collector.specs.Holding.{HasNotBegun}
 use Rattle.collector.specs.declared.progress.Progress.{Progress}
@@ -53,8 +53,7 @@ module _ (tree : Tree) (posted next : Phase) (has_round : Bool) (words : ℕ) (p
     kind = are.kind;
     count = are.count;
     back = λ e. are.back (inl held);
-    monitor = λ e. are.monitor (copied a 0 e);
-    slots = λ slot e. are.slots slot (copied a (slot_word slot) e);
+    words = λ word e. are.words word (elim e [ inl done ↦ inl (copied a word done) | inr stored ↦ elim (filling stored.copying) [ ] ]);
   }
 
   -- all of it together
@@ -73,7 +72,7 @@ module _ (tree : Tree) (posted next : Phase) (has_round : Bool) (words : ℕ) (p
 
   -- the heap is sound
   pub sound_on : IsSoundHeap tree next has_round words p' m
-  sound_on = record { blocks = blocks_on; copies = copied_on; place = HasPlace-else next p' m making filling; marks = λ is. elim (marking is) [ ]; cleared = cleared }
+  sound_on = record { blocks = blocks_on; copies = copied_on; place = HasPlace-else next p' m making filling; loaded = λ is. elim (filling is) [ ]; marks = λ is. elim (marking is) [ ]; cleared = cleared }
 
 -- whether the phase after one comes with the same heap, whose copies are made
 abbrev pub is_flip : Phase → Bool

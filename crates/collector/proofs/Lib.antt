@@ -26,6 +26,7 @@ pub mod CopyViews
 pub mod Shells
 pub mod Copies
 pub mod CopyStays
+pub mod CopySteps
 pub mod HeldStays
 pub mod BornHeaps
 pub mod BornCells

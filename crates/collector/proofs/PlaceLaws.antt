@@ -19,6 +19,7 @@ use Rattle.collector.proofs.CopyPlaces.{IsPlace-change}
 pub HasPlace-begun : (posted : Phase) (m : Spaces) → HasPlace posted no_progress m
 HasPlace-begun posted m = record {
   place = λ now. (let same : m.old.start ≡ m.old.start + 0 = omega arith in subst (IsPlace m.old) same (IsPlace-start m.old));
+  attempts = λ now. omega arith;
   words = λ now some. absurd (some refl);
 }
 
@@ -27,6 +28,7 @@ module _ (posted : Phase) (p : Progress) where
   pub HasPlace-else : (m : Spaces) → posted ≢ Allocate → posted ≢ Copy → HasPlace posted p m
   HasPlace-else m not_allocate not_copy = record {
     place = λ now. elim now [ inl is ↦ absurd (not_allocate is) | inr is ↦ absurd (not_copy is) ];
+    attempts = λ now. absurd (not_copy now);
     words = λ now. absurd (not_copy now);
   }
 
@@ -39,6 +41,7 @@ module _ (posted : Phase) (p : Progress) where
     pub HasPlace-same : n.old ≡ m.old → HasPlace posted p n
     HasPlace-same same = record {
       place = λ now. subst (λ (s : Cells). IsPlace s (s.start + p.place)) (sym same) (h.place now);
+      attempts = h.attempts;
       words = λ now some.
           subst
           (λ (s : Cells). (c : Cell) × (cell_in s (record { number = s.start + p.place }) ≡ Some c) × (c.other ≢ None) × (p.copied_words ≤ length c.slots))
@@ -53,6 +56,7 @@ module _ (posted : Phase) (p : Progress) where
       more : HasPlace posted p (record m { old = with_last m.old c })
       more = record {
         place = λ now. IsPlace-last m.old c (m.old.start + p.place) (h.place now);
+        attempts = h.attempts;
         words = λ now some. (let r = h.words now some in (r.0, kept_in m.old c (record { number = m.old.start + p.place }) r.0 r.1, r.2, r.3));
       }
 
@@ -67,6 +71,7 @@ module _ (posted : Phase) (p : Progress) where
       changed : HasPlace posted p (record m { old = change_in f m.old a })
       changed = record {
         place = λ now. IsPlace-change f keeps m.old a (m.old.start + p.place) (h.place now);
+        attempts = h.attempts;
         words = λ now some. (
             let r = h.words now some in
             let d = before_in f keeps m.old a (record { number = m.old.start + p.place }) r.0 r.1 in

@@ -62,6 +62,7 @@ module _ (words literals : ℕ) (few : words ≤ MOST_WORDS) where
       room = λ posted. elim posted [ inl e ↦ absurd (apart_mark e) | inr e ↦ absurd (apart_allocate e) ];
     };
     place = HasPlace-else Idle p empty (λ e. absurd cc) (λ e. absurd cc);
+    loaded = λ e. absurd cc;
     marks = λ posted. absurd (apart_mark posted);
     cleared = λ posted. absurd cc;
   }
@@ -104,6 +105,7 @@ module _ (tree : Tree) (has_round : Bool) (words : ℕ) (p : Progress) (m : Spac
         (λ a c e. sound.copies.old_references a c e refl)
         (HasShellRoom-opened m words (omega (arith, sound.blocks.old_words)));
     place = HasPlace-begun Mark (opened m words);
+    loaded = λ e. absurd cc;
     marks = λ posted. opened_marks;
     cleared = λ posted. absurd cc;
   }
@@ -168,6 +170,7 @@ module _ (tree : Tree) (has_round : Bool) (words : ℕ) (p : Progress) (m : Spac
       room = λ early. sound.copies.room (inl refl);
     };
     place = HasPlace-begun Allocate m;
+    loaded = λ e. absurd cc;
     marks = λ posted. absurd (apart posted);
     cleared = λ posted. absurd cc;
   }

@@ -15,7 +15,7 @@ use Rattle.object_memory.proofs.Rooms.{shell_fits, size-shell, HasShellRoom-shel
 use Rattle.object_memory.proofs.TwoBlocks.{own, still, after_in, before_in}
 use Rattle.object_memory.proofs.TwoCopies.{AreSpaces-shell, shell-old, shell-new, shell-kept_new, shell-was_new}
 use Rattle.collector.specs.References.{SlotsPass}
-use Rattle.collector.specs.Phases.{HasCopied, HasLooked, slot_word, is_live, is_marked_old, is_new_address, no_progress}
+use Rattle.collector.specs.Phases.{HasCopied, HasLooked, is_live, is_marked_old, is_new_address, no_progress}
 use Rattle.collector.specs.Soundness.{AreBlocks, AreCopies, AreCopied, IsSoundHeap}
 use Rattle.collector.specs.Copying.{address_behind, looked_on, needs_copy, shell_step}
 use Rattle.collector.specs.declared.progress.Progress.{Progress}
@@ -40,8 +40,7 @@ are_shells tree p m a c d kind count back = record {
   kind = kind;
   count = count;
   back = λ posted. back;
-  monitor = λ h. elim h [ ];
-  slots = λ slot h. elim h [ ];
+  words = λ word h. elim h [ inl done ↦ elim done [ ] | inr stored ↦ (let wrong = stored.copying in absurd cc) ];
 }
 
 module _ (tree : Tree) (has_round : Bool) (words : ℕ) (p : Progress) (m : Spaces) (sound : IsSoundHeap tree Allocate has_round words p m) where
@@ -172,7 +171,8 @@ module _ (tree : Tree) (has_round : Bool) (words : ℕ) (p : Progress) (m : Spac
     shell_sound = record {
       blocks = shell_blocks;
       copies = shell_copied;
-      place = record { place = λ posted. IsPlace-change (set_other b) (λ z. refl) m.old a (m.old.start + p.place) (sound.place.place posted); words = λ posted. absurd cc };
+      place = record { place = λ posted. IsPlace-change (set_other b) (λ z. refl) m.old a (m.old.start + p.place) (sound.place.place posted); attempts = λ posted. absurd cc; words = λ posted. absurd cc };
+      loaded = λ posted. absurd cc;
       marks = λ posted. absurd cc;
       cleared = λ posted. absurd cc;
     }
@@ -219,7 +219,8 @@ module _ (tree : Tree) (has_round : Bool) (words : ℕ) (p : Progress) (m : Spac
     next_sound = record {
       blocks = sound.blocks;
       copies = next_copied;
-      place = record { place = λ posted. next_place; words = λ posted. absurd cc };
+      place = record { place = λ posted. next_place; attempts = λ posted. absurd cc; words = λ posted. absurd cc };
+      loaded = λ posted. absurd cc;
       marks = λ posted. absurd cc;
       cleared = λ posted. absurd cc;
     }
@@ -311,8 +312,7 @@ module _ (tree : Tree) (has_round : Bool) (words : ℕ) (p : Progress) (o : Obje
       kind = h.kind;
       count = h.count;
       back = λ posted. h.back (inl (λ wrong. absurd cc));
-      monitor = λ copied. absurd (none 0 copied);
-      slots = λ slot copied. absurd (none (slot_word slot) copied);
+      words = λ word is. absurd (elim is [ inl done ↦ none word done | inr stored ↦ (let wrong = stored.stored in absurd cc) ]);
     }
       where
         none : (word : ℕ) → HasCopied Copy no_progress o.spaces a word → ⊥
@@ -342,6 +342,7 @@ module _ (tree : Tree) (has_round : Bool) (words : ℕ) (p : Progress) (o : Obje
         room = λ posted. elim posted [ inl wrong ↦ absurd cc | inr wrong ↦ absurd cc ];
       };
       place = HasPlace-begun Copy o.spaces;
+      loaded = λ copying is. absurd cc;
       marks = λ posted. absurd cc;
       cleared = λ posted. absurd cc;
     }

@@ -267,7 +267,7 @@ module _ (m : Spaces) (q : Addr) where
         only (suc k) d inside = absurd (omega (arith, inside))
 
     white_sound : IsSoundHeap tree Mark has_round words p n
-    white_sound = record { blocks = blocks; copies = copies; place = HasPlace-else Mark p n (λ e. absurd cc) (λ e. absurd cc); marks = λ mark. white_marks; cleared = λ last. absurd cc }
+    white_sound = record { blocks = blocks; copies = copies; place = HasPlace-else Mark p n (λ e. absurd cc) (λ e. absurd cc); loaded = λ copying. absurd cc; marks = λ mark. white_marks; cleared = λ last. absurd cc }
 
 -- ---- any address is marked
 

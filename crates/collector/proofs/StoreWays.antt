@@ -19,10 +19,11 @@ use Rattle.barriers.specs.Barriers.{reaches_both, with_both}
 use Rattle.barriers.proofs.Twins.{AreTwins, through_new, through_old}
 use Rattle.phase_handshake.specs.Handshakes.{Handshakes, IsClose}
 use Rattle.phase_handshake.specs.declared.posts.Seat.{Seat}
-use Rattle.collector.specs.Phases.{HasCopied, is_live, is_live_object, is_marked_address, is_marked_cell, is_new_address, no_progress, slot_word}
-use Rattle.collector.specs.Soundness.{AreCopies, IsSoundHeap}
+use Rattle.collector.specs.Phases.{HasCopied, is_live, is_live_object, is_marked_address, is_marked_cell, is_new_address, no_progress}
+use Rattle.collector.specs.Soundness.{AreCopies, HasStored, IsInCopy, IsSoundHeap}
 use Rattle.collector.specs.Holding.{HasNotBegun, IsOnTime}
 use Rattle.collector.specs.declared.progress.Progress.{Progress}
+use Rattle.collector.specs.declared.progress.Stage.TheVariants.{Begins, Stored}
 use Rattle.collector.proofs.Truths.{false_is_true}
 use Rattle.collector.proofs.TagChanges.{KeepsTags, keeps_size, only_at, only_keeps_tags, other_address, same_address, twice}
 use Rattle.collector.proofs.ChangesKept.{AreStored, heap_stays}
@@ -108,15 +109,15 @@ way_of own posted has_round p m (inr late) on_time =
 
 -- ---- how far the collector is
 
--- no word is copied
+-- no word is copied, whatever the old copies hold
 abbrev pub IsUncopied : Phase → Progress → Spaces → Type 0
-IsUncopied posted p m = (x : Addr) (c : Cell) → cell_in m.old x ≡ Some c → (word : ℕ) → HasCopied posted p m x word → ⊥
+IsUncopied posted p m = (x : Addr) (c : Cell) → cell_in m.old x ≡ Some c → (from : Cell) (word : ℕ) → IsInCopy posted p m x from word → ⊥
 
-uncopied_old : (posted : Phase) (p : Progress) (m : Spaces) → is_old_alone posted ≡ true → (is_copy posted ≡ true → p ≡ no_progress) → IsUncopied posted p m
-uncopied_old Idle p m alone nothing x c lies word done = done
-uncopied_old Mark p m alone nothing x c lies word done = done
-uncopied_old Allocate p m alone nothing x c lies word done = done
-uncopied_old Copy p m alone nothing x c lies word done =
+none_done : (posted : Phase) (p : Progress) (m : Spaces) → is_old_alone posted ≡ true → (is_copy posted ≡ true → p ≡ no_progress) → (x : Addr) (c : Cell) → cell_in m.old x ≡ Some c → (word : ℕ) → HasCopied posted p m x word → ⊥
+none_done Idle p m alone nothing x c lies word done = done
+none_done Mark p m alone nothing x c lies word done = done
+none_done Allocate p m alone nothing x c lies word done = done
+none_done Copy p m alone nothing x c lies word done =
     let none = nothing refl in
     let place : p.place ≡ 0 = ap (λ (q : Progress). q.place) none in
     let copied : p.copied_words ≡ 0 = ap (λ (q : Progress). q.copied_words) none in
@@ -124,13 +125,28 @@ uncopied_old Copy p m alone nothing x c lies word done =
       | inl before ↦ absurd (omega (arith, place, before, (range_in m.old x c lies).0))
       | inr here ↦ absurd (omega (arith, copied, here.1))
     ]
-uncopied_old PreFlip p m alone nothing x c lies word done = false_is_true alone
-uncopied_old HeapFlip p m alone nothing x c lies word done = false_is_true alone
-uncopied_old ThreadFlip p m alone nothing x c lies word done = false_is_true alone
-uncopied_old Reclaim p m alone nothing x c lies word done = false_is_true alone
+none_done PreFlip p m alone nothing x c lies word done = false_is_true alone
+none_done HeapFlip p m alone nothing x c lies word done = false_is_true alone
+none_done ThreadFlip p m alone nothing x c lies word done = false_is_true alone
+none_done Reclaim p m alone nothing x c lies word done = false_is_true alone
+
+-- nor is one stored
+none_stored : (posted : Phase) (p : Progress) (m : Spaces) → (is_copy posted ≡ true → p ≡ no_progress) → (x : Addr) (from : Cell) (word : ℕ) → HasStored posted p m x from word → ⊥
+none_stored posted p m nothing x from word stored =
+    let none = nothing (ap is_copy stored.copying) in
+    let begins : Begins ≡ Stored = sym (ap (λ (q : Progress). q.attempt.stage) none) ∙ stored.stored in
+    absurd cc
+
+uncopied_old : (posted : Phase) (p : Progress) (m : Spaces) → is_old_alone posted ≡ true → (is_copy posted ≡ true → p ≡ no_progress) → IsUncopied posted p m
+uncopied_old posted p m alone nothing x c lies from word (inl done) = none_done posted p m alone nothing x c lies word done
+uncopied_old posted p m alone nothing x c lies from word (inr stored) = none_stored posted p m nothing x from word stored
+
+uncopied_in_reclaim : (p : Progress) (m : Spaces) → IsUncopied Reclaim p m
+uncopied_in_reclaim p m x c lies from word (inl done) = done
+uncopied_in_reclaim p m x c lies from word (inr stored) = (let wrong = stored.copying in absurd cc)
 
 uncopied_reclaim : (posted : Phase) (p : Progress) (m : Spaces) → posted ≡ Reclaim → IsUncopied posted p m
-uncopied_reclaim posted p m e = subst (λ q. IsUncopied q p m) (sym e) (λ x c lies word done. done)
+uncopied_reclaim posted p m e = subst (λ q. IsUncopied q p m) (sym e) (uncopied_in_reclaim p m)
 
 -- ---- what is changed
 
@@ -168,8 +184,7 @@ module _ (tree : Tree) (posted : Phase) (has_round : Bool) (words : ℕ) (p : Pr
       → AreCopies tree posted p m x (only_at f a x c) (only_at g b y d)
   uncopied_alike none f g keeps keeps' a b x y c d lies were =
       copies_by tree posted p m (only_at f a x) (only_at g b y) (only_keeps_tags f keeps a x) (only_keeps_tags g keeps' b y) x c d were
-      (λ done. elim (none x c lies 0 done) [ ])
-      (λ slot done. elim (none x c lies (slot_word slot) done) [ ])
+      (λ word is. elim (none x c lies (only_at f a x c) word is) [ ])
 
   -- ---- an old object alone
 

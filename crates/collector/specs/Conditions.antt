@@ -50,6 +50,14 @@ pub record IsReadable (layout : Layout) (o : Objects) (a : Addr) (slot : ℕ) : 
   pub inside : slot < length cell.slots
   pub reference : holds_reference tree cell.kind slot ≡ true → is_there o.spaces (reference_in (word_of cell slot)) ≡ true
 
+-- a word of such a slot, whatever it holds by now, whose forward can be asked for
+pub record IsForwardable (layout : Layout) (o : Objects) (a : Addr) (slot word : ℕ) : Type 0 where
+  pub tree : Tree
+  pub laid : IsLayout tree layout
+  pub cell : Cell
+  pub at : cell_in o.spaces.old a ≡ Some cell
+  pub reference : holds_reference tree cell.kind slot ≡ true → is_there o.spaces (reference_in word) ≡ true
+
 -- ---- walks
 
 -- what is found at an address of a block

@@ -1,5 +1,5 @@
 -- The work of Allocate and of Copy: each marked object of the old block gets its copy in the new one, and each object with two copies has its words
--- copied, one at a time (Hudson and Moss, "Sapphire"; this profile).
+-- copied, one at a time, by a load, a store and a check (Hudson and Moss, "Sapphire"; this profile).
 use Rattle.std.specs.Prelude.{ℕ, zero, suc, ◌+◌, ◌-◌, nat_lt, ◌&&◌, if◌then◌else◌, Bool, true, false, is_none, length, Option, Some, None}
 use Rattle.std.specs.Option.{option_map_or}
 use Rattle.cil_model.specs.declared.trees.Tree.{Tree}
@@ -8,9 +8,13 @@ pub use Rattle.object_memory.specs.Cells.{address_behind}
 use Rattle.object_memory.specs.Cells.{Cell, Cells, cell_in, size, store_monitor, store_slot}
 use Rattle.object_memory.specs.Spaces.{found_in, has_other, with_shell}
 use Rattle.object_memory.specs.Objects.{Objects, with_cell}
-use Rattle.collector.specs.Marking.{word_of}
+use Rattle.collector.specs.Attempts.{has_loaded, no_attempt, with_loaded}
 use Rattle.collector.specs.Soundness.{copied_word}
+use Rattle.collector.specs.declared.progress.Attempt.{Attempt}
 use Rattle.collector.specs.declared.progress.Progress.{Progress}
+use Rattle.collector.specs.declared.progress.Stage.{Stage}
+use Rattle.collector.specs.declared.progress.Stage.TheVariants.{Begins, Loaded, Stored}
+use Rattle.collector.specs.declared.progress.TheConstants.{MOST_FAILED_CHECKS}
 
 -- ---- copies
 
@@ -31,19 +35,41 @@ looked_on p o = shell_step p o (cell_in o.spaces.old (address_behind o.spaces.ol
 
 -- ---- words
 
--- a word of the old copy in the new one: the monitor, or a slot with its forward
-abbrev pub word_copied : Tree → Objects → (from : Cell) → (to : Addr) → ℕ → Objects
-word_copied tree o from to zero = with_cell (store_monitor from.monitor) o to
-word_copied tree o from to (suc slot) = with_cell (store_slot slot (copied_word tree o.spaces from slot (word_of from slot))) o to
+-- what was loaded of a word is in the new copy: a monitor, or the word of a slot with its forward
+abbrev pub word_stored : Tree → Objects → Attempt → (from : Cell) → (to : Addr) → ℕ → Objects
+word_stored tree o t from to zero = with_cell (store_monitor t.monitor) o to
+word_stored tree o t from to (suc slot) = with_cell (store_slot slot (copied_word tree o.spaces from slot t.word)) o to
 
 -- how far the collector is behind a word of the object at an address
 abbrev pub behind_word : Progress → Cells → Addr → Cell → ℕ → Progress
 behind_word p s a c word =
-    if nat_lt word (length c.slots) then record p { place = a.number - s.start; copied_words = word + 1 } else record p { place = a.number - s.start + size c; copied_words = 0 }
+    if nat_lt word (length c.slots) then record p { place = a.number - s.start; copied_words = word + 1; attempt = no_attempt }
+    else record p { place = a.number - s.start + size c; copied_words = 0; attempt = no_attempt }
 
--- the next word of an object with two copies
+-- and before it, with an attempt
+abbrev pub before_word : Progress → Cells → Addr → Attempt → Progress
+before_word p s a t = record p { place = a.number - s.start; attempt = t }
+
+-- it is loaded; or, where too many checks of it failed, loaded and stored at once
+abbrev pub word_begun : Tree → Progress → Objects → Addr → Cell → Addr → Progress × Objects
+word_begun tree p o a c b =
+    if nat_lt p.attempt.failed_checks MOST_FAILED_CHECKS then (before_word p o.spaces.old a (with_loaded c p.copied_words p.attempt), o)
+    else (behind_word p o.spaces.old a c p.copied_words, word_stored tree o (with_loaded c p.copied_words p.attempt) c b p.copied_words)
+
+-- the old copy has what was loaded still, or all begins again
+abbrev pub word_checked : Progress → Cells → Addr → Cell → Progress
+word_checked p s a c =
+    if has_loaded p.attempt c p.copied_words then behind_word p s a c p.copied_words
+    else before_word p s a (record no_attempt { failed_checks = p.attempt.failed_checks + 1 })
+
+-- a step at the next word of an object with two copies
+abbrev pub word_step : Stage → Tree → Progress → Objects → Addr → Cell → Addr → Progress × Objects
+word_step Begins tree p o a c b = word_begun tree p o a c b
+word_step Loaded tree p o a c b = (before_word p o.spaces.old a (record p.attempt { stage = Stored }), word_stored tree o p.attempt c b p.copied_words)
+word_step Stored tree p o a c b = (word_checked p o.spaces.old a c, o)
+
 abbrev pub object_copied : Tree → Progress → Objects → Addr → Cell → Addr → Progress × Objects × Bool
-object_copied tree p o a c b = (behind_word p o.spaces.old a c p.copied_words, word_copied tree o c b p.copied_words, true)
+object_copied tree p o a c b = ((word_step p.attempt.stage tree p o a c b).0, (word_step p.attempt.stage tree p o a c b).1, true)
 
 -- the next object with two copies, from the place on
 abbrev pub copied_at : Tree → Progress → Objects → Option ℕ → Progress × Objects × Bool

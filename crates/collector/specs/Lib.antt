@@ -1,5 +1,6 @@
 pub use Rattle.phase_handshake.specs as phase_handshake
 pub mod References
+pub mod Attempts
 pub mod Phases
 pub mod Soundness
 pub mod Marking

@@ -7,13 +7,14 @@ use Rattle.object_memory.specs.declared.addresses.Addr.{Addr}
 use Rattle.object_memory.specs.Cells.{Cell, cell_in}
 use Rattle.object_memory.specs.Spaces.{Spaces, is_old}
 use Rattle.collector.specs.References.{Test, is_permanent}
+use Rattle.collector.specs.Attempts.{no_attempt}
 use Rattle.collector.specs.declared.progress.Progress.{Progress}
 
 -- ---- how far
 
 -- nothing is done
 abbrev pub no_progress : Progress
-no_progress = record { scanned_statics = false; scanned_slots = 0; place = 0; copied_words = 0; flipped_statics = 0 }
+no_progress = record { scanned_statics = false; scanned_slots = 0; place = 0; copied_words = 0; attempt = no_attempt; flipped_statics = 0 }
 
 -- whether a cycle is open while a phase is posted
 abbrev pub is_of_cycle : Phase → Bool
@@ -99,11 +100,8 @@ HasLooked HeapFlip p m a = Unit {0}
 HasLooked ThreadFlip p m a = Unit {0}
 HasLooked Reclaim p m a = Unit {0}
 
--- the words of an object that are copied: the monitor, and each slot
-abbrev pub slot_word : ℕ → ℕ
-slot_word slot = 1 + slot
-
--- whether it has copied a word of the old object at an address; in Copy those before its place, and so many of the object that is there
+-- whether it has copied a word of the old object at an address, its monitor or 1 more than a slot's number; in Copy those before its place, and so many of
+-- the object that is there
 abbrev pub HasCopied : Phase → Progress → Spaces → Addr → ℕ → Type 0
 HasCopied Idle p m a word = ⊥
 HasCopied Mark p m a word = ⊥

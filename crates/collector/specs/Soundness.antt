@@ -1,6 +1,6 @@
 -- What is true of a heap in each phase of a cycle: of its blocks, of the two copies of an object, and of marks (Hudson and Moss, "Sapphire"; this
 -- profile). It speaks of no object of the reference machine.
-use Rattle.std.specs.Prelude.{◌≡◌, ◌≢◌, ◌⊎◌, ◌<◌, ◌≤◌, ◌+◌, ℕ, if◌then◌else◌, Bool, true, false, List, [], ◌∷◌, length, Some, None, slice_get, All}
+use Rattle.std.specs.Prelude.{◌≡◌, ◌≢◌, ◌⊎◌, ◌<◌, ◌≤◌, ◌+◌, ℕ, zero, suc, if◌then◌else◌, Bool, true, false, List, [], ◌∷◌, length, Some, None, slice_get, All}
 use Rattle.cil_model.specs.declared.phases.Phase.{Phase}
 use Rattle.cil_model.specs.declared.phases.Phase.TheVariants.{Mark, Allocate, Copy, Reclaim}
 use Rattle.cil_model.specs.declared.trees.Tree.{Tree}
@@ -8,8 +8,10 @@ use Rattle.object_memory.specs.declared.addresses.Addr.{Addr}
 use Rattle.object_memory.specs.Cells.{Cell, cell_in}
 use Rattle.object_memory.specs.Spaces.{Spaces, AreSpaces, HasShellRoom, IsPlace, forward_word, is_noted}
 use Rattle.collector.specs.References.{SlotsPass, holds_reference, reference_in}
-use Rattle.collector.specs.Phases.{HasCopied, HasLooked, is_before_copies, is_live, is_marked_address, is_marked_old, is_new_address, is_of_cycle, is_read, slot_word}
+use Rattle.collector.specs.Attempts.{has_loaded, most_spent, spent}
+use Rattle.collector.specs.Phases.{HasCopied, HasLooked, is_before_copies, is_live, is_marked_address, is_marked_old, is_new_address, is_of_cycle, is_read}
 use Rattle.collector.specs.declared.progress.Progress.{Progress}
+use Rattle.collector.specs.declared.progress.Stage.TheVariants.{Loaded, Stored}
 
 -- ---- blocks
 
@@ -31,13 +33,29 @@ copied_word tree m from slot word = if holds_reference tree from.kind slot then 
 abbrev pub IsCopiedSlot : Tree → Spaces → (from to : Cell) → ℕ → Type 0
 IsCopiedSlot tree m from to slot = (word : ℕ) → slice_get from.slots slot ≡ Some word → slice_get to.slots slot ≡ Some (copied_word tree m from slot word)
 
+-- a word of the new copy, the monitor or a slot's
+abbrev pub IsCopiedWord : Tree → Spaces → (from to : Cell) → ℕ → Type 0
+IsCopiedWord tree m from to zero = to.monitor ≡ from.monitor
+IsCopiedWord tree m from to (suc slot) = IsCopiedSlot tree m from to slot
+
+-- the collector has stored the word that comes next, and the old copy has what was loaded still
+pub record HasStored (posted : Phase) (p : Progress) (m : Spaces) (a : Addr) (from : Cell) (word : ℕ) : Type 0 where
+  pub copying : posted ≡ Copy
+  pub here : a.number ≡ m.old.start + p.place
+  pub next : word ≡ p.copied_words
+  pub stored : p.attempt.stage ≡ Stored
+  pub same : has_loaded p.attempt from word ≡ true
+
+-- a word is in the new copy once it is copied, and before its check where that finds what was loaded
+abbrev pub IsInCopy : Phase → Progress → Spaces → Addr → Cell → ℕ → Type 0
+IsInCopy posted p m a from word = HasCopied posted p m a word ⊎ HasStored posted p m a from word
+
 -- an old object and its new copy, which has the words that are copied
 pub record AreCopies (tree : Tree) (posted : Phase) (p : Progress) (m : Spaces) (a : Addr) (from to : Cell) : Type 0 where
   pub kind : to.kind ≡ from.kind
   pub count : length to.slots ≡ length from.slots
   pub back : (posted ≢ Reclaim) ⊎ (to.other ≢ None) → to.other ≡ Some a
-  pub monitor : HasCopied posted p m a 0 → to.monitor ≡ from.monitor
-  pub slots : (slot : ℕ) → HasCopied posted p m a (slot_word slot) → IsCopiedSlot tree m from to slot
+  pub words : (word : ℕ) → IsInCopy posted p m a from word → IsCopiedWord tree m from to word
 
 pub record AreCopied (tree : Tree) (posted : Phase) (p : Progress) (m : Spaces) : Type 0 where
   pub bare : (a : Addr) (c : Cell) → cell_in m.old a ≡ Some c → is_before_copies posted ≡ true → c.other ≡ None
@@ -53,11 +71,20 @@ pub record AreCopied (tree : Tree) (posted : Phase) (p : Progress) (m : Spaces) 
 -- ---- the place
 
 -- While objects get their copies and their words, the collector is where an old object begins or behind all of them; and only of an object with
--- another copy it may have copied a part of the words.
+-- another copy it may have copied a part of the words, or have begun with the next one, which takes few attempts.
 pub record HasPlace (posted : Phase) (p : Progress) (m : Spaces) : Type 0 where
   pub place : (posted ≡ Allocate) ⊎ (posted ≡ Copy) → IsPlace m.old (m.old.start + p.place)
-  pub words : posted ≡ Copy → p.copied_words ≢ 0 →
+  pub attempts : posted ≡ Copy → spent p.attempt ≤ most_spent
+  pub words : posted ≡ Copy → p.copied_words + spent p.attempt ≢ 0 →
       (c : Cell) × (cell_in m.old (record { number = m.old.start + p.place }) ≡ Some c) × (c.other ≢ None) × (p.copied_words ≤ length c.slots)
+
+-- ---- what is loaded
+
+-- While Copy is posted: what the collector has loaded of a slot that holds a reference refers to what is live, whatever the slot holds by now.
+abbrev pub IsLoaded : Tree → Progress → Spaces → Type 0
+IsLoaded tree p m =
+    p.attempt.stage ≡ Loaded → (c : Cell) → cell_in m.old (record { number = m.old.start + p.place }) ≡ Some c →
+    (slot : ℕ) → p.copied_words ≡ suc slot → holds_reference tree c.kind slot ≡ true → is_live Copy m (reference_in p.attempt.word) ≡ true
 
 -- ---- marks
 
@@ -90,5 +117,6 @@ pub record IsSoundHeap (tree : Tree) (posted : Phase) (has_round : Bool) (words 
   pub blocks : AreBlocks posted words m
   pub copies : AreCopied tree posted p m
   pub place : HasPlace posted p m
+  pub loaded : posted ≡ Copy → IsLoaded tree p m
   pub marks : posted ≡ Mark → AreMarked tree has_round p m
   pub cleared : posted ≡ Reclaim → IsCleared p m

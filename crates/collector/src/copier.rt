@@ -1,22 +1,22 @@
 //! The work of Allocate and of Copy: each marked object of the old block gets its replica in the new one, and then its words.
 
-ghost use Rattle.std.specs.Prelude.{◌≡◌, ◌≤◌, ◌<◌, ◌-◌, Some, IsSome, length};
+ghost use Rattle.std.specs.Prelude.{◌≡◌, ◌≤◌, ◌<◌, ◌-◌, true, Some, IsSome, length};
 ghost use Rattle.cil_model.specs.declared.phases.Phase.TheVariants.{Allocate, Copy};
 ghost use Rattle.cil_model.specs.declared.trees.Tree.{Tree};
 ghost use Rattle.class_layout.specs.Laid.{IsLayout};
 ghost use Rattle.object_memory.specs.Cells.{Cell, cell_in};
 ghost use Rattle.object_memory.specs.Spaces.{AreSpaces, cell_at, slots_at};
-ghost use Rattle.collector.specs.Conditions.{IsReadable, IsSoundFor, IsSoundIn, found_at};
-ghost use Rattle.collector.specs.Copying.{behind_word, copied_on, looked_on, needs_copy, word_copied};
-ghost use Rattle.collector.specs.Marking.{word_of};
+ghost use Rattle.collector.specs.Attempts.{has_loaded, is_monitor, with_loaded};
+ghost use Rattle.collector.specs.Conditions.{IsForwardable, IsReadable, IsSoundFor, IsSoundIn, found_at};
+ghost use Rattle.collector.specs.Copying.{behind_word, copied_on, looked_on, needs_copy, word_checked, word_begun, word_stored};
 ghost use Rattle.collector.specs.Soundness.{copied_word};
 
-use crate::progress::Progress;
+use crate::progress::{Attempt, MOST_FAILED_CHECKS, Progress, Stage};
 use crate::references::holds_reference;
 use crate::walks::{Found, next_copied};
 use barriers::forward;
 use class_layout::Layout;
-use object_memory::{Addr, Heap, Value, ValueKind};
+use object_memory::{Addr, Heap, Monitor, Value, ValueKind};
 
 /// Looks at the next object of the old block: a marked one without another copy gets a shell in the new block, with its kind, as many
 /// slots, and no word yet. False where each object was looked at; nothing changes then.
@@ -42,8 +42,10 @@ fn needs_copy(heap: &Heap, object: Addr) -> bool
     heap.is_marked(object) && heap.other(object).is_none()
 }
 
-/// Copies one word of the next old object with two copies, from the place on: the monitor first, and then slot by slot, a reference
-/// by its forward. Objects without another copy are passed over in the same step. False where no word is left; nothing changes then.
+/// A step at one word of the next old object with two copies, from the place on: the monitor first, and then slot by slot. It is loaded
+/// from the old copy, stored in the new one, a reference by its forward, and checked: where the old copy has another word by then, all
+/// begins again. After three checks that failed the word is loaded and stored in one step. Objects without another copy are passed over
+/// in the same step. False where no word is left; nothing changes then.
 pub fn copy_step(progress: &mut Progress, heap: &mut Heap, layout: &Layout) -> bool
     requires { IsSoundFor layout.now Copy progress.old heap.old }
     ensures { (tree : Tree) → IsLayout tree layout.now → (progress.new, heap.new, result) ≡ copied_on tree progress.old heap.old }
@@ -54,19 +56,129 @@ pub fn copy_step(progress: &mut Progress, heap: &mut Heap, layout: &Layout) -> b
     let Some(copy) = heap.other(next.object) else {
         return false;
     };
-    let word = progress.copied_words;
-    pass_word(progress, heap, next);
-    copy_word(heap, layout, next.object, copy, word);
+    match progress.attempt.stage {
+        Stage::Begins => begin_word(progress, heap, layout, next, copy),
+        Stage::Loaded => {
+            let attempt = progress.attempt;
+            store_word(
+                heap,
+                layout,
+                next.object,
+                copy,
+                progress.copied_words,
+                attempt,
+            );
+            progress.place = next.place;
+            progress.attempt.stage = Stage::Stored;
+        }
+        Stage::Stored => check_word(progress, heap, next),
+    }
     true
 }
 
-/// Goes behind a word of an old object: to the next word of it, or behind the object where it was the last one.
+/// Loads the next word of an old object; where too many checks of it failed, stores it in its other copy too and goes behind it.
+fn begin_word(progress: &mut Progress, heap: &mut Heap, layout: &Layout, next: Found, copy: Addr)
+    requires spaces { AreSpaces heap.old.spaces }
+    requires there { IsSome (cell_in heap.old.spaces.old next.object) × IsSome (cell_at heap.old.spaces copy) }
+    requires place { next ≡ found_at heap.old.spaces.old next.object.number }
+    requires slots { 0 < progress.old.copied_words → IsReadable layout.now heap.old next.object (progress.old.copied_words - 1) × (progress.old.copied_words ≤ length (slots_at heap.old.spaces copy)) }
+    ensures { (tree : Tree) → IsLayout tree layout.now → (c : Cell) → cell_in heap.old.spaces.old next.object ≡ Some c → (progress.new, heap.new) ≡ word_begun tree progress.old heap.old next.object c copy }
+{
+    let word = progress.copied_words;
+    let attempt = loaded(heap, next.object, word, progress.attempt);
+    if attempt.failed_checks < MOST_FAILED_CHECKS {
+        progress.place = next.place;
+        progress.attempt = attempt;
+    } else {
+        pass_word(progress, heap, next);
+        store_word(heap, layout, next.object, copy, word, attempt);
+    }
+}
+
+/// The attempt with a word of an old object: word 0 is the monitor, and 1 more than a slot's number its word.
+fn loaded(heap: &Heap, object: Addr, word: u32, attempt: Attempt) -> Attempt
+    requires there { IsSome (cell_in heap.now.spaces.old object) }
+    requires slot { (c : Cell) → cell_in heap.now.spaces.old object ≡ Some c → word ≤ length c.slots }
+    ensures { (c : Cell) → cell_in heap.now.spaces.old object ≡ Some c → result ≡ with_loaded c word attempt }
+{
+    if word == 0 {
+        Attempt {
+            stage: Stage::Loaded,
+            monitor: heap.cell_monitor(object),
+            ..attempt
+        }
+    } else {
+        Attempt {
+            stage: Stage::Loaded,
+            word: heap.slot(object, word - 1),
+            ..attempt
+        }
+    }
+}
+
+/// Goes behind the next word of an old object, where the object has it still as it was loaded; else nothing of the word is done, and one
+/// more check failed.
+fn check_word(progress: &mut Progress, heap: &Heap, next: Found)
+    requires spaces { AreSpaces heap.now.spaces }
+    requires there { IsSome (cell_in heap.now.spaces.old next.object) }
+    requires place { next ≡ found_at heap.now.spaces.old next.object.number }
+    requires slot { (c : Cell) → cell_in heap.now.spaces.old next.object ≡ Some c → progress.old.copied_words ≤ length c.slots }
+    requires few { progress.old.attempt.failed_checks < MOST_FAILED_CHECKS }
+    ensures { (c : Cell) → cell_in heap.now.spaces.old next.object ≡ Some c → progress.new ≡ word_checked progress.old heap.now.spaces.old next.object c }
+{
+    let attempt = progress.attempt;
+    if has_loaded(heap, next.object, progress.copied_words, attempt) {
+        pass_word(progress, heap, next);
+    } else {
+        progress.place = next.place;
+        progress.attempt = Attempt {
+            failed_checks: attempt.failed_checks + 1,
+            ..Attempt::none()
+        };
+    }
+}
+
+/// Whether an old object has a word still as it was loaded.
+fn has_loaded(heap: &Heap, object: Addr, word: u32, attempt: Attempt) -> bool
+    requires there { IsSome (cell_in heap.now.spaces.old object) }
+    requires slot { (c : Cell) → cell_in heap.now.spaces.old object ≡ Some c → word ≤ length c.slots }
+    ensures { (c : Cell) → cell_in heap.now.spaces.old object ≡ Some c → result ≡ has_loaded attempt c word }
+{
+    if word == 0 {
+        is_monitor(heap.cell_monitor(object), attempt.monitor)
+    } else {
+        heap.slot(object, word - 1) == attempt.word
+    }
+}
+
+/// Whether two monitors are one: nobody's, or the same thread's that it has entered as often.
+fn is_monitor(a: Monitor, b: Monitor) -> bool
+    ensures { result ≡ is_monitor a b }
+{
+    match a {
+        Monitor::Free => match b {
+            Monitor::Free => true,
+            Monitor::Held { .. } => false,
+        },
+        Monitor::Held { owner, count } => match b {
+            Monitor::Free => false,
+            Monitor::Held {
+                owner: other,
+                count: others,
+            } => owner == other && count == others,
+        },
+    }
+}
+
+/// Goes behind a word of an old object: to the next word of it, or behind the object where it was the last one. Nothing of the word
+/// that comes next is done.
 fn pass_word(progress: &mut Progress, heap: &Heap, next: Found)
     requires spaces { AreSpaces heap.now.spaces }
     requires there { IsSome (cell_in heap.now.spaces.old next.object) }
     requires place { next ≡ found_at heap.now.spaces.old next.object.number }
     ensures { (c : Cell) → cell_in heap.now.spaces.old next.object ≡ Some c → progress.new ≡ behind_word progress.old heap.now.spaces.old next.object c progress.old.copied_words }
 {
+    progress.attempt = Attempt::none();
     if progress.copied_words < heap.slots(next.object) {
         progress.place = next.place;
         progress.copied_words += 1;
@@ -76,28 +188,27 @@ fn pass_word(progress: &mut Progress, heap: &Heap, next: Found)
     }
 }
 
-/// Copies a word of an old object to its other copy: word 0 is the monitor, and 1 more than a slot's number its word. Nothing else
-/// changes.
-fn copy_word(heap: &mut Heap, layout: &Layout, from: Addr, to: Addr, word: u32)
+/// Stores what was loaded of a word of an old object in its other copy: word 0 is the monitor, and 1 more than a slot's number its word.
+/// Nothing else changes.
+fn store_word(heap: &mut Heap, layout: &Layout, from: Addr, to: Addr, word: u32, attempt: Attempt)
     requires monitors { IsSome (cell_in heap.old.spaces.old from) × IsSome (cell_at heap.old.spaces to) }
-    requires slots { 0 < word → IsReadable layout.now heap.old from (word - 1) × (word ≤ length (slots_at heap.old.spaces to)) }
-    ensures { (tree : Tree) → IsLayout tree layout.now → (c : Cell) → cell_in heap.old.spaces.old from ≡ Some c → heap.new ≡ word_copied tree heap.old c to word }
+    requires slots { 0 < word → IsForwardable layout.now heap.old from (word - 1) attempt.word × (word ≤ length (slots_at heap.old.spaces to)) }
+    ensures { (tree : Tree) → IsLayout tree layout.now → (c : Cell) → cell_in heap.old.spaces.old from ≡ Some c → heap.new ≡ word_stored tree heap.old attempt c to word }
 {
     if word == 0 {
-        let monitor = heap.cell_monitor(from);
-        heap.set_cell_monitor(to, monitor);
+        heap.set_cell_monitor(to, attempt.monitor);
     } else {
-        let copied = copied_word(heap, layout, from, word - 1);
+        let copied = copied_word(heap, layout, from, word - 1, attempt.word);
         heap.set_slot(to, word - 1, copied);
     }
 }
 
-/// The word that a slot of an old object has in its other copy: the forward of a reference, any other word as it is.
-fn copied_word(heap: &Heap, layout: &Layout, object: Addr, slot: u32) -> u64
-    requires { IsReadable layout.now heap.now object slot }
-    ensures { (tree : Tree) → IsLayout tree layout.now → (c : Cell) → cell_in heap.now.spaces.old object ≡ Some c → result ≡ copied_word tree heap.now.spaces c slot (word_of c slot) }
+/// The word that a slot of an old object has in its other copy, where it has this one in the old: the forward of a reference, any other
+/// word as it is.
+fn copied_word(heap: &Heap, layout: &Layout, object: Addr, slot: u32, word: u64) -> u64
+    requires { IsForwardable layout.now heap.now object slot word }
+    ensures { (tree : Tree) → IsLayout tree layout.now → (c : Cell) → cell_in heap.now.spaces.old object ≡ Some c → result ≡ copied_word tree heap.now.spaces c slot word }
 {
-    let word = heap.slot(object, slot);
     if holds_reference(layout, heap.kind(object), slot) {
         forward(heap, Value::held(ValueKind::Ref, word)).word()
     } else {

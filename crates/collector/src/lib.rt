@@ -12,4 +12,4 @@ mod walks;
 pub use copier::{copy_step, shell_step};
 pub use flips::{clear_step, flip_static_step, retire};
 pub use marker::{is_closed, mark_step, mark_values, scan_statics};
-pub use progress::Progress;
+pub use progress::{Attempt, MOST_FAILED_CHECKS, Progress, Stage};

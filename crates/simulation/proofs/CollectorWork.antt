@@ -21,10 +21,16 @@ use Rattle.interpreter.proofs.object_memory.Blocks.{range_in}
 use Rattle.interpreter.proofs.object_memory.Places.{found_here}
 use Rattle.collector.specs.References.{holds_reference, reference_in}
 use Rattle.collector.specs.Marking.{is_closed, is_none_grey, mark_step, marked_on, object_scanned, oldest_cell, slot_scanned, statics_scanned, without_oldest, word_of}
-use Rattle.collector.specs.Copying.{behind_word, copied_at, copied_on, looked_on, object_copied, shell_step}
+use Rattle.collector.specs.Attempts.{has_loaded, most_spent, no_attempt, spent, stage_number, with_loaded}
+use Rattle.collector.specs.Copying.{before_word, behind_word, copied_at, copied_on, looked_on, object_copied, shell_step, word_step, word_stored}
 use Rattle.collector.specs.Flips.{cleared_at, flip_step}
+use Rattle.collector.specs.declared.progress.Attempt.{Attempt}
 use Rattle.collector.specs.declared.progress.Progress.{Progress}
+use Rattle.collector.specs.declared.progress.Stage.{Stage}
+use Rattle.collector.specs.declared.progress.Stage.TheVariants.{Begins, Loaded, Stored}
+use Rattle.collector.specs.declared.progress.TheConstants.{MOST_FAILED_CHECKS}
 use Rattle.collector.specs.phase_handshake.Handshakes.{all_answered, all_seen}
+use Rattle.collector.proofs.CopyWords.{loaded_checks, loaded_stage}
 use Rattle.collector.proofs.FoundCells.{found_is}
 use Rattle.simulation.specs.Collecting.{cleared, collected, cycle_opened, flipped, marked, next_posted, round_posted, rounds, work, worked}
 use Rattle.simulation.specs.MachineContents.{Content}
@@ -183,43 +189,86 @@ module _ (c : Content) (sound : IsSound (posting Copy c)) where
     behind : start + c.progress.place ≤ at
     behind = (found_is has_other c.objects.spaces.old (start + c.progress.place) at found).behind
 
-    part : c.progress.place + c.progress.copied_words ≤ (at - start) + length cell.slots
-    part = by_words c.progress.copied_words refl
+    few : c.progress.copied_words ≤ length cell.slots
+    few = by_words c.progress.copied_words refl
       where
-        by_words : (n : ℕ) → c.progress.copied_words ≡ n → c.progress.place + c.progress.copied_words ≤ (at - start) + length cell.slots
-        by_words zero none = omega (arith, behind, none)
+        by_words : (n : ℕ) → c.progress.copied_words ≡ n → c.progress.copied_words ≤ length cell.slots
+        by_words zero none = omega (arith, none)
         by_words (suc n) some =
             let one = sound.heap.place.words refl (λ none. absurd (omega (arith, none, some))) in
             let other : has_other one.0 ≡ true = has_copy one.0.other one.2 in
             let same : at ≡ start + c.progress.place = same_Some at (start + c.progress.place) (sym found ∙ found_here has_other c.objects.spaces.old (start + c.progress.place) one.0 one.1 other) in
             let itself : one.0 ≡ cell = same_Some one.0 cell (sym one.1 ∙ subst (λ (n : ℕ). cell_in c.objects.spaces.old (record { number = n }) ≡ Some cell) same lies) in
             let slots : length one.0.slots ≡ length cell.slots = ap (λ (x : Cell). length x.slots) itself in
-            omega (arith, same, slots, one.3)
+            omega (arith, slots, one.3)
           where
             has_copy : (o : Option Addr) → o ≢ None → is_some o ≡ true
             has_copy None some = absurd (some refl)
             has_copy (Some b) some = refl
 
+    within : at + size cell ≤ start + used_words c.objects.spaces.old.cells
+    within = (range_in c.objects.spaces.old (record { number = at }) cell lies).1
+
+    most : spent c.progress.attempt ≤ most_spent
+    most = sound.heap.place.attempts refl
+
+    -- a step of an attempt
+    attempt_takes : (o : Objects) (t : Attempt) → spent t ≡ 1 + spent c.progress.attempt
+        → 1 + work_left (record copying { progress = before_word c.progress c.objects.spaces.old (record { number = at }) t; objects = o }) ≤ work_left copying
+    attempt_takes o t one =
+        let fits = sound.heap.blocks.spaces.old.fits in
+        let long = sound.heap.blocks.old_words in
+        omega (arith, one, within, fits, long, behind, few, most)
+
+    -- the word is done
     word_takes : (o : Objects) → 1 + work_left (record copying { progress = behind_word c.progress c.objects.spaces.old (record { number = at }) cell c.progress.copied_words; objects = o }) ≤ work_left copying
     word_takes o = by_test (nat_lt c.progress.copied_words (length cell.slots)) refl
       where
-        within : at + size cell ≤ start + used_words c.objects.spaces.old.cells
-        within = (range_in c.objects.spaces.old (record { number = at }) cell lies).1
-
         by_test : (b : Bool) → nat_lt c.progress.copied_words (length cell.slots) ≡ b →
             1 + work_left (record copying {
-              progress = if◌then◌else◌ {A = Progress} b (record c.progress { place = at - start; copied_words = c.progress.copied_words + 1 }) (record c.progress { place = at - start + size cell; copied_words = 0 });
+              progress = if◌then◌else◌ {A = Progress} b (record c.progress { place = at - start; copied_words = c.progress.copied_words + 1; attempt = no_attempt }) (record c.progress { place = at - start + size cell; copied_words = 0; attempt = no_attempt });
               objects = o;
             }) ≤ work_left copying
         by_test true test =
             let near : c.progress.copied_words < length cell.slots = grind (arith, nat_tests) in
             let fits = sound.heap.blocks.spaces.old.fits in
             let long = sound.heap.blocks.old_words in
-            omega (arith, near, within, fits, long, behind)
+            omega (arith, near, within, fits, long, behind, most)
         by_test false test =
             let fits = sound.heap.blocks.spaces.old.fits in
             let long = sound.heap.blocks.old_words in
-            omega (arith, within, fits, long, behind, part)
+            omega (arith, within, fits, long, behind, few, most)
+
+    -- each step at a word
+    module _ (b : Addr) where
+      abbrev LeavesLess : Progress × Objects → Type 0
+      LeavesLess x = 1 + work_left (record copying { progress = x.0; objects = x.1 }) ≤ work_left copying
+
+      begun_takes : c.progress.attempt.stage ≡ Begins → (t : Bool)
+          → LeavesLess (if◌then◌else◌ {A = Progress × Objects} t (before_word c.progress c.objects.spaces.old (record { number = at }) (with_loaded cell c.progress.copied_words c.progress.attempt), c.objects)
+          (behind_word c.progress c.objects.spaces.old (record { number = at }) cell c.progress.copied_words, word_stored c.tree c.objects (with_loaded cell c.progress.copied_words c.progress.attempt) cell b c.progress.copied_words))
+      begun_takes begins true =
+          let checks = loaded_checks cell c.progress.copied_words c.progress.attempt in
+          let stage = ap stage_number (loaded_stage cell c.progress.copied_words c.progress.attempt) in
+          let before = ap stage_number begins in
+          attempt_takes c.objects (with_loaded cell c.progress.copied_words c.progress.attempt) (omega (arith, checks, stage, before))
+      begun_takes begins false = word_takes (word_stored c.tree c.objects (with_loaded cell c.progress.copied_words c.progress.attempt) cell b c.progress.copied_words)
+
+      checked_takes : c.progress.attempt.stage ≡ Stored → (t : Bool)
+          → LeavesLess (
+            if t then behind_word c.progress c.objects.spaces.old (record { number = at }) cell c.progress.copied_words
+                else before_word c.progress c.objects.spaces.old (record { number = at }) (record no_attempt { failed_checks = c.progress.attempt.failed_checks + 1 }),
+            c.objects,
+          )
+      checked_takes stored true = word_takes c.objects
+      checked_takes stored false = (let before = ap stage_number stored in attempt_takes c.objects (record no_attempt { failed_checks = c.progress.attempt.failed_checks + 1 }) (omega (arith, before)))
+
+      stage_takes : (stage : Stage) → c.progress.attempt.stage ≡ stage → LeavesLess (word_step stage c.tree c.progress c.objects (record { number = at }) cell b)
+      stage_takes Begins is = begun_takes is (nat_lt c.progress.attempt.failed_checks MOST_FAILED_CHECKS)
+      stage_takes Loaded is =
+          (let before = ap stage_number is in
+          attempt_takes (word_stored c.tree c.objects c.progress.attempt cell b c.progress.copied_words) (record c.progress.attempt { stage = Stored }) (omega (arith, before)))
+      stage_takes Stored is = checked_takes is (has_loaded c.progress.attempt cell c.progress.copied_words)
 
   abbrev nothing : Progress × Objects × Bool
   nothing = (c.progress, c.objects, false)
@@ -237,7 +286,7 @@ module _ (c : Content) (sound : IsSound (posting Copy c)) where
   module _ (at : ℕ) (found : found_in has_other c.objects.spaces.old (start + c.progress.place) ≡ Some at) where
     by_other : (cell : Cell) → cell_in c.objects.spaces.old (record { number = at }) ≡ Some cell → (other : Option Addr) → Leaves (copied_cell at cell other)
     by_other cell lies None some = absurd cc
-    by_other cell lies (Some b) some = word_takes at found cell lies (object_copied c.tree c.progress c.objects (record { number = at }) cell b).1
+    by_other cell lies (Some b) some = stage_takes at found cell lies b c.progress.attempt.stage refl
 
     by_cell : (o : Option Cell) → cell_in c.objects.spaces.old (record { number = at }) ≡ o → Leaves (copied_there at o)
     by_cell None none some = absurd cc

@@ -103,7 +103,7 @@ goes c s r Gc after turn = record {
 module _ (tree : Tree) (limits : Limits) where
   -- all that a cycle may have
   abbrev bound : ℕ
-  bound = 10 + length (static_fields tree) + 4 * limits.words
+  bound = 10 + length (static_fields tree) + 13 * limits.words
 
   -- after these events, the newest first
   record IsBounded (past : List (Event × Report)) (c : Content) : Type 0 where
@@ -113,7 +113,7 @@ module _ (tree : Tree) (limits : Limits) where
     newest : work_of_newest past ≤ bound
 
   whole : (c : Content) → c.tree ≡ tree → c.limits ≡ limits → cycle_work c ≡ bound
-  whole c is are = ap (λ (u : Tree). 10 + length (static_fields u) + 4 * c.limits.words) is ∙ ap (λ (l : Limits). 10 + length (static_fields tree) + 4 * l.words) are
+  whole c is are = ap (λ (u : Tree). 10 + length (static_fields u) + 13 * c.limits.words) is ∙ ap (λ (l : Limits). 10 + length (static_fields tree) + 13 * l.words) are
 
   -- one event more
   bounded_then : (past : List (Event × Report)) (c : Content) → IsBounded past c → (e : Event) (after : Content × Report) → IsTurn c e after → TakesWork c e after → IsBounded ((e, after.1) ∷ past) after.0

@@ -11,6 +11,7 @@ use Rattle.interpreter.specs.cil_model.Fields.{static_fields}
 use Rattle.interpreter.specs.reference_machine.Cycles.{ends_cycle, phase_after, work_of}
 use Rattle.interpreter.specs.object_memory.Objects.{Objects}
 use Rattle.interpreter.specs.object_memory.Spaces.{Spaces, is_old}
+use Rattle.collector.specs.Attempts.{spent}
 use Rattle.collector.specs.Phases.{is_before_copies, is_marked_old}
 use Rattle.collector.specs.declared.progress.Progress.{Progress}
 use Rattle.collector.specs.phase_handshake.Handshakes.{AreClose, Handshakes, IsClose, own_phase, seat_of}
@@ -31,13 +32,13 @@ abbrev pub statics_left : Bool → ℕ
 statics_left true = 0
 statics_left false = 1
 
--- What a phase has left, and one for the next post: what is to be marked, the words before the place, or static fields; and the most that the phases
--- behind it may have. Between cycles it is all that a cycle may have.
+-- What a phase has left, and one for the next post: what is to be marked, the words behind the place, of which each may take ten events to be copied, or
+-- static fields; and the most that the phases behind it may have. Between cycles it is all that a cycle may have.
 abbrev pub left_in : Phase → (words statics : ℕ) → (has_round : Bool) → Progress → Spaces → ℕ
-left_in Idle words statics has_round p m = 10 + statics + 4 * words
-left_in Mark words statics has_round p m = statics_left p.scanned_statics + heap_left has_round p.scanned_slots m + (7 + statics + 3 * words)
-left_in Allocate words statics has_round p m = (words - p.place) + (6 + statics + 2 * words)
-left_in Copy words statics has_round p m = (words - (p.place + p.copied_words)) + (5 + statics + words)
+left_in Idle words statics has_round p m = 10 + statics + 13 * words
+left_in Mark words statics has_round p m = statics_left p.scanned_statics + heap_left has_round p.scanned_slots m + (7 + statics + 12 * words)
+left_in Allocate words statics has_round p m = (words - p.place) + (6 + statics + 11 * words)
+left_in Copy words statics has_round p m = (10 * (words - (p.place + p.copied_words)) - spent p.attempt) + (5 + statics + words)
 left_in PreFlip words statics has_round p m = 4 + statics + words
 left_in HeapFlip words statics has_round p m = (statics - p.flipped_statics) + (3 + words)
 left_in ThreadFlip words statics has_round p m = 2 + words
@@ -55,7 +56,7 @@ work_left c = left_with c c.objects.spaces
 
 -- all that a cycle may have
 abbrev pub cycle_work : Content → ℕ
-cycle_work c = 10 + static_count c + 4 * c.limits.words
+cycle_work c = 10 + static_count c + 13 * c.limits.words
 
 -- an event that works takes one of them at least; one that ends a cycle takes all
 pub record TakesWork (c : Content) (e : Event) (after : Content × Report) : Type 0 where

@@ -1,17 +1,11 @@
-use Rattle.std.proofs.Common.{Bool, length, ap, sym, ◌∙◌, arith}
+use Rattle.std.proofs.Common.{Bool, ap, sym, ◌∙◌}
 use Rattle.std.specs.Prelude.{if◌then◌else◌, is_some}
 use Rattle.barriers.specs.Barriers.{forwarded, is_value_there}
 use Rattle.object_memory.proofs.TwoBlocks.{old_is_cell}
 use Rattle.object_memory.specs.Spaces.{forward_word}
 use Rattle.object_memory.specs.Values.{value_word}
-use Rattle.object_memory.specs.declared.values.Value.TheVariants.{Ref}
-use Rattle.collector.specs.Marking.{word_of}
-use Rattle.collector.specs.References.{reference_in}
-use Rattle.collector.proofs.Reading.{old_reference, old_slots, old_word}
+use Rattle.collector.proofs.Reading.{old_reference}
 use Rattle.collector.proofs.copier.copied_word.Goals as goal
-
-pub slot-word-requires : goal.slot-word-requires
-slot-word-requires c = let long = ap length (old_slots c.args.heap.now.spaces c.args.object c.requires.cell c.requires.at) in omega (arith, long, c.requires.inside)
 
 pub kind-requires : goal.kind-requires
 kind-requires c = ap is_some (old_is_cell c.args.heap.now.spaces c.args.object c.requires.cell c.requires.at)
@@ -19,22 +13,18 @@ kind-requires c = ap is_some (old_is_cell c.args.heap.now.spaces c.args.object c
 pub forward-requires : goal.forward-requires
 forward-requires c =
     let o = c.args.heap.now in
-    let cell = c.requires.cell in
-    let word = old_word o.spaces c.args.object cell c.args.slot c.slot-word.result c.requires.at c.slot-word.ensures in
-    let holds = old_reference c.requires.tree o.spaces c.args.object cell c.kind.result c.args.slot _ c.requires.at c.kind.ensures (c.holds_reference.ensures c.requires.tree c.requires.laid) ∙ c.if-holds_reference.true in
-    ap (is_value_there o) (c.held.ensures ∙ ap (λ w. Ref (reference_in w)) word) ∙ c.requires.reference holds
+    let holds = old_reference c.requires.tree o.spaces c.args.object c.requires.cell c.kind.result c.args.slot _ c.requires.at c.kind.ensures (c.holds_reference.ensures c.requires.tree c.requires.laid) ∙ c.if-holds_reference.true in
+    ap (is_value_there o) c.held.ensures ∙ c.requires.reference holds
 
 pub returns-then-holds_reference : goal.returns-then-holds_reference
 returns-then-holds_reference c = λ tree laid cell at.
     let o = c.args.heap.now in
-    let word = old_word o.spaces c.args.object cell c.args.slot c.slot-word.result at c.slot-word.ensures in
     let holds = old_reference tree o.spaces c.args.object cell c.kind.result c.args.slot _ at c.kind.ensures (c.holds_reference.ensures tree laid) ∙ c.if-holds_reference.true in
-    c.word.ensures.word ∙ ap value_word (c.forward.ensures ∙ ap (forwarded o) c.held.ensures) ∙ ap (forward_word o.spaces) word
-    ∙ ap (λ (b : Bool). if b then forward_word o.spaces (word_of cell c.args.slot) else word_of cell c.args.slot) (sym holds)
+    c.word.ensures.word ∙ ap value_word (c.forward.ensures ∙ ap (forwarded o) c.held.ensures)
+    ∙ ap (λ (b : Bool). if b then forward_word o.spaces c.args.word else c.args.word) (sym holds)
 
 pub returns-else-holds_reference : goal.returns-else-holds_reference
 returns-else-holds_reference c = λ tree laid cell at.
     let o = c.args.heap.now in
-    let word = old_word o.spaces c.args.object cell c.args.slot c.slot-word.result at c.slot-word.ensures in
     let holds = old_reference tree o.spaces c.args.object cell c.kind.result c.args.slot _ at c.kind.ensures (c.holds_reference.ensures tree laid) ∙ c.if-holds_reference.false in
-    word ∙ ap (λ (b : Bool). if b then forward_word o.spaces (word_of cell c.args.slot) else word_of cell c.args.slot) (sym holds)
+    ap (λ (b : Bool). if b then forward_word o.spaces c.args.word else c.args.word) (sym holds)

@@ -1,10 +1,10 @@
 use Rattle.std.proofs.Common.{◌-◌, ap, ◌∙◌}
 use Rattle.object_memory.specs.Objects.{with_slot}
-use Rattle.collector.proofs.Copied.{slot_copied}
-use Rattle.collector.proofs.copier.copy_word.Goals as goal
+use Rattle.collector.proofs.Copied.{slot_stored}
+use Rattle.collector.proofs.copier.store_word.Goals as goal
 
 pub returns-else-word-eq0 : goal.returns-else-word-eq0
 returns-else-word-eq0 c = λ tree laid from at.
     c.set_slot.ensures
     ∙ ap (with_slot c.args.heap.now c.args.to (c.args.word - 1)) (c.copied_word-copied.ensures tree laid from at)
-    ∙ slot_copied tree c.args.heap.now from c.args.to c.args.word c.if-word-eq0.false
+    ∙ slot_stored tree c.args.heap.now c.args.attempt from c.args.to c.args.word c.if-word-eq0.false

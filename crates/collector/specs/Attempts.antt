@@ -1,0 +1,49 @@
+-- How the collector copies a word: it loads it from the old copy, stores it in the new one, and checks that the old copy still has what was loaded; where
+-- the check fails it begins again (Hudson and Moss, "Sapphire"; that a word is copied at once after three failed checks is this profile's).
+use Rattle.std.specs.Prelude.{ℕ, zero, suc, ◌+◌, ◌*◌, ◌==◌, ◌&&◌, Bool, true, false}
+use Rattle.object_memory.specs.declared.monitors.Monitor.{Monitor}
+use Rattle.object_memory.specs.declared.monitors.Monitor.TheVariants.{Free, Held}
+use Rattle.object_memory.specs.Cells.{Cell}
+use Rattle.collector.specs.Marking.{word_of}
+use Rattle.collector.specs.declared.progress.Attempt.{Attempt}
+use Rattle.collector.specs.declared.progress.Stage.{Stage}
+use Rattle.collector.specs.declared.progress.Stage.TheVariants.{Begins, Loaded, Stored}
+use Rattle.collector.specs.declared.progress.TheConstants.{MOST_FAILED_CHECKS}
+
+-- nothing of the word is done
+abbrev pub no_attempt : Attempt
+no_attempt = record { stage = Begins; monitor = Free; word = 0; failed_checks = 0 }
+
+-- ---- what is loaded
+
+-- word 0 of an object is its monitor, and 1 more than a slot's number its word
+abbrev pub with_loaded : Cell → ℕ → Attempt → Attempt
+with_loaded c zero t = record t { stage = Loaded; monitor = c.monitor }
+with_loaded c (suc slot) t = record t { stage = Loaded; word = word_of c slot }
+
+-- one monitor
+abbrev pub is_monitor : Monitor → Monitor → Bool
+is_monitor Free Free = true
+is_monitor Free (Held owner count) = false
+is_monitor (Held owner count) Free = false
+is_monitor (Held owner count) (Held owner' count') = (owner == owner') && (count == count')
+
+-- whether an object has the word still that was loaded
+abbrev pub has_loaded : Attempt → Cell → ℕ → Bool
+has_loaded t c zero = is_monitor c.monitor t.monitor
+has_loaded t c (suc slot) = word_of c slot == t.word
+
+-- ---- how many events
+
+abbrev pub stage_number : Stage → ℕ
+stage_number Begins = 0
+stage_number Loaded = 1
+stage_number Stored = 2
+
+-- the events that were spent on a word: three for each check that failed, and those of the attempt that is under way
+abbrev pub spent : Attempt → ℕ
+spent t = 3 * t.failed_checks + stage_number t.stage
+
+-- no more than these
+abbrev pub most_spent : ℕ
+most_spent = 3 * MOST_FAILED_CHECKS
