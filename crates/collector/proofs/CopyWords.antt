@@ -17,7 +17,7 @@ use Rattle.object_memory.specs.Spaces.{Spaces}
 use Rattle.object_memory.specs.Objects.{Objects, with_cell}
 use Rattle.object_memory.proofs.TwoBlocks.{slot_keeps}
 use Rattle.collector.specs.References.{Test, SlotsPass, holds_reference, reference_in}
-use Rattle.collector.specs.Attempts.{has_loaded, is_monitor, with_loaded}
+use Rattle.collector.specs.Attempts.{has_loaded, is_same_monitor, with_loaded}
 use Rattle.collector.specs.Soundness.{AreCopies, IsCopiedWord, IsInCopy, copied_word}
 use Rattle.collector.specs.Marking.{word_of}
 use Rattle.collector.specs.Copying.{word_stored}
@@ -62,21 +62,21 @@ pub loaded_checks : (c : Cell) (word : ℕ) (t : Attempt) → (with_loaded c wor
 loaded_checks c zero t = refl
 loaded_checks c (suc slot) t = refl
 
-pub is_monitor-same : (x y : Monitor) → is_monitor x y ≡ true → x ≡ y
-is_monitor-same Free Free e = refl
-is_monitor-same Free (Held owner count) e = absurd cc
-is_monitor-same (Held owner count) Free e = absurd cc
-is_monitor-same (Held owner count) (Held owner' count') e =
+pub is_same_monitor-same : (x y : Monitor) → is_same_monitor x y ≡ true → x ≡ y
+is_same_monitor-same Free Free e = refl
+is_same_monitor-same Free (Held owner count) e = absurd cc
+is_same_monitor-same (Held owner count) Free e = absurd cc
+is_same_monitor-same (Held owner count) (Held owner' count') e =
     let both = and_parts (owner == owner') (count == count') e in
     ap (λ n. Held n count) (eqb-true owner owner' both.0) ∙ ap (Held owner') (eqb-true count count' both.1)
 
-is_monitor-self : (x : Monitor) → is_monitor x x ≡ true
-is_monitor-self Free = refl
-is_monitor-self (Held owner count) = rw (eq-eqb owner owner refl, eq-eqb count count refl) refl
+is_same_monitor-self : (x : Monitor) → is_same_monitor x x ≡ true
+is_same_monitor-self Free = refl
+is_same_monitor-self (Held owner count) = rw (eq-eqb owner owner refl, eq-eqb count count refl) refl
 
 -- a cell has the word that was just loaded
 pub just_loaded : (c : Cell) (word : ℕ) (t : Attempt) (stage : Stage) → has_loaded (record (with_loaded c word t) { stage = stage }) c word ≡ true
-just_loaded c zero t stage = is_monitor-self c.monitor
+just_loaded c zero t stage = is_same_monitor-self c.monitor
 just_loaded c (suc slot) t stage = eq-eqb (word_of c slot) (word_of c slot) refl
 
 module _ (tree : Tree) (m : Spaces) (from : Cell) (t : Attempt) where
@@ -103,7 +103,7 @@ module _ (tree : Tree) (m : Spaces) (from : Cell) (t : Attempt) where
   module _ (to : Cell) (count : length to.slots ≡ length from.slots) where
     -- the word is there, where the old copy has what was loaded still
     pub filled_own : (word : ℕ) → has_loaded t from word ≡ true → IsCopiedWord tree m from (filled tree m from t word to) word
-    filled_own zero same = sym (is_monitor-same from.monitor t.monitor same)
+    filled_own zero same = sym (is_same_monitor-same from.monitor t.monitor same)
     filled_own (suc slot) same = λ word there.
         (let inside : slot < length to.slots = (let within = slice_get_within from.slots slot word there in omega (arith, within, count)) in
         let is : t.word ≡ word = sym (eqb-true (word_of from slot) t.word same) ∙ ap (λ o. unwrap_or o 0) there in

@@ -35,7 +35,7 @@ looked_on p o = shell_step p o (cell_in o.spaces.old (address_behind o.spaces.ol
 
 -- ---- words
 
--- what was loaded of a word is in the new copy: a monitor, or the word of a slot with its forward
+-- what was loaded of a word is stored in the new copy: a monitor, or the word of a slot with its forward
 abbrev pub word_stored : Tree → Objects → Attempt → (from : Cell) → (to : Addr) → ℕ → Objects
 word_stored tree o t from to zero = with_cell (store_monitor t.monitor) o to
 word_stored tree o t from to (suc slot) = with_cell (store_slot slot (copied_word tree o.spaces from slot t.word)) o to
@@ -46,17 +46,17 @@ behind_word p s a c word =
     if nat_lt word (length c.slots) then record p { place = a.number - s.start; copied_words = word + 1; attempt = no_attempt }
     else record p { place = a.number - s.start + size c; copied_words = 0; attempt = no_attempt }
 
--- and before it, with an attempt
+-- the collector at the next word of the object, with an attempt under way
 abbrev pub before_word : Progress → Cells → Addr → Attempt → Progress
 before_word p s a t = record p { place = a.number - s.start; attempt = t }
 
--- it is loaded; or, where too many checks of it failed, loaded and stored at once
+-- the word is loaded; or, after three failed checks of it, loaded and stored in one event
 abbrev pub word_begun : Tree → Progress → Objects → Addr → Cell → Addr → Progress × Objects
 word_begun tree p o a c b =
     if nat_lt p.attempt.failed_checks MOST_FAILED_CHECKS then (before_word p o.spaces.old a (with_loaded c p.copied_words p.attempt), o)
     else (behind_word p o.spaces.old a c p.copied_words, word_stored tree o (with_loaded c p.copied_words p.attempt) c b p.copied_words)
 
--- the old copy has what was loaded still, or all begins again
+-- where the old copy still has what was loaded, the word is copied; else its next attempt begins
 abbrev pub word_checked : Progress → Cells → Addr → Cell → Progress
 word_checked p s a c =
     if has_loaded p.attempt c p.copied_words then behind_word p s a c p.copied_words

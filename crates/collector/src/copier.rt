@@ -6,7 +6,7 @@ ghost use Rattle.cil_model.specs.declared.trees.Tree.{Tree};
 ghost use Rattle.class_layout.specs.Laid.{IsLayout};
 ghost use Rattle.object_memory.specs.Cells.{Cell, cell_in};
 ghost use Rattle.object_memory.specs.Spaces.{AreSpaces, cell_at, slots_at};
-ghost use Rattle.collector.specs.Attempts.{has_loaded, is_monitor, with_loaded};
+ghost use Rattle.collector.specs.Attempts.{has_loaded, is_same_monitor, with_loaded};
 ghost use Rattle.collector.specs.Conditions.{IsForwardable, IsReadable, IsSoundFor, IsSoundIn, found_at};
 ghost use Rattle.collector.specs.Copying.{behind_word, copied_on, looked_on, needs_copy, word_checked, word_begun, word_stored};
 ghost use Rattle.collector.specs.Soundness.{copied_word};
@@ -42,10 +42,10 @@ fn needs_copy(heap: &Heap, object: Addr) -> bool
     heap.is_marked(object) && heap.other(object).is_none()
 }
 
-/// A step at one word of the next old object with two copies, from the place on: the monitor first, and then slot by slot. It is loaded
-/// from the old copy, stored in the new one, a reference by its forward, and checked: where the old copy has another word by then, all
-/// begins again. After three checks that failed the word is loaded and stored in one step. Objects without another copy are passed over
-/// in the same step. False where no word is left; nothing changes then.
+/// One step at the next word of the next old object with two copies, from the place on: the monitor first, then slot by slot. A word is
+/// loaded from the old copy, stored in the new one (a reference by its forward), and checked: where the old copy has another word by
+/// then, the next attempt begins. After three failed checks the word is loaded and stored in one step. Objects without another copy are
+/// passed over in the same step. False where no word is left; nothing changes then. (Hudson and Moss, "Sapphire".)
 pub fn copy_step(progress: &mut Progress, heap: &mut Heap, layout: &Layout) -> bool
     requires { IsSoundFor layout.now Copy progress.old heap.old }
     ensures { (tree : Tree) → IsLayout tree layout.now → (progress.new, heap.new, result) ≡ copied_on tree progress.old heap.old }
@@ -76,7 +76,7 @@ pub fn copy_step(progress: &mut Progress, heap: &mut Heap, layout: &Layout) -> b
     true
 }
 
-/// Loads the next word of an old object; where too many checks of it failed, stores it in its other copy too and goes behind it.
+/// Loads the next word of an old object; after three failed checks, stores it in the other copy too and goes on to the next word.
 fn begin_word(progress: &mut Progress, heap: &mut Heap, layout: &Layout, next: Found, copy: Addr)
     requires spaces { AreSpaces heap.old.spaces }
     requires there { IsSome (cell_in heap.old.spaces.old next.object) × IsSome (cell_at heap.old.spaces copy) }
@@ -85,7 +85,7 @@ fn begin_word(progress: &mut Progress, heap: &mut Heap, layout: &Layout, next: F
     ensures { (tree : Tree) → IsLayout tree layout.now → (c : Cell) → cell_in heap.old.spaces.old next.object ≡ Some c → (progress.new, heap.new) ≡ word_begun tree progress.old heap.old next.object c copy }
 {
     let word = progress.copied_words;
-    let attempt = loaded(heap, next.object, word, progress.attempt);
+    let attempt = load_word(heap, next.object, word, progress.attempt);
     if attempt.failed_checks < MOST_FAILED_CHECKS {
         progress.place = next.place;
         progress.attempt = attempt;
@@ -95,8 +95,8 @@ fn begin_word(progress: &mut Progress, heap: &mut Heap, layout: &Layout, next: F
     }
 }
 
-/// The attempt with a word of an old object: word 0 is the monitor, and 1 more than a slot's number its word.
-fn loaded(heap: &Heap, object: Addr, word: u32, attempt: Attempt) -> Attempt
+/// The attempt with a word of an old object loaded: word 0 is the monitor, word n + 1 slot n.
+fn load_word(heap: &Heap, object: Addr, word: u32, attempt: Attempt) -> Attempt
     requires there { IsSome (cell_in heap.now.spaces.old object) }
     requires slot { (c : Cell) → cell_in heap.now.spaces.old object ≡ Some c → word ≤ length c.slots }
     ensures { (c : Cell) → cell_in heap.now.spaces.old object ≡ Some c → result ≡ with_loaded c word attempt }
@@ -116,8 +116,8 @@ fn loaded(heap: &Heap, object: Addr, word: u32, attempt: Attempt) -> Attempt
     }
 }
 
-/// Goes behind the next word of an old object, where the object has it still as it was loaded; else nothing of the word is done, and one
-/// more check failed.
+/// Goes on to the next word of an old object where the object still has what was loaded; else the next attempt begins, with one more
+/// failed check.
 fn check_word(progress: &mut Progress, heap: &Heap, next: Found)
     requires spaces { AreSpaces heap.now.spaces }
     requires there { IsSome (cell_in heap.now.spaces.old next.object) }
@@ -138,22 +138,22 @@ fn check_word(progress: &mut Progress, heap: &Heap, next: Found)
     }
 }
 
-/// Whether an old object has a word still as it was loaded.
+/// Whether an old object still has the word that was loaded.
 fn has_loaded(heap: &Heap, object: Addr, word: u32, attempt: Attempt) -> bool
     requires there { IsSome (cell_in heap.now.spaces.old object) }
     requires slot { (c : Cell) → cell_in heap.now.spaces.old object ≡ Some c → word ≤ length c.slots }
     ensures { (c : Cell) → cell_in heap.now.spaces.old object ≡ Some c → result ≡ has_loaded attempt c word }
 {
     if word == 0 {
-        is_monitor(heap.cell_monitor(object), attempt.monitor)
+        is_same_monitor(heap.cell_monitor(object), attempt.monitor)
     } else {
         heap.slot(object, word - 1) == attempt.word
     }
 }
 
-/// Whether two monitors are one: nobody's, or the same thread's that it has entered as often.
-fn is_monitor(a: Monitor, b: Monitor) -> bool
-    ensures { result ≡ is_monitor a b }
+/// Whether two monitors are equal: both free, or held by one thread that entered as often.
+fn is_same_monitor(a: Monitor, b: Monitor) -> bool
+    ensures { result ≡ is_same_monitor a b }
 {
     match a {
         Monitor::Free => match b {
@@ -170,8 +170,7 @@ fn is_monitor(a: Monitor, b: Monitor) -> bool
     }
 }
 
-/// Goes behind a word of an old object: to the next word of it, or behind the object where it was the last one. Nothing of the word
-/// that comes next is done.
+/// Goes on to the next word of an old object, or past the object where this was its last word. No attempt at that word is under way.
 fn pass_word(progress: &mut Progress, heap: &Heap, next: Found)
     requires spaces { AreSpaces heap.now.spaces }
     requires there { IsSome (cell_in heap.now.spaces.old next.object) }
@@ -188,8 +187,7 @@ fn pass_word(progress: &mut Progress, heap: &Heap, next: Found)
     }
 }
 
-/// Stores what was loaded of a word of an old object in its other copy: word 0 is the monitor, and 1 more than a slot's number its word.
-/// Nothing else changes.
+/// Stores what was loaded of a word of an old object in its other copy: word 0 is the monitor, word n + 1 slot n. Nothing else changes.
 fn store_word(heap: &mut Heap, layout: &Layout, from: Addr, to: Addr, word: u32, attempt: Attempt)
     requires monitors { IsSome (cell_in heap.old.spaces.old from) × IsSome (cell_at heap.old.spaces to) }
     requires slots { 0 < word → IsForwardable layout.now heap.old from (word - 1) attempt.word × (word ≤ length (slots_at heap.old.spaces to)) }

@@ -4,36 +4,36 @@ ghost use Rattle.std.specs.Prelude.{◌≡◌};
 
 use object_memory::Monitor;
 
-/// As many checks of one word may fail. It is then copied in one event.
+/// The most checks of one word that fail: after them it is copied in one event.
 pub const MOST_FAILED_CHECKS: u32 = 3;
 
-/// How far an attempt to copy a word is.
+/// The stage of an attempt to copy a word.
 #[derive(Clone, Copy)]
 pub enum Stage {
-    /// Nothing of the attempt is done.
+    /// Nothing is loaded yet.
     Begins,
     /// The word was loaded from the old copy.
     Loaded,
-    /// What was loaded, or its forward, was stored in the new copy. Whether the old one still has it is to be checked.
+    /// What was loaded, or its forward, was stored in the new copy. Next it is checked that the old copy still has what was loaded.
     Stored,
 }
 
-/// How far a collector is with the word that it copies next.
+/// An attempt of a collector to copy the next word by a load, a store and a check.
 #[derive(Clone, Copy)]
 pub struct Attempt {
     pub stage: Stage,
-    /// The monitor that it loaded, where that is the word.
+    /// The monitor that was loaded, where the word is a monitor.
     pub monitor: Monitor,
-    /// The word of a slot that it loaded, where it is a slot's.
+    /// The word that was loaded, where it is that of a slot.
     pub word: u64,
-    /// How many checks of this word have failed.
+    /// The number of failed checks of this word.
     pub failed_checks: u32,
 }
 
 impl Attempt {
     ghost use Rattle.collector.specs.Attempts.{no_attempt};
 
-    /// Nothing of the word is done.
+    /// No attempt is under way, and no check has failed.
     pub fn none() -> Attempt
         ensures { result ≡ no_attempt }
     {
@@ -58,7 +58,7 @@ pub struct Progress {
     pub place: u32,
     /// How many words of that object it has copied: the monitor comes first, and then the slots.
     pub copied_words: u32,
-    /// How far it is with the word behind them.
+    /// Its attempt to copy the next word.
     pub attempt: Attempt,
     /// How many static fields it has flipped.
     pub flipped_statics: u32,

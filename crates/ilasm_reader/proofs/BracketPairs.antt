@@ -7,18 +7,18 @@ use Rattle.ilasm_tokens.specs.Steps.{bind, choice}
 use Rattle.ilasm_reader.specs.Parsing.{sign_at, brackets_at, all_brackets_at}
 use Rattle.ilasm_reader.specs.Sound.{brackets_sound}
 
--- where no pair stands there are none
+-- where the list does not begin with a pair, the count is 0
 pub no_more : (ts : List Token) → brackets_at ts ≡ None → all_brackets_at ts ≡ (0, ts)
 unfolding all_brackets_at brackets_at sign_at bind choice
 no_more (Symbol OpenBracket ∷ Symbol CloseBracket ∷ rest) e = absurd cc
 no_more ts e = refl
 
--- where one stands there is one more than behind it
+-- where it begins with a pair, the count is one more than that of the rest
 one_more : (ts rest : List Token) → brackets_at ts ≡ Some rest → all_brackets_at ts ≡ (suc (all_brackets_at rest).0, (all_brackets_at rest).1)
 unfolding all_brackets_at
 one_more ts rest e = let p = ((brackets_sound ts).out rest e).0 in rw (p.1, p.2) refl
 
--- what was counted, and what is to be counted of the tokens that are left, make the whole
+-- the invariant of the loop: the pairs counted so far, and those of the tokens that are left, are all pairs
 abbrev pub Counting : ℕ × List Token → ℕ → List Token → Type 0
 Counting whole count ts = whole ≡ (count + (all_brackets_at ts).0, (all_brackets_at ts).1)
 

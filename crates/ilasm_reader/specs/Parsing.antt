@@ -188,7 +188,7 @@ brackets_at ts = do
   rest ← sign_at OpenBracket ts
   sign_at CloseBracket rest
 
--- how many pairs stand here, one behind the other, and what is behind them
+-- the number of pairs that the list begins with, and the tokens after them
 unfoldable pub all_brackets_at : List Token → ℕ × List Token
 all_brackets_at (Symbol OpenBracket ∷ Symbol CloseBracket ∷ rest) = (suc (all_brackets_at rest).0, (all_brackets_at rest).1)
 all_brackets_at ts = (0, ts)

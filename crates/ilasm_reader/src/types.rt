@@ -101,7 +101,7 @@ impl Parse for ClassReference {
     ghost consumes = { λ ts x rest e. ((class_name_sound ts).out (x, rest) e).1 };
 }
 
-/// What stands before the brackets of a type. Where there is none, the grammar has what is told as expected.
+/// The element of a type, without its brackets. Where there is none, the refusal says what was expected.
 #[tactic(auto, unfolding(crate::specs::Parsing::element_at, ilasm_tokens::specs::Steps::bind, ilasm_tokens::specs::Steps::choice))]
 fn element(alloc: Global, tokens: &mut Tokens<'_>, expected: Expected) -> Result<Element, Failure>
     ensures { Gives (λ x. (x, tokens.new.now)) result (element_at tokens.old.now) }
@@ -137,8 +137,8 @@ fn take_brackets(tokens: &mut Tokens<'_>) -> bool
     false
 }
 
-/// Takes the pairs of brackets that stand here, one behind the other, and tells how many. More than 32 bits can count, for which no source
-/// has the bytes, are want of memory.
+/// Takes all pairs of brackets that follow, and returns their number. It fails as if out of memory at the pair 2^32, which no source of
+/// 1,048,576 bytes has.
 fn take_all_brackets(tokens: &mut Tokens<'_>) -> Result<u32, Failure>
     ensures { Gives (λ count. (count, tokens.new.now)) result (Some (all_brackets_at tokens.old.now)) }
 {

@@ -213,7 +213,7 @@ fn advice_on_reserved(expected: Expected) -> Option<&'static str> {
     }
 }
 
-/// Where a bracket stands behind a type and is not closed at once. Where a line is wanted the type is that of `newarr`.
+/// Advice on a bracket that follows a type and is not closed at once. Where a line is expected, the type is the operand of `newarr`.
 fn advice_on_array(expected: Expected, after: &str) -> Option<&'static str> {
     if after == "," {
         return Some("write an array of arrays, or one index that is computed");
