@@ -35,6 +35,7 @@ pub static SUM: &str =
 /// Limits in which the sum runs to its end.
 pub const LIMITS: Limits = Limits {
     words: 64,
+    max_words: 64,
     budget: 10,
     depth: 1,
 };

@@ -320,10 +320,12 @@ module _ (tree : Tree) (hold : Hold) (posted : Phase) (has_round : Bool) (words 
   -- the blocks are as they should be in the phase
   born_blocks : AreBlocks posted words m'
   born_blocks = record {
+    few = sound.blocks.few;
     spaces = h';
     held = (born_flags m k n place).0 ∙ sound.blocks.held;
-    old_words = (born_words m k n place).0 ∙ sound.blocks.old_words;
-    new_words = (born_words m k n place).1 ∙ sound.blocks.new_words;
+    old_words = subst (λ w. w ≤ words) (sym (born_words m k n place).0) sound.blocks.old_words;
+    new_words = subst (λ w. w ≤ (if is_of_cycle posted then words else 0)) (sym (born_words m k n place).1) sound.blocks.new_words;
+    grows = λ e. (let b = born_words m k n place in let g = sound.blocks.grows e in omega (arith, b.0, b.1, g));
     none_new = λ e. none_comes m k n place (suits.early e) ∙ sound.blocks.none_new e;
     none_grey = λ e. ap (λ x. (born x m k n).grey) (suits.between e) ∙ sound.blocks.none_grey e;
   }

@@ -128,6 +128,7 @@ module _ (tree : Tree) (posted : Phase) (has_round : Bool) (words : ℕ) (p : Pr
   module _ (sound : IsSoundHeap tree posted has_round words p m) (fits : StoresFit) where
     blocks : AreBlocks posted words n
     blocks = record {
+      few = sound.blocks.few;
       spaces = record {
         old = change-is_space f (keeps_size f keeps) m a m.old sound.blocks.spaces.old;
         new = change-is_space g (keeps_size g keeps') m b m.new sound.blocks.spaces.new;
@@ -136,6 +137,7 @@ module _ (tree : Tree) (posted : Phase) (has_round : Bool) (words : ℕ) (p : Pr
       held = sound.blocks.held;
       old_words = sound.blocks.old_words;
       new_words = sound.blocks.new_words;
+      grows = sound.blocks.grows;
       none_new = λ early. ap (λ (cs : List Cell). change_from g m.new.start cs b.number) (sound.blocks.none_new early);
       none_grey = sound.blocks.none_grey;
     }

@@ -74,10 +74,12 @@ module _ (tree : Tree) (has_round : Bool) (words : ℕ) (p : Progress) (m : Spac
   -- the blocks are as they should be
   clear_blocks : AreBlocks Reclaim words m'
   clear_blocks = record {
+    few = sound.blocks.few;
     spaces = subst AreSpaces clear_is (AreSpaces-change cleared_cell cleared_size m there sound.blocks.spaces);
     held = sound.blocks.held;
     old_words = sound.blocks.old_words;
     new_words = sound.blocks.new_words;
+    grows = sound.blocks.grows;
     none_new = λ e. absurd cc;
     none_grey = sound.blocks.none_grey;
   }
@@ -303,10 +305,12 @@ module _ (tree : Tree) (has_round : Bool) (words : ℕ) (p : Progress) (o : Obje
     -- the blocks are as they should be between cycles
     closed_blocks : AreBlocks Idle words (closed m)
     closed_blocks = record {
+      few = sound.blocks.few;
       spaces = AreSpaces-closed m sound.blocks.spaces;
       held = refl;
       old_words = sound.blocks.new_words;
-      new_words = refl;
+      new_words = omega arith;
+      grows = λ e. absurd cc;
       none_new = λ e. refl;
       none_grey = λ e. refl;
     }

@@ -353,10 +353,12 @@ module _ (tree : Tree) (has_round : Bool) (words : ℕ) (p : Progress) (m : Spac
       filled_blocks =
           let same = change-new_alone f m sound.blocks.spaces b to.0 to.1 in
           record {
+            few = sound.blocks.few;
             spaces = subst AreSpaces same (AreSpaces-change f keeps m b sound.blocks.spaces);
             held = sound.blocks.held;
             old_words = sound.blocks.old_words;
             new_words = sound.blocks.new_words;
+            grows = sound.blocks.grows;
             none_new = λ early. absurd cc;
             none_grey = λ over. absurd cc;
           }
@@ -704,10 +706,12 @@ module _ (tree : Tree) (has_round : Bool) (words : ℕ) (p : Progress) (o : Obje
     pub pre_flip_posted : IsSoundHeap tree PreFlip has_round words no_progress o.spaces
     pre_flip_posted = record {
       blocks = record {
+        few = sound.blocks.few;
         spaces = sound.blocks.spaces;
         held = sound.blocks.held;
         old_words = sound.blocks.old_words;
         new_words = sound.blocks.new_words;
+        grows = sound.blocks.grows;
         none_new = λ early. absurd cc;
         none_grey = λ closed. absurd cc;
       };

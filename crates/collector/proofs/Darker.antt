@@ -1,5 +1,5 @@
 -- Blocks that differ in marks alone: what was marked, old, new or live stays so, and so does all that is true of a heap in Mark but for marks.
-use Rattle.std.proofs.Common.{◌≡◌, inl, inr, ℕ, Bool, true, [], refl, sym, ap, subst, ◌∙◌}
+use Rattle.std.proofs.Common.{◌≡◌, inl, inr, ℕ, ◌≤◌, Bool, true, [], refl, sym, ap, subst, ◌∙◌, arith}
 use Rattle.std.specs.Prelude.{◌||◌, is_some, Some, None, slice_get}
 use Rattle.std.proofs.lemmas.Bool.{or_cases, or_left, or_right}
 use Rattle.std.proofs.lemmas.Option.{none-some}
@@ -7,7 +7,7 @@ use Rattle.cil_model.specs.declared.phases.Phase.{Phase}
 use Rattle.cil_model.specs.declared.phases.Phase.TheVariants.{Idle, Mark, Allocate, Copy, PreFlip, HeapFlip, ThreadFlip, Reclaim}
 use Rattle.cil_model.specs.declared.trees.Tree.{Tree}
 use Rattle.object_memory.specs.declared.addresses.Addr.{Addr}
-use Rattle.object_memory.specs.Cells.{Cell, cell_in}
+use Rattle.object_memory.specs.Cells.{Cell, Cells, cell_in}
 use Rattle.object_memory.specs.Spaces.{AreSpaces, HasShellRoom, Spaces, cell_at, is_old}
 use Rattle.object_memory.proofs.TwoBlocks.{either, new_is_cell, old_is_cell}
 use Rattle.collector.specs.References.{SlotsPass, holds_reference, is_permanent, reference_in}
@@ -133,10 +133,12 @@ module _ (m n : Spaces) (darker : AreDarker m n) where
 
   AreBlocks-darker : (words : ℕ) → AreBlocks Mark words m → AreBlocks Mark words n
   AreBlocks-darker words blocks = record {
+    few = blocks.few;
     spaces = darker.spaces blocks.spaces;
     held = darker.held ∙ blocks.held;
-    old_words = darker.words ∙ blocks.old_words;
-    new_words = ap (λ s. s.words) darker.new ∙ blocks.new_words;
+    old_words = subst (λ w. w ≤ words) (sym darker.words) blocks.old_words;
+    new_words = subst (λ (s : Cells). s.words ≤ words) (sym darker.new) blocks.new_words;
+    grows = λ e. (let old = darker.words in let new = ap (λ (s : Cells). s.words) darker.new in let g = blocks.grows e in omega (arith, old, new, g));
     none_new = λ early. ap (λ s. s.cells) darker.new ∙ blocks.none_new early;
     none_grey = λ e. never (sym e);
   }

@@ -1,5 +1,5 @@
 -- From PreFlip to Reclaim: a heap stays sound as each phase is posted, and forwards of what is live are new.
-use Rattle.std.proofs.Common.{◌≡◌, ◌≢◌, inl, inr, ℕ, ◌+◌, Bool, true, false, ◌||◌, List, map, refl, sym, ap, subst, ◌∙◌, arith}
+use Rattle.std.proofs.Common.{◌≡◌, ◌≢◌, inl, inr, ℕ, ◌≤◌, ◌+◌, Bool, true, false, ◌||◌, List, map, refl, sym, ap, subst, ◌∙◌, arith}
 use Rattle.std.specs.Prelude.{if◌then◌else◌, is_some, Option, Some, None, All, get_or}
 use Rattle.std.proofs.lemmas.Bool.{or_left, or_right}
 use Rattle.std.proofs.lemmas.List.Elements.{All-map}
@@ -39,10 +39,12 @@ module _ (tree : Tree) (posted next : Phase) (has_round : Bool) (words : ℕ) (p
   -- the blocks are as they should be
   blocks_on : AreBlocks next words m
   blocks_on = record {
+    few = sound.blocks.few;
     spaces = sound.blocks.spaces;
     held = sound.blocks.held ∙ cycle;
     old_words = sound.blocks.old_words;
-    new_words = sound.blocks.new_words ∙ ap (λ t. if t then words else 0) cycle;
+    new_words = subst (λ t. m.new.words ≤ (if t then words else 0)) cycle sound.blocks.new_words;
+    grows = λ e. sound.blocks.grows (cycle ∙ e);
     none_new = λ e. sound.blocks.none_new (early ∙ e);
     none_grey = λ e. sound.blocks.none_grey (cycle ∙ e);
   }

@@ -49,7 +49,7 @@ module _ (words literals : ℕ) (few : words ≤ MOST_WORDS) where
   -- all is true of it between cycles
   pub IsSoundHeap-empty : (tree : Tree) (has_round : Bool) (p : Progress) → IsSoundHeap tree Idle has_round words p empty
   IsSoundHeap-empty tree has_round p = record {
-    blocks = record { spaces = AreSpaces-empty; held = refl; old_words = refl; new_words = refl; none_new = λ early. refl; none_grey = λ between. refl };
+    blocks = record { few = few; spaces = AreSpaces-empty; held = refl; old_words = omega arith; new_words = omega arith; grows = λ e. absurd cc; none_new = λ early. refl; none_grey = λ between. refl };
     copies = record {
       bare = λ a c e early. no_cell c e;
       unmarked = λ a c e between. no_cell c e;
@@ -75,14 +75,14 @@ module _ (words literals : ℕ) (few : words ≤ MOST_WORDS) where
 
 -- ---- a cycle opens
 
-module _ (tree : Tree) (has_round : Bool) (words : ℕ) (p : Progress) (m : Spaces) (sound : IsSoundHeap tree Idle has_round words p m) where
+module _ (tree : Tree) (has_round : Bool) (words : ℕ) (p : Progress) (m : Spaces) (sound : IsSoundHeap tree Idle has_round words p m) (next : ℕ) (grows : m.old.words ≤ next) (most : next ≤ words) where
   -- nothing is marked then
   opened_unmarked : (a : Addr) (c : Cell) → cell_in m.old a ≡ Some c → c.marked ≡ true → ⊥
   opened_unmarked a c e marked = never (sym (sound.copies.unmarked a c e refl) ∙ marked)
 
-  opened_marks : AreMarked tree false no_progress (opened m words)
+  opened_marks : AreMarked tree false no_progress (opened m next)
   opened_marks = record {
-    listed = All-nil (λ a. is_marked_old (opened m words) a ≡ true);
+    listed = All-nil (λ a. is_marked_old (opened m next) a ≡ true);
     black = λ a c e marked. absurd (opened_unmarked a c e marked);
     fresh = λ none. refl;
     oldest = λ g rest c list lies slot word near there held. absurd (omega (arith, near));
@@ -90,32 +90,34 @@ module _ (tree : Tree) (has_round : Bool) (words : ℕ) (p : Progress) (m : Spac
   }
 
   -- a cycle opens in Mark, with nothing done
-  pub IsSoundHeap-opened : IsSoundHeap tree Mark false words no_progress (opened m words)
+  pub IsSoundHeap-opened : IsSoundHeap tree Mark false words no_progress (opened m next)
   IsSoundHeap-opened = record {
     blocks = record {
-      spaces = AreSpaces-opened m sound.blocks.spaces words (omega (arith, sound.blocks.old_words, sound.blocks.spaces.old.few));
+      few = sound.blocks.few;
+      spaces = AreSpaces-opened m sound.blocks.spaces next (omega (arith, most, sound.blocks.few));
       held = refl;
       old_words = sound.blocks.old_words;
-      new_words = refl;
+      new_words = most;
+      grows = λ cycle. grows;
       none_new = λ early. refl;
       none_grey = λ between. refl;
     };
-    copies = AreCopied-in_mark tree no_progress (opened m words) refl
+    copies = AreCopied-in_mark tree no_progress (opened m next) refl
         (λ a c e. sound.copies.bare a c e refl)
         (λ a c e. sound.copies.old_references a c e refl)
-        (HasShellRoom-opened m words (omega (arith, sound.blocks.old_words)));
-    place = HasPlace-begun Mark (opened m words);
+        (HasShellRoom-opened m next grows);
+    place = HasPlace-begun Mark (opened m next);
     loaded = λ e. absurd cc;
     marks = λ posted. opened_marks;
     cleared = λ posted. absurd cc;
   }
 
   -- and the collector has not begun
-  pub HasNotBegun-opened : HasNotBegun Mark false no_progress (opened m words)
+  pub HasNotBegun-opened : HasNotBegun Mark false no_progress (opened m next)
   HasNotBegun-opened = record {
     nothing = refl;
     no_round = λ posted. refl;
-    all_grey = λ posted a h. let c = marked_cell (opened m words) a h in absurd (opened_unmarked a c.0 c.1 c.2);
+    all_grey = λ posted a h. let c = marked_cell (opened m next) a h in absurd (opened_unmarked a c.0 c.1 c.2);
   }
 
 -- nor has it of any other phase that it posts
@@ -151,10 +153,12 @@ module _ (tree : Tree) (has_round : Bool) (words : ℕ) (p : Progress) (m : Spac
   pub IsSoundHeap-allocate : IsClosedMarking tree m → (round_then : Bool) → IsSoundHeap tree Allocate round_then words no_progress m
   IsSoundHeap-allocate closed round_then = record {
     blocks = record {
+      few = sound.blocks.few;
       spaces = sound.blocks.spaces;
       held = sound.blocks.held;
       old_words = sound.blocks.old_words;
       new_words = sound.blocks.new_words;
+      grows = sound.blocks.grows;
       none_new = λ early. never early;
       none_grey = λ between. never (sym between);
     };

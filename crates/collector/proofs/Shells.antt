@@ -159,10 +159,12 @@ module _ (tree : Tree) (has_round : Bool) (words : ℕ) (p : Progress) (m : Spac
 
     shell_blocks : AreBlocks Allocate words after
     shell_blocks = record {
+      few = sound.blocks.few;
       spaces = AreSpaces-shell m spaces room a c lies bare;
       held = sound.blocks.held;
       old_words = sound.blocks.old_words;
       new_words = sound.blocks.new_words;
+      grows = sound.blocks.grows;
       none_new = λ early. absurd cc;
       none_grey = λ over. absurd cc;
     }
@@ -323,10 +325,12 @@ module _ (tree : Tree) (has_round : Bool) (words : ℕ) (p : Progress) (o : Obje
     pub copy_posted : IsSoundHeap tree Copy has_round words no_progress o.spaces
     copy_posted = record {
       blocks = record {
+        few = sound.blocks.few;
         spaces = sound.blocks.spaces;
         held = sound.blocks.held;
         old_words = sound.blocks.old_words;
         new_words = sound.blocks.new_words;
+        grows = sound.blocks.grows;
         none_new = λ early. absurd cc;
         none_grey = λ over. absurd cc;
       };

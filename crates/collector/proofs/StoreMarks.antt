@@ -192,10 +192,12 @@ module _ (m : Spaces) (q : Addr) where
 
     blocks : AreBlocks Mark words n
     blocks = record {
+      few = sound.blocks.few;
       spaces = spaces_stay;
       held = sound.blocks.held;
       old_words = sound.blocks.old_words;
       new_words = sound.blocks.new_words;
+      grows = sound.blocks.grows;
       none_new = λ early. ap (λ (cs : List Cell). change_from set_mark m.new.start cs q.number) (sound.blocks.none_new early);
       none_grey = λ closed. false_is_true (sym closed);
     }

@@ -1,6 +1,7 @@
 -- What is true of a heap in each phase of a cycle: of its blocks, of the two copies of an object, and of marks (Hudson and Moss, "Sapphire"; this
 -- profile). It speaks of no object of the reference machine.
 use Rattle.std.specs.Prelude.{◌≡◌, ◌≢◌, ◌⊎◌, ◌<◌, ◌≤◌, ◌+◌, ℕ, zero, suc, if◌then◌else◌, Bool, true, false, List, [], ◌∷◌, length, Some, None, slice_get, All}
+use Rattle.cil_model.specs.declared.limits.TheConstants.{MOST_WORDS}
 use Rattle.cil_model.specs.declared.phases.Phase.{Phase}
 use Rattle.cil_model.specs.declared.phases.Phase.TheVariants.{Mark, Allocate, Copy, Reclaim}
 use Rattle.cil_model.specs.declared.trees.Tree.{Tree}
@@ -15,12 +16,14 @@ use Rattle.collector.specs.declared.progress.Stage.TheVariants.{Loaded, Stored}
 
 -- ---- blocks
 
--- Each block has so many words; the second one is there while a cycle is open, and holds objects from Allocate on.
+-- No block has more words than these; the second one is there while a cycle is open, no smaller than the first, and holds objects from Allocate on.
 pub record AreBlocks (posted : Phase) (words : ℕ) (m : Spaces) : Type 0 where
+  pub few : words ≤ MOST_WORDS
   pub spaces : AreSpaces m
   pub held : m.is_open ≡ is_of_cycle posted
-  pub old_words : m.old.words ≡ words
-  pub new_words : m.new.words ≡ (if is_of_cycle posted then words else 0)
+  pub old_words : m.old.words ≤ words
+  pub new_words : m.new.words ≤ (if is_of_cycle posted then words else 0)
+  pub grows : is_of_cycle posted ≡ true → m.old.words ≤ m.new.words
   pub none_new : is_before_copies posted ≡ true → m.new.cells ≡ []
   pub none_grey : is_of_cycle posted ≡ false → m.grey ≡ []
 

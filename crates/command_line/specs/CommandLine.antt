@@ -3,6 +3,7 @@
 use Rattle.std.specs.Prelude.{◌≡◌, ◌≢◌, ◌⊎◌, ℕ, Bool, pos, true, false, List, [], ◌∷◌, codes}
 use Rattle.std.specs.Prelude.{Option, Some, None, Result, Ok, Err, option_map, option_and_then}
 use Rattle.std.specs.Prelude.{if◌then◌else◌, ⊤}
+use Rattle.std.specs.Option.{option_map_or}
 use Rattle.std.specs.Str.{bytes_eq}
 use Rattle.std.specs.Str.Parse.{digits_value, without_leading_plus}
 use Rattle.clap.specs.ValueTests.{is_unsigned_in}
@@ -15,7 +16,7 @@ use Rattle.clap.specs.declared.builder.command.Command.TheViews.{out-Command}
 use Rattle.clap.specs.declared.builder.value_parser.ValueParser.TheVariants as vp
 use Rattle.clap.specs.declared.error.kind.ErrorKind.{ErrorKind}
 use Rattle.clap.specs.declared.error.kind.ErrorKind.TheVariants.{DisplayHelp, DisplayVersion, OutOfMemory}
-use Rattle.cil_model.specs.Ranges.{are_in_range}
+use Rattle.cil_model.specs.Ranges.{are_numbers_in_range}
 use Rattle.cil_model.specs.declared.limits.Limits.{Limits}
 use Rattle.cil_model.specs.declared.limits.TheConstants.{LEAST_WORDS, MOST_WORDS}
 use Rattle.cil_model.specs.declared.limits.TheConstants.{MOST_BUDGET, MOST_DEPTH}
@@ -58,8 +59,9 @@ abbrev pub needed : Rule → Rule
 needed rule = record rule { required = true }
 
 abbrev pub with_limits : App → App
-with_limits a = with_rule (with_rule (with_rule a
+with_limits a = with_rule (with_rule (with_rule (with_rule a
     (with_default (codes "65536") (number_rule (codes "words") LEAST_WORDS MOST_WORDS)))
+    (number_rule (codes "max-words") LEAST_WORDS MOST_WORDS))
     (with_default (codes "100000") (number_rule (codes "budget") 1 MOST_BUDGET)))
     (with_default (codes "64") (number_rule (codes "depth") 1 MOST_DEPTH))
 
@@ -142,12 +144,17 @@ number_in least most text =
 abbrev pub number_at : ℕ → ℕ → Text → List Row → Option ℕ
 number_at least most id rows = option_and_then (number_in least most) (first_of id rows)
 
+-- the most words of a space: those of the first one where none is said
+abbrev pub most_in : ℕ → List Row → Option ℕ
+most_in words rows = option_map_or (number_in LEAST_WORDS MOST_WORDS) (first_of (codes "max-words") rows) (Some words)
+
 abbrev pub limits_in : List Row → Option Limits
-limits_in rows = option_and_then (λ words. option_and_then (λ budget. option_map (λ depth. record {
+limits_in rows = option_and_then (λ words. option_and_then (λ most. option_and_then (λ budget. option_map (λ depth. record {
   words = words;
+  max_words = most;
   budget = budget;
   depth = depth;
-}) (number_at 1 MOST_DEPTH (codes "depth") rows)) (number_at 1 MOST_BUDGET (codes "budget") rows))
+}) (number_at 1 MOST_DEPTH (codes "depth") rows)) (number_at 1 MOST_BUDGET (codes "budget") rows)) (most_in words rows))
     (number_at LEAST_WORDS MOST_WORDS (codes "words") rows)
 
 -- a flag that is given has the value `true`
@@ -243,8 +250,8 @@ Answers words (Err fault) = Refuses words fault
 -- each number of the order lies in its range
 abbrev pub IsInRange : Order → Type 0
 IsInRange (Check file explain) = ⊤
-IsInRange (Run file schedule limits explain) = are_in_range limits ≡ true
-IsInRange (Replay file schedule limits explain) = are_in_range limits ≡ true
-IsInRange (Trace file schedule limits explain) = are_in_range limits ≡ true
-IsInRange (Threads file workers kept limits explain) = are_in_range limits ≡ true
+IsInRange (Run file schedule limits explain) = are_numbers_in_range limits ≡ true
+IsInRange (Replay file schedule limits explain) = are_numbers_in_range limits ≡ true
+IsInRange (Trace file schedule limits explain) = are_numbers_in_range limits ≡ true
+IsInRange (Threads file workers kept limits explain) = are_numbers_in_range limits ≡ true
 IsInRange (Flip sizes) = ⊤

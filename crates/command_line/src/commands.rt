@@ -160,9 +160,17 @@ fn with_limits<'a>(
         LEAST_WORDS,
         MOST_WORDS,
         "65536",
-        "Words of 64 bits in a space, 64 to 1048576",
+        "Words of 64 bits in the first space, 64 to 1048576",
     );
     let command = with_argument(command, words);
+    let most = number_option(
+        alloc,
+        "max-words",
+        LEAST_WORDS,
+        MOST_WORDS,
+        "The most words that a space may grow to, 64 to 1048576; those of --words where none is given",
+    );
+    let command = with_argument(command, most);
     let budget = limit_option(
         alloc,
         "budget",

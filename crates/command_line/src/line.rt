@@ -1,10 +1,10 @@
 //! Reads the command line.
 ghost use Rattle.std.specs.Prelude.{◌≡◌, ◌≤◌, IfErr, IfOk, IfSome, Some, map, option_map, true};
 ghost use Rattle.clap.specs.Words.{found_of, first_of, kind_of, rows_of, subcommand_rows_of};
-ghost use Rattle.command_line.specs.CommandLine.{Answers, FaultIs, IsInRange, IsOfNone, check_in, limits_in};
+ghost use Rattle.command_line.specs.CommandLine.{Answers, FaultIs, IsInRange, IsOfNone, check_in, limits_in, most_in};
 ghost use Rattle.command_line.specs.CommandLine.{flag_at, number_at, number_in, flip_in, replay_in, run_in, scheduled_in, threads_in, trace_in, wanted_in};
 ghost use Rattle.command_line.specs.CommandLine.{wanted_of, worked_in};
-ghost use Rattle.cil_model.specs.Ranges.{are_in_range};
+ghost use Rattle.cil_model.specs.Ranges.{are_numbers_in_range};
 ghost use Rattle.command_line.specs.declared.line.LineFault.TheVariants.{Memory};
 
 use crate::commands::cilvm_command;
@@ -188,7 +188,7 @@ fn wanted_flip<'a>(found: &ArgMatches<'a>) -> Option<Order<'a>>
 /// The source's file, the schedule and the limits of a run.
 fn scheduled<'a>(found: &ArgMatches<'a>) -> Option<(&'a str, &'a str, Limits)>
     ensures value { option_map (λ s. (s.0.now, s.1.now, s.2)) result ≡ scheduled_in (rows_of (found_of found.now)) }
-    ensures range { IfSome result (λ s. are_in_range s.2 ≡ true) }
+    ensures range { IfSome result (λ s. are_numbers_in_range s.2 ≡ true) }
 {
     let file = text(found, "file")?;
     let schedule = text(found, "schedule")?;
@@ -199,7 +199,7 @@ fn scheduled<'a>(found: &ArgMatches<'a>) -> Option<(&'a str, &'a str, Limits)>
 /// The source's file, the workers and the limits of a run.
 fn worked<'a>(found: &ArgMatches<'a>) -> Option<(&'a str, Workers, Limits)>
     ensures value { option_map (λ s. (s.0.now, s.1.count, s.2)) result ≡ worked_in (rows_of (found_of found.now)) }
-    ensures range { IfSome result (λ s. are_in_range s.2 ≡ true) }
+    ensures range { IfSome result (λ s. are_numbers_in_range s.2 ≡ true) }
 {
     let file = text(found, "file")?;
     let workers = number(found, "workers", 1, 16)?;
@@ -209,16 +209,30 @@ fn worked<'a>(found: &ArgMatches<'a>) -> Option<(&'a str, Workers, Limits)>
 
 fn limits(found: &ArgMatches<'_>) -> Option<Limits>
     ensures value { result ≡ limits_in (rows_of (found_of found.now)) }
-    ensures range { IfSome result (λ limits. are_in_range limits ≡ true) }
+    ensures range { IfSome result (λ limits. are_numbers_in_range limits ≡ true) }
 {
     let words = number(found, "words", LEAST_WORDS, MOST_WORDS)?;
+    let max_words = most_words(found, words)?;
     let budget = number(found, "budget", 1, MOST_BUDGET)?;
     let depth = number(found, "depth", 1, MOST_DEPTH)?;
     Some(Limits {
         words,
+        max_words,
         budget,
         depth,
     })
+}
+
+/// The most words of a space: those of the first one where none is said.
+fn most_words(found: &ArgMatches<'_>, words: u32) -> Option<u32>
+    requires range { (LEAST_WORDS ≤ words) × (words ≤ MOST_WORDS) }
+    ensures value { result ≡ most_in words (rows_of (found_of found.now)) }
+    ensures range { IfSome result (λ n. (LEAST_WORDS ≤ n) × (n ≤ MOST_WORDS)) }
+{
+    match text(found, "max-words") {
+        None => Some(words),
+        Some(text) => number_in(text, LEAST_WORDS, MOST_WORDS),
+    }
 }
 
 /// The text that was given for `id`.

@@ -188,7 +188,7 @@ usual_in_range = refl
 no_budget : are_in_range (record usual_limits { budget = 0 }) ≡ false
 no_budget = refl
 
-largest : are_in_range (record { words = 1048576; budget = 1000000; depth = 256 }) ≡ true
+largest : are_in_range (record { words = 1048576; max_words = 1048576; budget = 1000000; depth = 256 }) ≡ true
 largest = refl
 
 too_few_words : are_in_range (record usual_limits { words = 63 }) ≡ false

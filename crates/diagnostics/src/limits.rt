@@ -12,6 +12,7 @@ fn are_in_range(limits: Limits) -> bool
     ensures { result ≡ are_in_range limits }
 {
     (LEAST_WORDS..=MOST_WORDS).contains(&limits.words)
+        && (limits.words..=MOST_WORDS).contains(&limits.max_words)
         && (1..=MOST_BUDGET).contains(&limits.budget)
         && (1..=MOST_DEPTH).contains(&limits.depth)
 }
@@ -41,6 +42,7 @@ pub fn explain_limits(alloc: Global, limits: Limits) -> Result<Option<String>, N
     }
     let Limits {
         words,
+        max_words,
         budget,
         depth,
     } = limits;
@@ -50,6 +52,13 @@ pub fn explain_limits(alloc: Global, limits: Limits) -> Result<Option<String>, N
         "the words of a space",
         words,
         LEAST_WORDS,
+        MOST_WORDS,
+    )?;
+    add_limit(
+        &mut text,
+        "the most words of a space",
+        max_words,
+        words,
         MOST_WORDS,
     )?;
     add_limit(&mut text, "the steps of a thread", budget, 1, MOST_BUDGET)?;

@@ -1,13 +1,13 @@
 //! What an event of the collector does: one step of the work of the phase that is posted, or the next post.
 
-ghost use Rattle.std.specs.Prelude.{◌≡◌, ◌<◌, ◌^◌, IfOk, OnErr, IsTrue, true, length};
+ghost use Rattle.std.specs.Prelude.{◌≡◌, ◌<◌, ◌≤◌, ◌^◌, IfOk, OnErr, IsTrue, true, length};
 ghost use Rattle.cil_model.specs.Ranges.{are_in_range};
 ghost use Rattle.cil_model.specs.declared.events.Event.TheVariants.{Gc as GcOf};
 ghost use Rattle.cil_model.specs.declared.phases.Phase.TheVariants.{Idle as IdleOf, Mark as MarkOf, Allocate as AllocateOf, Copy as CopyOf, HeapFlip as HeapFlipOf, Reclaim as ReclaimOf};
 ghost use Rattle.cil_model.specs.declared.reports.Report.TheVariants.{Worked as WorkedOf};
 ghost use Rattle.reference_machine.specs.Cycles.{phase_after};
 ghost use Rattle.phase_handshake.specs.Handshakes.{all_seen};
-ghost use Rattle.simulation.specs.Collecting.{cycle_opened, mark_work, rounds, with_next_phase, work};
+ghost use Rattle.simulation.specs.Collecting.{cycle_opened, mark_work, opening_words, rounds, with_next_phase, work};
 ghost use Rattle.simulation.specs.Sound.{IsSound as IsSoundContent};
 ghost use Rattle.simulation.specs.Turns.{IsTurn, TakesMemory};
 ghost use Rattle.interleaving_core.specs.Views.{content_of};
@@ -50,8 +50,8 @@ impl Engine {
         }
     }
 
-    /// Opens a cycle, with a second block as large as the first and a grey list with room for every object: both are taken here, and no
-    /// later event of the cycle takes memory.
+    /// Opens a cycle, with a second block and a grey list with room for every object: both are taken here, and no later event of the
+    /// cycle takes memory. Where there is none for a block of the size that is wanted, no smaller one is tried.
     fn open_cycle(&mut self, alloc: Global) -> Result<Report, NoMemory>
         requires limits { are_in_range self.old.limits ≡ true }
         requires sound { IsSoundContent (content_of self.old) }
@@ -60,11 +60,37 @@ impl Engine {
         ensures opened { IfOk result (λ report. (content_of self.new ≡ cycle_opened (content_of self.old)) × (report ≡ WorkedOf)) }
         ensures refused { OnErr result (content_of self.new ≡ content_of self.old) }
     {
-        let words = self.limits.words as usize;
-        let block = Block::new(alloc, words)?;
+        let block = Block::new(alloc, self.opening_words())?;
+        let (words, _) = self.sizes();
         let grey = Vec::with_capacity(alloc, words / 3)?;
         self.store.heap.open(block, grey);
         Ok(self.post(Phase::Mark))
+    }
+
+    /// The words of the block that a cycle opens with: twice those of the only one where more than half of it is used, within the limit;
+    /// else as many.
+    fn opening_words(&self) -> usize
+        requires sound { IsSoundContent (content_of self.now) }
+        ensures { result ≡ opening_words (content_of self.now) }
+    {
+        let (words, _) = self.sizes();
+        let (used, _) = self.store.heap.used_words();
+        if words < 2 * used {
+            (2 * words).min(self.limits.max_words as usize)
+        } else {
+            words
+        }
+    }
+
+    /// The words of the old space, or the only one, and of the new one: 0 where there is none.
+    pub(crate) fn sizes(&self) -> (usize, usize)
+        requires sound { IsSoundContent (content_of self.now) }
+        ensures sizes { result ≡ (self.now.store.heap.spaces.old.words, self.now.store.heap.spaces.new.words) }
+        ensures few { (result.0 ≤ MOST_WORDS) × (result.1 ≤ MOST_WORDS) }
+    {
+        let (old_used, new_used) = self.store.heap.used_words();
+        let (old_free, new_free) = self.store.heap.free_words();
+        (old_used + old_free, new_used + new_free)
     }
 
     /// Posts the next phase, of which nothing is done yet.

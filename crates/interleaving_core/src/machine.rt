@@ -239,13 +239,24 @@ impl Machine {
     /// The words that objects take in the old space, or the only one, and in the new one, which there is while a cycle is open: 0 where
     /// there is none.
     ///
-    /// Each space has the size of the limit of words. A birth is refused exactly where its cell has more words than are left of them in the
-    /// space in which it would be born, by the phase of its thread, or in one of both.
+    /// A birth is refused exactly where its cell has more words than are left of the space in which it would be born (`sizes`), by the
+    /// phase of its thread, or of one of both.
     pub fn used(&self) -> (u32, u32)
         ensures used { result ≡ (used_space self.now.objects, used_words self.now.objects.spaces.new.cells) }
-        ensures space { whole_space self.now.objects ≡ self.now.limits.words }
     {
         let (old, new) = self.engine.store.heap.used_words();
+        (old as u32, new as u32)
+    }
+
+    /// The words of the old space, or the only one, and of the new one: 0 where there is none. The first space has those of the limit; the
+    /// one that a cycle opens with has as many as the one before, or twice as many where more than half of that is used, but no more than
+    /// the limit says.
+    pub fn sizes(&self) -> (u32, u32)
+        ensures sizes { result ≡ (whole_space self.now.objects, self.now.objects.spaces.new.words) }
+        ensures most { (result.0 ≤ self.now.limits.max_words) × (result.1 ≤ self.now.limits.max_words) }
+    {
+        let _engine = &self.engine;
+        let (old, new) = self.engine.sizes();
         (old as u32, new as u32)
     }
 }
@@ -254,6 +265,7 @@ fn are_in_range(limits: Limits) -> bool
     ensures { result ≡ are_in_range limits }
 {
     is_between(LEAST_WORDS, MOST_WORDS, limits.words)
+        && is_between(limits.words, MOST_WORDS, limits.max_words)
         && is_between(1, MOST_BUDGET, limits.budget)
         && is_between(1, MOST_DEPTH, limits.depth)
 }

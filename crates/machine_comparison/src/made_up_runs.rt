@@ -119,8 +119,10 @@ fn try_program(
 
 /// Limits so small that they are often met.
 fn limits_among(random: &mut Random) -> Limits {
+    let words = random.below(449).saturating_add(64);
     Limits {
-        words: random.below(449).saturating_add(64),
+        words,
+        max_words: words.saturating_add(random.below(2).saturating_mul(512)),
         budget: random.below(400).saturating_add(100),
         depth: random.below(12).saturating_add(4),
     }

@@ -65,6 +65,7 @@ fn try_schedule(
 ) -> Result<(), Failure> {
     let limits = Limits {
         words: 64,
+        max_words: 64,
         budget,
         depth: 1,
     };

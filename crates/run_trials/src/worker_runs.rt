@@ -29,6 +29,7 @@ const COUNTED_BYTES: usize = 22;
 /// Limits in which several threads come to their ends.
 pub(crate) const ROOM: Limits = Limits {
     words: 1024,
+    max_words: 1024,
     budget: 2000,
     depth: 8,
 };

@@ -21,7 +21,7 @@ use Rattle.shared_machine.specs.declared.history.Entry.{Entry}
 abbrev pub no_content : Content
 no_content = record {
   tree = record { externs = []; assembly = None; classes = [] };
-  limits = record { words = 0; budget = 0; depth = 0 };
+  limits = record { words = 0; max_words = 0; budget = 0; depth = 0 };
   threads = [];
   posts = first_handshakes;
   progress = no_progress;

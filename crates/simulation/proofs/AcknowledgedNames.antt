@@ -167,7 +167,7 @@ module _ (c : Content) (s : State) (name : Names) (sound : IsSound c) (stands : 
   module _ (normal : IsNormal c.posts.posted m name) (flip : is_phase c.posts.posted ThreadFlip ≡ true) where
     -- the forward has the name of what it forwards
     forward_named : (a : Addr) (n : ObjectName) → name a.number ≡ Some n → name (forward m a).number ≡ Some n
-    forward_named = normal_forward c.tree c.posts.posted c.posts.has_round c.limits.words c.progress c.objects sound.heap (ap has_words (same_phase c.posts.posted ThreadFlip flip)) name normal
+    forward_named = normal_forward c.tree c.posts.posted c.posts.has_round c.limits.max_words c.progress c.objects sound.heap (ap has_words (same_phase c.posts.posted ThreadFlip flip)) name normal
 
     standing_stands : (x : Standing) (xs : List StateFrame) (e : Option End) → StandsAlike c.tree c.limits name x xs e → StandsAlike c.tree c.limits name (standing_flipped c.objects x) xs e
     standing_stands (Live fs) xs None h = live_flipped name (forward m) (forward_null m sound.heap.blocks.spaces) forward_named c.tree c.limits fs xs h

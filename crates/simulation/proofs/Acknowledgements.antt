@@ -110,7 +110,7 @@ module _ (c : Content) (sound : IsSound c) (t : ℕ) (seat : Seat) (here : seat_
 
   -- the machine is sound with these threads and objects, where it holds in them what it may
   sound_then : (threads : List Thread) (o : Objects) → ((n : ℕ) → is_live_at threads n ≡ is_live_at c.threads n) →
-      IsSoundHeap c.tree c.posts.posted c.posts.has_round c.limits.words c.progress o.spaces →
+      IsSoundHeap c.tree c.posts.posted c.posts.has_round c.limits.max_words c.progress o.spaces →
       ((n : ℕ) (x : Seat) → seat_of c.posts n ≡ Some x → IsOnTime x.phase c.posts.posted c.posts.has_round c.progress o.spaces) →
       ((n left : ℕ) (fs : Frames) (x : Seat) → (n ≡ t → ⊥) → slice_get threads n ≡ Some (record { standing = Live fs; steps_left = left }) → seat_of c.posts n ≡ Some x → (a : Addr) → IsListed (roots fs) a → may_hold c.posts o.spaces x a ≡ true) →
       ((left : ℕ) (fs : Frames) → slice_get threads t ≡ Some (record { standing = Live fs; steps_left = left }) → (a : Addr) → IsListed (roots fs) a → may_hold c.posts o.spaces next a ≡ true) →
@@ -165,9 +165,9 @@ module _ (c : Content) (sound : IsSound c) (t : ℕ) (seat : Seat) (here : seat_
       noted : m.has_marked ≡ true → marked.spaces.has_marked ≡ true
       noted = with_all_marked-noted vs c.objects
 
-      heap_then : IsSoundHeap c.tree c.posts.posted c.posts.has_round c.limits.words c.progress marked.spaces
-      heap_then = subst (λ q. IsSoundHeap c.tree q c.posts.has_round c.limits.words c.progress marked.spaces) (sym in_mark)
-          (IsSoundHeap-with_all_marked c.tree c.posts.has_round c.limits.words c.progress vs c.objects (subst (λ q. IsSoundHeap c.tree q c.posts.has_round c.limits.words c.progress m) in_mark sound.heap))
+      heap_then : IsSoundHeap c.tree c.posts.posted c.posts.has_round c.limits.max_words c.progress marked.spaces
+      heap_then = subst (λ q. IsSoundHeap c.tree q c.posts.has_round c.limits.max_words c.progress marked.spaces) (sym in_mark)
+          (IsSoundHeap-with_all_marked c.tree c.posts.has_round c.limits.max_words c.progress vs c.objects (subst (λ q. IsSoundHeap c.tree q c.posts.has_round c.limits.max_words c.progress m) in_mark sound.heap))
 
       on_time_then : (n : ℕ) (x : Seat) → seat_of c.posts n ≡ Some x → IsOnTime x.phase c.posts.posted c.posts.has_round c.progress marked.spaces
       on_time_then n x is late =

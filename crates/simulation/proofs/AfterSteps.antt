@@ -53,7 +53,7 @@ module _ (c : Content) (s : State) (r : Represents c s) (t left : ℕ) (m : Fram
     -- what a thread holds that was there before
     held_still : (n left' : ℕ) (fs : Frames) (x : Seat) → slice_get c.threads n ≡ Some (record { standing = Live fs; steps_left = left' }) → seat_of c.posts n ≡ Some x → (a : Addr) → IsListed (roots fs) a → may_hold c.posts o.spaces x a ≡ true
     held_still n left' fs x at is a listed =
-        others_may_hold c.tree c.limits.words c.posts c.progress (seat c s r t left m there) c.objects (normally c s r).name names o ss s' fits a x (r.sound.threads n left' fs x at is a listed)
+        others_may_hold c.tree c.limits.max_words c.posts c.progress (seat c s r t left m there) c.objects (normally c s r).name names o ss s' fits a x (r.sound.threads n left' fs x at is a listed)
 
     -- beside the threads that were there
     pub beside_same : AreBeside c.threads c.posts o
@@ -92,7 +92,7 @@ module _ (c : Content) (s : State) (r : Represents c s) (t left : ℕ) (m : Fram
               ]
               in
               subst (λ (y : Seat). may_hold c.posts o.spaces y a ≡ true) own
-              (own_may_hold c.tree c.limits.words c.posts c.progress (seat c s r t left m there) c.objects (normally c s r).name names o ss s' fits a (new_passes fs (ap (λ (y : Thread). y.standing) is_new) a listed))
+              (own_may_hold c.tree c.limits.max_words c.posts c.progress (seat c s r t left m there) c.objects (normally c s r).name names o ss s' fits a (new_passes fs (ap (λ (y : Thread). y.standing) is_new) a listed))
 
     -- ---- the whole
 
@@ -131,6 +131,6 @@ module _ (c : Content) (s : State) (r : Represents c s) (t left : ℕ) (m : Fram
               | inl here ↦
                   (let own : seat c s r t left m there ≡ y = same_Some (seat c s r t left m there) y (sym beside.own ∙ ap (seat_of h) (sym here.0) ∙ counted_seat h t x.1 n y is) in
                   subst (λ (z : Seat). may_hold c.posts o.spaces z a ≡ true) own
-                  (own_may_hold c.tree c.limits.words c.posts c.progress (seat c s r t left m there) c.objects (normally c s r).name names o ss s' fits a (pass fs (ap (λ (z : Thread). z.standing) (sym here.1)) a listed)))
+                  (own_may_hold c.tree c.limits.max_words c.posts c.progress (seat c s r t left m there) c.objects (normally c s r).name names o ss s' fits a (pass fs (ap (λ (z : Thread). z.standing) (sym here.1)) a listed)))
               | inr other ↦ beside.others n left' fs y other.0 other.1 (counted_seat h t x.1 n y is) a listed
             ]

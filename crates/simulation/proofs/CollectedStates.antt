@@ -28,7 +28,7 @@ use Rattle.collector.specs.phase_handshake.Handshakes.{all_answered, all_seen}
 use Rattle.simulation.specs.Agreement.{Agree}
 use Rattle.simulation.specs.MachineContents.{Content}
 use Rattle.simulation.specs.Sound.{IsSound}
-use Rattle.simulation.specs.Collecting.{cleared, collected, flipped, marked, next_posted, round_posted, rounds, work, worked}
+use Rattle.simulation.specs.Collecting.{cleared, collected, flipped, marked, next_posted, opening_words, round_posted, rounds, work, worked}
 use Rattle.simulation.specs.StandsFor.{AreTwins, IsCell, IsHeap, IsMonitor, IsOfContents, IsValue, Names, StandsBy}
 use Rattle.interpreter.proofs.object_memory.TwoBlocks.{either, new_is_cell, old_is_cell}
 use Rattle.collector.proofs.Views.{is_new_live, live_is_late, live_is_read, never, new_has_cell, none_is_new}
@@ -274,11 +274,11 @@ worked_stands name s c (p, o, false) works posts = posts
 module _ (name : Names) (c : Content) (s : State) where
   -- a cycle opens
   opens_stand : IsSound (posting Idle c) → StandsBy name c s → StandsBy name (work Idle (posting Idle c)).0 s
-  opens_stand sound stands = let opens = stands_shown name c s stands _ (opened_shows name c.objects c.limits.words (sound.heap.blocks.none_new refl)) in record { memory = opens.memory; threads = opens.threads }
+  opens_stand sound stands = let opens = stands_shown name c s stands _ (opened_shows name c.objects (opening_words c) (sound.heap.blocks.none_new refl)) in record { memory = opens.memory; threads = opens.threads }
 
   -- objects are marked
   dark_stands : IsSound (posting Mark c) → (o : Objects) → o.literals ≡ c.objects.literals → AreDarker c.objects.spaces o.spaces → StandsBy name c s → StandsBy name (record c { objects = o }) s
-  dark_stands sound o literals darker stands = stands_shown name c s stands o (darker_shows name c.objects o c.posts.has_round c.tree c.limits.words c.progress sound.heap literals darker)
+  dark_stands sound o literals darker stands = stands_shown name c s stands o (darker_shows name c.objects o c.posts.has_round c.tree c.limits.max_words c.progress sound.heap literals darker)
 
   -- a round is posted, or marking ends
   rounds_stand : IsSound (posting Mark c) → StandsBy name c s → StandsBy name (rounds (posting Mark c)).0 s
@@ -302,7 +302,7 @@ module _ (name : Names) (c : Content) (s : State) where
   marks_stand sound stands = either_stands name s c.progress.scanned_statics (marked (posting Mark c) (marked_on c.tree c.progress c.objects))
       (record (posting Mark c) { progress = (statics_scanned c.progress c.objects c.statics).0; objects = (statics_scanned c.progress c.objects c.statics).1 }, Worked)
       (λ scanned. by_mark (marked_on c.tree c.progress c.objects)
-      (dark_stands sound (marked_on c.tree c.progress c.objects).1 (marked_on-literals c.tree c.progress c.objects) (AreDarker-marked_on c.tree c.posts.has_round c.limits.words c.progress c.objects sound.heap) stands)
+      (dark_stands sound (marked_on c.tree c.progress c.objects).1 (marked_on-literals c.tree c.progress c.objects) (AreDarker-marked_on c.tree c.posts.has_round c.limits.max_words c.progress c.objects sound.heap) stands)
       (rounds_stand sound stands))
       (λ early. (let scans = dark_stands sound (statics_scanned c.progress c.objects c.statics).1 (with_all_marked-literals c.statics c.objects) (AreDarker-with_all_marked c.statics c.objects sound.heap.blocks.spaces) stands in
       record { memory = scans.memory; threads = scans.threads }))
@@ -323,7 +323,7 @@ module _ (name : Names) (c : Content) (s : State) where
       (record {
         memory = record {
           heap = stands.memory.heap;
-          static_values = flipped_agree name c.objects c.posts.has_round c.tree c.limits.words c.progress sound.heap normal c.statics s.statics stands.memory.static_values;
+          static_values = flipped_agree name c.objects c.posts.has_round c.tree c.limits.max_words c.progress sound.heap normal c.statics s.statics stands.memory.static_values;
           printed_is = stands.memory.printed_is;
         };
         threads = stands.threads;
@@ -337,15 +337,15 @@ module _ (name : Names) (c : Content) (s : State) where
 
   clears_stand : IsSound (posting Reclaim c) → IsNormal Reclaim c.objects.spaces name → StandsBy name c s → StandsBy name (work Reclaim (posting Reclaim c)).0 s
   clears_stand sound normal stands = by_clear (cleared_on c.progress c.objects)
-      (stands_shown name c s stands (cleared_on c.progress c.objects).1 (cleared_shows_names name c.objects c.posts.has_round c.tree c.limits.words c.progress sound.heap normal))
-      (λ over. stands_shown name c s stands (retired c.objects) (retired_shows name c.objects c.posts.has_round c.tree c.limits.words c.progress sound.heap normal over))
+      (stands_shown name c s stands (cleared_on c.progress c.objects).1 (cleared_shows_names name c.objects c.posts.has_round c.tree c.limits.max_words c.progress sound.heap normal))
+      (λ over. stands_shown name c s stands (retired c.objects) (retired_shows name c.objects c.posts.has_round c.tree c.limits.max_words c.progress sound.heap normal over))
 
   -- in each phase
   work_stands : (x : Phase) → IsSound (posting x c) → IsNormal x c.objects.spaces name → StandsBy name c s → StandsBy name (work x (posting x c)).0 s
   work_stands Idle sound normal stands = opens_stand sound stands
   work_stands Mark sound normal stands = marks_stand sound stands
-  work_stands Allocate sound normal stands = steps_stand Allocate (looked_on c.progress c.objects) (looked_shows name c.objects c.posts.has_round c.tree c.limits.words c.progress sound.heap normal) stands
-  work_stands Copy sound normal stands = steps_stand Copy (copied_on c.tree c.progress c.objects) (copied_shows name c.objects c.posts.has_round c.tree c.limits.words c.progress sound.heap normal) stands
+  work_stands Allocate sound normal stands = steps_stand Allocate (looked_on c.progress c.objects) (looked_shows name c.objects c.posts.has_round c.tree c.limits.max_words c.progress sound.heap normal) stands
+  work_stands Copy sound normal stands = steps_stand Copy (copied_on c.tree c.progress c.objects) (copied_shows name c.objects c.posts.has_round c.tree c.limits.max_words c.progress sound.heap normal) stands
   work_stands PreFlip sound normal stands = stands_next name (posting PreFlip c) s (record { memory = stands.memory; threads = stands.threads })
   work_stands HeapFlip sound normal stands = flips_stand sound normal stands
   work_stands ThreadFlip sound normal stands = stands_next name (posting ThreadFlip c) s (record { memory = stands.memory; threads = stands.threads })

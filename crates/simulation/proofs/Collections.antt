@@ -1,5 +1,5 @@
 -- Events of the collector keep all that is always true of a machine, whatever phase is posted.
-use Rattle.std.proofs.Common.{◌≡◌, ◌≢◌, ℕ, Bool, true, false, List, [], ◌∷◌, map, Option, Some, None, is_some, option_map, slice_get, refl, sym, ap, ◌∙◌, subst}
+use Rattle.std.proofs.Common.{◌≤◌, ◌≡◌, ◌≢◌, ℕ, Bool, true, false, List, [], ◌∷◌, map, Option, Some, None, is_some, option_map, slice_get, refl, sym, ap, ◌∙◌, subst}
 use Rattle.std.specs.Prelude.{◌&&◌, not, if◌then◌else◌, option_and_then}
 use Rattle.std.proofs.lemmas.Option.{same_Some, slice_get-map}
 use Rattle.interpreter.specs.cil_model.declared.trees.Tree.{Tree}
@@ -10,7 +10,7 @@ use Rattle.interpreter.specs.cil_model.declared.reports.Report.TheVariants.{Wait
 use Rattle.interpreter.specs.reference_machine.Cycles.{phase_after}
 use Rattle.interpreter.specs.object_memory.declared.addresses.Addr.{Addr}
 use Rattle.interpreter.specs.object_memory.declared.values.Value.{Value}
-use Rattle.interpreter.specs.object_memory.Cells.{cell_in}
+use Rattle.interpreter.specs.object_memory.Cells.{cell_in, used_words}
 use Rattle.interpreter.specs.object_memory.Objects.{Objects}
 use Rattle.interpreter.specs.object_memory.Spaces.{Spaces}
 use Rattle.collector.specs.Phases.{is_live, is_marked_cell, no_progress}
@@ -25,7 +25,8 @@ use Rattle.collector.specs.phase_handshake.Handshakes.{Handshakes, all_answered,
 use Rattle.collector.specs.phase_handshake.declared.posts.Seat.{Seat}
 use Rattle.simulation.specs.MachineContents.{Content}
 use Rattle.simulation.specs.Sound.{IsSound}
-use Rattle.simulation.specs.Collecting.{cleared, collected, cycle_ended, cycle_opened, flipped, marked, next_posted, round_posted, rounds, work, worked}
+use Rattle.simulation.proofs.NextWords.{next_grows, next_within}
+use Rattle.simulation.specs.Collecting.{cleared, collected, cycle_ended, cycle_opened, flipped, marked, next_posted, opening_words, round_posted, rounds, work, worked}
 use Rattle.interpreter.proofs.cil_model.Lists.{none_is_some}
 use Rattle.collector.proofs.phase_handshake.Closeness.{cycle_close, passes_at, phase_close, round_close, same_phase, seat_here, seat_there}
 use Rattle.collector.proofs.Views.{marked_cell, may_hold_live, never, new_cell, old_cell, value_weakens}
@@ -91,7 +92,7 @@ after_post c o = record c { posts = record c.posts { posted = phase_after c.post
 module _ (c : Content) (sound : IsSound c) (seen : all_seen c.posts ≡ true) where
   -- a step posts nothing
   works_soundly : (p : Progress) (o : Objects) (statics : List Value)
-      → IsSoundHeap c.tree c.posts.posted c.posts.has_round c.limits.words p o.spaces
+      → IsSoundHeap c.tree c.posts.posted c.posts.has_round c.limits.max_words p o.spaces
       → (c.posts.posted ≡ Mark → c.posts.has_round ≡ true → p.scanned_statics ≡ true)
       → ((seat : Seat) (a : Addr) → may_hold c.posts c.objects.spaces seat a ≡ true → may_hold c.posts o.spaces seat a ≡ true)
       → StaticsPass c.posts.posted o.spaces p statics
@@ -107,7 +108,7 @@ module _ (c : Content) (sound : IsSound c) (seen : all_seen c.posts ≡ true) wh
 
   -- a step posts the next phase, which isn't Mark
   posts_soundly : (o : Objects) → phase_after c.posts.posted ≢ Mark
-      → IsSoundHeap c.tree (phase_after c.posts.posted) c.posts.has_round c.limits.words no_progress o.spaces
+      → IsSoundHeap c.tree (phase_after c.posts.posted) c.posts.has_round c.limits.max_words no_progress o.spaces
       → ((t : ℕ) (seat : Seat) (a : Addr) → seat_of c.posts t ≡ Some seat → may_hold c.posts c.objects.spaces seat a ≡ true
       → may_hold (record c.posts { posted = phase_after c.posts.posted }) o.spaces seat a ≡ true)
       → StaticsPass (phase_after c.posts.posted) o.spaces no_progress c.statics
@@ -145,6 +146,13 @@ module _ (c : Content) (sound : IsSound (posting Idle c)) (seen : all_seen (post
   before_cycle : (t : ℕ) (seat : Seat) → seat_of opened.posts t ≡ Some seat → (was : Seat) × (seat_of (posting Idle c).posts t ≡ Some was) × (seat ≡ record was { answered = false })
   before_cycle t seat there = was_seat (posting Idle c).posts opened.posts refl t seat there
 
+  -- the second block has as many words at least, and no more than the most
+  grows : c.objects.spaces.old.words ≤ opening_words c
+  grows = next_grows c.objects.spaces.old.words (used_words c.objects.spaces.old.cells) c.limits.max_words sound.heap.blocks.old_words
+
+  within : opening_words c ≤ c.limits.max_words
+  within = next_within c.objects.spaces.old.words (used_words c.objects.spaces.old.cells) c.limits.max_words sound.heap.blocks.old_words
+
   -- a cycle opens
   pub opens_soundly : IsSound (work Idle (posting Idle c)).0
   opens_soundly = record {
@@ -152,12 +160,12 @@ module _ (c : Content) (sound : IsSound (posting Idle c)) (seen : all_seen (post
       close = cycle_close (posting Idle c).posts sound.seated.close seen;
       live = λ t. sound.seated.live t ∙ same_seats (posting Idle c).posts opened.posts refl t;
     };
-    heap = IsSoundHeap-opened c.tree c.posts.has_round c.limits.words c.progress c.objects.spaces sound.heap;
+    heap = IsSoundHeap-opened c.tree c.posts.has_round c.limits.max_words c.progress c.objects.spaces sound.heap (opening_words c) grows within;
     rounds = λ mark round. never round;
-    on_time = λ t seat there late. HasNotBegun-opened c.tree c.posts.has_round c.limits.words c.progress c.objects.spaces sound.heap;
+    on_time = λ t seat there late. HasNotBegun-opened c.tree c.posts.has_round c.limits.max_words c.progress c.objects.spaces sound.heap (opening_words c) grows within;
     threads = λ t left fs seat at there a listed.
         (let was = before_cycle t seat there in
-        opened_held (posting Idle c).posts opened.posts c.objects.spaces c.limits.words was.0 seat refl refl refl a (sound.threads t left fs was.0 at was.1 a listed));
+        opened_held (posting Idle c).posts opened.posts c.objects.spaces (opening_words c) was.0 seat refl refl refl a (sound.threads t left fs was.0 at was.1 a listed));
     statics = sound.statics;
   }
 
@@ -173,7 +181,7 @@ module _ (c : Content) (sound : IsSound (posting Mark c)) (seen : all_seen (post
   scans_soundly =
       let spaces = sound.heap.blocks.spaces in
       works_soundly marking sound seen (statics_scanned c.progress c.objects c.statics).0 (statics_scanned c.progress c.objects c.statics).1 c.statics
-      (IsSoundHeap-statics_scanned c.tree c.posts.has_round c.limits.words c.progress c.objects c.statics sound.heap)
+      (IsSoundHeap-statics_scanned c.tree c.posts.has_round c.limits.max_words c.progress c.objects c.statics sound.heap)
       (λ mark round. refl)
       (λ seat a held. stays_held marking.posts c.objects.spaces (statics_scanned c.progress c.objects c.statics).1.spaces seat (AreDarker-with_all_marked c.statics c.objects spaces) (with_all_marked-noted c.statics c.objects) a held)
       (statics_scanned-pass c.progress c.objects c.statics spaces sound.statics)
@@ -185,10 +193,10 @@ module _ (c : Content) (sound : IsSound (posting Mark c)) (seen : all_seen (post
   -- a slot of a grey object is scanned
   pub marks_soundly : IsSound (record marking { progress = after_mark.0; objects = after_mark.1 })
   marks_soundly =
-      let darker = AreDarker-marked_on c.tree c.posts.has_round c.limits.words c.progress c.objects sound.heap in
+      let darker = AreDarker-marked_on c.tree c.posts.has_round c.limits.max_words c.progress c.objects sound.heap in
       let same = marked_on-progress c.tree c.progress c.objects in
       works_soundly marking sound seen after_mark.0 after_mark.1 c.statics
-      (IsSoundHeap-marked_on c.tree c.posts.has_round c.limits.words c.progress c.objects sound.heap)
+      (IsSoundHeap-marked_on c.tree c.posts.has_round c.limits.max_words c.progress c.objects sound.heap)
       (λ mark round. ap (λ (q : Progress). q.scanned_statics) same ∙ sound.rounds mark round)
       (λ seat a held. stays_held marking.posts c.objects.spaces after_mark.1.spaces seat darker (marked_on-noted c.tree c.progress c.objects) a held)
       (λ number v there. subst (λ q. ValuePasses (static_may_hold Mark after_mark.1.spaces q number) v) (sym same)
@@ -206,7 +214,7 @@ module _ (c : Content) (sound : IsSound (posting Mark c)) (seen : all_seen (post
       close = round_close marking.posts sound.seated.close;
       live = λ t. sound.seated.live t ∙ same_seats marking.posts (round_posted marking).posts refl t;
     };
-    heap = IsSoundHeap-round c.tree c.posts.has_round c.limits.words c.progress c.objects.spaces sound.heap none;
+    heap = IsSoundHeap-round c.tree c.posts.has_round c.limits.max_words c.progress c.objects.spaces sound.heap none;
     rounds = λ mark round. scanned;
     on_time = λ t seat there late.
         (let was = before_round t seat there in
@@ -224,7 +232,7 @@ module _ (c : Content) (sound : IsSound (posting Mark c)) (seen : all_seen (post
   -- marking is over
   pub closes_soundly : is_closed c.progress c.objects marking.posts ≡ true → IsSound (next_posted marking).0
   closes_soundly closed = posts_soundly marking sound seen c.objects (λ e. absurd cc)
-      (IsSoundHeap-closed c.tree c.limits.words c.progress c.objects marking.posts sound.heap closed)
+      (IsSoundHeap-closed c.tree c.limits.max_words c.progress c.objects marking.posts sound.heap closed)
       (λ t seat a there held. allocate_held (record marking.posts { posted = Allocate }) c.objects.spaces seat refl a (closed_held c.progress c.objects marking.posts closed t seat there refl a held))
       (λ number v there. value_weakens (static_may_hold Mark c.objects.spaces c.progress number) (static_may_hold Allocate c.objects.spaces no_progress number)
       (λ a held. allocate_held-static c.objects.spaces no_progress number a (closed_held-static c.progress c.objects marking.posts closed number a held)) v (sound.statics number v there))
@@ -251,7 +259,7 @@ module _ (c : Content) (sound : IsSound (posting Mark c)) (seen : all_seen (post
   mark_work_soundly = either_soundly c.progress.scanned_statics (marked marking after_mark)
       (record marking { progress = (statics_scanned c.progress c.objects c.statics).0; objects = (statics_scanned c.progress c.objects c.statics).1 }, Worked)
       (λ scanned. marked_soundly after_mark marks_soundly (λ over.
-      rounds_soundly (none_grey c.objects.spaces.grey (sym (marked_on-works c.tree c.posts.has_round c.limits.words c.progress c.objects sound.heap) ∙ over)) scanned))
+      rounds_soundly (none_grey c.objects.spaces.grey (sym (marked_on-works c.tree c.posts.has_round c.limits.max_words c.progress c.objects sound.heap) ∙ over)) scanned))
       (λ early. scans_soundly)
 
 -- ---- Allocate
@@ -272,9 +280,9 @@ module _ (c : Content) (sound : IsSound (posting Allocate c)) (seen : all_seen (
   -- an object gets its copy
   pub looks_soundly : IsSound (record (posting Allocate c) { progress = after_look.0; objects = after_look.1 })
   looks_soundly =
-      let stay = looked_tests c.tree c.posts.has_round c.limits.words c.progress c.objects sound.heap in
+      let stay = looked_tests c.tree c.posts.has_round c.limits.max_words c.progress c.objects sound.heap in
       works_soundly (posting Allocate c) sound seen after_look.0 after_look.1 c.statics
-      (looked_sound c.tree c.posts.has_round c.limits.words c.progress c.objects sound.heap)
+      (looked_sound c.tree c.posts.has_round c.limits.max_words c.progress c.objects sound.heap)
       (λ mark round. absurd cc)
       (λ seat a held. passes_stays c.objects.spaces after_look.1.spaces stay a (hold_of (posting Allocate c).posts c.objects.spaces.has_marked seat) Allocate held)
       (statics_stay Allocate c.objects.spaces after_look.1.spaces c.progress c.statics stay sound.statics)
@@ -282,7 +290,7 @@ module _ (c : Content) (sound : IsSound (posting Allocate c)) (seen : all_seen (
   -- all copies are made
   pub copies_soundly : after_look.2 ≡ false → IsSound (next_posted (posting Allocate c)).0
   copies_soundly over = posts_soundly (posting Allocate c) sound seen c.objects (λ e. absurd cc)
-      (copy_posted c.tree c.posts.has_round c.limits.words c.progress c.objects sound.heap over)
+      (copy_posted c.tree c.posts.has_round c.limits.max_words c.progress c.objects sound.heap over)
       (λ t seat a there held. live_held (record c.posts { posted = Copy }) c.objects.spaces seat a refl refl (may_hold_live (posting Allocate c).posts c.objects.spaces seat a held))
       sound.statics
 
@@ -310,9 +318,9 @@ module _ (c : Content) (sound : IsSound (posting Copy c)) (seen : all_seen (post
   -- a word is copied
   pub fills_soundly : IsSound (record (posting Copy c) { progress = after_copy.0; objects = after_copy.1 })
   fills_soundly =
-      let stay = copied_tests c.tree c.posts.has_round c.limits.words c.progress c.objects sound.heap in
+      let stay = copied_tests c.tree c.posts.has_round c.limits.max_words c.progress c.objects sound.heap in
       works_soundly (posting Copy c) sound seen after_copy.0 after_copy.1 c.statics
-      (copied_sound c.tree c.posts.has_round c.limits.words c.progress c.objects sound.heap)
+      (copied_sound c.tree c.posts.has_round c.limits.max_words c.progress c.objects sound.heap)
       (λ mark round. absurd cc)
       (λ seat a held. passes_stays c.objects.spaces after_copy.1.spaces stay a (hold_of (posting Copy c).posts c.objects.spaces.has_marked seat) Copy held)
       (statics_stay Copy c.objects.spaces after_copy.1.spaces c.progress c.statics stay sound.statics)
@@ -320,9 +328,9 @@ module _ (c : Content) (sound : IsSound (posting Copy c)) (seen : all_seen (post
   -- all words are copied
   pub filled_soundly : after_copy.2 ≡ false → IsSound (next_posted (posting Copy c)).0
   filled_soundly over =
-      let live = pre_flip_live c.tree c.posts.has_round c.limits.words c.progress c.objects sound.heap in
+      let live = pre_flip_live c.tree c.posts.has_round c.limits.max_words c.progress c.objects sound.heap in
       posts_soundly (posting Copy c) sound seen c.objects (λ e. absurd cc)
-      (pre_flip_posted c.tree c.posts.has_round c.limits.words c.progress c.objects sound.heap over)
+      (pre_flip_posted c.tree c.posts.has_round c.limits.max_words c.progress c.objects sound.heap over)
       (λ t seat a there held. live_held (record c.posts { posted = PreFlip }) c.objects.spaces seat a refl refl (live a (may_hold_live (posting Copy c).posts c.objects.spaces seat a held)))
       (λ number v there. value_weakens (is_live Copy c.objects.spaces) (is_live PreFlip c.objects.spaces) live v (sound.statics number v there))
 
@@ -336,14 +344,14 @@ module _ (c : Content) where
   -- HeapFlip is posted
   pub pre_flip_work_soundly : IsSound (posting PreFlip c) → all_seen (posting PreFlip c).posts ≡ true → IsSound (work PreFlip (posting PreFlip c)).0
   pre_flip_work_soundly sound seen = posts_soundly (posting PreFlip c) sound seen c.objects (λ e. absurd cc)
-      (flip_posted c.tree c.posts.has_round c.limits.words c.progress c.objects.spaces PreFlip refl sound.heap)
+      (flip_posted c.tree c.posts.has_round c.limits.max_words c.progress c.objects.spaces PreFlip refl sound.heap)
       (λ t seat a there held. flip_keeps_held (posting PreFlip c).posts seat (seen_phase (posting PreFlip c).posts seen t seat there) c.objects.spaces a refl held)
       (statics_to_heap_flip c.objects.spaces c.progress c.statics sound.statics)
 
   -- Reclaim is posted
   pub thread_flip_work_soundly : IsSound (posting ThreadFlip c) → all_seen (posting ThreadFlip c).posts ≡ true → IsSound (work ThreadFlip (posting ThreadFlip c)).0
   thread_flip_work_soundly sound seen = posts_soundly (posting ThreadFlip c) sound seen c.objects (λ e. absurd cc)
-      (flip_posted c.tree c.posts.has_round c.limits.words c.progress c.objects.spaces ThreadFlip refl sound.heap)
+      (flip_posted c.tree c.posts.has_round c.limits.max_words c.progress c.objects.spaces ThreadFlip refl sound.heap)
       (λ t seat a there held. flip_keeps_held (posting ThreadFlip c).posts seat (seen_phase (posting ThreadFlip c).posts seen t seat there) c.objects.spaces a refl held)
       (statics_to_reclaim c.objects.spaces c.progress no_progress c.statics sound.statics)
 
@@ -355,17 +363,17 @@ module _ (c : Content) (sound : IsSound (posting HeapFlip c)) (seen : all_seen (
   -- a static field is flipped
   pub flips_soundly : IsSound (record (posting HeapFlip c) { progress = after_flip.0; statics = after_flip.1 })
   flips_soundly = works_soundly (posting HeapFlip c) sound seen after_flip.0 c.objects after_flip.1
-      (flipped_sound c.tree c.posts.has_round c.limits.words c.progress c.objects sound.heap c.statics sound.statics)
+      (flipped_sound c.tree c.posts.has_round c.limits.max_words c.progress c.objects sound.heap c.statics sound.statics)
       (λ mark round. absurd cc)
       (λ seat a held. held)
-      (flipped_statics_pass c.tree c.posts.has_round c.limits.words c.progress c.objects sound.heap c.statics sound.statics)
+      (flipped_statics_pass c.tree c.posts.has_round c.limits.max_words c.progress c.objects sound.heap c.statics sound.statics)
 
   -- all of them are
   pub flipped_soundly : after_flip.2 ≡ false → IsSound (next_posted (posting HeapFlip c)).0
   flipped_soundly over = posts_soundly (posting HeapFlip c) sound seen c.objects (λ e. absurd cc)
-      (flip_posted c.tree c.posts.has_round c.limits.words c.progress c.objects.spaces HeapFlip refl sound.heap)
+      (flip_posted c.tree c.posts.has_round c.limits.max_words c.progress c.objects.spaces HeapFlip refl sound.heap)
       (λ t seat a there held. flip_keeps_held (posting HeapFlip c).posts seat (seen_phase (posting HeapFlip c).posts seen t seat there) c.objects.spaces a refl held)
-      (all_flipped c.tree c.posts.has_round c.limits.words c.progress c.objects sound.heap c.statics sound.statics over no_progress)
+      (all_flipped c.tree c.posts.has_round c.limits.max_words c.progress c.objects sound.heap c.statics sound.statics over no_progress)
 
   -- one of both
   by_step : (x : Progress × List Value × Bool) → IsSound (record (posting HeapFlip c) { progress = x.0; statics = x.1 }) → (x.2 ≡ false → IsSound (next_posted (posting HeapFlip c)).0) → IsSound (flipped (posting HeapFlip c) x).0
@@ -385,9 +393,9 @@ module _ (c : Content) (sound : IsSound (posting Reclaim c)) (seen : all_seen (p
   -- a new object is cleared
   pub clears_soundly : IsSound (record (posting Reclaim c) { progress = after_clear.0; objects = after_clear.1 })
   clears_soundly =
-      let stay = cleared_tests c.tree c.posts.has_round c.limits.words c.progress c.objects sound.heap in
+      let stay = cleared_tests c.tree c.posts.has_round c.limits.max_words c.progress c.objects sound.heap in
       works_soundly (posting Reclaim c) sound seen after_clear.0 after_clear.1 c.statics
-      (cleared_sound c.tree c.posts.has_round c.limits.words c.progress c.objects sound.heap)
+      (cleared_sound c.tree c.posts.has_round c.limits.max_words c.progress c.objects sound.heap)
       (λ mark round. absurd cc)
       (λ seat a held. passes_stays c.objects.spaces after_clear.1.spaces stay a (hold_of (posting Reclaim c).posts c.objects.spaces.has_marked seat) Reclaim held)
       (statics_stay Reclaim c.objects.spaces after_clear.1.spaces c.progress c.statics stay sound.statics)
@@ -395,7 +403,7 @@ module _ (c : Content) (sound : IsSound (posting Reclaim c)) (seen : all_seen (p
   -- all of them are, and the cycle ends
   pub ends_soundly : after_clear.2 ≡ false → IsSound (cycle_ended (posting Reclaim c))
   ends_soundly over = posts_soundly (posting Reclaim c) sound seen (retired c.objects) (λ e. absurd cc)
-      (retired_sound c.tree c.posts.has_round c.limits.words c.progress c.objects sound.heap over)
+      (retired_sound c.tree c.posts.has_round c.limits.max_words c.progress c.objects sound.heap over)
       (λ t seat a there held. end_keeps_held (posting Reclaim c).posts seat (seen_phase (posting Reclaim c).posts seen t seat there) c.objects.spaces a refl held)
       (statics_to_idle c.objects.spaces c.progress no_progress c.statics sound.statics)
 

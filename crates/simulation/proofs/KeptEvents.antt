@@ -288,13 +288,13 @@ module _ (c : Content) (s : State) (legal : IsLegal c.tree) (typed : IsTyped c.t
     looked_copies : (y : Addr) → is_new looked.1.spaces y ≡ true → IsCopyOfMarked looked.1.spaces y
     looked_copies y new =
         let d = new_cell looked.1.spaces y new in
-        let after = looked_sound c.tree c.posts.has_round c.limits.words c.progress c.objects sound.heap in
-        elim (looked_was_new c.progress c.objects c.tree c.posts.has_round c.limits.words sound.heap y d.0 d.1) [
+        let after = looked_sound c.tree c.posts.has_round c.limits.max_words c.progress c.objects sound.heap in
+        elim (looked_was_new c.progress c.objects c.tree c.posts.has_round c.limits.max_words sound.heap y d.0 d.1) [
           | inl was ↦
               (let x = has.copies refl y (new_is c.objects.spaces y d.0 was) in
-              back_copy c.tree Allocate c.posts.has_round c.limits.words looked.0 looked.1.spaces after y d.0 d.1 x.old
-              (copy_back c.tree Allocate c.posts.has_round c.limits.words c.progress c.objects.spaces sound.heap y d.0 was (λ e. absurd cc) x))
-          | inr h ↦ back_copy c.tree Allocate c.posts.has_round c.limits.words looked.0 looked.1.spaces after y d.0 d.1 (address_behind c.objects.spaces.old c.progress.place) (ap (λ (z : Cell). z.other) h.5)
+              back_copy c.tree Allocate c.posts.has_round c.limits.max_words looked.0 looked.1.spaces after y d.0 d.1 x.old
+              (copy_back c.tree Allocate c.posts.has_round c.limits.max_words c.progress c.objects.spaces sound.heap y d.0 was (λ e. absurd cc) x))
+          | inr h ↦ back_copy c.tree Allocate c.posts.has_round c.limits.max_words looked.0 looked.1.spaces after y d.0 d.1 (address_behind c.objects.spaces.old c.progress.place) (ap (λ (z : Cell). z.other) h.5)
         ]
 
     looks_then : Then (work Allocate (posting Allocate c))
@@ -308,14 +308,14 @@ module _ (c : Content) (s : State) (legal : IsLegal c.tree) (typed : IsTyped c.t
     filled = copied_on c.tree c.progress c.objects
 
     marks_same : (a : Addr) → is_marked_old filled.1.spaces a ≡ is_marked_old c.objects.spaces a
-    marks_same a = ap (λ b. is_marked_cell (cell_in b a)) (copied_old c.tree c.progress c.objects c.posts.has_round c.limits.words sound.heap)
+    marks_same a = ap (λ b. is_marked_cell (cell_in b a)) (copied_old c.tree c.progress c.objects c.posts.has_round c.limits.max_words sound.heap)
 
     filled_copies : (y : Addr) → is_new filled.1.spaces y ≡ true → IsCopyOfMarked filled.1.spaces y
     filled_copies y new =
         let e = new_cell filled.1.spaces y new in
         let was = copied_was_new c.tree c.progress c.objects y e.0 e.1 in
         let x = has.copies refl y (new_is c.objects.spaces y was.0 was.1) in
-        record { old = x.old; marked = marks_same x.old ∙ x.marked; copy = copied_forward c.tree c.progress c.objects c.posts.has_round c.limits.words sound.heap x.old ∙ x.copy }
+        record { old = x.old; marked = marks_same x.old ∙ x.marked; copy = copied_forward c.tree c.progress c.objects c.posts.has_round c.limits.max_words sound.heap x.old ∙ x.copy }
 
     -- once PreFlip is posted each copy has the name of its object
     posts_then : Then (next_posted (posting Copy c))

@@ -130,6 +130,7 @@ pub mod Whole
 pub mod OneRun
 mod StepRuns
 mod KeptPosts
+mod NextWords
 pub mod CycleWork
 mod Walks
 mod OwedStates

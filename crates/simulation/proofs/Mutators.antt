@@ -74,16 +74,16 @@ module _ (c : Content) (s : State) (r : Represents c s) where
 
     -- the heap as it is for the thread
     abbrev pub FitsOwn : Names → Objects → List Value → State → Type 0
-    FitsOwn names o ss s' = FitsCollected c.tree c.limits.words c.posts c.progress seat c.objects normally.name names o ss s'
+    FitsOwn names o ss s' = FitsCollected c.tree c.limits.max_words c.posts c.progress seat c.objects normally.name names o ss s'
 
     -- that of the machine
     pub own_fits : FitsOwn own_names c.objects c.statics s
     unfolding own_names
-    own_fits = begins c.tree c.limits.words c.posts c.progress seat c.objects normally.name c.statics s r.sound.heap normally.by.memory.heap normally.normal.live normally.normal.filled normally.by.memory.static_values r.sound.statics
+    own_fits = begins c.tree c.limits.max_words c.posts c.progress seat c.objects normally.name c.statics s r.sound.heap normally.by.memory.heap normally.normal.live normally.normal.filled normally.by.memory.static_values r.sound.statics
 
     -- the memory of its instructions
     pub own_model : MemoryModel c.tree
-    own_model = in_room c.tree (named c.tree r.accepted.legal c.limits.words c.posts c.progress seat close r.sound.rounds c.objects time normally.name own_names (length s.objects)) c.objects s.objects
+    own_model = in_room c.tree (named c.tree r.accepted.legal c.limits.max_words c.posts c.progress seat close r.sound.rounds c.objects time normally.name own_names (length s.objects)) c.objects s.objects
 
     -- is in the thread's phase
     pub own_phase_is : own_model.phase ≡ (mutator_of c t).phase
@@ -135,4 +135,4 @@ module _ (c : Content) (s : State) (r : Represents c s) where
     -- so its frames stand under its names
     pub own_frames : (gs : List StateFrame) → AreFrames c.tree c.limits normally.name m gs → AreFrames c.tree c.limits own_names m gs
     own_frames gs h =
-        frames_cut c.tree c.limits.words c.posts c.progress seat c.objects normally.name own_names c.objects c.statics s own_fits c.limits m gs (frames_extend normally.name own_fits.whole own_fits.extends c.tree c.limits m gs h) own_roots_pass
+        frames_cut c.tree c.limits.max_words c.posts c.progress seat c.objects normally.name own_names c.objects c.statics s own_fits c.limits m gs (frames_extend normally.name own_fits.whole own_fits.extends c.tree c.limits m gs h) own_roots_pass

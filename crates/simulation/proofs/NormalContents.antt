@@ -33,7 +33,7 @@ use Rattle.simulation.proofs.Passing.{Each, FramePasses, roots_passed}
 -- what is true of a sound machine whatever phase is the last one: of seats, of the heap, and of what threads and static fields hold
 pub record IsHeldSoundly (c : Content) : Type 0 where
   pub seated : AreSeated c.posts c.threads
-  pub heap : IsSoundHeap c.tree c.posts.posted c.posts.has_round c.limits.words c.progress c.objects.spaces
+  pub heap : IsSoundHeap c.tree c.posts.posted c.posts.has_round c.limits.max_words c.progress c.objects.spaces
   pub threads : (t left : ℕ) (fs : Frames) (seat : Seat) → slice_get c.threads t ≡ Some (record { standing = Live fs; steps_left = left }) → seat_of c.posts t ≡ Some seat →
       (a : Addr) → IsListed (roots fs) a → may_hold c.posts c.objects.spaces seat a ≡ true
   pub statics : (number : ℕ) (v : Value) → slice_get c.statics number ≡ Some v → ValuePasses (static_may_hold c.posts.posted c.objects.spaces c.progress number) v
@@ -94,10 +94,10 @@ module _ (c : Content) (held : IsHeldSoundly c) where
     pub normal_names : StandsNormally c s
     normal_names = record {
       name = names;
-      normal = filled_is_normal c.tree c.posts.posted c.posts.has_round c.limits.words c.progress c.objects held.heap name s stands.memory.heap;
+      normal = filled_is_normal c.tree c.posts.posted c.posts.has_round c.limits.max_words c.progress c.objects held.heap name s stands.memory.heap;
       by = record {
         memory = record {
-          heap = filled_heap c.tree c.posts.posted c.posts.has_round c.limits.words c.progress c.objects held.heap name s stands.memory.heap legal typed;
+          heap = filled_heap c.tree c.posts.posted c.posts.has_round c.limits.max_words c.progress c.objects held.heap name s stands.memory.heap legal typed;
           static_values = agree_by_place (λ v (f : FieldKey × StateValue). IsValue name v f.1) (λ v (f : FieldKey × StateValue). IsValue names v f.1) c.statics s.statics
               (λ n v f there. value_kept (is_live_address c.posts.posted c.objects.spaces) name names kept v f.1 (static_is_live n v there)) stands.memory.static_values;
           printed_is = stands.memory.printed_is;

@@ -37,7 +37,7 @@ use Rattle.simulation.specs.MachineContents.{Content}
 use Rattle.simulation.specs.Sound.{AreSeated, IsSound}
 use Rattle.simulation.specs.StandsFor.{IsHeap, IsThread, StandsAlike, StandsBy, Represents}
 use Rattle.simulation.specs.Turns.{content_at, opening_content, thread_at}
-use Rattle.simulation.proofs.LimitRanges.{budget_is_some, depth_is_some, words_are_few}
+use Rattle.simulation.proofs.LimitRanges.{budget_is_some, depth_is_some, most_words_are_few, words_are_few, words_are_within}
 use Rattle.simulation.proofs.Zeros.{fields_stand}
 use Rattle.simulation.proofs.AgreeLaws.{agree_at}
 use Rattle.simulation.proofs.CollectedNames.{permanent_passes}
@@ -77,18 +77,20 @@ module _ (tree : Tree) (limits : Limits) (accepted : IsAccepted tree) (in_range 
   }
 
   -- it is sound
-  first_sound : IsSoundHeap tree Idle false limits.words no_progress (no_objects limits.words (length (literals_of tree))).spaces
+  first_sound : IsSoundHeap tree Idle false limits.max_words no_progress (no_objects limits.words (length (literals_of tree))).spaces
   first_sound =
-      quiet_is_sound tree false limits.words no_progress (no_objects limits.words (length (literals_of tree))).spaces
+      quiet_is_sound tree false limits.max_words no_progress (no_objects limits.words (length (literals_of tree))).spaces
       (record {
         spaces = record {
           old = record { start = inl refl; fits = omega arith; few = words_are_few limits in_range };
           new = record { start = inr refl; fits = omega arith; few = omega arith };
           apart = refl;
         };
+        few = most_words_are_few limits in_range;
         held = refl;
-        old_words = refl;
-        new_words = refl;
+        old_words = words_are_within limits in_range;
+        new_words = omega arith;
+        grows = λ cycle. absurd cc;
         none_new = λ early. refl;
         none_grey = λ idle. refl;
       })

@@ -25,18 +25,19 @@ use Rattle.simulation.proofs.MarkingLeft.{LeavesNoMore, leaves_itself, leaves_th
 use Rattle.simulation.proofs.MarkingStores.{birth_leaves, monitor_leaves, static_leaves, value_leaves, word_leaves}
 use Rattle.simulation.proofs.MemoryModels.{IsBirth, MemoryModel}
 use Rattle.simulation.proofs.Rooms.{cell_size, contents_size, words_stay}
-use Rattle.simulation.proofs.UsedWords.{UsesAsMuch, birth_takes, monitor_uses, room_stays, static_uses, uses_itself, value_uses, word_uses}
+use Rattle.simulation.proofs.UsedWords.{AreAsLarge, UsesAsMuch, as_large, birth_large, birth_takes, large_then, monitor_uses, room_stays, static_uses, uses_itself, value_uses, word_uses}
 
 -- from one heap with its objects to another, the room for births in a phase and the words of all objects stay together as many, and in the phases
--- before there are copies no more is left to mark
+-- before there are copies no more is left to mark; each block stays as large
 pub record KeepsRoom (tree : Tree) (own : Phase) (o o' : Objects) (objects objects' : List HeapObject) : Type 0 where
   pub together : room_for own o'.spaces + words_of_all tree objects' ≡ room_for own o.spaces + words_of_all tree objects
   pub marking : is_before_copies own ≡ true → LeavesNoMore o.spaces o'.spaces
+  pub large : AreAsLarge o.spaces o'.spaces
 
 module _ (tree : Tree) (own : Phase) (start : Objects) (first : List HeapObject) where
   -- they do at first,
   pub keeps_itself : KeepsRoom tree own start start first first
-  keeps_itself = record { together = refl; marking = λ early. leaves_itself start.spaces }
+  keeps_itself = record { together = refl; marking = λ early. leaves_itself start.spaces; large = record { old = refl; new = refl } }
 
   -- and where as many words are used, the objects have as many, and no more is left to mark
   pub keeps_more : (o o' : Objects) (objects objects' : List HeapObject) → UsesAsMuch o.spaces o'.spaces → (is_before_copies own ≡ true → LeavesNoMore o.spaces o'.spaces) → words_of_all tree objects' ≡ words_of_all tree objects →
@@ -44,6 +45,7 @@ module _ (tree : Tree) (own : Phase) (start : Objects) (first : List HeapObject)
   keeps_more o o' objects objects' same leaves words keeps = record {
     together = ap (λ n. n + words_of_all tree objects') (room_stays own o.spaces o'.spaces same) ∙ ap (λ n. room_for own o.spaces + n) words ∙ keeps.together;
     marking = λ early. leaves_then start.spaces o.spaces o'.spaces (keeps.marking early) (leaves early);
+    large = large_then start.spaces o.spaces o'.spaces keeps.large (as_large o.spaces o'.spaces same);
   }
 
 module _ (tree : Tree) (base : MemoryModel tree) (start : Objects) (first : List HeapObject) where
@@ -68,7 +70,7 @@ module _ (tree : Tree) (base : MemoryModel tree) (start : Objects) (first : List
       (born : Objects) (a : Addr) → ◌≡◌ {A = Objects × Option Addr} (object_born base.phase o k count) (born, Some a) → IsBirth FitsInRoom name ss s contents born a
   born_in_room name o ss s h k count contents stands born a e =
       let b = base.births name o ss s h.fits k count contents stands born a e in
-      record { names = b.names; extends = b.extends; named = b.named; fits = record { fits = b.fits; room = record { together = together; marking = marking } } }
+      record { names = b.names; extends = b.extends; named = b.named; fits = record { fits = b.fits; room = record { together = together; marking = marking; large = large_then start.spaces o.spaces born.spaces h.room.large (birth_large base.phase o k count born a e) } } }
     where
       own : 3 + count ≡ cell_words tree contents
       own = ap (λ n. 3 + n) (sym (length-replicate {A = ℕ} count 0)) ∙ contents_size tree name k (replicate count 0) contents None (stands name)

@@ -195,11 +195,11 @@ module _ (c : Content) (s : State) (r : Represents c s) (t left : ℕ) (m : Fram
   module _ (names : Names) (o : Objects) (statics : List Value) (s' : State) (fits : FitsOwn c s r t left m there names o statics s') (m' : Frames) (gs : List StateFrame) (h : AreFrames c.tree c.limits names m' gs) where
     -- frames of the thread stand beside the others,
     pub frames_whole : AreFrames c.tree c.limits fits.whole m' gs
-    frames_whole = frames_extend names fits.whole (own_extends c.tree c.limits.words c.posts c.progress (seat c s r t left m there) c.objects (normally c s r).name names o statics s' fits) c.tree c.limits m' gs h
+    frames_whole = frames_extend names fits.whole (own_extends c.tree c.limits.max_words c.posts c.progress (seat c s r t left m there) c.objects (normally c s r).name names o statics s' fits) c.tree c.limits m' gs h
 
     -- and hold what it may
     pub frames_pass : (a : Addr) → IsListed (roots m') a → own_passes c s r t left m there o a
-    frames_pass = frames_are_held c.tree c.limits.words c.posts c.progress (seat c s r t left m there) c.objects (normally c s r).name names o statics s' fits c.limits m' gs h
+    frames_pass = frames_are_held c.tree c.limits.max_words c.posts c.progress (seat c s r t left m there) c.objects (normally c s r).name names o statics s' fits c.limits m' gs h
 
     pub going_pass : FramesPass (own_passes c s r t left m there o) (settled GoesOn (live_thread left m')).0.standing
     going_pass fs e a listed = frames_pass a (subst (λ x. IsListed (roots x) a) (sym (still_live (end_after GoesOn (left - 1)) m' fs (left - 1) GoesOn e)) listed)

@@ -157,7 +157,7 @@ module _ (c : Content) (s : State) (r : Represents c s) (t left : ℕ) (m : Fram
         threads = agree_append (IsThread c.tree c.limits begun_fits.whole) c.threads s.threads
             (agree_weaken (IsThread c.tree c.limits (normally c s r).name) (IsThread c.tree c.limits begun_fits.whole) (thread_extends (normally c s r).name begun_fits.whole begun_fits.extends c.tree c.limits) c.threads s.threads (normally c s r).by.threads)
             (beginning ∷ []) (state_beginning ∷ [])
-            (starting begun_fits.whole (own_extends c.tree c.limits.words c.posts c.progress (seat c s r t left m there) c.objects (normally c s r).name (own_names c s r t left m there) told c.statics begun_state begun_fits object.number (Born number) named), tt);
+            (starting begun_fits.whole (own_extends c.tree c.limits.max_words c.posts c.progress (seat c s r t left m there) c.objects (normally c s r).name (own_names c s r t left m there) told c.statics begun_state begun_fits object.number (Born number) named), tt);
       }
 
       begun_follows : (operation : Operation) → IsAt c.tree m operation → HasSmallConstant operation → (operand : StateValue) → (running c s r t left m there).stack ≡ operand ∷ rest → Follows c s r t (counted_with c.threads (c.threads ++ beginning ∷ [], told, GoesOn))

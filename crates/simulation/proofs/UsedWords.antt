@@ -1,5 +1,5 @@
 -- How much room a heap has for births: as much after stores and marks, and the words of an object less after its birth.
-use Rattle.std.proofs.Common.{◌≡◌, ◌+◌, ◌-◌, ◌≤◌, ℕ, min, Bool, true, false, if◌then◌else◌, List, Option, Some, None, refl, sym, ap, ◌∙◌, subst, arith}
+use Rattle.std.proofs.Common.{◌≡◌, ◌+◌, ◌-◌, ◌≤◌, ℕ, min, Bool, true, false, if◌then◌else◌, List, [], ◌∷◌, Option, Some, None, refl, sym, ap, ◌∙◌, subst, arith}
 use Rattle.std.specs.Option.{option_map_or}
 use Rattle.interpreter.specs.cil_model.declared.phases.Phase.{Phase}
 use Rattle.interpreter.specs.cil_model.declared.phases.Phase.TheVariants.{Idle, Mark, Allocate, Copy, PreFlip, HeapFlip, ThreadFlip, Reclaim}
@@ -16,6 +16,7 @@ use Rattle.interpreter.specs.instructions.barriers.Barriers.{forwarded, object_b
 use Rattle.interpreter.proofs.object_memory.Blocks.{used_in, used_last}
 use Rattle.interpreter.proofs.object_memory.Rooms.{size-empty}
 use Rattle.interpreter.proofs.object_memory.TwoBlocks.{slot_keeps}
+use Rattle.collector.specs.Marking.{with_all_marked}
 use Rattle.collector.proofs.HeapBirths.{granted}
 use Rattle.collector.proofs.StoreWays.{changed_by}
 
@@ -26,6 +27,17 @@ pub record UsesAsMuch (m n : Spaces) : Type 0 where
   pub old_words : n.old.words ≡ m.old.words
   pub new_words : n.new.words ≡ m.new.words
   pub held : n.is_open ≡ m.is_open
+
+-- each block is as large
+pub record AreAsLarge (m n : Spaces) : Type 0 where
+  pub old : n.old.words ≡ m.old.words
+  pub new : n.new.words ≡ m.new.words
+
+pub as_large : (m n : Spaces) → UsesAsMuch m n → AreAsLarge m n
+as_large m n uses = record { old = uses.old_words; new = uses.new_words }
+
+pub large_then : (m n l : Spaces) → AreAsLarge m n → AreAsLarge n l → AreAsLarge m l
+large_then m n l f g = record { old = g.old ∙ f.old; new = g.new ∙ f.new }
 
 pub uses_itself : (m : Spaces) → UsesAsMuch m m
 uses_itself m = record { old = refl; new = refl; old_words = refl; new_words = refl; held = refl }
@@ -65,11 +77,16 @@ mark_uses m a = by_white (is_white (cell_in m.old a))
     by_white false = uses_itself m
 
 -- of what a value refers to
-marked_uses : (o : Objects) (v : Value) → UsesAsMuch o.spaces (with_marked o v).spaces
+pub marked_uses : (o : Objects) (v : Value) → UsesAsMuch o.spaces (with_marked o v).spaces
 marked_uses o (Ref a) = mark_uses o.spaces a
 marked_uses o (Int32 n) = uses_itself o.spaces
 marked_uses o (Int64 n) = uses_itself o.spaces
 marked_uses o (Native n) = uses_itself o.spaces
+
+-- of what values refer to
+pub all_marked_uses : (vs : List Value) (o : Objects) → UsesAsMuch o.spaces (with_all_marked o vs).spaces
+all_marked_uses [] o = uses_itself o.spaces
+all_marked_uses (v ∷ vs) o = uses_then o.spaces (with_marked o v).spaces (with_all_marked (with_marked o v) vs).spaces (marked_uses o v) (all_marked_uses vs (with_marked o v))
 
 -- ---- stores
 
@@ -173,6 +190,16 @@ born_held InOld m k n = refl
 born_held Listed m k n = refl
 born_held InBoth m k n = refl
 born_held InNew m k n = refl
+
+-- a birth leaves each block as large
+born_large : (place : Place) (m : Spaces) (k : Kind) (n : ℕ) → AreAsLarge m (born place m k n)
+born_large InOld m k n = record { old = refl; new = refl }
+born_large Listed m k n = record { old = refl; new = refl }
+born_large InBoth m k n = record { old = refl; new = refl }
+born_large InNew m k n = record { old = refl; new = refl }
+
+pub birth_large : (own : Phase) (o : Objects) (k : Kind) (count : ℕ) (o' : Objects) (a : Addr) → ◌≡◌ {A = Objects × Option Addr} (object_born own o k count) (o', Some a) → AreAsLarge o.spaces o'.spaces
+birth_large own o k count o' a e = subst (λ (x : Objects). AreAsLarge o.spaces x.spaces) (granted own o k count o' a e).1 (born_large (place_of own o.spaces.is_open) o.spaces k count)
 
 -- a birth takes its object's words of the thread's room, in each phase
 pub birth_takes : (own : Phase) (o : Objects) (k : Kind) (count : ℕ) (o' : Objects) (a : Addr) → ◌≡◌ {A = Objects × Option Addr} (object_born own o k count) (o', Some a) → room_for own o'.spaces + (3 + count) ≡ room_for own o.spaces

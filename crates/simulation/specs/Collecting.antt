@@ -9,6 +9,8 @@ use Rattle.interpreter.specs.cil_model.declared.reports.Report.TheVariants.{Abse
 use Rattle.interpreter.specs.object_memory.declared.addresses.Addr.{Addr}
 use Rattle.interpreter.specs.object_memory.declared.values.Value.{Value}
 use Rattle.interpreter.specs.object_memory.declared.values.Value.TheVariants.{Ref}
+use Rattle.interpreter.specs.reference_machine.Cycles.{next_words}
+use Rattle.interpreter.specs.object_memory.Cells.{used_words}
 use Rattle.interpreter.specs.object_memory.Objects.{Objects}
 use Rattle.interpreter.specs.object_memory.Spaces.{forward, opened}
 use Rattle.interpreter.specs.instructions.barriers.Barriers.{with_marked}
@@ -37,9 +39,13 @@ with_next_phase c = record c { posts = posted_next c.posts; progress = no_progre
 abbrev pub next_posted : Content → Content × Report
 next_posted c = (with_next_phase c, Worked)
 
--- a cycle opens, with a second block as large as the first
+-- the words of the block that a cycle opens with
+abbrev pub opening_words : Content → ℕ
+opening_words c = next_words c.objects.spaces.old.words (used_words c.objects.spaces.old.cells) c.limits.max_words
+
+-- a cycle opens, with a second block of so many words
 abbrev pub cycle_opened : Content → Content
-cycle_opened c = record (with_next_phase c) { objects = record c.objects { spaces = opened c.objects.spaces c.limits.words } }
+cycle_opened c = record (with_next_phase c) { objects = record c.objects { spaces = opened c.objects.spaces (opening_words c) } }
 
 -- ---- work
 

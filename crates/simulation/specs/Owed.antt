@@ -11,11 +11,13 @@ use Rattle.interpreter.specs.cil_model.declared.trees.Tree.{Tree}
 use Rattle.interpreter.specs.cil_model.Fields.{static_fields}
 use Rattle.interpreter.specs.object_memory.Cells.{used_words}
 use Rattle.interpreter.specs.object_memory.Objects.{used_space}
-use Rattle.interpreter.specs.reference_machine.Cycles.{BeginsNewestCycle, most_working, working_in_cycle}
+use Rattle.interpreter.specs.reference_machine.Cycles.{BeginsNewestCycle, larger_words, most_working, working_in_cycle}
 use Rattle.interpreter.specs.reference_machine.OwedWords.{OwesWords}
 use Rattle.interpreter.specs.reference_machine.Runs.{RunsTo, opening, run, step_reports, thread_part}
 use Rattle.interpreter.specs.reference_machine.States.{State}
 use Rattle.simulation.specs.MachineContents.{Content}
+use Rattle.simulation.specs.Rooms.{spaces_of}
+use Rattle.simulation.specs.Runs.{HoldsAfter}
 
 -- the reference machine comes to this state by the steps among the events
 abbrev pub ComesTo : Tree → Limits → State → List (Event × Report) → State → Type 0
@@ -40,7 +42,9 @@ LeavesWhatIsOwed tree limits events reports c =
     (most : List (Event × Report)) → zip events reports ≡ most ++ (Gc, CycleDone) ∷ [] →
     (words : ℕ) × OwesAfter tree limits events reports words × (used_space c.objects ≤ words) × (used_words c.objects.spaces.new.cells ≡ 0)
 
--- after any of the events, the newest cycle has few working events: 16 for each word of a space, one for each static field, and 64
+-- After any of the events, the newest cycle has few working events: 16 for each word of the larger one of its two spaces, one for each static field, and 64.
+-- A cycle's larger space is the new one, which is the only one once the cycle is over.
 abbrev pub AreCyclesBounded : Tree → Limits → List (Event × Report) → Type 0
 AreCyclesBounded tree limits events =
-    (done rest : List (Event × Report)) → events ≡ done ++ rest → working_in_cycle done ≤ most_working limits.words (length (static_fields tree))
+    (done rest : List (Event × Report)) → events ≡ done ++ rest →
+    (c : Content) × HoldsAfter tree limits done c × (working_in_cycle done ≤ most_working (larger_words (spaces_of c.objects)) (length (static_fields tree)))

@@ -21,6 +21,15 @@ AreTurns c [] after reports = (after ≡ c) × (reports ≡ [])
 AreTurns c (e ∷ es) after [] = ⊥
 AreTurns c (e ∷ es) after (r ∷ rs) = (next : Content) × IsTurn c e (next, r) × AreTurns next es after rs
 
+-- the same, with the reports beside the events
+abbrev pub DoTurns : Content → List (Event × Report) → Content → Type 0
+DoTurns c [] last = last ≡ c
+DoTurns c (e ∷ es) last = (next : Content) × IsTurn c e.0 (next, e.1) × DoTurns next es last
+
+-- what a machine holds that was made for a program and has done these events with these reports
+abbrev pub HoldsAfter : Tree → Limits → List (Event × Report) → Content → Type 0
+HoldsAfter tree limits events c = (first : Content) × (opening_content tree limits ≡ Some first) × DoTurns first events c
+
 -- ---- births
 
 -- the state of the reference machine after an event with its report

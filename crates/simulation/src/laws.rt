@@ -72,7 +72,7 @@ pub fn closed_marking_has_reached_all()
 {}
 
 /// A cycle of the collector takes a bounded number of working events, whatever the threads do meanwhile: after any of a run's events the newest one has
-/// no more of them than 16 for each word of a space, one for each static field, and 64.
+/// no more of them than 16 for each word of the larger one of its two spaces, one for each static field, and 64.
 pub fn cycles_are_bounded()
     ensures { (tree : Tree) → IsAccepted tree → (limits : Limits) → IsTrue (are_in_range limits) → (events : List Event) (reports : List Report) (s : State) →
         IsRunOf tree limits events reports s → AreCyclesBounded tree limits (zip events reports) }

@@ -77,13 +77,23 @@ fn add_words<'a>(words: &mut Vec<&'a str>, part: &'a str) -> Result<(), AllocErr
     Ok(())
 }
 
-/// The limits that three numbers tell. A missing one is 0.
+/// The limits that three numbers tell, and the most words of a space a fourth, which is the first where it is missing. Another missing one is
+/// 0.
 pub fn limits_of(text: &str) -> Limits {
     let mut words = text.split_whitespace();
+    let first = number_of(words.next());
+    let budget = number_of(words.next());
+    let depth = number_of(words.next());
+    let most = words.next();
     Limits {
-        words: number_of(words.next()),
-        budget: number_of(words.next()),
-        depth: number_of(words.next()),
+        words: first,
+        max_words: if most.is_none() {
+            first
+        } else {
+            number_of(most)
+        },
+        budget,
+        depth,
     }
 }
 
