@@ -1,6 +1,6 @@
 //! The work of HeapFlip and of Reclaim: static fields get forwards, and the new block becomes the only one.
 
-ghost use Rattle.std.specs.Prelude.{◌≡◌, ◌<◌, ◌^◌, true, length};
+ghost use Rattle.std.specs.Prelude.{◌≡◌, ◌<◌, ◌^◌, [], true, length, replicate};
 ghost use Rattle.cil_model.specs.declared.phases.Phase.TheVariants.{Reclaim};
 ghost use Rattle.collector.specs.Conditions.{AreThere, IsSoundIn};
 ghost use Rattle.collector.specs.Flips.{cleared_on, flipped_on, retired};
@@ -8,7 +8,8 @@ ghost use Rattle.collector.specs.Flips.{cleared_on, flipped_on, retired};
 use crate::progress::Progress;
 use crate::walks::next_noted;
 use barriers::forward;
-use object_memory::{Heap, Value};
+use object_memory::{Addr, Heap, Value};
+use space_block::Block;
 
 /// Flips the next static field: a reference becomes its forward, and an integer stays. False where each field was flipped; nothing
 /// changes then.
@@ -40,10 +41,13 @@ pub fn clear_step(progress: &mut Progress, heap: &mut Heap) -> bool
     true
 }
 
-/// Gives the old block back: the new one is the only one, and the cycle is over.
-pub fn retire(heap: &mut Heap)
+/// Retires the old block: the new one is the only one, and the cycle is over. The old block, all zero, and the empty grey list are handed
+/// out.
+pub fn retire(heap: &mut Heap) -> (Block, Vec<Addr>)
     requires { heap.old.spaces.is_open ≡ true }
-    ensures { heap.new ≡ retired heap.old }
+    ensures heap { heap.new ≡ retired heap.old }
+    ensures block { result.0 ≡ replicate heap.old.spaces.old.words 0 }
+    ensures grey { result.1.items ≡ [] }
 {
-    let _block = heap.close();
+    heap.close()
 }

@@ -1,5 +1,6 @@
 pub use Rattle.simulation.specs as simulation
 pub mod Acknowledging
+pub mod CycleMemories
 pub mod Views
 pub mod Finishing
 pub mod Refusals

@@ -12,6 +12,7 @@ ghost use Rattle.simulation.specs.Sound.{IsSound as IsSoundContent};
 ghost use Rattle.simulation.specs.Turns.{IsTurn, TakesMemory};
 ghost use Rattle.interleaving_core.specs.Views.{content_of};
 
+use crate::cycle_memory::CycleMemory;
 use crate::engine::Engine;
 use cil_model::limits::MOST_WORDS;
 use cil_model::memory::NoMemory;
@@ -21,7 +22,6 @@ use simulation::collector_code::{
     Progress, clear_step, copy_step, flip_static_step, is_closed, mark_step, retire, scan_statics,
     shell_step,
 };
-use space_block::Block;
 use std::alloc::Global;
 
 impl Engine {
@@ -50,8 +50,9 @@ impl Engine {
         }
     }
 
-    /// Opens a cycle, with a second block and a grey list with room for every object: both are taken here, and no later event of the
-    /// cycle takes memory. Where there is none for a block of the size that is wanted, no smaller one is tried.
+    /// Opens a cycle, with a second block and a grey list that has room for every object. Both are those that the cycle before left, or
+    /// taken from the allocator where these are too small; no later event of the cycle takes memory. Where there is none for a block of
+    /// the size that is needed, no smaller one is tried.
     fn open_cycle(&mut self, alloc: Global) -> Result<Report, NoMemory>
         requires limits { are_in_range self.old.limits ≡ true }
         requires sound { IsSoundContent (content_of self.old) }
@@ -60,9 +61,10 @@ impl Engine {
         ensures opened { IfOk result (λ report. (content_of self.new ≡ cycle_opened (content_of self.old)) × (report ≡ WorkedOf)) }
         ensures refused { OnErr result (content_of self.new ≡ content_of self.old) }
     {
-        let block = Block::new(alloc, self.opening_words())?;
-        let (words, _) = self.sizes();
-        let grey = Vec::with_capacity(alloc, words / 3)?;
+        let words = self.opening_words();
+        let (size, _) = self.sizes();
+        let memory = CycleMemory::take_or_new(&mut self.spare, alloc, words, size / 3)?;
+        let (block, grey) = memory.into_parts();
         self.store.heap.open(block, grey);
         Ok(self.post(Phase::Mark))
     }
@@ -195,8 +197,8 @@ impl Engine {
         self.post(Phase::ThreadFlip)
     }
 
-    /// A step of Reclaim: the next object of the new space loses its mark and its other copy. Where none has any, the old space is given
-    /// back, and the cycle is over.
+    /// A step of Reclaim: the next object of the new space loses its mark and its other copy. Where none has any, the old space is
+    /// retired, and the cycle is over: its block, all of whose words are set to 0, is kept for the next cycle.
     fn clear_on(&mut self) -> Report
         requires sound { IsSoundContent (content_of self.old) }
         requires posted { self.old.posts.posted ≡ ReclaimOf }
@@ -206,7 +208,8 @@ impl Engine {
         if clear_step(&mut self.progress, &mut self.store.heap) {
             return Report::Worked;
         }
-        retire(&mut self.store.heap);
+        let (block, grey) = retire(&mut self.store.heap);
+        self.spare = Some(CycleMemory::of_parts(block, grey));
         self.post(Phase::Idle);
         Report::CycleDone
     }

@@ -22,6 +22,7 @@ ghost use Rattle.interleaving_core.specs.Waits.{wait_at};
 ghost use Rattle.interleaving_core.specs.Finishing.{IsInstructed};
 
 use crate::beginnings::beginning_on;
+use crate::cycle_memory::CycleMemory;
 use crate::positions::{Position, position_in};
 use crate::steps::{answer, instruct, leave_if_ended, seat_started};
 use crate::waits::{Wait, wait_in};
@@ -46,6 +47,8 @@ pub struct Engine {
     pub posts: Posts,
     pub progress: Progress,
     pub store: Store,
+    /// The memory that the cycle before left, which the next one is opened with.
+    pub spare: Option<CycleMemory>,
 }
 
 /// Each part gives back its own.
@@ -58,6 +61,7 @@ impl Drop for Engine {
             posts: _posts,
             progress: _progress,
             store: _store,
+            spare: _spare,
         } = self;
     }
 }

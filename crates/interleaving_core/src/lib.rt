@@ -4,6 +4,7 @@
 mod acknowledgements;
 mod beginnings;
 mod collections;
+mod cycle_memory;
 mod engine;
 mod machine;
 mod openings;

@@ -100,5 +100,6 @@ pub(crate) fn opened(alloc: Global, program: Verified, limits: Limits) -> Result
             statics,
             console: Vec::new(alloc),
         },
+        spare: None,
     })
 }

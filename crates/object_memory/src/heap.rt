@@ -393,14 +393,20 @@ impl Heap {
         });
     }
 
-    /// Ends a cycle: the new block is the only one, the grey list goes, and the old block is handed out.
-    pub fn close(&mut self) -> Block
+    /// Ends a cycle: the new block is the only one. The old block, all zero, and the grey list, empty, are handed out: the next
+    /// cycle can be opened with them.
+    pub fn close(&mut self) -> (Block, Vec<Addr>)
         requires { self.old.spaces.is_open ≡ true }
         ensures heap { self.new ≡ record self.old { spaces = closed self.old.spaces } }
-        ensures block { length result ≡ self.old.spaces.old.words }
+        ensures block { result.0 ≡ replicate self.old.spaces.old.words 0 }
+        ensures grey { result.1.items ≡ [] }
     {
         match self.cycle.take() {
-            Some(cycle) => mem::replace(&mut self.from, cycle.to).into_block(),
+            Some(cycle) => {
+                let Cycle { to, grey, .. } = cycle;
+                let block = mem::replace(&mut self.from, to).into_block();
+                (block, grey.into_memory())
+            }
             None => unreachable!(),
         }
     }

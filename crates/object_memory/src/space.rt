@@ -64,11 +64,13 @@ impl Space {
         }
     }
 
-    /// The block, with the words of all objects in it.
+    /// The block, all of whose words are set to 0. That takes time for the words of the objects alone, since the others are 0.
     pub(crate) fn into_block(self) -> Block
-        ensures { length result ≡ self.words }
+        ensures { result ≡ replicate self.words 0 }
     {
-        self.block
+        let mut block = self.block;
+        block.zero(0, self.used);
+        block
     }
 
     /// The address of the first object of a second block beside this one.
