@@ -14,6 +14,25 @@ struct Seat {
     answered: bool,
 }
 
+/// The most checks of one word that fail: after them it is copied in one event.
+const MOST_FAILED_CHECKS: u32 = 3;
+
+#[derive(Clone, Copy, Debug, Default)]
+enum Stage {
+    #[default]
+    Begins,
+    Loaded,
+    Stored,
+}
+
+/// An attempt to copy a word by a load, a store and a check.
+#[derive(Clone, Copy, Debug, Default)]
+struct Attempt {
+    stage: Stage,
+    loaded: u64,
+    failed_checks: u32,
+}
+
 /// How far the collector is with the work of the posted phase.
 #[derive(Clone, Copy, Debug, Default)]
 struct Progress {
@@ -21,6 +40,7 @@ struct Progress {
     scanned_slots: u32,
     place: usize,
     copied_words: u32,
+    attempt: Attempt,
     flipped_statics: usize,
 }
 
@@ -35,7 +55,8 @@ struct Collected {
     spaces: Spaces,
     statics: Vec<Value>,
     console: Vec<u8>,
-    words: usize,
+    /// The block of zeros and the empty grey list that the cycle before left.
+    spare: Option<(Vec<u64>, Vec<Address>)>,
 }
 
 fn holds_reference(classes: &[Class], kind: Kind, slot: u32) -> bool {
@@ -65,7 +86,7 @@ impl Collected {
             spaces: Spaces::new(limits.words),
             statics: Vec::new(),
             console: Vec::new(),
-            words: limits.words,
+            spare: None,
         }
     }
 
@@ -172,9 +193,18 @@ impl Collected {
 
     fn open_cycle(&mut self) -> Report {
         let start = STARTS[0] + STARTS[1] - self.spaces.old.start;
+        let words = self.spaces.old.words.len();
+        let (block, grey) = self
+            .spare
+            .take()
+            .unwrap_or_else(|| (vec![0; words], Vec::with_capacity(words / HEADER_WORDS)));
         self.spaces.cycle = Some(Cycle {
-            new: Space::new(self.words, start),
-            grey: Vec::with_capacity(self.words / HEADER_WORDS),
+            new: Space {
+                words: block,
+                used: 0,
+                start,
+            },
+            grey,
             scanned: 0,
             has_marked: false,
         });
@@ -252,7 +282,7 @@ impl Collected {
         Report::Worked
     }
 
-    /// Copies the next word of an object with two copies: its monitor, and then its slots.
+    /// One step at the next word of an object with two copies, its monitor and then its slots: a load, a store or a check.
     fn copy_on(&mut self) -> Report {
         let old = &self.spaces.old;
         let mut place = self.progress.place;
@@ -267,25 +297,60 @@ impl Collected {
         };
         let header = old.header(object);
         let word = self.progress.copied_words;
-        if word == 0 {
-            let monitor = old.monitor(object);
-            self.spaces.cycle().new.set_monitor(copy, monitor);
-        } else {
-            let slot = word - 1;
-            let mut value = old.slot(object, slot);
-            if holds_reference(&self.program.classes, Kind::told(header), slot) {
-                value = u64::from(self.spaces.forward(Address(value as u32)).0);
+        let attempt = self.progress.attempt;
+        self.progress.place = place;
+        match attempt.stage {
+            Stage::Begins => {
+                let loaded = load_word(old, object, word);
+                if attempt.failed_checks < MOST_FAILED_CHECKS {
+                    self.progress.attempt.stage = Stage::Loaded;
+                    self.progress.attempt.loaded = loaded;
+                } else {
+                    self.store_word(header, copy, word, loaded);
+                    self.pass_word(place, header);
+                }
             }
-            self.spaces.cycle().new.set_slot(copy, slot, value);
+            Stage::Loaded => {
+                self.store_word(header, copy, word, attempt.loaded);
+                self.progress.attempt.stage = Stage::Stored;
+            }
+            Stage::Stored if load_word(old, object, word) == attempt.loaded => {
+                self.pass_word(place, header);
+            }
+            Stage::Stored => {
+                self.progress.attempt = Attempt {
+                    failed_checks: attempt.failed_checks + 1,
+                    ..Attempt::default()
+                };
+            }
         }
+        Report::Worked
+    }
+
+    /// Stores what was loaded of a word in the new copy, a reference by its forward.
+    fn store_word(&mut self, header: u64, copy: Address, word: u32, loaded: u64) {
+        if word == 0 {
+            self.spaces.cycle().new.set_monitor(copy, loaded);
+            return;
+        }
+        let slot = word - 1;
+        let mut value = loaded;
+        if holds_reference(&self.program.classes, Kind::told(header), slot) {
+            value = u64::from(self.spaces.forward(Address(value as u32)).0);
+        }
+        self.spaces.cycle().new.set_slot(copy, slot, value);
+    }
+
+    /// Goes on to the next word of the object, or past the object where this was its last word.
+    fn pass_word(&mut self, place: usize, header: u64) {
+        let word = self.progress.copied_words;
+        self.progress.attempt = Attempt::default();
         if word == header as u32 {
             self.progress.place = place + HEADER_WORDS + word as usize;
             self.progress.copied_words = 0;
         } else {
-            self.progress.place = place;
             self.progress.copied_words = word + 1;
         }
-        Report::Worked
     }
 
     fn flip_on(&mut self) -> Report {
@@ -297,7 +362,7 @@ impl Collected {
         Report::Worked
     }
 
-    /// Takes mark and other copy off the next new object that has either. Behind the last one the old block goes.
+    /// Takes mark and other copy off the next new object that has either. After the last one the old block is cleared and kept.
     fn clear_on(&mut self) -> Report {
         let new = &mut self.spaces.cycle.as_mut().unwrap().new;
         let mut place = self.progress.place;
@@ -310,9 +375,24 @@ impl Collected {
                 return Report::Worked;
             }
         }
-        self.spaces.old = self.spaces.cycle.take().unwrap().new;
+        let mut cycle = self.spaces.cycle.take().unwrap();
+        let mut old = std::mem::replace(&mut self.spaces.old, cycle.new);
+        old.words[..old.used].fill(0);
+        cycle.grey.clear();
+        self.spare = Some((old.words, cycle.grey));
         self.post(Phase::Idle);
         Report::CycleDone
+    }
+}
+
+// ---- words
+
+/// Word 0 of an object is its monitor, and word n + 1 its slot n.
+fn load_word(space: &Space, object: Address, word: u32) -> u64 {
+    if word == 0 {
+        space.monitor(object)
+    } else {
+        space.slot(object, word - 1)
     }
 }
 

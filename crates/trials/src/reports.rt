@@ -12,15 +12,17 @@ use std::io;
 use std::io::Write;
 use std::sync::Wait;
 
-/// Adds the reports of an order's events and the words in use after them; where they are not to be had, why.
+/// Adds the reports of a command's events, the words in use after them, and on request the sizes of the spaces; where there was no run,
+/// the reason.
 pub fn add_run(
     waits: &impl Wait,
     alloc: Global,
     order: &Order<'_>,
     files: &Files,
+    with_sizes: bool,
     out: &mut Vec<u8>,
 ) -> io::Result<()> {
-    if let Err(failure) = add_events(waits, alloc, order, files, out) {
+    if let Err(failure) = add_events(waits, alloc, order, files, with_sizes, out) {
         report(failure, &mut Device::new(&mut *out));
     }
     Ok(())
@@ -84,6 +86,7 @@ fn add_events(
     alloc: Global,
     order: &Order<'_>,
     files: &Files,
+    with_sizes: bool,
     out: &mut Vec<u8>,
 ) -> Result<(), Failure> {
     let Some((limits, text)) = run_of(order, files) else {
@@ -98,7 +101,10 @@ fn add_events(
         items.as_slice(),
     )?;
     add_reports(outcome.history.runs(), out)?;
-    add_used(outcome.machine.used(), out)?;
+    add_words("used", outcome.machine.used(), out)?;
+    if with_sizes {
+        add_words("sizes", outcome.machine.sizes(), out)?;
+    }
     Ok(())
 }
 
@@ -127,11 +133,11 @@ fn add_equal(runs: &[Run], out: &mut Vec<u8>) -> io::Result<()> {
     Ok(())
 }
 
-/// Adds the words in use: of the old space, or the only one, and of the new one where it has any.
-fn add_used((old, new): (u32, u32), out: &mut Vec<u8>) -> io::Result<()> {
+/// Adds a line with words of the old space, or the only one, and those of the new one where there are any.
+fn add_words(name: &str, (old, new): (u32, u32), out: &mut Vec<u8>) -> io::Result<()> {
     match new {
-        0 => writeln!(out, "--- used {old}"),
-        _ => writeln!(out, "--- used {old} {new}"),
+        0 => writeln!(out, "--- {name} {old}"),
+        _ => writeln!(out, "--- {name} {old} {new}"),
     }
 }
 
