@@ -1,7 +1,7 @@
-// An array of strings may stand where one of objects is wanted, so each store asks the array itself what its elements are.
-// An object that is no string raises a fault, which ends the thread: nothing behind it runs, and the status is 3.
+// A string[] is assignable to an object[], so each store checks the element type of the array itself when it runs.
+// Storing an object that isn't a string raises an exception, which ends the thread: nothing after it runs, and the status is 3.
 // Run: ./cilvm replay examples/arrays.il examples/arrays.schedule
-.assembly extern mscorlib {}
+.assembly extern mscorlib {} .assembly arrays {}
 
 .class public auto ansi Program extends [mscorlib]System.Object
 {
@@ -17,7 +17,7 @@
         ldloc.0                 // things = names, which is the same array
         stloc.1
 
-        ldloc.1                 // things[0] = "Ada" is in order
+        ldloc.1                 // things[0] = "Ada" succeeds
         ldc.i4.0
         ldstr "Ada"
         stelem.ref

@@ -1,7 +1,7 @@
-// Two classes fill one virtual method of their base: callvirt runs the method of the object's own class.
-// Show knows shapes alone, and prints the area of a square of 5, and then of a rectangle of 3 by 4.
+// Two classes override one virtual method of their base: callvirt runs the method of the object's own class.
+// Show takes any Shape: it prints the area of a square of 5, and then of a rectangle of 3 by 4.
 // Run: ./cilvm replay examples/classes.il examples/classes.schedule
-.assembly extern mscorlib {}
+.assembly extern mscorlib {} .assembly classes {}
 
 .class public abstract auto ansi Shape extends [mscorlib]System.Object
 {
@@ -13,7 +13,7 @@
         ret
     }
 
-    // What each shape that is not abstract has to have.
+    // Each class of shapes that is not abstract must override this.
     .method public newslot abstract virtual instance int32 Area() cil managed {}
 }
 

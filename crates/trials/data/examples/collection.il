@@ -1,7 +1,7 @@
-// The collector works beside a thread that runs on: each turn of the loop falls in another phase of a cycle.
-// In the schedule `g` is one small step of the collector and `a0` the answer of thread 0 to what the collector has posted.
+// The collector works while a thread runs: each iteration of the loop is in another phase of a cycle.
+// In the schedule `g` is one step of the collector, and `a0` thread 0's acknowledgement of what the collector has posted.
 // Run: ./cilvm replay examples/collection.il examples/collection.schedule
-.assembly extern mscorlib {}
+.assembly extern mscorlib {} .assembly collection {}
 
 .class public auto ansi Counter extends [mscorlib]System.Object
 {
@@ -29,7 +29,7 @@
         ldc.i4.1
         stloc.1
 
-    NEXT:                       // thirteen steps are one turn
+    NEXT:                       // thirteen steps an iteration
         ldloc.0                 // counter.sum = counter.sum + i
         ldloc.0
         ldfld int32 Counter::sum

@@ -1,8 +1,8 @@
 // Two threads enter two monitors in opposite orders, and each waits for the one that the other holds.
-// A step that is blocked counts too, so a budget of 40 steps a thread ends both: no program runs for ever.
+// A blocked step counts too, so a budget of 40 steps for each thread ends both: no program runs for ever.
 // Run: ./cilvm replay examples/deadlock.il examples/deadlock.schedule --budget 40
 .assembly extern mscorlib {}
-.assembly extern cilvm {}
+.assembly extern cilvm {} .assembly deadlock {}
 
 .class public auto ansi Other extends [cilvm]Cilvm.Thread
 {

@@ -1,7 +1,7 @@
-// Twenty arrays of four words each are more than a space of 64 words holds, but the program keeps only the last one.
-// Sixteen arrays fill the space; then the schedule has a whole cycle of the collector, and there is room for the others.
+// Twenty arrays of four words each are more than a space of 64 words holds, but the program refers only to the last one.
+// Sixteen arrays fill the space; then the schedule has a whole cycle of the collector, which makes room for the others.
 // Run: ./cilvm replay examples/full.il examples/full.schedule --words 64
-.assembly extern mscorlib {}
+.assembly extern mscorlib {} .assembly full {}
 
 .class public auto ansi Program extends [mscorlib]System.Object
 {
@@ -14,7 +14,7 @@
         ldc.i4.1
         stloc.1
 
-    NEXT:                       // fourteen steps are one turn
+    NEXT:                       // fourteen steps an iteration
         ldc.i4.1                // last = new int[1]: three words of a header, and one of its element
         newarr int32
         stloc.0

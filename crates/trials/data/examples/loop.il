@@ -1,7 +1,7 @@
 // Adds the numbers from 1 to 10: two locals, which begin as 0, and a branch back to a label while a comparison holds.
-// A turn of the loop is eleven steps. Ten turns and the three instructions behind them are the 113 steps of the schedule.
+// An iteration is eleven steps. Ten iterations and the three instructions after the loop are the 113 steps of the schedule.
 // Run: ./cilvm replay examples/loop.il examples/loop.schedule
-.assembly extern mscorlib {}
+.assembly extern mscorlib {} .assembly loop {}
 
 .class public auto ansi Program extends [mscorlib]System.Object
 {
@@ -22,7 +22,7 @@
         add
         stloc.1
 
-        ldloc.0                 // once more, if number < 10
+        ldloc.0                 // again, while number < 10
         ldc.i4 10
         blt NEXT
 

@@ -1,7 +1,7 @@
-// An array of arrays holds its rows as references, so each has its own length and is made by itself: until then it is null.
-// Row n has n + 1 numbers, each the sum of the two above it. One row may be held under two numbers.
+// An array of arrays holds references to its rows: each row has its own length, is allocated on its own, and is null until then.
+// Row n has n + 1 numbers, each the sum of the two above it. Two elements may refer to one row.
 // Run: ./cilvm replay examples/table.il examples/table.schedule
-.assembly extern mscorlib {}
+.assembly extern mscorlib {} .assembly table {}
 
 .class public auto ansi Program extends [mscorlib]System.Object
 {
@@ -101,7 +101,7 @@
         call int32 Program::At(int32[][], int32, int32)
         call void [mscorlib]System.Console::WriteLine(int32)
 
-        ldloc.0                 // rows[0] = rows[4]: one row under two numbers
+        ldloc.0                 // rows[0] = rows[4]: two elements, one row
         ldc.i4.0
         ldloc.0
         ldc.i4.4

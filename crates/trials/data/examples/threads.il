@@ -1,8 +1,8 @@
-// Two threads add to one sum: a monitor lets one of them in at a time, and Join waits until a thread has ended.
-// By the schedule the first is stopped between its load and its store, and the second has to wait at Enter.
+// Two threads add to one sum: a monitor admits one of them at a time, and Join waits until a thread has ended.
+// The schedule preempts the first between its load and its store, and the second has to wait at Enter.
 // Run: ./cilvm replay examples/threads.il examples/threads.schedule
 .assembly extern mscorlib {}
-.assembly extern cilvm {}
+.assembly extern cilvm {} .assembly threads {}
 
 .class public auto ansi Worker extends [cilvm]Cilvm.Thread
 {

@@ -1,8 +1,8 @@
-// Two threads write to one array while the collector copies it. Meanwhile one may have the address of the old copy and the other
-// that of the new one: until the old copy is given back, what either writes reaches both.
+// Two threads write to one array while the collector copies it. One may have the address of the old copy, the other that of the
+// new one: until the old copy is given back, each store reaches both copies.
 // Run: ./cilvm replay examples/writers.il examples/writers.schedule
 .assembly extern mscorlib {}
-.assembly extern cilvm {}
+.assembly extern cilvm {} .assembly writers {}
 
 .class public auto ansi Writer extends [cilvm]Cilvm.Thread
 {
@@ -19,7 +19,7 @@
         ret
     }
 
-    // Adds 1 to the own place of the array, eight times.
+    // Adds 1 to its own element of the array, eight times.
     .method public virtual instance void Run() cil managed
     {
         .maxstack 4
@@ -28,7 +28,7 @@
         ldsfld int32[] Program::counts
         stloc.0
 
-    NEXT:                       // seventeen steps are one turn
+    NEXT:                       // seventeen steps an iteration
         ldloc.0
         ldarg.0
         ldfld int32 Writer::place
