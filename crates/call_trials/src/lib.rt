@@ -1,5 +1,4 @@
-//! Calls that no command makes: sources that are too long, lists that no text writes, barriers over a heap made by hand, and
-//! threads that share.
+//! Calls that no command makes: sources that are too long, lists that no text writes, barriers over a heap made by hand, threads that share.
 #![tactic(auto)]
 
 mod barrier_calls;

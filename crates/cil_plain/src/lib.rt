@@ -1,7 +1,7 @@
-//! The reference machine as a slow, obvious program over a tree, for tests: an account of its own of each instruction (ECMA-335
-//! Partition III), to be compared with the machine that is proved.
+//! The test interpreter: the reference machine as a slow, obvious program over a tree, to be compared with the machine that is proved.
 //!
-//! Objects never move, and the space has no end: a birth that another machine refused is told to `step`.
+//! It is an account of its own of each instruction (ECMA-335 Partition III), written apart from the machine; its calls are proved safe, and not
+//! equal to the definitions. Objects never move, and the space has no end: a birth that another machine refused is passed to `step`.
 #![tactic(auto)]
 
 mod arithmetic;

@@ -1,5 +1,7 @@
-//! The work of a collector that runs beside the program (Hudson and Moss, "Sapphire"): what is true of the heap in each phase, and the
-//! steps of each, one at a time. No call takes memory.
+//! The work of a concurrent copying collector (Hudson and Moss, "Sapphire") as single steps, and what holds of the heap in each phase.
+//! `IsSoundHeap` in specs/ says what holds; each step does exactly its rule, and takes no memory. Lemmas in proofs/, for each posted phase and each
+//! own phase of a thread: stores, births, marks, these steps and the posts keep the heap sound, and keep what a thread or a static field may hold;
+//! what may be held is closed under loads; a closed marking has marked all that marked objects refer to.
 #![tactic(auto)]
 
 mod copier;

@@ -1,4 +1,6 @@
-//! The command line of `cilvm`: its commands with their help, the order that its words hold, and what is told of a file that is not read or not written.
+//! Parses the command line of `cilvm`, and writes its help, its usage errors and the line of a file that is not read or not written.
+//! `order` returns what the arguments ask for, as `clap` finds it, with defaults and all numbers in range; help and the version only where `clap`
+//! lists them, and a usage error only where it lists one or the arguments ask for nothing. Control characters of a file name are written as `?`.
 #![tactic(auto)]
 
 mod commands;

@@ -1,2 +1,2 @@
-//! The definitions of `cil_model` computed on small programs. Each trial is a question with its answer in `proofs/`, and the check computes it.
+//! The definitions computed on small programs: questions with their answers in proofs/, which the check computes.
 #![tactic(auto)]

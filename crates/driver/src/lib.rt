@@ -1,4 +1,5 @@
-//! Carries out orders on the bytes of their files.
+//! Carries out commands on the bytes of their files, and prints the outcome or why there is none.
+//! The contract of `drive` is the main theorem (`IsOutcomeOrCut` in specs/Outcomes.antt).
 #![tactic(auto)]
 
 mod driving;

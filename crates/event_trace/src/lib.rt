@@ -1,4 +1,8 @@
-//! What each event of a run did, as a line of text; what the live threads of a machine wait for, and which of them are deadlocked.
+//! Writes a line of text for each event of a run, and says what live threads wait for and which of them are deadlocked.
+//! `trace` does the events as `Machine::run` does, and has then written exactly their lines and an empty line; where it stops, it has done some number
+//! of the first events and written a prefix of their lines. `laws`: a line has ten columns of printable ASCII; the first empty line ends the trace.
+//! `deadlocked_threads` returns exactly the deadlocked threads of every state that the machine represents; each later step of them is blocked, up
+//! to the first that uses up the budget of one (`deadlock_laws`).
 #![tactic(auto)]
 
 mod columns;

@@ -1,5 +1,5 @@
-//! A trial of the flip: seats store and load slots, each in a thread of its own, while the slots are copied, the stages
-//! advance and the first copies are retired.
+//! A stress run of the flip: seats store and load slots, each in a thread of its own, while one thread copies, advances and retires.
+//! `run`: each load of a seat's own slot gave what it had stored, and a run that says that it is finished has retired each first copy.
 #![tactic(auto)]
 
 mod collector;

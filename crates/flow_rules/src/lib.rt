@@ -1,4 +1,7 @@
-//! What an instruction does to a stack of types, and what two stacks have in common (ECMA-335 III.1.8.1.3), by numbers.
+//! Computes what an instruction does to a stack of types, and the merge of two types (ECMA-335 III.1.8.1.3), by numbers.
+//! `flow` does exactly what the flow rule says, and reports a mismatch exactly where the rule has no result. `TypeTree::merge` returns the closest
+//! common ancestor of two types, and None exactly where no type is above both; in a legal program two references always have one
+//! (`object_is_above`). `TypeTree::is_assignable` is the test of assignability.
 #![tactic(auto)]
 
 pub mod arrays;

@@ -1,4 +1,6 @@
-//! The tokens of an ilasm source (ECMA-335 II.5.2).
+//! Splits an ilasm source into tokens (ECMA-335 II.5.2).
+//! `tokens` returns exactly the tokens of a source, and refuses only a source that has none; `token_offset` returns the offset at which a token
+//! begins. A source has at most one list of tokens (`laws`).
 #![tactic(auto)]
 
 mod bytes;

@@ -1,4 +1,15 @@
-//! Trees of classes by numbers: which class, from one on through its bases, declares a key first.
+//! Finds, by numbers, the nearest class that declares a key, from a class on through its bases.
+//!
+//! The problem: a source can be made slow. Where a look-up climbs the bases, n classes in one chain cost n for each reference; and names are looked
+//! up before it is known that bases end, so a chain may also be a cycle, which is followed for as many classes as the definitions look at.
+//!
+//! The algorithm: one tour of the forest of classes (an Euler tour: enter a class after its base, leave it after its derived classes). Each key keeps
+//! its changes by time: a class that declares it is entered (it finds that class), or left (it finds again what its base found). What a key finds
+//! from a class on is its last change before the class was entered, found by halves. A cycle is cut at one class (`CutCycles`): a chain that runs
+//! into it is two parts that end, so it takes two such look-ups. `finds_marked` and `finds_nothing` ask it of all classes in one walk over changes.
+//!
+//! The bound: tables take time and memory with the classes and declarations, times a logarithm; a look-up takes the logarithm of the number of classes that
+//! declare the key. Results are proved whatever the order of the tour; that it reaches every class whose bases end, and so the bound, no contract says.
 #![tactic(auto)]
 
 mod behind_bases;

@@ -1,4 +1,5 @@
-//! How ilasm writes instructions and what they name (ECMA-335 II.5 and III; the grammar is this profile's).
+//! Writes instructions and what they name as ilasm does (ECMA-335 II.5 and III; the grammar is this profile's).
+//! The texts are exactly those of the definition, and printable ASCII whatever the names and literals hold (`laws`).
 #![tactic(auto)]
 
 mod characters;

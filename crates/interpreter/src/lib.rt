@@ -1,4 +1,6 @@
-//! Which function runs for each instruction of a loaded program.
+//! Runs for each linked instruction of a loaded program its function of `instructions`, by one match.
+//! Each linked instruction does exactly its rule; a print that is out of memory does nothing. That the rule has a result is the condition; `simulation`
+//! proves it where a machine represents a state.
 #![tactic(auto)]
 
 pub mod calls;

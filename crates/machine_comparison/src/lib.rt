@@ -1,7 +1,7 @@
-//! The machine beside the plain machine: runs of both, compared after each event.
+//! Compares the machine with the test interpreter `cil_plain`, after each event of a run.
 //!
-//! `difference` asks it of the run of an order, and `difference_by_chance` by a schedule that is made up. `try_schedules` does all short schedules of one program, and `try_programs`
-//! programs that are made up.
+//! `difference` compares them on the run of a command, `difference_by_chance` on a generated schedule, `try_schedules` on all short schedules of one
+//! program, and `try_programs` on generated programs.
 #![tactic(auto)]
 
 mod machines;

@@ -1,4 +1,5 @@
-//! The orders that `cilvm` carries out: what the words of a command line come to, and the files that they name.
+//! The commands that `cilvm` carries out: what the arguments ask for, and the files that they name.
+//! Files are read whole, a source no further than shows that it is too long.
 #![tactic(auto)]
 
 mod files;

@@ -1,4 +1,6 @@
 //! Writes bytes whole, and says what a failed write leaves.
+//! Where a write failed, a prefix of the bytes is taken, and the output has failed from then on. A `Device` is an output over any writer that
+//! remembers this: a new one has not failed, and a write that succeeds leaves that as it was.
 #![tactic(auto)]
 
 ghost use Rattle.std.specs.Prelude.{◌≡◌, false, Bool, List, OnErr, OnOk, Option, ℕ, true};

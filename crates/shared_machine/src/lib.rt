@@ -1,5 +1,8 @@
-//! A machine that workers share under a lock, and workers that run its threads, each worker in a thread of its own. The history is one that
-//! a single thread could have made, and each worker's entries in it are those that its ticket counts.
+//! A machine that workers share under a lock, and workers that run its threads, each worker in a thread of its own.
+//! Whenever the lock is free, the machine is at what its transitions over the events of the history make of its initial content, with the
+//! history's reports, and each worker's count is that of its entries (`World::laws`): a history that a single thread could have made. `perform` adds
+//! exactly one entry, or changes nothing where memory is out; `finish` refuses exactly where a ticket is missing. Equal counts have equal events,
+//! reports and order (`counts_fix_events`). A ticket and the book agree by ghost words (`renew`): counts are in proofs alone.
 #![tactic(auto)]
 
 mod alone;

@@ -1,6 +1,8 @@
-//! What a machine holds, and when it stands for a state of the reference machine; how large the parts of a legal program are, and
-//! that no monitor is held more often than its owner made steps; and that a machine does what the reference machine does, instruction
-//! by instruction and step by step. It has no code: its rules are in specs/, and its laws in src/sizes.rt, src/counts.rt and src/laws.rt.
+//! Defines what a machine holds and does on each event, and proves that it does what the reference machine does.
+//! It has no code: its rules are in specs/, its laws in src/laws.rt (fifteen on machines), src/counts.rt (no monitor is held more often than its owner
+//! made steps) and src/sizes.rt (how large the parts of a legal program are). The proofs go by instructions, of any memory that is a `MemoryModel`;
+//! the heap of a machine with a collector is one for each live thread, whatever its phase. Each acknowledgement and each event of the collector keeps
+//! `IsSound` and the state that the machine represents.
 #![tactic(auto)]
 
 pub mod counts;

@@ -1,4 +1,7 @@
-//! From the bytes of a source to what its run leaves: it is accepted, its limits and its schedule are, and a machine runs it.
+//! Takes the bytes of a source to what its run leaves: the source, its limits and its schedule are accepted, and a machine runs it.
+//! `accept` returns a program only for a source that has a tree, which is legal and has a typing of each method; `run_source` runs it by the text of
+//! a schedule, `run_events` by items, `run_threads` by workers until no thread is live; otherwise they say why not, the faults of the source
+//! first. `laws`: a source, a text and limits have one run, and a replay of a record is the same run.
 #![tactic(auto)]
 
 mod failure;

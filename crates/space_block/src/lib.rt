@@ -1,4 +1,6 @@
-//! A block of raw memory: words of 64 bits in a row.
+//! Blocks of raw memory: words of 64 bits in a row, zero at first.
+//! Four functions follow a pointer. Each is proved by hand against what its caller owns, so no word outside a held block is read or written, and
+//! none after the block was given back.
 #![tactic(auto)]
 
 ghost use Rattle.std.specs.Prelude.{◌≡◌, ◌<◌, ◌≤◌, ◌-◌, ◌++◌, replicate, take, drop, length, slice_index, slice_set, IfOk};

@@ -1,5 +1,7 @@
-//! Which programs are accepted: each method of a legal program has a typing (ECMA-335 III.1.8), and the search for the least one
-//! (III.1.8.1.3), by numbers.
+//! Decides which legal programs are accepted: those whose methods all have a typing (ECMA-335 III.1.8).
+//! `find_typing` finds the least typing of a method's code, exactly where it has one (III.1.8.1.3), by numbers. Of a program that is not accepted
+//! the error of `verify` has the number of the first method in source order without a typing (`IsVerdict`); which instruction and which reason it
+//! names is not promised. A `Verified` keeps the program, its layout and a typing of each method.
 #![tactic(auto)]
 
 mod arguments;
