@@ -32,8 +32,8 @@ fn add_limit(
     Ok(())
 }
 
-/// One line for each limit that is out of its range (number 401, this profile); None exactly where all are in range. Each line ends with
-/// a line feed. Fails for want of memory alone.
+/// One line for each limit that is out of its range (number 401, this profile); None exactly where all are in range. The most words of a
+/// space have a range only where the first space is not too large. Each line ends with a line feed.
 pub fn explain_limits(alloc: Global, limits: Limits) -> Result<Option<String>, NoMemory>
     ensures { IfOk result (λ text. is_none text ≡ are_in_range limits) }
 {
@@ -54,13 +54,15 @@ pub fn explain_limits(alloc: Global, limits: Limits) -> Result<Option<String>, N
         LEAST_WORDS,
         MOST_WORDS,
     )?;
-    add_limit(
-        &mut text,
-        "the most words of a space",
-        max_words,
-        words,
-        MOST_WORDS,
-    )?;
+    if words <= MOST_WORDS {
+        add_limit(
+            &mut text,
+            "the most words of a space",
+            max_words,
+            words,
+            MOST_WORDS,
+        )?;
+    }
     add_limit(&mut text, "the steps of a thread", budget, 1, MOST_BUDGET)?;
     add_limit(&mut text, "the frames of a thread", depth, 1, MOST_DEPTH)?;
     Ok(Some(text))
