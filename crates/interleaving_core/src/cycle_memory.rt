@@ -1,6 +1,6 @@
 //! The memory of a cycle of the collector: its second block and its grey list.
 
-ghost use Rattle.std.specs.Prelude.{◌≡◌, ◌≤◌, ◌×◌, ◌==◌, ◌&&◌, [], replicate, length, nat_le, vec_capacity, IfOk};
+ghost use Rattle.std.specs.Prelude.{◌≡◌, ◌≤◌, ◌==◌, ◌&&◌, [], replicate, length, nat_le, vec_capacity, IfOk};
 
 use cil_model::memory::NoMemory;
 use object_memory::Addr;
