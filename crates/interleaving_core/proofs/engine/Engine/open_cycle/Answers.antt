@@ -4,17 +4,11 @@ use Rattle.reference_machine.specs.Cycles.{phase_after}
 use Rattle.interleaving_core.proofs.Refusing.{on_err}
 use Rattle.interleaving_core.proofs.engine.Engine.open_cycle.Goals as goal
 
-pub returns-in_err-block-clause-opened : goal.returns-in_err-block-clause-opened
-returns-in_err-block-clause-opened c = IfOk-from_err c.from_residual.result _ c.from_residual.ensures.0
+pub returns-in_err-memory-clause-opened : goal.returns-in_err-memory-clause-opened
+returns-in_err-memory-clause-opened c = IfOk-from_err c.from_residual.result _ c.from_residual.ensures.0
 
-pub returns-in_err-block-clause-refused : goal.returns-in_err-block-clause-refused
-returns-in_err-block-clause-refused c = on_err c.from_residual.result refl
-
-pub returns-in_err-grey-clause-opened : goal.returns-in_err-grey-clause-opened
-returns-in_err-grey-clause-opened c = IfOk-from_err c.from_residual-in_err-grey.result _ c.from_residual-in_err-grey.ensures.0
-
-pub returns-in_err-grey-clause-refused : goal.returns-in_err-grey-clause-refused
-returns-in_err-grey-clause-refused c = on_err c.from_residual-in_err-grey.result refl
+pub returns-in_err-memory-clause-refused : goal.returns-in_err-memory-clause-refused
+returns-in_err-memory-clause-refused c = on_err c.from_residual.result refl
 
 pub post-requires-clause-next : goal.post-requires-clause-next
 post-requires-clause-next c = sym (ap phase_after c.requires.posted)
