@@ -6,8 +6,9 @@ ghost use Rattle.shared_machine.specs.Histories.{count_of, events_of, reports_of
 ghost use Rattle.shared_machine.specs.Worlds.{AgreesWith, HasRun, IfDid, added, fresh};
 
 use cil_model::events::Event;
+use cil_model::memory::NoMemory;
 use shared_machine::{Answer, Blank, Machine, Opening, Outcome, Shared, Ticket, stop};
-use std::alloc::{AllocError, Global};
+use std::alloc::Global;
 use std::sync::Wait;
 use std::thread::{Threads, join};
 
@@ -26,7 +27,7 @@ fn open_both<M: Opening>(
     alloc: Global,
     blank: Blank,
     core: Machine,
-) -> Result<Option<(Shared<M>, Ticket<M>, Ticket<M>)>, AllocError>
+) -> Result<Option<(Shared<M>, Ticket<M>, Ticket<M>)>, NoMemory>
     requires book { blank.table.shared.table_id ≡ M.table }
     requires core { core ≡ M.opening }
     requires workers { M.workers ≡ 2 }
@@ -45,7 +46,7 @@ fn finish_both<M: Opening>(
     shared: Shared<M>,
     one: Ticket<M>,
     other: Ticket<M>,
-) -> Result<Option<Outcome>, AllocError>
+) -> Result<Option<Outcome>, NoMemory>
     ensures ran { IfOk result (λ end. IfSome end (λ o. HasRun M.opening (events_of o.history.entries) (reports_of o.history.entries) o.machine)) }
     ensures one { IfOk result (λ end. IfSome end (λ o. AgreesWith o.history.entries one)) }
     ensures other { IfOk result (λ end. IfSome end (λ o. AgreesWith o.history.entries other)) }
@@ -71,7 +72,7 @@ fn act_both<M: Opening + Send + Sync, R: Threads + Wait + Sync>(
     other: Ticket<M>,
     first: Event,
     second: Event,
-) -> Result<Option<(Answer, Answer, Outcome)>, AllocError>
+) -> Result<Option<(Answer, Answer, Outcome)>, NoMemory>
     ensures ran { IfOk result (λ end. IfSome end (λ x. HasRun M.opening (events_of x.2.history.entries) (reports_of x.2.history.entries) x.2.machine)) }
     ensures one { IfOk result (λ end. IfSome end (λ x. IfDid x.0 (λ report. count_of one.worker x.2.history.entries ≡ add one.count first report))) }
     ensures other { IfOk result (λ end. IfSome end (λ x. IfDid x.1 (λ report. count_of other.worker x.2.history.entries ≡ add other.count second report))) }
@@ -100,7 +101,7 @@ pub fn run_both<M: Opening + Send + Sync, R: Threads + Wait + Sync>(
     core: Machine,
     first: Event,
     second: Event,
-) -> Result<Option<(Answer, Answer, Outcome)>, AllocError>
+) -> Result<Option<(Answer, Answer, Outcome)>, NoMemory>
     requires book { blank.table.shared.table_id ≡ M.table }
     requires core { core ≡ M.opening }
     requires workers { M.workers ≡ 2 }
@@ -122,7 +123,7 @@ pub fn act_many<M: Opening + Send + Sync, R: Threads + Wait + Sync>(
     core: Machine,
     events: (Event, Event),
     times: u32,
-) -> Result<Option<Outcome>, AllocError>
+) -> Result<Option<Outcome>, NoMemory>
     requires book { blank.table.shared.table_id ≡ M.table }
     requires core { core ≡ M.opening }
     requires workers { M.workers ≡ 2 }

@@ -1,13 +1,16 @@
 //! Arithmetic, comparisons and conversions.
 
-ghost use Rattle.std.specs.Prelude.{◌≡◌, ◌==◌, IsSome, Some};
-ghost use Rattle.instructions.specs.Frames.{binary_turn, unary_turn, shift_turn, compare_turn, convert_32_turn, convert_64_turn, comparison, in_32_bits, in_64_bits, one_or_zero};
+ghost use Rattle.std.specs.Prelude.{◌≡◌, ◌==◌, IsSome, Some, true, false};
+ghost use Rattle.instructions.specs.Frames.{binary_result, binary_turn, unary_turn, shift_turn, compare_turn, convert_32_turn, convert_64_turn, comparison, in_32_bits, in_64_bits, one_or_zero};
+ghost use Rattle.instructions.specs.LocalTurns.{IsFaulty, compare_integers_turn, integers_compared};
+ghost use Rattle.threads_monitors.specs.declared.effects.Effect.TheVariants.{GoesOn as GoesOnOf};
 
 use crate::conversions::{sign_extended, truncated};
 use crate::integers::Integer;
 use crate::places::{leave, leave_result};
 use cil_model::instructions::{BinaryOperation, Comparison, ShiftOperation, UnaryOperation};
 use cil_model::phases::Phase;
+use cil_model::reports::Fault;
 use object_memory::{Heap, Value};
 use threads_monitors::{Effect, FrameMemory};
 
@@ -19,13 +22,36 @@ pub fn binary(frames: &mut FrameMemory, operation: BinaryOperation) -> Effect
 {
     let second = frames.pop();
     let first = frames.pop();
+    leave_result(frames, binary_result(operation, first, second))
+}
+
+/// Does the same where it raises no fault, and answers true. Else nothing changes.
+pub fn binary_unless_faulty(frames: &mut FrameMemory, operation: BinaryOperation) -> bool
+    requires { IsSome (binary_turn operation frames.old) }
+    ensures done { result ≡ true → binary_turn operation frames.old ≡ Some (frames.new, GoesOnOf) }
+    ensures stays { result ≡ false → (frames.new ≡ frames.old) × IsFaulty (binary_turn operation frames.old) }
+{
+    let second = frames.operand(0);
+    let first = frames.operand(1);
+    match binary_result(operation, first, second) {
+        Ok(value) => {
+            frames.pop();
+            frames.pop();
+            leave(frames, value);
+            true
+        }
+        Err(_) => false,
+    }
+}
+
+/// What an operation gives on two integers of one size.
+fn binary_result(operation: BinaryOperation, first: Value, second: Value) -> Result<Value, Fault>
+    requires { IsSome (binary_result operation first second) }
+    ensures { binary_result operation first second ≡ Some result }
+{
     match (first, second) {
-        (Value::Int32(x), Value::Int32(y)) => {
-            leave_result(frames, Integer::binary(operation, x, y).map(Value::Int32))
-        }
-        (Value::Int64(x), Value::Int64(y)) => {
-            leave_result(frames, Integer::binary(operation, x, y).map(Value::Int64))
-        }
+        (Value::Int32(x), Value::Int32(y)) => Integer::binary(operation, x, y).map(Value::Int32),
+        (Value::Int64(x), Value::Int64(y)) => Integer::binary(operation, x, y).map(Value::Int64),
         _ => unreachable!(),
     }
 }
@@ -80,6 +106,29 @@ fn holds(heap: &Heap, phase: Phase, operation: Comparison, first: Value, second:
         (Value::Int32(x), Value::Int32(y)) => Integer::compare(operation, x, y),
         (Value::Int64(x), Value::Int64(y)) => Integer::compare(operation, x, y),
         (Value::Ref(x), Value::Ref(y)) => barriers::same(heap, phase, x, y),
+        _ => unreachable!(),
+    }
+}
+
+/// `cgt` and `clt` (ECMA-335 III.3.22, III.3.25), of two integers of one size. It asks no heap.
+pub fn compare_integers(frames: &mut FrameMemory, operation: Comparison) -> Effect
+    requires { IsSome (compare_integers_turn operation frames.old) }
+    ensures { Some (frames.new, result) ≡ compare_integers_turn operation frames.old }
+{
+    let second = frames.pop();
+    let first = frames.pop();
+    let holds = integers_compared(operation, first, second);
+    leave(frames, one_or_zero(holds))
+}
+
+/// Whether a comparison of two integers of one size holds.
+fn integers_compared(operation: Comparison, first: Value, second: Value) -> bool
+    requires { IsSome (integers_compared operation first second) }
+    ensures { integers_compared operation first second ≡ Some result }
+{
+    match (first, second) {
+        (Value::Int32(x), Value::Int32(y)) => Integer::compare(operation, x, y),
+        (Value::Int64(x), Value::Int64(y)) => Integer::compare(operation, x, y),
         _ => unreachable!(),
     }
 }

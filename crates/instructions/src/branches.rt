@@ -3,6 +3,7 @@
 ghost use Rattle.std.specs.Prelude.{◌≡◌, IsSome, Some, slice_get};
 ghost use Rattle.std.specs.Int.{w32, cast_unsigned};
 ghost use Rattle.instructions.specs.Frames.{branch_true_turn, branch_false_turn, branch_compare_turn, branch_test, switch_turn, is_set};
+ghost use Rattle.instructions.specs.LocalTurns.{branch_integers_turn, integers_branch};
 
 use crate::integers::Integer;
 use crate::places::{branch_if, go_on, jump};
@@ -82,6 +83,32 @@ fn is_taken(
             BranchComparison::NotEqual => !barriers::same(heap, phase, x, y),
             _ => unreachable!(),
         },
+        _ => unreachable!(),
+    }
+}
+
+/// `bge`, `bgt`, `ble` and `blt` (ECMA-335 III.3.6 to III.3.13), of two integers of one size. It asks no heap.
+pub fn branch_integers(
+    frames: &mut FrameMemory,
+    operation: BranchComparison,
+    place: usize,
+) -> Effect
+    requires { IsSome (branch_integers_turn operation place frames.old) }
+    ensures { Some (frames.new, result) ≡ branch_integers_turn operation place frames.old }
+{
+    let second = frames.pop();
+    let first = frames.pop();
+    branch_if(frames, integers_branch(operation, first, second), place)
+}
+
+/// Whether a branch that compares two integers of one size is taken.
+fn integers_branch(operation: BranchComparison, first: Value, second: Value) -> bool
+    requires { IsSome (integers_branch operation first second) }
+    ensures { integers_branch operation first second ≡ Some result }
+{
+    match (first, second) {
+        (Value::Int32(x), Value::Int32(y)) => Integer::branches(operation, x, y),
+        (Value::Int64(x), Value::Int64(y)) => Integer::branches(operation, x, y),
         _ => unreachable!(),
     }
 }

@@ -18,4 +18,6 @@ pub mod Requests
 pub mod Ends
 pub mod AwaitedObjects
 pub mod Doing
+pub mod LocalRuns
+pub mod LiveFrames
 pub mod OpeningStatics

@@ -93,7 +93,7 @@ module _ (c : Content) (t : ℕ) (outcome : Outcome) (after : Content) (half : I
 
 -- ---- what was asked for can be answered
 
-same_frames : (left l : ℕ) (m n : Frames) → live_thread left m ≡ live_thread l n → m ≡ n
+pub same_frames : (left l : ℕ) (m n : Frames) → live_thread left m ≡ live_thread l n → m ≡ n
 same_frames left l m n e = same_live m n (ap (λ (x : Thread). x.standing) e)
   where
     same_live : (x y : Frames) → Live x ≡ Live y → x ≡ y

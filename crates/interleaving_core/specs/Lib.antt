@@ -8,3 +8,4 @@ pub mod Statics
 pub mod Positions
 pub mod Waits
 pub mod Histories
+pub mod Loans

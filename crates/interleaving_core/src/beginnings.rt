@@ -22,7 +22,7 @@ use simulation::interpreter_code::loaded_code::LoadedProgram;
 use threads_monitors::Beginning;
 
 /// How many values a frame may hold: arguments, locals, the stack, and a new object beneath the operands of its constructor.
-const FRAME_ROOM: usize = MOST_ARGUMENTS + MOST_LOCALS + MOST_STACK as usize + 1;
+pub(crate) const FRAME_ROOM: usize = MOST_ARGUMENTS + MOST_LOCALS + MOST_STACK as usize + 1;
 
 /// `Cilvm.Thread`'s `Run` by number: its second method.
 const RUN: MemberNumber = MemberNumber {

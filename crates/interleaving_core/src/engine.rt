@@ -205,7 +205,7 @@ impl Engine {
     }
 
     /// The thread of a number. None where none of this number was started.
-    fn thread(&self, number: u8) -> Option<&Thread>
+    pub fn thread(&self, number: u8) -> Option<&Thread>
         ensures { option_map (λ thread. thread.now) result ≡ slice_get self.now.threads.items number }
     {
         self.threads.get(usize::from(number))

@@ -10,12 +10,14 @@ mod beginnings;
 mod collections;
 mod cycle_memory;
 mod engine;
+mod loans;
 mod machine;
 mod openings;
 mod positions;
 mod steps;
 mod waits;
 
+pub use loans::{Loan, LoanRoom};
 pub use machine::{Machine, Refused};
 pub use positions::Position;
 pub use waits::Wait;

@@ -1,6 +1,6 @@
 //! The machine and its events.
 
-ghost use Rattle.std.specs.Prelude.{◌≡◌, ◌↔◌, ◌∷◌, [], ◌+◌, ◌<◌, ◌≤◌, Err, Some, IfOk, OnOk, OnErr, false, ℕ, length, map, take, drop};
+ghost use Rattle.std.specs.Prelude.{◌≡◌, ◌↔◌, IsTrue, replicate, true, ◌∷◌, [], ◌+◌, ◌<◌, ◌≤◌, Err, Some, IfOk, OnOk, OnErr, false, ℕ, length, map, take, drop, slice_get};
 ghost use Rattle.std.specs.List.{count_by, zip};
 ghost use Rattle.cil_model.specs.Ranges.{are_in_range, is_between};
 ghost use Rattle.cil_model.specs.declared.limits.TheConstants.{MOST_THREADS};
@@ -14,12 +14,18 @@ ghost use Rattle.interleaving_core.specs.Views.{end_at, phase_at};
 ghost use Rattle.interleaving_core.specs.Positions.{position_at};
 ghost use Rattle.interleaving_core.specs.Waits.{wait_at};
 ghost use Rattle.simulation.specs.StandsFor.{Represents};
-ghost use Rattle.simulation.specs.Turns.{IsTurn, TakesMemory, opening_content};
+ghost use Rattle.simulation.specs.Turns.{IsTurn, TakesMemory, live_thread, opening_content};
+ghost use Rattle.simulation.specs.interpreter.Local.{IsNextLocal};
+ghost use Rattle.threads_monitors.specs.Frames.{Frames};
+ghost use Rattle.interleaving_core.specs.Loans.{Begins, IsAtOrigin};
+ghost use Rattle.cil_model.specs.declared.events.Event.TheVariants.{Step as StepOf};
+ghost use Rattle.cil_model.specs.declared.reports.Report.TheVariants.{Ran as RanOf};
 ghost use Rattle.interleaving_core.specs.Refusals.{number_of};
 ghost use Rattle.simulation.specs.Runs.{AreTurns, FollowsReference};
 ghost use Rattle.interleaving_core.specs.declared.machine.Refused.TheVariants.{Limits as BadLimits, OutOfMemory};
 
 use crate::engine::Engine;
+use crate::loans::{Loan, LoanRoom};
 use crate::openings::opened;
 use crate::positions::Position;
 use crate::waits::Wait;
@@ -146,6 +152,54 @@ impl Machine {
             reports.push_reserved(self.step(alloc, *event)?);
         }
         Ok(())
+    }
+
+    /// Memory for a loan of one of its threads' top frames, with a share of its program. Only want of memory is an error.
+    pub fn loan_room(&self, alloc: Global) -> Result<LoanRoom, NoMemory>
+        ensures { IfOk result (λ room. room ≡ self.now.tree) }
+    {
+        let _engine = &self.engine;
+        LoanRoom::new(alloc, self.engine.program.share()?)
+    }
+
+    /// A loan of the top frame of a live thread. Nothing changes, and no memory is taken.
+    pub fn lend(&self, thread: u8, room: LoanRoom) -> Loan
+        requires live { is_live_at self.now.threads thread ≡ true }
+        requires tree { room ≡ self.now.tree }
+        ensures { Begins self.now thread result }
+    {
+        let _engine = &self.engine;
+        self.engine.lend(thread, room)
+    }
+
+    /// Whether the next instruction of a live thread is a local one, so that a loan of its frame can do it; false for any other thread.
+    pub fn is_next_local(&self, thread: u8) -> bool
+        ensures { (left : ℕ) (m : Frames) → slice_get self.now.threads thread ≡ Some (live_thread left m) → IsNextLocal self.now.tree m.room m.running result }
+    {
+        let _engine = &self.engine;
+        self.engine.is_next_local(thread)
+    }
+
+    /// Whether the thread of a loan stands as it did when the loan began: live, with as many steps left, and with the frame that was lent.
+    pub fn is_at_origin(&self, loan: &Loan) -> bool
+        ensures { IsTrue result ↔ IsAtOrigin self.now loan.now }
+    {
+        let _engine = &self.engine;
+        self.engine.is_at_origin(loan)
+    }
+
+    /// Ends a loan whose thread stands as it did when the loan began, and gives its memory back: the instructions that were done on the lent
+    /// frame are as many steps of the thread, each of which reports that it ran. It takes no memory.
+    pub fn take_back(&mut self, loan: Loan) -> LoanRoom
+        requires tree { loan.tree ≡ self.old.tree }
+        requires origin { IsAtOrigin self.old loan }
+        ensures turns { AreTurns self.old (replicate loan.done (StepOf loan.thread)) self.new (replicate loan.done RanOf) }
+        ensures room { result ≡ self.old.tree }
+        ensures same { (self.new.tree ≡ self.old.tree) × (self.new.limits ≡ self.old.limits) }
+    {
+        loan.laws();
+        self.engine.take_back(&loan);
+        loan.into_room()
     }
 
     /// The bytes printed so far.

@@ -12,3 +12,7 @@ pub mod Placing
 pub mod Printing
 pub mod Linking
 pub mod Executing
+pub mod LocalRules
+pub mod LocalKeeps
+pub mod LocalSteps
+

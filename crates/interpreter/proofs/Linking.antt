@@ -198,3 +198,7 @@ module _ (tree : Tree) (mutator : Mutator) (found : ClassName × Method) (m : Fr
     linked_does op l is there =
         let known = links op there in
         ap turn (is known.0 known.1) ∙ known.2
+
+    -- and there is one
+    pub link_is_there : (op : Operation) → IsSome (does op) → (wanted : LinkedInstruction) × (link tree (has_value found) op ≡ Some wanted)
+    link_is_there op there = let known = links op there in (known.0, known.1)

@@ -10,4 +10,5 @@ pub mod Operations
 pub mod Calls
 pub mod Instructions
 pub mod Linked
+pub mod Local
 pub mod Stores

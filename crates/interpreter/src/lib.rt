@@ -5,6 +5,7 @@
 
 pub mod calls;
 mod execution;
+pub mod local_runs;
 pub mod outcomes;
 pub mod places;
 pub mod stores;

@@ -94,6 +94,12 @@ pub record IsLinkedAt (tree : Tree) (method place : ℕ) (instruction : LinkedIn
   pub line_is : slice_get (lines_of found.1) place ≡ Some line
   pub linked : IsLinkedLine tree found line instruction
 
+-- the linked instructions of the method with a flat number, one for each of its lines
+pub record IsCode (tree : Tree) (method : ℕ) (code : List LinkedInstruction) : Type 0 where
+  pub found : ClassName × Method
+  pub found_is : slice_get (all_methods tree) method ≡ Some found
+  pub lines : AllAlike (IsLinkedLine tree found) (lines_of found.1) code
+
 -- the method that runs in the place of another on an object of the class of a number, or on an array, which has none: a method that is not virtual
 -- runs itself (III.4.2)
 abbrev pub chosen_by : Tree → ClassName × Method → Option ℕ → Option (ClassName × Method)

@@ -12,6 +12,7 @@ mod linker;
 mod loaded;
 mod methods;
 mod operands;
+mod parts;
 mod table;
 
 pub use actions::Action;

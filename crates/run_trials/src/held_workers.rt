@@ -2,6 +2,7 @@
 
 use crate::worker_runs::ROOM;
 use cil_model::events::Event;
+use cil_model::limits::Limits;
 use cil_model::memory::NoMemory;
 use cil_model::phases::Phase;
 use cil_model::reports::Report;
@@ -12,7 +13,7 @@ use std::sync::atomic::AtomicU64;
 use std::sync::atomic::Ordering::SeqCst;
 use std::thread::{Threads, yield_now};
 
-/// The first thread starts another one, in its first 20 steps, and then both go round until their budgets end them.
+/// The first thread starts another one, in its first 20 passes, and then both loop until their budgets end them.
 static ROUND: &str = ".assembly extern mscorlib {} .assembly extern cilvm {}
     .class public auto ansi T extends [cilvm]Cilvm.Thread {
     .method public specialname rtspecialname instance void .ctor() cil managed { .maxstack 1
@@ -23,6 +24,12 @@ static ROUND: &str = ".assembly extern mscorlib {} .assembly extern cilvm {}
     .method public static void Main() cil managed { .entrypoint .maxstack 1
     newobj instance void T::.ctor() callvirt instance void [cilvm]Cilvm.Thread::Start()
     again: nop br again } }";
+
+/// Limits in which both threads live longer than any worker is held: a pass has 64 steps of a thread at most.
+const LOOPING: Limits = Limits {
+    budget: 20_000,
+    ..ROOM
+};
 
 /// No waiting loop takes more turns than this.
 const MOST_TURNS: u32 = 50_000_000;
@@ -119,7 +126,7 @@ pub(crate) fn goes_on_without_the_first(
     alloc: Global,
 ) -> Result<bool, Failure> {
     let gate = HoldsOne::new(0, HELD_PASSES.start);
-    let outcome = run_threads(threads, alloc, ROUND.as_bytes(), ROOM, 2, &gate)?;
+    let outcome = run_threads(threads, alloc, ROUND.as_bytes(), LOOPING, 2, &gate)?;
     Ok(gate.late.load(SeqCst) == 0 && has_steps_between(outcome.history.runs(), 0))
 }
 
@@ -223,11 +230,11 @@ fn phase_of_held(
     pass: u32,
 ) -> Result<Option<Phase>, Failure> {
     let gate = HoldsOne::new(held, pass);
-    let outcome = run_threads(threads, alloc, ROUND.as_bytes(), ROOM, 2, &gate)?;
+    let outcome = run_threads(threads, alloc, ROUND.as_bytes(), LOOPING, 2, &gate)?;
     let runs = outcome.history.runs();
     match let_go(runs, held) {
         Some(count) if gate.late.load(SeqCst) == 0 => {
-            let (machine, _) = open(alloc, ROUND.as_bytes(), ROOM, b"")?;
+            let (machine, _) = open(alloc, ROUND.as_bytes(), LOOPING, b"")?;
             Ok(Some(posted_behind(alloc, machine, runs, count)?))
         }
         _ => Ok(None),

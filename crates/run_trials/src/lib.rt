@@ -3,6 +3,7 @@
 
 mod held_workers;
 mod library_runs;
+mod loan_runs;
 mod worker_runs;
 
 pub use call_trials::{Call, LIMITS, SUM, calls};

@@ -1,9 +1,13 @@
 //! The calls, each with what is expected of it.
 
 use crate::held_workers::{goes_on_without_the_first, waits_in_each_phase};
+use crate::loan_runs::{
+    Question, answers, does_all, does_one, leaves_the_fault, leaves_the_last_step,
+};
 use crate::worker_runs::{records_one_worker, replays_workers};
 use call_trials::{Call, LIMITS, SUM, act_many, came_to, run_both};
 use cil_model::events::Event;
+use cil_model::limits::Limits;
 use orders::{read_source, read_text};
 use schedule_text::Item;
 use shared_machine::Blank;
@@ -16,7 +20,7 @@ use std::sync::Wait;
 use std::thread::Threads;
 
 /// Makes the calls. One that wants memory counts as one that came to something else.
-pub fn run_calls(threads: &(impl Threads + Wait + Sync), alloc: Global) -> [Call; 10] {
+pub fn run_calls(threads: &(impl Threads + Wait + Sync), alloc: Global) -> [Call; 17] {
     [
         came_to("a reader that fails", tells_of_readers(alloc)),
         came_to(
@@ -30,6 +34,34 @@ pub fn run_calls(threads: &(impl Threads + Wait + Sync), alloc: Global) -> [Call
         came_to(
             "two threads that act often",
             acts_often(threads, alloc).unwrap_or(false),
+        ),
+        came_to(
+            "local instructions on a loan",
+            does_all(threads, alloc).unwrap_or(false),
+        ),
+        came_to(
+            "one local instruction on a loan",
+            does_one(threads, alloc).unwrap_or(false),
+        ),
+        came_to(
+            "a loan up to the last step of the budget",
+            leaves_the_last_step(threads, alloc).unwrap_or(false),
+        ),
+        came_to(
+            "a loan up to a fault",
+            leaves_the_fault(threads, alloc).unwrap_or(false),
+        ),
+        came_to(
+            "a frame that is lent twice",
+            answers(threads, alloc, Question::IsLentOnce).unwrap_or(false),
+        ),
+        came_to(
+            "events of a lent thread",
+            answers(threads, alloc, Question::IsAway).unwrap_or(false),
+        ),
+        came_to(
+            "a collector that waits for a lent thread",
+            answers(threads, alloc, Question::IsWaitedFor).unwrap_or(false),
         ),
         came_to(
             "the record of one worker",
@@ -119,16 +151,16 @@ fn times(outcome: &Outcome) -> u64 {
     times
 }
 
-/// The machine of the sum.
-fn machine(alloc: Global) -> Result<Machine, Failure> {
-    let verified = accept(alloc, SUM.as_bytes())?;
-    Ok(Machine::new(alloc, verified, LIMITS)?)
+/// The machine of a source, within limits.
+pub(crate) fn machine_of(alloc: Global, source: &str, limits: Limits) -> Result<Machine, Failure> {
+    let verified = accept(alloc, source.as_bytes())?;
+    Ok(Machine::new(alloc, verified, limits)?)
 }
 
 /// Whether two threads that act once each leave two entries.
 fn acts_once(threads: &(impl Threads + Wait + Sync), alloc: Global) -> Result<bool, Failure> {
     let blank = Blank::new(alloc)?;
-    let core = machine(alloc)?;
+    let core = machine_of(alloc, SUM, LIMITS)?;
     let end = run_both::<Brand, _>(threads, alloc, blank, core, Event::Step(0), Event::Gc)?;
     Ok(end.is_some_and(|(_, _, outcome)| times(&outcome) == 2 && !outcome.stopped))
 }
@@ -136,7 +168,7 @@ fn acts_once(threads: &(impl Threads + Wait + Sync), alloc: Global) -> Result<bo
 /// Whether two threads that act often leave an entry for each event, and what the sum prints.
 fn acts_often(threads: &(impl Threads + Wait + Sync), alloc: Global) -> Result<bool, Failure> {
     let blank = Blank::new(alloc)?;
-    let core = machine(alloc)?;
+    let core = machine_of(alloc, SUM, LIMITS)?;
     let events = (Event::Step(0), Event::Ack(0));
     let end = act_many::<Brand, _>(threads, alloc, blank, core, events, 20_000)?;
     Ok(end.is_some_and(|outcome| is_done(&outcome)))

@@ -34,15 +34,15 @@ pub(crate) const ROOM: Limits = Limits {
     depth: 8,
 };
 
-/// Whether one worker leaves the record that its rule gives by hand: the first event of the collector opens a cycle, and the second waits,
-/// so the next number is posted, and the pass behind it begins with an acknowledgement; from then on the collector marks. The last pass,
-/// which finds no live thread, has an event of the collector alone.
+/// Whether one worker leaves the record that its rule gives by hand: the three local instructions come first, in one pass. The first event
+/// of the collector opens a cycle, and the second waits, so the next number is posted, and the pass after it begins with an
+/// acknowledgement; from then on the collector marks. The last pass, which finds no live thread, has an event of the collector alone.
 pub(crate) fn records_one_worker(
     threads: &(impl Threads + Wait + Sync),
     alloc: Global,
 ) -> Result<bool, Failure> {
     let outcome = run_threads(threads, alloc, SUM.as_bytes(), LIMITS, 1, &OpenGate)?;
-    let is_recorded = has_record(alloc, &outcome, "s0 g s0 g a0 s0 g s0 g s0 g*2")?;
+    let is_recorded = has_record(alloc, &outcome, "s0*3 g s0 g a0 s0 g*2")?;
     Ok(is_recorded && outcome.console() == b"5\n".as_slice())
 }
 

@@ -1,6 +1,6 @@
 -- One entry more.
 use Rattle.std.proofs.Common.{◌≡◌, ◌≢◌, ℕ, zero, suc, ◌+◌, ◌<◌, List, [], ◌∷◌, ◌++◌, length, set, Some, refl, sym, ap, ◌∙◌, subst, arith, eq-eqb, ne_eqb, append_assoc, append-nil, add-one, get_or, ◌-◌, nat_eq}
-use Rattle.std.proofs.lemmas.List.{length-set}
+use Rattle.std.proofs.lemmas.List.{length-set, replicate-append-replicate}
 use Rattle.std.proofs.lemmas.List.Elements.{All-nil, All-push}
 use Rattle.std.proofs.lemmas.Option.{slice_get_within}
 use Rattle.std.specs.Prelude.{slice_get, replicate}
@@ -107,6 +107,26 @@ plain-longer xs n d new e len some same new_is =
     let old : Run = get_or xs (n - 1) d in
     let more : new ≡ record { entry = e; times = suc old.times } = new_is ∙ ap (λ (y : Entry × ℕ). record { entry = y.0; times = y.1 }) (λ i. (same i, add-one old.times i)) in
     ap (λ (r : Run). plain (set xs (n - 1) r)) more ∙ last_longer xs (n - 1) d e (omega arith) same
+
+-- so many times more
+pub plain-push_by : (xs : List Run) (e : Entry) (n : ℕ) → plain (xs ++ record { entry = e; times = n } ∷ []) ≡ plain xs ++ replicate n e
+plain-push_by [] e n = append-nil _
+plain-push_by (x ∷ xs) e n = ap (λ (l : List Entry). replicate x.times x.entry ++ l) (plain-push_by xs e n) ∙ sym (append_assoc (replicate x.times x.entry) (plain xs) (replicate n e))
+
+last_longer_by : (xs : List Run) (k : ℕ) (d : Run) (e : Entry) (n : ℕ) → length xs ≡ suc k → (get_or xs k d).entry ≡ e → plain (set xs k (record { entry = e; times = (get_or xs k d).times + n })) ≡ plain xs ++ replicate n e
+last_longer_by [] k d e n len same = absurd (omega arith)
+last_longer_by (x ∷ []) zero d e n len same =
+    append-nil _ ∙ sym (replicate-append-replicate x.times n e) ∙ sym (ap (λ (l : List Entry). l ++ replicate n e) (append-nil _ ∙ ap (λ (y : Entry). replicate x.times y) same))
+last_longer_by (x ∷ y ∷ ys) zero d e n len same = absurd (omega arith)
+last_longer_by (x ∷ []) (suc k) d e n len same = absurd (omega arith)
+last_longer_by (x ∷ y ∷ ys) (suc k) d e n len same =
+    ap (λ (l : List Entry). replicate x.times x.entry ++ l) (last_longer_by (y ∷ ys) k d e n (omega arith) same) ∙ sym (append_assoc (replicate x.times x.entry) (plain (y ∷ ys)) (replicate n e))
+
+pub plain-longer_by : (xs : List Run) (n : ℕ) (d new : Run) (e : Entry) (k : ℕ) → n ≡ length xs → n ≢ 0 → (get_or xs (n - 1) d).entry ≡ e → new ≡ record (get_or xs (n - 1) d) { times = (get_or xs (n - 1) d).times + k } → plain (set xs (n - 1) new) ≡ plain xs ++ replicate k e
+plain-longer_by xs n d new e k len some same new_is =
+    let old : Run = get_or xs (n - 1) d in
+    let more : new ≡ record { entry = e; times = old.times + k } = new_is ∙ ap (λ (y : Entry). record { entry = y; times = old.times + k }) same in
+    ap (λ (r : Run). plain (set xs (n - 1) r)) more ∙ last_longer_by xs (n - 1) d e k (omega arith) same
 
 -- the same under equations
 pub sound_at : (o : Content) (workers : ℕ) (core core' : Content) (h h' : List Entry) (book book' : List ℕ) → IsSound o workers core h book → core' ≡ core → h' ≡ h → book' ≡ book → IsSound o workers core' h' book'

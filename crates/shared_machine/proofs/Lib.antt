@@ -2,6 +2,7 @@ pub use Rattle.interleaving_core.proofs.simulation as simulation
 pub use Rattle.interleaving_core.proofs as interleaving_core
 pub mod Answering
 pub mod Histories
+pub mod Lendings
 pub mod Codes
 pub mod OneWorker
 pub mod TicketCounts

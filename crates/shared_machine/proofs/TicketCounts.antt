@@ -1,5 +1,5 @@
 -- What tickets have counted of their workers' own events.
-use Rattle.std.proofs.Common.{◌≡◌, ℕ, ◌+◌, ◌<◌, List, [], ◌∷◌, ◌++◌, length, get_or, refl, sym, ap, ◌∙◌, subst, arith, eq-eqb, nat_eq, All, true}
+use Rattle.std.proofs.Common.{◌≡◌, ℕ, zero, suc, ◌+◌, ◌<◌, List, [], ◌∷◌, ◌++◌, length, get_or, refl, sym, ap, ◌∙◌, subst, arith, eq-eqb, nat_eq, All, Bool, true}
 use Rattle.std.proofs.lemmas.List.{get_or_append_left, get_or_push, length_push}
 use Rattle.std.proofs.lemmas.List.Elements.{All-append, All-cons, All-nil}
 use native.Mathlib.Decide.{ℕ_discrete}
@@ -9,14 +9,13 @@ use Rattle.cil_model.specs.declared.limits.TheConstants.{MOST_THREADS}
 use Rattle.cil_model.specs.declared.reports.Report.{Report}
 use Rattle.shared_machine.specs.Codes.{add}
 use Rattle.shared_machine.specs.Histories.{IsSmall, add_if, counted, entry}
-use Rattle.shared_machine.specs.Worlds.{IfDid, IfNoMemory, added}
+use Rattle.shared_machine.specs.Worlds.{IfDid, IfNoMemory, added, added_times}
+use Rattle.cil_model.specs.declared.events.Event.TheVariants.{Step}
 use Rattle.shared_machine.specs.declared.answer.Answer.{Answer}
-use Rattle.shared_machine.specs.declared.answer.Answer.TheVariants.{Did, NoMemory}
+use Rattle.shared_machine.specs.declared.answer.Answer.TheVariants.{Did, NoMemory, Away}
 use Rattle.shared_machine.specs.declared.history.Entry.{Entry}
 use Rattle.shared_machine.specs.Counts.{Count}
-use Rattle.shared_machine.specs.Work.{HasWorked, HaveWorked, IsEntryOf, IsOwn, event_of, is_driven_by}
-use Rattle.shared_machine.specs.declared.passing.Request.{Request}
-use Rattle.shared_machine.specs.declared.passing.Request.TheVariants.{Acknowledgement, Step as StepOfEach}
+use Rattle.shared_machine.specs.Work.{HasWorked, HaveWorked, IsEntryOf, IsOwn, is_driven_by}
 
 -- ---- one worker
 
@@ -57,16 +56,30 @@ pub worked_once : (workers : ℕ) (t u : Count) (x : Answer) (e : Event) → IfD
     → HasWorked workers t u
 worked_once workers t u (Did r) e counts same small own = did workers t u e r counts small own
 worked_once workers t u NoMemory e counts same small own = subst (λ (v : Count). HasWorked workers t v) (sym same) (worked_nothing workers t)
+worked_once workers t u Away e counts same small own = subst (λ (v : Count). HasWorked workers t v) (sym same) (worked_nothing workers t)
+
+pub second_if : (x : Answer) (P Q : Type 0) → IfNoMemory x (P × Q) → IfNoMemory x Q
+second_if (Did r) P Q have = tt
+second_if NoMemory P Q have = have.1
+second_if Away P Q have = have.1
+
+-- an event that was done so many times
+worked_more : (workers : ℕ) (t : Count) (n : ℕ) (e : Event) (r : Report) → IsSmall e → IsOwn workers t.worker e → HasWorked workers t (added_times t n e r)
+worked_more workers t zero e r small own = worked_nothing workers t
+worked_more workers t (suc n) e r small own = worked_both workers t (added t e r) (added_times t (suc n) e r) (did workers t (added t e r) e r refl small own) (worked_more workers (added t e r) n e r small own)
+
+pub worked_times : (workers : ℕ) (t u : Count) (n lent thread : ℕ) (r : Report) → lent ≡ thread → u ≡ added_times t n (Step lent) r → thread < MOST_THREADS → IsOwn workers t.worker (Step thread)
+    → HasWorked workers t u
+worked_times workers t u n lent thread r same is inside own =
+    subst (λ (v : Count). HasWorked workers t v) (sym (is ∙ ap (λ x. added_times t n (Step x) r) same)) (worked_more workers t n (Step thread) r (omega (arith, inside)) own)
 
 -- the same workers and the same ticket under equations
 pub worked_as : (workers workers' : ℕ) (t t' u : Count) → workers' ≡ workers → t' ≡ t → HasWorked workers' t' u → HasWorked workers t u
 worked_as workers workers' t t' u same same' did = subst (λ (p : ℕ × Count). HasWorked p.0 p.1 u) (λ k. (same k, same' k)) did
 
--- what is asked for a thread that the worker drives is the worker's own
-pub asked_for_own : (workers worker thread : ℕ) (request : Request) (event : Event) → event ≡ event_of request thread → thread < MOST_THREADS → is_driven_by workers worker thread ≡ true
-    → IsOwn workers worker event
-asked_for_own workers worker thread Acknowledgement event is there drives = subst (λ (e : Event). IsOwn workers worker e) (sym is) (there, drives)
-asked_for_own workers worker thread StepOfEach event is there drives = subst (λ (e : Event). IsOwn workers worker e) (sym is) (there, drives)
+-- whether a worker drives a thread, by its number as it was read
+pub driven : (workers worker own thread : ℕ) (drives : Bool) → worker ≡ own → drives ≡ is_driven_by workers worker thread → drives ≡ true → is_driven_by workers own thread ≡ true
+driven workers worker own thread drives same is so = ap (λ w. is_driven_by workers w thread) (sym same) ∙ sym is ∙ so
 
 -- ---- several workers
 

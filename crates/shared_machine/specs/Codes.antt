@@ -1,5 +1,5 @@
 -- The number of an event with its report, and the count that grows by it. No code holds these numbers.
-use Rattle.std.specs.Prelude.{ℕ, ◌+◌, ◌*◌}
+use Rattle.std.specs.Prelude.{ℕ, zero, suc, ◌+◌, ◌*◌}
 use Rattle.cil_model.specs.declared.events.Event.{Event}
 use Rattle.cil_model.specs.declared.events.Event.TheVariants.{Step, Ack, Gc}
 use Rattle.cil_model.specs.declared.reports.End.{End}
@@ -56,3 +56,8 @@ code e r = 1 + report_number r + 32 * event_number e
 -- a worker's count, after one event more
 abbrev pub add : ℕ → Event → Report → ℕ
 add count e r = 65536 * count + code e r
+
+-- and after that event so many times
+abbrev pub add_times : ℕ → ℕ → Event → Report → ℕ
+add_times zero count e r = count
+add_times (suc n) count e r = add_times n (add count e r) e r

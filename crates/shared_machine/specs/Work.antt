@@ -7,8 +7,6 @@ use Rattle.epoch_words.specs.Tokens.{EpochsValue, HeraldValue, SeatValue}
 use Rattle.shared_machine.specs.Histories.{IsSmall, counted}
 use Rattle.shared_machine.specs.declared.history.Entry.{Entry}
 use Rattle.shared_machine.specs.Counts.{Count}
-use Rattle.shared_machine.specs.declared.passing.Request.{Request}
-use Rattle.shared_machine.specs.declared.passing.Request.TheVariants.{Acknowledgement, Step as StepOfEach}
 
 -- ---- whose events they are
 
@@ -29,11 +27,6 @@ IsOwn workers worker Gc = worker ≡ 0
 -- an entry of a history is an event that is its worker's own
 abbrev pub IsOwnOf : ℕ → Entry → Type 0
 IsOwnOf workers e = IsOwn workers e.worker e.event
-
--- the event by which this is asked for a thread
-abbrev pub event_of : Request → ℕ → Event
-event_of Acknowledgement thread = Ack thread
-event_of StepOfEach thread = Step thread
 
 -- ---- what a ticket has counted of them
 

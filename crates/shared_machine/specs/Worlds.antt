@@ -1,8 +1,15 @@
 -- What lies under the lock, and what an event does to it.
-use Rattle.std.specs.Prelude.{◌≡◌, ℕ, zero, suc, Bool, List, [], ◌∷◌, ◌++◌, None, Some, length, slice_get, slice_set, ◌<◌, Any}
+use Rattle.std.specs.Prelude.{◌≡◌, ◌⊎◌, ℕ, zero, suc, Bool, true, false, List, [], ◌∷◌, ◌++◌, Option, None, Some, length, map, is_none, replicate, slice_get, slice_set, ◌<◌, Any}
 use Rattle.std.specs.List.{zip}
+use Rattle.std.specs.Option.{option_map_or}
 use Rattle.cil_model.specs.declared.events.Event.{Event}
+use Rattle.cil_model.specs.declared.events.Event.TheVariants.{Step, Ack, Gc}
+use Rattle.cil_model.specs.declared.limits.TheConstants.{MOST_THREADS}
 use Rattle.cil_model.specs.declared.reports.Report.{Report}
+use Rattle.cil_model.specs.declared.reports.Report.TheVariants.{Ran}
+use Rattle.cil_model.specs.declared.trees.Tree.{Tree}
+use Rattle.interleaving_core.specs.Loans.{Begins, IsAtOrigin, Lent}
+use Rattle.interleaving_core.specs.simulation.threads_monitors.Threads.{is_live_at}
 use Rattle.object_memory.specs.Objects.{no_objects}
 use Rattle.interleaving_core.specs.Histories.{DoesMore}
 use Rattle.interleaving_core.specs.simulation.MachineContents.{Content}
@@ -11,10 +18,10 @@ use Rattle.interleaving_core.specs.simulation.phase_handshake.Handshakes.{first_
 use Rattle.interleaving_core.specs.simulation.Runs.{AreTurns, FollowsReference}
 use Rattle.interleaving_core.specs.simulation.Turns.{IsTurn}
 use Rattle.shared_machine.specs.Counts.{Count}
-use Rattle.shared_machine.specs.Codes.{add}
+use Rattle.shared_machine.specs.Codes.{add, add_times}
 use Rattle.shared_machine.specs.Histories.{AreOf, entry, events_of, reports_of, count_of}
 use Rattle.shared_machine.specs.declared.answer.Answer.{Answer}
-use Rattle.shared_machine.specs.declared.answer.Answer.TheVariants.{Did, NoMemory}
+use Rattle.shared_machine.specs.declared.answer.Answer.TheVariants.{Did, NoMemory, Away}
 use Rattle.shared_machine.specs.declared.history.Entry.{Entry}
 
 -- the content of no machine
@@ -30,11 +37,12 @@ no_content = record {
   printed = [];
 }
 
--- the machine, the history, the book of the workers' counts, and the stop mark
+-- the machine, the history, the book of the workers' counts, of each thread that may be whether it is lent, and the stop mark
 pub record Shown : Type 0 where
   pub core : Content
   pub history : List Entry
   pub book : List ℕ
+  pub lent : List Bool
   pub stopped : Bool
 
 -- the turns over the history's events go from the opening content to the machine's with the history's reports, each entry is of one of
@@ -44,6 +52,20 @@ pub record IsSound (opening : Content) (workers : ℕ) (core : Content) (history
   pub theirs : AreOf workers history
   pub each : length book ≡ workers
   pub counts : (w n : ℕ) → slice_get book w ≡ Some n → n ≡ count_of w history
+
+-- there is a place for the memory of a loan for each thread that may be; what is there has a share of the program
+pub record HasRooms (opening : Content) (rooms : List (Option Tree)) : Type 0 where
+  pub each : length rooms ≡ MOST_THREADS
+  pub theirs : (t : ℕ) (tree : Tree) → slice_get rooms t ≡ Some (Some tree) → tree ≡ opening.tree
+
+-- a thread is lent while the memory of its loan is elsewhere
+abbrev pub lent_of : List (Option Tree) → List Bool
+lent_of rooms = map is_none rooms
+
+-- both
+pub record IsWorld (opening : Content) (workers : ℕ) (core : Content) (history : List Entry) (book : List ℕ) (rooms : List (Option Tree)) : Type 0 where
+  pub sound : IsSound opening workers core history book
+  pub homes : HasRooms opening rooms
 
 -- a machine has made these turns, one report an event; the reference machine follows them; whatever the machine had done before, it has then done these
 -- events too; program and limits are the same
@@ -59,11 +81,13 @@ pub record HasRun (opening : Content) (events : List Event) (reports : List Repo
 abbrev pub IfDid : Answer → (Report → Type 0) → Type 0
 IfDid (Did r) P = P r
 IfDid NoMemory P = Unit {0}
+IfDid Away P = Unit {0}
 
--- what is true where no memory was left
+-- what is true where nothing was done: no memory was left, or the thread is lent
 abbrev pub IfNoMemory : Answer → Type 0 → Type 0
 IfNoMemory (Did r) P = Unit {0}
 IfNoMemory NoMemory P = P
+IfNoMemory Away P = P
 
 -- the ticket after an event
 abbrev pub added : Count → Event → Report → Count
@@ -75,6 +99,7 @@ with_entry world t e r core = record {
   core = core;
   history = world.history ++ entry t.worker e r ∷ [];
   book = slice_set world.book t.worker (add t.count e r);
+  lent = world.lent;
   stopped = world.stopped;
 }
 
@@ -82,6 +107,60 @@ with_entry world t e r core = record {
 pub record IsDid (old : Shown) (t : Count) (e : Event) (new : Shown) (r : Report) : Type 0 where
   pub turn : IsTurn old.core e (new.core, r)
   pub recorded : new ≡ with_entry old t e r new.core
+
+-- ---- lending
+
+-- whether the thread of a number is lent
+abbrev pub is_lent_in : List Bool → ℕ → Bool
+is_lent_in lent t = option_map_or (λ (b : Bool). b) (slice_get lent t) false
+
+-- an event that a lent thread would have to take part in
+abbrev pub is_away : List Bool → Event → Bool
+is_away lent (Step t) = is_lent_in lent t
+is_away lent (Ack t) = is_lent_in lent t
+is_away lent Gc = false
+
+-- a thread can't be lent: it is not live, or it is lent already
+abbrev pub CannotLend : Shown → ℕ → Type 0
+CannotLend world t = (is_live_at world.core.threads t ≡ false) ⊎ (is_lent_in world.lent t ≡ true)
+
+-- a live thread that wasn't lent is lent, and nothing else changes
+pub record IsLentOut (old : Shown) (t : ℕ) (l : Lent) (new : Shown) : Type 0 where
+  pub live : is_live_at old.core.threads t ≡ true
+  pub home : is_lent_in old.lent t ≡ false
+  pub begins : Begins old.core t l
+  pub marked : new ≡ record old { lent = slice_set old.lent t true }
+
+-- the thread of a loan is lent, and stands as it did when the loan began
+abbrev pub IsKept : Shown → Lent → Type 0
+IsKept world l = (is_lent_in world.lent l.thread ≡ true) × IsAtOrigin world.core l
+
+-- the ticket after an event so many times
+abbrev pub added_times : Count → ℕ → Event → Report → Count
+added_times t n e r = record { worker = t.worker; count = add_times n t.count e r }
+
+-- the book once the ticket's worker has an event so many times more
+abbrev pub book_times : List ℕ → Count → ℕ → Event → Report → List ℕ
+book_times book t zero e r = book
+book_times book t (suc n) e r = slice_set book t.worker (add_times (suc n) t.count e r)
+
+-- so many entries more, with the machine at this content, and the thread is no longer lent
+abbrev pub with_entries : Shown → Count → ℕ → (thread : ℕ) → Content → Shown
+with_entries world t n thread core = record {
+  core = core;
+  history = world.history ++ replicate n (entry t.worker (Step thread) Ran);
+  book = book_times world.book t n (Step thread) Ran;
+  lent = slice_set world.lent thread false;
+  stopped = world.stopped;
+}
+
+-- a loan came back: its instructions are as many steps of its thread, each of which reports that it ran, and is recorded and counted
+pub record IsCheckedIn (old : Shown) (t : Count) (l : Lent) (n : ℕ) (new : Shown) (u : Count) : Type 0 where
+  pub all : n ≡ l.done
+  pub kept : IsKept old l
+  pub turns : AreTurns old.core (replicate n (Step l.thread)) new.core (replicate n Ran)
+  pub recorded : new ≡ with_entries old t n l.thread new.core
+  pub counted : u ≡ added_times t n (Step l.thread) Ran
 
 -- the ticket's count is that of its worker's entries
 abbrev pub AgreesWith : List Entry → Count → Type 0

@@ -31,7 +31,7 @@ fn act_item<M: Opening, R: Wait>(
     for _time in 0..item.count {
         match shared.act(rt, alloc, ticket, item.event) {
             (Answer::Did(_), next) => ticket = next,
-            (Answer::NoMemory, _) => return Err(NoMemory),
+            (Answer::NoMemory | Answer::Away, _) => return Err(NoMemory),
         }
     }
     Ok(ticket)

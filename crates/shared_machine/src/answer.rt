@@ -9,4 +9,6 @@ pub enum Answer {
     Did(Report),
     /// No memory was left for the event or for its entry, and nothing changed.
     NoMemory,
+    /// The top frame of the event's thread is lent, and nothing changed.
+    Away,
 }

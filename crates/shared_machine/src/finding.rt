@@ -5,11 +5,9 @@ ghost use Rattle.std.specs.List.{count_by};
 ghost use Rattle.cil_model.specs.declared.limits.TheConstants.{MOST_THREADS};
 ghost use Rattle.interleaving_core.specs.simulation.threads_monitors.Threads.{is_live, is_live_at};
 
-use crate::shared::Shared;
 use crate::world::{Opening, World};
 use cil_model::limits::MOST_THREADS;
 use interleaving_core::Machine;
-use std::sync::Wait;
 
 /// What a worker finds as a pass begins.
 #[derive(Clone, Copy)]
@@ -32,7 +30,7 @@ fn live_threads(machine: &Machine) -> [bool; MOST_THREADS]
 }
 
 /// What is found in a world.
-fn found_in<M: Opening>(world: &World<M>) -> Findings
+pub(crate) fn found_in<M: Opening>(world: &World<M>) -> Findings
     ensures live { (thread : ℕ) (d : Bool) → thread < MOST_THREADS → slice_index_or result.live thread d ≡ is_live_at world.now.core.threads thread }
     ensures last { result.is_last ≡ ((count_by is_live world.now.core.threads == 0) || world.now.stopped) }
 {
@@ -41,10 +39,4 @@ fn found_in<M: Opening>(world: &World<M>) -> Findings
         live: live_threads(machine),
         is_last: machine.live() == 0 || world.is_stopped(),
     }
-}
-
-/// Takes the lock, looks, and gives it back.
-pub(crate) fn look<M: Opening, R: Wait>(rt: &R, shared: &Shared<M>) -> Findings {
-    let world = shared.lock(rt);
-    found_in(&*world)
 }

@@ -1,6 +1,6 @@
 //! The history of a shared machine, as runs of equal entries.
 
-ghost use Rattle.std.specs.Prelude.{◌≡◌, ◌<◌, ℕ, List, ◌∷◌, ◌++◌, [], true, false, OnOk};
+ghost use Rattle.std.specs.Prelude.{◌≡◌, ◌<◌, ◌≤◌, ◌+◌, ℕ, List, replicate, ◌∷◌, ◌++◌, [], true, false, OnOk};
 ghost use Rattle.shared_machine.specs.Histories.{Fixes, plain};
 ghost use Rattle.shared_machine.specs.declared.history.Entry.{Entry};
 ghost use Rattle.shared_machine.specs.declared.history.TheConstants.{MOST_TIMES};
@@ -81,6 +81,21 @@ impl History {
         }
     }
 
+    /// Adds an entry at the end so many times, for which there has to be room. The entries before it stay.
+    pub fn add_times(&mut self, entry: Entry, times: u32)
+        requires room { self.old.ready ≡ true }
+        requires some { 0 < times }
+        ensures { self.new.entries ≡ self.old.entries ++ replicate times entry }
+    {
+        let times = u64::from(times);
+        if !lengthen_by(&mut self.runs, &entry, times) {
+            match self.runs.push(Run { entry, times }) {
+                Ok(()) => {}
+                Err(_) => unreachable!(),
+            }
+        }
+    }
+
     /// The runs, the oldest first. One after another, each as often as it says, they are the entries.
     pub fn runs(&self) -> &[Run]
         ensures { plain result.now ≡ self.now.entries }
@@ -134,5 +149,26 @@ fn lengthen(runs: &mut Vec<Run>, entry: &Entry) -> bool
         return false;
     }
     runs[count - 1].times += 1;
+    true
+}
+
+/// Whether a run is one of this entry, and can be longer by so many.
+fn can_be_longer_by(run: &Run, entry: &Entry, times: u64) -> bool
+    ensures { result ≡ true → (run.now.entry ≡ entry.now) × (run.now.times + times ≤ MOST_TIMES) }
+{
+    times <= MOST_TIMES - run.times && is_same(&run.entry, entry)
+}
+
+/// Makes the last run longer by so many, where it is one of this entry and can be. Else it answers false, and the runs stay.
+fn lengthen_by(runs: &mut Vec<Run>, entry: &Entry, times: u64) -> bool
+    ensures longer { result ≡ true → plain runs.new.items ≡ plain runs.old.items ++ replicate times entry.now }
+    ensures same { result ≡ false → runs.new ≡ runs.old }
+{
+    let all = runs.as_slice();
+    let count = all.len();
+    if count == 0 || !can_be_longer_by(&all[count - 1], entry, times) {
+        return false;
+    }
+    runs[count - 1].times += times;
     true
 }

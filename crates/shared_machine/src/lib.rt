@@ -33,4 +33,4 @@ pub use record::write_record;
 pub use shared::{MOST_WORKERS, Shared, Unfinished};
 pub use together::run_together;
 pub use view::{Naming, Next};
-pub use world::{Opening, World, perform, stop};
+pub use world::{Lent, Opening, World, check_in, lend, perform, run_local, stop};

@@ -1,19 +1,23 @@
 //! A worker's pass.
 
 ghost use Rattle.std.specs.Prelude.{◌≡◌, ◌<◌, ℕ};
-ghost use Rattle.shared_machine.specs.Work.{HasWorked, IsHeraldOf, IsOwn, IsSeatOf, event_of, is_driven_by};
+ghost use Rattle.cil_model.specs.declared.events.Event.TheVariants.{Step as StepOf};
+ghost use Rattle.shared_machine.specs.Work.{HasWorked, IsHeraldOf, IsOwn, IsSeatOf, is_driven_by};
 
 use crate::answer::Answer;
 use crate::book::Ticket;
-use crate::finding::Findings;
+use crate::finding::{Findings, found_in};
 use crate::shared::Shared;
-use crate::world::Opening;
+use crate::world::{Lent, Opening, World, check_in, lend, perform, run_local, stop};
 use cil_model::events::Event;
 use cil_model::limits::MOST_THREADS;
 use cil_model::reports::Report;
 use epoch_words::{Epochs, Herald, Seat};
 use std::alloc::Global;
-use std::sync::Wait;
+use std::sync::{MutexGuard, Wait};
+
+/// The most local instructions of a thread between two holds of the lock.
+const MOST_LOCAL: u32 = 64;
 
 /// A worker at its work.
 #[derive(Drop)]
@@ -26,21 +30,48 @@ pub(crate) struct Worker<M: Opening> {
     pub herald: Option<Herald>,
 }
 
-/// What a worker asks for each of its threads.
-#[derive(Clone, Copy)]
-enum Request {
-    Acknowledgement,
-    Step,
+/// What came of a worker's events.
+#[derive(Clone, Copy, PartialEq, Eq)]
+pub(crate) enum Progress {
+    /// A thread or the collector went on.
+    Made,
+    /// Each thread that was asked is blocked or absent, and the collector waits.
+    None,
+    /// Memory did not last.
+    OutOfMemory,
 }
 
-/// The event by which this is asked for a thread.
-fn event_of(request: Request, thread: u8) -> Event
-    ensures { result ≡ event_of request thread }
-{
-    match request {
-        Request::Acknowledgement => Event::Ack(thread),
-        Request::Step => Event::Step(thread),
+impl Progress {
+    /// What an answer says.
+    fn of(answer: Answer) -> Progress {
+        match answer {
+            Answer::Did(Report::Blocked | Report::Absent | Report::Waiting) => Progress::None,
+            Answer::Did(_) => Progress::Made,
+            Answer::Away => Progress::None,
+            Answer::NoMemory => Progress::OutOfMemory,
+        }
     }
+
+    /// This one, and then the next.
+    fn then(self, next: Progress) -> Progress {
+        match (self, next) {
+            (Progress::OutOfMemory, _) | (_, Progress::OutOfMemory) => Progress::OutOfMemory,
+            (Progress::None, Progress::None) => Progress::None,
+            _ => Progress::Made,
+        }
+    }
+
+    fn lasts(self) -> bool {
+        self != Progress::OutOfMemory
+    }
+}
+
+/// What a worker's pass came to.
+#[derive(Clone, Copy)]
+pub(crate) struct Passed {
+    pub progress: Progress,
+    /// Whether it found no live thread, or the stop mark.
+    pub is_last: bool,
 }
 
 /// Whether one of so many workers drives a thread.
@@ -51,127 +82,147 @@ fn is_driven_by(workers: u8, worker: u8, thread: u8) -> bool
     thread % workers == worker
 }
 
-/// Does an event as `act` does it. Where it is one of the worker's own, the worker has done nothing else.
-fn ask<M: Opening, R: Wait>(
-    rt: &R,
+/// Does an event as `perform` does it. Where it is one of the worker's own, the worker has done nothing else.
+fn ask<M: Opening>(
     alloc: Global,
-    shared: &Shared<M>,
-    ticket: Ticket<M>,
+    world: &mut World<M>,
+    ticket: &mut Ticket<M>,
     event: Event,
-) -> (Answer, Ticket<M>)
-    ensures { (workers : ℕ) → IsOwn workers ticket.worker event → HasWorked workers ticket result.1 }
+) -> Answer
+    ensures { (workers : ℕ) → IsOwn workers ticket.old.worker event → HasWorked workers ticket.old ticket.new }
 {
-    shared.act(rt, alloc, ticket, event)
+    perform(world, alloc, ticket, event)
 }
 
-/// Asks for each thread that the worker drives and that was found live, in the order of their numbers, and answers whether memory lasted.
-/// It stops at the first want of memory.
-fn ask_each<M: Opening, R: Wait>(
+/// Takes a lent frame back, and has its thread make a step where no instruction was done on the frame. Where the thread is the worker's
+/// own, the worker has done nothing else.
+fn settle<M: Opening>(
+    alloc: Global,
+    world: &mut World<M>,
+    ticket: &mut Ticket<M>,
+    lent: Lent<M>,
+    thread: u8,
+) -> Progress
+    requires { lent.thread ≡ thread }
+    ensures { (workers : ℕ) → IsOwn workers ticket.old.worker (StepOf thread) → HasWorked workers ticket.old ticket.new }
+{
+    match check_in(world, ticket, lent) {
+        Ok(0) => Progress::of(perform(world, alloc, ticket, Event::Step(thread))),
+        Ok(_) => Progress::Made,
+        Err(_) => Progress::OutOfMemory,
+    }
+}
+
+/// Has a thread go on, under the lock that is held: by one step, or, where its next instruction is local, by local instructions without the
+/// lock, 64 at most. The lock is held again at the end. Where the thread is the worker's own, the worker has done nothing else.
+fn go_on<'s, M: Opening, R: Wait>(
     rt: &R,
     alloc: Global,
-    shared: &Shared<M>,
-    mut ticket: Ticket<M>,
+    shared: &'s Shared<M>,
+    mut world: MutexGuard<'s, World<M>>,
+    ticket: &mut Ticket<M>,
+    thread: u8,
+) -> (Progress, MutexGuard<'s, World<M>>)
+    ensures { (workers : ℕ) → IsOwn workers ticket.old.worker (StepOf thread) → HasWorked workers ticket.old ticket.new }
+{
+    if world.machine().is_next_local(thread) {
+        if let Some(lent) = lend(&mut *world, thread) {
+            drop(world);
+            let lent = run_local(lent, MOST_LOCAL);
+            let mut again = shared.lock(rt);
+            let progress = settle(alloc, &mut *again, ticket, lent, thread);
+            return (progress, again);
+        }
+    }
+    let answer = ask(alloc, &mut *world, ticket, Event::Step(thread));
+    (Progress::of(answer), world)
+}
+
+/// Has each thread go on that the worker drives and that was found live, in the order of their numbers. It stops where memory does not
+/// last.
+fn step_each<'s, M: Opening, R: Wait>(
+    rt: &R,
+    alloc: Global,
+    shared: &'s Shared<M>,
+    mut world: MutexGuard<'s, World<M>>,
+    ticket: &mut Ticket<M>,
     workers: u8,
     found: &Findings,
-    request: Request,
-) -> (bool, Ticket<M>)
+) -> (Progress, MutexGuard<'s, World<M>>)
     requires { 0 < workers }
-    ensures { HasWorked workers ticket result.1 }
+    ensures { HasWorked workers ticket.old ticket.new }
+{
+    let mut progress = Progress::None;
+    for thread in 0..MOST_THREADS {
+        let number = thread as u8;
+        if found.live[thread] && is_driven_by(workers, ticket.worker(), number) {
+            let (came, held) = go_on(rt, alloc, shared, world, ticket, number);
+            world = held;
+            progress = progress.then(came);
+            if !progress.lasts() {
+                return (progress, world);
+            }
+        }
+    }
+    (progress, world)
+}
+
+/// Acknowledges for each thread that the worker drives and that was found live, in the order of their numbers. It stops where memory does
+/// not last.
+fn acknowledge_each<M: Opening>(
+    alloc: Global,
+    world: &mut World<M>,
+    ticket: &mut Ticket<M>,
+    workers: u8,
+    found: &Findings,
+) -> Progress
+    requires { 0 < workers }
+    ensures { HasWorked workers ticket.old ticket.new }
 {
     for thread in 0..MOST_THREADS {
         let number = thread as u8;
         if found.live[thread] && is_driven_by(workers, ticket.worker(), number) {
-            let (answer, next) = ask(rt, alloc, shared, ticket, event_of(request, number));
-            ticket = next;
+            let answer = ask(alloc, world, ticket, Event::Ack(number));
             if answer == Answer::NoMemory {
-                return (false, ticket);
+                return Progress::OutOfMemory;
             }
         }
     }
-    (true, ticket)
+    Progress::Made
 }
 
 /// Polls, and, where the number is newer than the last one acknowledged, has each of the worker's threads acknowledge, and then
-/// acknowledges itself. It answers whether memory lasted.
-fn acknowledge<M: Opening, R: Wait>(
-    rt: &R,
+/// acknowledges itself.
+fn acknowledge<M: Opening>(
     alloc: Global,
-    shared: &Shared<M>,
     epochs: &Epochs,
+    world: &mut World<M>,
     worker: Worker<M>,
     workers: u8,
     found: &Findings,
-) -> (bool, Worker<M>)
+) -> (Progress, Worker<M>)
     requires some { 0 < workers }
     requires here { IsSeatOf epochs.now worker.seat × IsHeraldOf epochs.now worker.herald }
     ensures here { IsSeatOf epochs.now result.1.seat × IsHeraldOf epochs.now result.1.herald }
     ensures worked { HasWorked workers worker.ticket result.1.ticket }
 {
     let Worker {
-        ticket,
+        mut ticket,
         seat,
-        acknowledged,
+        mut acknowledged,
         herald,
     } = worker;
-    let (posted, seat) = epochs.poll(seat);
-    if posted <= acknowledged {
-        return (
-            true,
-            Worker {
-                ticket,
-                seat,
-                acknowledged,
-                herald,
-            },
-        );
+    let (posted, mut seat) = epochs.poll(seat);
+    let mut progress = Progress::None;
+    if posted > acknowledged {
+        progress = acknowledge_each(alloc, world, &mut ticket, workers, found);
+        if progress.lasts() {
+            seat = epochs.ack(seat);
+            acknowledged = posted;
+        }
     }
-    let request = Request::Acknowledgement;
-    let (lasted, ticket) = ask_each(rt, alloc, shared, ticket, workers, found, request);
-    if !lasted {
-        return (
-            false,
-            Worker {
-                ticket,
-                seat,
-                acknowledged,
-                herald,
-            },
-        );
-    }
-    let seat = epochs.ack(seat);
     (
-        true,
-        Worker {
-            ticket,
-            seat,
-            acknowledged: posted,
-            herald,
-        },
-    )
-}
-
-/// Has each of the worker's threads make a step, and answers whether memory lasted.
-fn step<M: Opening, R: Wait>(
-    rt: &R,
-    alloc: Global,
-    shared: &Shared<M>,
-    worker: Worker<M>,
-    workers: u8,
-    found: &Findings,
-) -> (bool, Worker<M>)
-    requires { 0 < workers }
-    ensures same { (result.1.seat ≡ worker.seat) × (result.1.herald ≡ worker.herald) }
-    ensures worked { HasWorked workers worker.ticket result.1.ticket }
-{
-    let Worker {
-        ticket,
-        seat,
-        acknowledged,
-        herald,
-    } = worker;
-    let (lasted, ticket) = ask_each(rt, alloc, shared, ticket, workers, found, Request::Step);
-    (
-        lasted,
+        progress,
         Worker {
             ticket,
             seat,
@@ -182,67 +233,42 @@ fn step<M: Opening, R: Wait>(
 }
 
 /// Posts the next number, where the herald is here.
-fn post(epochs: &Epochs, herald: Option<Herald>) -> Option<Herald>
-    requires { IsHeraldOf epochs.now herald }
-    ensures { IsHeraldOf epochs.now result }
+fn post(epochs: &Epochs, herald: &mut Option<Herald>)
+    requires { IsHeraldOf epochs.now herald.old }
+    ensures { IsHeraldOf epochs.now herald.new }
 {
-    match herald {
-        Some(herald) => {
-            let (_post, herald) = epochs.post(herald);
-            Some(herald)
-        }
-        None => None,
+    if let Some(right) = herald.take() {
+        let (_post, right) = epochs.post(right);
+        *herald = Some(right);
     }
 }
 
-/// Does an event of the collector, and posts where the collector waits; it answers whether memory lasted. That is for worker 0: another
-/// one does nothing.
-fn collect<M: Opening, R: Wait>(
-    rt: &R,
+/// Does an event of the collector, and posts where the collector waits. That is for worker 0: another one does nothing.
+fn collect<M: Opening>(
     alloc: Global,
-    shared: &Shared<M>,
     epochs: &Epochs,
-    worker: Worker<M>,
-) -> (bool, Worker<M>)
-    requires { IsHeraldOf epochs.now worker.herald }
-    ensures herald { IsHeraldOf epochs.now result.1.herald }
-    ensures seat { result.1.seat ≡ worker.seat }
-    ensures worked { (workers : ℕ) → HasWorked workers worker.ticket result.1.ticket }
+    world: &mut World<M>,
+    ticket: &mut Ticket<M>,
+    herald: &mut Option<Herald>,
+) -> Progress
+    requires { IsHeraldOf epochs.now herald.old }
+    ensures herald { IsHeraldOf epochs.now herald.new }
+    ensures worked { (workers : ℕ) → HasWorked workers ticket.old ticket.new }
 {
-    let Worker {
-        ticket,
-        seat,
-        acknowledged,
-        mut herald,
-    } = worker;
     if ticket.worker() != 0 {
-        return (
-            true,
-            Worker {
-                ticket,
-                seat,
-                acknowledged,
-                herald,
-            },
-        );
+        return Progress::None;
     }
-    let (answer, ticket) = ask(rt, alloc, shared, ticket, Event::Gc);
+    let answer = ask(alloc, world, ticket, Event::Gc);
     if answer == Answer::Did(Report::Waiting) {
-        herald = post(epochs, herald);
+        post(epochs, herald);
     }
-    (
-        answer != Answer::NoMemory,
-        Worker {
-            ticket,
-            seat,
-            acknowledged,
-            herald,
-        },
-    )
+    Progress::of(answer)
 }
 
-/// One pass of a worker: it polls and acknowledges, has each of its threads make a step, and, as worker 0, does an event of the collector.
-/// Its threads are those that it drives and that were found live. It answers whether memory lasted, and stops at the first want of it.
+/// One pass of a worker: it looks, polls and acknowledges, has each of its threads go on, and, as worker 0, does an event of the collector.
+/// Its threads are those that it drives and that it found live. Where memory does not last, it stops there and sets the stop mark.
+///
+/// The lock is taken once, and once more after the local instructions of each thread.
 pub(crate) fn pass<M: Opening, R: Wait>(
     rt: &R,
     alloc: Global,
@@ -250,20 +276,29 @@ pub(crate) fn pass<M: Opening, R: Wait>(
     epochs: &Epochs,
     worker: Worker<M>,
     workers: u8,
-    found: &Findings,
-) -> (bool, Worker<M>)
+) -> (Passed, Worker<M>)
     requires some { 0 < workers }
     requires here { IsSeatOf epochs.now worker.seat × IsHeraldOf epochs.now worker.herald }
     ensures here { IsSeatOf epochs.now result.1.seat × IsHeraldOf epochs.now result.1.herald }
     ensures worked { HasWorked workers worker.ticket result.1.ticket }
 {
-    let (lasted, worker) = acknowledge(rt, alloc, shared, epochs, worker, workers, found);
-    if !lasted {
-        return (false, worker);
+    let mut world = shared.lock(rt);
+    let found = found_in(&*world);
+    let (mut progress, mut worker) =
+        acknowledge(alloc, epochs, &mut *world, worker, workers, &found);
+    if progress.lasts() {
+        let ticket = &mut worker.ticket;
+        let (came, held) = step_each(rt, alloc, shared, world, ticket, workers, &found);
+        world = held;
+        progress = progress.then(came);
     }
-    let (lasted, worker) = step(rt, alloc, shared, worker, workers, found);
-    if !lasted {
-        return (false, worker);
+    if progress.lasts() {
+        let (ticket, herald) = (&mut worker.ticket, &mut worker.herald);
+        progress = progress.then(collect(alloc, epochs, &mut *world, ticket, herald));
     }
-    collect(rt, alloc, shared, epochs, worker)
+    if !progress.lasts() {
+        stop(&mut *world);
+    }
+    let is_last = found.is_last;
+    (Passed { progress, is_last }, worker)
 }

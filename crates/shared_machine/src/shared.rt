@@ -8,8 +8,9 @@ ghost use Rattle.shared_machine.specs.declared.shared.TheConstants.{MOST_WORKERS
 use crate::answer::Answer;
 use crate::book::{Blank, Book, Ticket};
 use crate::outcome::Outcome;
-use crate::world::{Opening, World, perform};
+use crate::world::{Opening, World, perform, rooms_for};
 use cil_model::events::Event;
+use cil_model::memory::NoMemory;
 use interleaving_core::Machine;
 use std::alloc::{AllocError, Global};
 use std::marker::Model;
@@ -61,7 +62,7 @@ impl<M: Opening> Shared<M> {
         blank: Blank,
         core: Machine,
         workers: u8,
-    ) -> Result<(Shared<M>, Vec<Ticket<M>>), AllocError>
+    ) -> Result<(Shared<M>, Vec<Ticket<M>>), NoMemory>
         requires book { blank.table.shared.table_id ≡ M.table }
         requires core { core ≡ M.opening }
         requires workers { (1 ≤ workers) × (workers ≤ MOST_WORKERS) × (workers ≡ M.workers) }
@@ -69,7 +70,8 @@ impl<M: Opening> Shared<M> {
     {
         let mut book = blank.open::<M>();
         let tickets = deal_all(alloc, &mut book, workers)?;
-        let world = Mutex::new(World::new(alloc, core, book));
+        let rooms = rooms_for(alloc, &core)?;
+        let world = Mutex::new(World::new(alloc, core, book, rooms));
         Ok((Shared { world, workers }, tickets))
     }
 

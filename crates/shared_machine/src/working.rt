@@ -4,9 +4,8 @@ ghost use Rattle.std.specs.Prelude.{◌≡◌, ◌<◌};
 ghost use Rattle.shared_machine.specs.Work.{HasWorked, IsHeraldOf, IsSeatOf};
 
 use crate::book::Ticket;
-use crate::finding::look;
 use crate::gate::Gate;
-use crate::passing::{Worker, pass};
+use crate::passing::{Progress, Worker, pass};
 use crate::shared::Shared;
 use crate::world::{Opening, stop};
 use epoch_words::Epochs;
@@ -21,7 +20,7 @@ pub(crate) fn set_stop_mark<M: Opening, R: Wait>(rt: &R, shared: &Shared<M>) {
 }
 
 /// Makes passes until one has found no live thread or the stop mark, or memory did not last, and gives the ticket back. Where memory did
-/// not last, it sets the stop mark.
+/// not last, the stop mark is set. One of several workers yields after a pass in which nothing went on.
 pub(crate) fn work<M: Opening, R: Wait, G: Gate>(
     rt: &R,
     alloc: Global,
@@ -38,17 +37,15 @@ pub(crate) fn work<M: Opening, R: Wait, G: Gate>(
     let mut turn = 0u32;
     for _ in rt.forever() {
         gate.pass(worker.ticket.worker(), turn);
-        let found = look(rt, shared);
-        let (lasted, next) = pass(rt, alloc, shared, epochs, worker, workers, &found);
+        let (passed, next) = pass(rt, alloc, shared, epochs, worker, workers);
         worker = next;
-        if !lasted {
-            set_stop_mark(rt, shared);
-        }
-        if !lasted || found.is_last {
+        if passed.is_last || passed.progress == Progress::OutOfMemory {
             break;
         }
         turn = turn.saturating_add(1);
-        yield_now();
+        if workers > 1 && passed.progress == Progress::None {
+            yield_now();
+        }
     }
     worker.ticket
 }

@@ -1,11 +1,15 @@
 //! What lies under the lock, and one event on it.
 
-ghost use Rattle.std.specs.Prelude.{◌≡◌, ℕ, [], ◌∷◌, Some, length, slice_get, slice_set, true, false, All};
+ghost use Rattle.std.specs.Prelude.{◌≡◌, ◌++◌, ◌↔◌, ◌<◌, ◌⊎◌, IfErr, IfOk, IfSome, None, ℕ, replicate, [], ◌∷◌, Some, length, slice_get, slice_set, true, false, All};
 ghost use Rattle.interleaving_core.specs.Histories.{DoesMore};
 ghost use Rattle.interleaving_core.specs.simulation.Runs.{FollowsReference};
-ghost use Rattle.shared_machine.specs.Codes.{add};
-ghost use Rattle.shared_machine.specs.Histories.{AreOf, IsSmall, events_of, reports_of};
-ghost use Rattle.shared_machine.specs.Worlds.{AgreesWith, HasRun, IfDid, IfNoMemory, IsDid, IsIn, IsSound, added};
+ghost use Rattle.interleaving_core.specs.Loans.{IsAtOrigin, IsLent, RanLocally};
+ghost use Rattle.shared_machine.specs.Codes.{add, add_times};
+ghost use Rattle.shared_machine.specs.Histories.{AreOf, IsSmall, entry, events_of, reports_of};
+ghost use Rattle.cil_model.specs.declared.events.Event.TheVariants.{Step as StepOf};
+ghost use Rattle.cil_model.specs.declared.reports.Report.TheVariants.{Ran as RanOf};
+ghost use Rattle.shared_machine.specs.Worlds.{AgreesWith, CannotLend, HasRooms, HasRun, IfDid, IfNoMemory, IsCheckedIn, IsDid, IsIn, IsKept, IsLentOut, IsSound, added, added_times, book_times, is_away, is_lent_in, lent_of};
+ghost use Rattle.shared_machine.specs.declared.answer.Answer.TheVariants.{Away};
 
 use crate::answer::Answer;
 use crate::book::{Book, Ticket};
@@ -13,9 +17,12 @@ use crate::history::{Entry, History};
 use crate::outcome::Outcome;
 use crate::view::{Naming, Next};
 use cil_model::events::Event;
-use interleaving_core::Machine;
+use cil_model::limits::MOST_THREADS;
+use cil_model::memory::NoMemory;
+use cil_model::reports::Report;
+use interleaving_core::{Loan, LoanRoom, Machine};
 use std::alloc::Global;
-use std::marker::{Brand, Model};
+use std::marker::{Brand, Model, PhantomData};
 
 /// Names a shared machine: what it held when it was opened, how many workers it has, and its book of counts. Who opens it picks all
 /// three, at `Brand`.
@@ -36,7 +43,7 @@ impl Opening for Brand {
     ghost workers = { 0 };
 }
 
-/// The machine, its history, the count of each worker, and a stop mark. To contracts it is these four.
+/// The machine, its history, the count of each worker, which threads are lent, and a stop mark. To contracts it is these five.
 ///
 /// Whenever the lock is free, the machine is at what its turns over the history's events make of the opening content, with the history's
 /// reports, each entry is of one of the workers, and each worker's count is that of its entries. Nothing outside this crate can change a
@@ -45,6 +52,7 @@ pub struct World<M: Opening> {
     core: Machine,
     history: History,
     book: Book<M>,
+    rooms: Vec<Option<LoanRoom>>,
     stopped: bool,
 }
 
@@ -55,19 +63,20 @@ impl<M: Opening> Drop for World<M> {
             core: _core,
             history: _history,
             book: _book,
+            rooms: _rooms,
             stopped: _stopped,
         } = self;
     }
 }
 
 impl<M: Opening> Model for World<M> {
-    ghost use Rattle.shared_machine.specs.Worlds.{IsSound, Shown};
+    ghost use Rattle.shared_machine.specs.Worlds.{IsWorld, Shown, lent_of};
 
     ghost Value = { Shown };
 
-    ghost view = { λ w. record { core = w.core; history = w.history.entries; book = w.book; stopped = w.stopped } };
+    ghost view = { λ w. record { core = w.core; history = w.history.entries; book = w.book; lent = lent_of w.rooms.items; stopped = w.stopped } };
 
-    ghost invariant = { λ w. IsSound M.opening M.workers w.core w.history.entries w.book };
+    ghost invariant = { λ w. IsWorld M.opening M.workers w.core w.history.entries w.book w.rooms.items };
 }
 
 /// Gives the ticket and its worker's place in the book the count after this entry.
@@ -90,13 +99,34 @@ fn thread_is_a_byte(event: Event)
     }
 }
 
+/// Whether the thread of a number is lent.
+fn is_lent(rooms: &[Option<LoanRoom>], thread: u8) -> bool
+    ensures { result ≡ is_lent_in (lent_of rooms.now) thread }
+{
+    match rooms.get(usize::from(thread)) {
+        Some(room) => room.is_none(),
+        None => false,
+    }
+}
+
+/// Whether an event is of a thread that is lent.
+fn is_away(rooms: &[Option<LoanRoom>], event: Event) -> bool
+    ensures { result ≡ is_away (lent_of rooms.now) event }
+{
+    match event {
+        Event::Step(thread) | Event::Ack(thread) => is_lent(rooms, thread),
+        Event::Gc => false,
+    }
+}
+
 /// Does an event for the ticket's worker, and answers the machine's report. It waits for nobody.
 ///
 /// The reference machine does the same, with a birth refused exactly where it exceeds the room. Whatever the machine has done since it was made, it has then done
 /// this event too: no cycle of the collector had more working events than its bound, and where this event ends a cycle, no more words are in use than are owed.
 ///
 /// The history has one entry more, the worker's count in the book and the ticket has that entry, and the stop mark stays as it was.
-/// Want of memory, for the entry or for what the event prints or starts, changes nothing.
+/// Want of memory, for the entry or for what the event prints or starts, changes nothing. Neither does a step or an acknowledgement of a thread
+/// that is lent, which is told first.
 // A call on the way of an event is dear: what it saves on the stack has to be written before the lock is given back.
 #[inline(always)]
 pub fn perform<M: Opening>(
@@ -110,6 +140,7 @@ pub fn perform<M: Opening>(
     ensures does { IfDid result (λ report. DoesMore world.old.core (event ∷ []) (report ∷ []) world.new.core) }
     ensures counted { IfDid result (λ report. ticket.new ≡ added ticket.old event report) }
     ensures same { IfNoMemory result ((world.new ≡ world.old) × (ticket.new ≡ ticket.old)) }
+    ensures away { (result ≡ Away) ↔ (is_away world.old.lent event ≡ true) }
     ensures small { IsSmall event }
 {
     thread_is_a_byte(event);
@@ -117,8 +148,12 @@ pub fn perform<M: Opening>(
         core,
         history,
         book,
+        rooms,
         stopped: _,
     } = world;
+    if is_away(rooms, event) {
+        return Answer::Away;
+    }
     if history.make_room().is_err() {
         return Answer::NoMemory;
     }
@@ -137,6 +172,155 @@ pub fn perform<M: Opening>(
     }
 }
 
+/// A thread's top frame on loan from a shared machine, and the local instructions that were done on it since.
+pub struct Lent<M: Opening> {
+    loan: Loan,
+    of: PhantomData<M>,
+}
+
+/// The loan gives back its own.
+impl<M: Opening> Drop for Lent<M> {
+    fn drop(self) {
+        let Lent { loan: _loan, of: _ } = self;
+    }
+}
+
+impl<M: Opening> Model for Lent<M> {
+    ghost use Rattle.std.specs.Prelude.{◌≡◌};
+    ghost use Rattle.interleaving_core.specs.Loans.{Lent as LoanShown};
+
+    ghost Value = { LoanShown };
+
+    ghost view = { λ l. l.loan };
+
+    ghost invariant = { λ l. l.loan.tree ≡ M.opening.tree };
+}
+
+impl<M: Opening> Lent<M> {
+    /// What holds of it. It does nothing; its contract says so.
+    pub fn laws(&self)
+        ensures { IsLent self.now }
+    {
+        self.loan.laws();
+    }
+
+    /// The loan itself.
+    fn into_loan(self) -> Loan
+        ensures loan { result ≡ self }
+        ensures tree { result.tree ≡ M.opening.tree }
+    {
+        let Lent { loan, of: _ } = self;
+        loan
+    }
+}
+
+/// Lends the top frame of a thread. None exactly where the thread is not live or is lent already; nothing changes then. It takes no memory, and
+/// waits for nobody.
+///
+/// Steps and acknowledgements of the thread are answered `Away` until it is checked in. The machine, its history and its book stay.
+pub fn lend<M: Opening>(world: &mut World<M>, thread: u8) -> Option<Lent<M>>
+    ensures none { result ≡ None → (world.new ≡ world.old) × CannotLend world.old thread }
+    ensures some { IfSome result (λ lent. IsLentOut world.old thread lent world.new) }
+{
+    let World { core, rooms, .. } = world;
+    if !core.is_live(thread) {
+        return None;
+    }
+    let _count = core.started();
+    let room = rooms[usize::from(thread)].take()?;
+    Some(Lent {
+        loan: core.lend(thread, room),
+        of: PhantomData,
+    })
+}
+
+/// Does local instructions on a lent frame, so many at most. It stops before one that is not local or that would raise a fault, and before the
+/// last one of the thread's budget. It takes no lock and no memory.
+pub fn run_local<M: Opening>(mut lent: Lent<M>, most: u32) -> Lent<M>
+    ensures { RanLocally lent most result }
+{
+    lent.loan.run(most);
+    lent
+}
+
+/// Gives the ticket and its worker's place in the book the count after this entry so many times.
+fn note_times<N: Next, M: Opening>(
+    book: &mut Book<M>,
+    ticket: &mut Ticket<M>,
+    entry: Entry,
+    times: u32,
+)
+    requires { N.next ≡ add_times times ticket.old.count entry.event entry.report }
+    ensures agreed { slice_get book.old ticket.old.worker ≡ Some ticket.old.count }
+    ensures book { book.new ≡ slice_set book.old ticket.old.worker (add_times times ticket.old.count entry.event entry.report) }
+    ensures ticket { ticket.new ≡ added_times ticket.old times entry.event entry.report }
+{
+    book.renew::<N>(ticket)
+}
+
+/// Records and counts so many steps of a thread that report that they ran, for which there has to be room. None is no step.
+fn record_steps<M: Opening>(
+    history: &mut History,
+    book: &mut Book<M>,
+    ticket: &mut Ticket<M>,
+    thread: u8,
+    times: u32,
+)
+    requires { 0 < times → history.old.ready ≡ true }
+    ensures history { history.new.entries ≡ history.old.entries ++ replicate times (entry ticket.old.worker (StepOf thread) RanOf) }
+    ensures agreed { 0 < times → slice_get book.old ticket.old.worker ≡ Some ticket.old.count }
+    ensures book { book.new ≡ book_times book.old ticket.old times (StepOf thread) RanOf }
+    ensures ticket { ticket.new ≡ added_times ticket.old times (StepOf thread) RanOf }
+{
+    if times == 0 {
+        return;
+    }
+    let entry = Entry {
+        worker: ticket.worker(),
+        event: Event::Step(thread),
+        report: Report::Ran,
+    };
+    history.add_times(entry, times);
+    note_times::<Brand, M>(book, ticket, entry, times);
+}
+
+/// Takes a lent frame back, for the ticket's worker, and answers how many local instructions were done on it. It waits for nobody.
+///
+/// Each of them is recorded and counted as a step of the thread that ran, and is one: the machine is at what these steps make of it, whatever
+/// others did meanwhile. None is recorded where none was done. The thread is no longer lent.
+///
+/// # Errors
+/// The frame comes back, and nothing changes, where its thread is not lent or does not stand as it did when the frame was lent, or where memory
+/// is wanting for the entry; that is never so where no instruction was done.
+pub fn check_in<M: Opening>(
+    world: &mut World<M>,
+    ticket: &mut Ticket<M>,
+    lent: Lent<M>,
+) -> Result<u32, Lent<M>>
+    ensures done { IfOk result (λ n. IsCheckedIn world.old ticket.old lent n world.new ticket.new) }
+    ensures back { IfErr result (λ back. (back ≡ lent) × (world.new ≡ world.old) × (ticket.new ≡ ticket.old)) }
+    ensures needful { IfErr result (λ _. IsKept world.old lent → 0 < lent.done) }
+{
+    let World {
+        core,
+        history,
+        book,
+        rooms,
+        stopped: _,
+    } = world;
+    let thread = lent.loan.thread();
+    let times = lent.loan.done();
+    if !is_lent(rooms, thread) || !core.is_at_origin(&lent.loan) {
+        return Err(lent);
+    }
+    if times > 0 && history.make_room().is_err() {
+        return Err(lent);
+    }
+    rooms[usize::from(thread)] = Some(core.take_back(lent.into_loan()));
+    record_steps(history, book, ticket, thread, times);
+    Ok(times)
+}
+
 /// Sets the stop mark, and changes nothing else. It waits for nobody.
 pub fn stop<M: Opening>(world: &mut World<M>)
     ensures { world.new ≡ record world.old { stopped = true } }
@@ -145,17 +329,24 @@ pub fn stop<M: Opening>(world: &mut World<M>)
 }
 
 impl<M: Opening> World<M> {
-    /// A world before its first event: no entries, each count 0, and no stop mark. It takes no memory.
-    pub(crate) fn new(alloc: Global, core: Machine, book: Book<M>) -> World<M>
+    /// A world before its first event: no entries, each count 0, no thread lent, and no stop mark. It takes no memory.
+    pub(crate) fn new(
+        alloc: Global,
+        core: Machine,
+        book: Book<M>,
+        rooms: Vec<Option<LoanRoom>>,
+    ) -> World<M>
         requires core { core ≡ M.opening }
         requires each { length book ≡ M.workers }
         requires book { (worker count : ℕ) → slice_get book worker ≡ Some count → count ≡ 0 }
-        ensures { result ≡ record { core = core; history = []; book = book; stopped = false } }
+        requires rooms { HasRooms M.opening rooms.items }
+        ensures { result ≡ record { core = core; history = []; book = book; lent = lent_of rooms.items; stopped = false } }
     {
         World {
             core,
             history: History::new(alloc),
             book,
+            rooms,
             stopped: false,
         }
     }
@@ -192,6 +383,7 @@ impl<M: Opening> World<M> {
             core,
             history,
             mut book,
+            rooms: _rooms,
             stopped,
         } = self;
         compare_all(&mut book, tickets);
@@ -201,6 +393,17 @@ impl<M: Opening> World<M> {
             stopped,
         }
     }
+}
+
+/// Memory for a loan of each thread that may be. Only want of memory is an error.
+pub(crate) fn rooms_for(alloc: Global, core: &Machine) -> Result<Vec<Option<LoanRoom>>, NoMemory>
+    ensures { IfOk result (λ rooms. HasRooms core.now rooms.items) }
+{
+    let mut rooms = Vec::with_capacity(alloc, MOST_THREADS)?;
+    for _thread in 0..MOST_THREADS {
+        rooms.push(Some(core.loan_room(alloc)?))?;
+    }
+    Ok(rooms)
 }
 
 /// Takes the tickets back. Each one's count is in the book, which stays as it was.

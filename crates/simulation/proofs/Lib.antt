@@ -128,6 +128,8 @@ pub mod OpeningContents
 pub mod Refusals
 pub mod Whole
 pub mod OneRun
+pub mod LocalTurns
+pub mod OtherThreads
 mod StepRuns
 mod KeptPosts
 mod NextWords

@@ -19,6 +19,7 @@ pub mod Reached
 pub mod StandsFor
 pub mod Turns
 pub mod Ready
+pub mod Lending
 pub mod Budgets
 pub mod Runs
 pub mod Owed

@@ -1,6 +1,6 @@
 //! Laws of machines. Each function has an empty body, and its contract is the law.
 
-ghost use Rattle.std.specs.Prelude.{◌≡◌, ◌≢◌, ◌↔◌, ◌≤◌, ◌++◌, ℕ, true, false, IsTrue, List, [], ◌∷◌, Some, length, slice_get};
+ghost use Rattle.std.specs.Prelude.{◌≡◌, ◌≢◌, ◌↔◌, ◌<◌, ◌≤◌, ◌-◌, ◌++◌, replicate, ℕ, true, false, IsTrue, List, [], ◌∷◌, Some, length, slice_get};
 ghost use Rattle.std.specs.List.{zip};
 ghost use Rattle.interpreter.specs.cil_model.declared.trees.Tree.{Tree};
 ghost use Rattle.interpreter.specs.cil_model.declared.limits.Limits.{Limits};
@@ -8,7 +8,7 @@ ghost use Rattle.interpreter.specs.cil_model.declared.events.Event.{Event};
 ghost use Rattle.interpreter.specs.cil_model.declared.events.Event.TheVariants.{Step, Ack, Gc};
 ghost use Rattle.interpreter.specs.cil_model.declared.phases.Phase.TheVariants.{Idle, Mark};
 ghost use Rattle.interpreter.specs.cil_model.declared.reports.Report.{Report};
-ghost use Rattle.interpreter.specs.cil_model.declared.reports.Report.TheVariants.{Acked, CycleDone, Waiting, Worked};
+ghost use Rattle.interpreter.specs.cil_model.declared.reports.Report.TheVariants.{Acked, CycleDone, Ran, Waiting, Worked};
 ghost use Rattle.interpreter.specs.cil_model.Legality.{IsLegal};
 ghost use Rattle.interpreter.specs.cil_model.Ranges.{are_in_range};
 ghost use Rattle.interpreter.specs.cil_model.Typings.{IsAccepted};
@@ -20,15 +20,18 @@ ghost use Rattle.interpreter.specs.object_memory.declared.addresses.Addr.{Addr a
 ghost use Rattle.collector.specs.Marking.{is_closed};
 ghost use Rattle.collector.specs.Phases.{is_marked_address};
 ghost use Rattle.collector.specs.phase_handshake.Handshakes.{IsWaiting, all_seen, is_open, own_phase};
-ghost use Rattle.interpreter.specs.threads_monitors.Frames.{Frames};
+ghost use Rattle.interpreter.specs.threads_monitors.Frames.{Frame, Frames};
 ghost use Rattle.interpreter.specs.threads_monitors.Threads.{is_live_at};
 ghost use Rattle.interpreter.specs.threads_monitors.declared.threads.Standing.TheVariants.{Live};
+ghost use Rattle.interpreter.specs.threads_monitors.declared.threads.Thread.{Thread};
 ghost use Rattle.interpreter.specs.Instructions.{IsDone, Answer};
-ghost use Rattle.simulation.specs.MachineContents.{Content, mutator_of};
+ghost use Rattle.interpreter.specs.Local.{AreLocalSteps, IsReadySomewhere, frames_over};
+ghost use Rattle.simulation.specs.Lending.{RunsFrame, with_live};
+ghost use Rattle.simulation.specs.MachineContents.{Content, frame_room, mutator_of};
 ghost use Rattle.simulation.specs.Owed.{AreCyclesBounded, LeavesWhatIsOwed, OwesAfter};
 ghost use Rattle.simulation.specs.Reached.{IsReached};
 ghost use Rattle.simulation.specs.Rooms.{ExceedsRoom};
-ghost use Rattle.simulation.specs.Runs.{AreSteps, IsRunOf, StandsAfter};
+ghost use Rattle.simulation.specs.Runs.{AreSteps, AreTurns, IsRunOf, StandsAfter};
 ghost use Rattle.simulation.specs.Sound.{AreSeated, IsSound};
 ghost use Rattle.simulation.specs.StandsFor.{Represents};
 ghost use Rattle.simulation.specs.Turns.{IsTurn, opening_content};
@@ -135,4 +138,23 @@ pub fn cycles_have_what_they_owe()
         (most : List (Event × Report)) → zip events reports ≡ most ++ (Gc, CycleDone) ∷ [] → (words : ℕ) × OwesAfter tree limits events reports words }
     ensures one { (tree : Tree) (limits : Limits) (events : List Event) (reports : List Report) (words words' : ℕ) →
         OwesAfter tree limits events reports words → OwesAfter tree limits events reports words' → words ≡ words' }
+{}
+
+/// Local instructions on the top frame of a live thread are steps of the thread, each of which reports that it ran, as long as a step is left behind them:
+/// whatever else the machine holds, and whatever the phase of the thread.
+pub fn local_instructions_are_steps()
+    ensures { (c : Content) (t left n : ℕ) (f g : Frame) → (at : RunsFrame c t left f) → n < left → AreLocalSteps c.tree frame_room n f g →
+        AreTurns c (replicate n (Step t)) (with_live c t (left - n) (frames_over g at.below at.depth frame_room)) (replicate n Ran) }
+{}
+
+/// Where a machine represents a state, the top frame of a live thread is at an instruction that has an answer, and so it is after local instructions on it.
+pub fn lent_frames_are_ready()
+    ensures { (c : Content) (s : State) → Represents c s → (t left n : ℕ) (f g : Frame) → RunsFrame c t left f → n < left → AreLocalSteps c.tree frame_room n f g →
+        IsReadySomewhere c.tree frame_room g }
+{}
+
+/// An event that is neither a step nor an acknowledgement of a thread leaves that thread as it is.
+pub fn other_events_leave_a_thread()
+    ensures { (c : Content) (after : Content × Report) (t : ℕ) (thread : Thread) → slice_get c.threads t ≡ Some thread → (e : Event) → IsTurn c e after → e ≢ Step t → e ≢ Ack t →
+        slice_get after.0.threads t ≡ Some thread }
 {}

@@ -4,7 +4,7 @@ use Rattle.std.specs.Prelude.{reverse, map, Option, Some, None, option_map, slic
 use Rattle.std.proofs.Math.ListN.{length-set}
 use Rattle.std.proofs.lemmas.List.{reverse-append, reverse-reverse, length-reverse, length-take-le, length-map, same_from_push}
 use Rattle.std.proofs.lemmas.List.Elements.{All-head, All-tail}
-use Rattle.std.proofs.Math.Seq.{take-append_seam}
+use Rattle.std.proofs.Math.Seq.{drop-append_seam, take-append_seam}
 use Rattle.std.specs.List.{insert}
 use Rattle.std.proofs.lemmas.Nat.{mul-le}
 use Rattle.std.proofs.lemmas.Option.{slice_get_read}
@@ -13,8 +13,8 @@ use Rattle.object_memory.specs.declared.addresses.Addr.{Addr}
 use Rattle.object_memory.specs.declared.values.Value.{Value}
 use Rattle.object_memory.specs.declared.values.ValueKind.{ValueKind}
 use Rattle.threads_monitors.specs.declared.frames.Activation.{Activation}
-use Rattle.threads_monitors.specs.Frames.{Frame, Frames, size, zero_value, new_frame, with_place, with_stack, with_argument, with_local, with_call, returned}
-use Rattle.threads_monitors.specs.Activations.{Lays, Fit, IsSound, shown, activation, activations, row, lowest, with_constructed}
+use Rattle.threads_monitors.specs.Frames.{Frame, Frames, size, zero_value, new_frame, with_place, with_stack, with_argument, with_local, with_call, with_running, returned}
+use Rattle.threads_monitors.specs.Activations.{Lays, Fit, IsSound, shown, activation, activations, frame_of, row, lowest, moved_to, with_constructed}
 use Rattle.threads_monitors.specs.Roots.{values_of, reference_in, frames_upward, roots, with_reference, frame_with_references, with_references}
 use Rattle.threads_monitors.proofs.Rows as rows
 use Rattle.threads_monitors.proofs.Replacing as replacing
@@ -316,3 +316,98 @@ module _ (values : List Value) (running : Activation) (below : List Activation) 
       written : {X : Type 0} (xs : List X) (h : X → X) (n : ℕ) → n ≡ length xs → take n (map h xs ++ drop (length (map h xs)) xs) ≡ map h xs
       written xs h n long =
           ap (λ k. take k (map h xs ++ drop (length (map h xs)) xs)) (long ∙ sym (length-map xs h)) ∙ take-append_seam (map h xs) (drop (length (map h xs)) xs)
+
+-- ---- the running frame of another memory
+
+module _ (values : List Value) (running : Activation) (below : List Activation) (depth room capacity most_below : ℕ) (s : IsSound values running below depth room capacity most_below)
+    (values' : List Value) (running' : Activation) (below' : List Activation) (depth' room' capacity' most_below' : ℕ) (s' : IsSound values' running' below' depth' room' capacity' most_below') (fits : room' ≤ room) where
+  abbrev old : Frames
+  old = shown values running below depth room
+
+  abbrev other : Frames
+  other = shown values' running' below' depth' room'
+
+  starts : running.arguments ≡ length (row old.below)
+  starts = ap (λ (a : Activation). a.arguments) s.lays.running_is
+
+  starts' : running'.arguments ≡ length (row other.below)
+  starts' = ap (λ (a : Activation). a.arguments) s'.lays.running_is
+
+  locals' : running'.locals ≡ length (row other.below) + length other.running.arguments
+  locals' = ap (λ (a : Activation). a.locals) s'.lays.running_is
+
+  stack' : running'.stack ≡ length (row other.below) + (length other.running.arguments + length other.running.locals)
+  stack' = ap (λ (a : Activation). a.stack) s'.lays.running_is
+
+  pub start_within : running'.arguments ≤ length values'
+  start_within = omega (arith, starts', rows.length_values values' running' (reverse below') other.running other.below s'.lays)
+
+  pub in_order : (running'.arguments ≤ running'.locals) × (running'.locals ≤ running'.stack)
+  in_order = (omega (arith, starts', locals'), omega (arith, locals', stack'))
+
+  kept : take running.arguments values ≡ row old.below
+  kept = ap (λ n. take n values) starts ∙ ap (take (length (row old.below))) s.lays.values_are ∙ take-append_seam (row old.below) (values_of old.running)
+
+  taken : drop running'.arguments values' ≡ values_of other.running
+  taken = ap (λ n. drop n values') starts' ∙ ap (drop (length (row other.below))) s'.lays.values_are ∙ drop-append_seam (row other.below) (values_of other.running)
+
+  -- room for all of it
+  pub room_for_other : length (take running.arguments values) + length (drop running'.arguments values') ≤ capacity
+  room_for_other =
+      let count = count_below values running below depth room capacity most_below s in
+      let less = rows.length-row room old.below s.fit.1 in
+      let long = ap length taken ∙ rows.length-values_of other.running in
+      let few = s.few in
+      let own = s'.fit.0 in
+      let all : (length old.below + 1) * room ≤ depth * room = mul-le (length old.below + 1) room depth room (omega (arith, count, few)) (omega arith) in
+      let split : (length old.below + 1) * room ≡ length old.below * room + room = omega arith in
+      let large = s.large in
+      omega (arith, ap length kept, less, long, own, all, split, large, fits)
+
+  moved_is : moved_to running.arguments running' ≡ activation old.below other.running
+  moved_is =
+      let first : running.arguments + (running'.locals - running'.arguments) ≡ length (row old.below) + length other.running.arguments = omega (arith, starts, starts', locals') in
+      let second : running.arguments + (running'.stack - running'.arguments) ≡ length (row old.below) + (length other.running.arguments + length other.running.locals) = omega (arith, starts, starts', stack') in
+      (λ i. record running' { arguments = starts i; locals = first i; stack = second i })
+      ∙ ap (λ (a : Activation). record a { arguments = length (row old.below); locals = length (row old.below) + length other.running.arguments; stack = length (row old.below) + (length other.running.arguments + length other.running.locals) }) s'.lays.running_is
+
+  pub after_set : Holds (take running.arguments values ++ drop running'.arguments values') (moved_to running.arguments running') below depth room capacity most_below (with_running old other.running)
+  after_set =
+      let own = s'.fit.0 in
+      holds (take running.arguments values ++ drop running'.arguments values') (moved_to running.arguments running') below depth room capacity most_below other.running old.below
+      (record {
+        values_are = ap (λ xs. xs ++ drop running'.arguments values') kept ∙ ap (λ xs. row old.below ++ xs) taken;
+        running_is = moved_is;
+        below_are = s.lays.below_are;
+      })
+      (omega (arith, own, fits), s.fit.1) s.few s.large s.deep
+
+  -- the same under equations
+  pub is_set : (new : List Value) (now : Activation) (capacity_now : ℕ) → new ≡ take running.arguments values ++ drop running'.arguments values' → now ≡ moved_to running.arguments running' → capacity_now ≡ capacity
+      → Holds new now below depth room capacity_now most_below (with_running old other.running)
+  is_set new now capacity_now values_are running_is same = rw (values_are, running_is, same) after_set
+
+-- ---- one frame in two memories
+
+module _ (values : List Value) (running : Activation) (below : List Activation) (depth room capacity most_below : ℕ) (s : IsSound values running below depth room capacity most_below) where
+  -- the running frame lies in its own values
+  pub own_values : drop running.arguments values ≡ values_of (shown values running below depth room).running
+  own_values =
+      ap (λ n. drop n values) (ap (λ (a : Activation). a.arguments) s.lays.running_is)
+      ∙ ap (drop (length (row (shown values running below depth room).below))) s.lays.values_are
+      ∙ drop-append_seam (row (shown values running below depth room).below) (values_of (shown values running below depth room).running)
+
+  own_activation : moved_to 0 running ≡ activation [] (shown values running below depth room).running
+  own_activation =
+      let g = (shown values running below depth room).running in
+      let gs = (shown values running below depth room).below in
+      let starts : running.arguments ≡ length (row gs) = ap (λ (a : Activation). a.arguments) s.lays.running_is in
+      let locals : running.locals ≡ length (row gs) + length g.arguments = ap (λ (a : Activation). a.locals) s.lays.running_is in
+      let stack : running.stack ≡ length (row gs) + (length g.arguments + length g.locals) = ap (λ (a : Activation). a.stack) s.lays.running_is in
+      let first : 0 + (running.locals - running.arguments) ≡ 0 + length g.arguments = omega (arith, starts, locals) in
+      let second : 0 + (running.stack - running.arguments) ≡ 0 + (length g.arguments + length g.locals) = omega (arith, starts, stack) in
+      (λ i. record running { arguments = 0; locals = first i; stack = second i })
+      ∙ ap (λ (a : Activation). record a { arguments = 0; locals = 0 + length g.arguments; stack = 0 + (length g.arguments + length g.locals) }) s.lays.running_is
+
+  pub own_frame : frame_of (drop running.arguments values) (moved_to 0 running) ≡ (shown values running below depth room).running
+  own_frame = ap (λ xs. frame_of xs (moved_to 0 running)) own_values ∙ ap (frame_of (values_of (shown values running below depth room).running)) own_activation ∙ rows.frame_there [] (shown values running below depth room).running

@@ -50,21 +50,21 @@ module _ (fs : List Frame) (f : Frame) where
       rw (there (length f.arguments + length f.locals), drop-append-add f.arguments (f.locals ++ reverse f.stack) (length f.locals), drop-append_seam f.locals (reverse f.stack))
       (reverse-reverse f.stack)
 
-  frame_there : frame_of (row fs ++ values_of f) (activation fs f) ≡ f
+  pub frame_there : frame_of (row fs ++ values_of f) (activation fs f) ≡ f
   frame_there = rw (arguments_there, locals_there, stack_there) refl
 
 frames_there : (fs : List Frame) → frames_of (row fs) (activations fs) ≡ fs
 frames_there [] = refl
 frames_there (f ∷ fs) = rw (frame_there fs f, take-append_seam (row fs) (values_of f), frames_there fs) refl
 
-length-values_of : (f : Frame) → length (values_of f) ≡ size f
+pub length-values_of : (f : Frame) → length (values_of f) ≡ size f
 length-values_of f =
     let outer = length-append f.arguments (f.locals ++ reverse f.stack) in
     let inner = length-append f.locals (reverse f.stack) in
     let stack = length-reverse f.stack in
     omega (arith, outer, inner, stack)
 
-length-row : (room : ℕ) (fs : List Frame) → Fit room fs → length (row fs) ≤ length fs * room
+pub length-row : (room : ℕ) (fs : List Frame) → Fit room fs → length (row fs) ≤ length fs * room
 length-row room [] fit = omega arith
 length-row room (f ∷ fs) fit =
     let both = length-append (row fs) (values_of f) in

@@ -56,6 +56,10 @@ lowest n fs = drop (length fs - n) fs
 abbrev pub with_constructed : (Addr → Addr) → Activation → Activation
 with_constructed g a = record a { constructed = option_map g a.constructed }
 
+-- the same frame, whose values begin at another place
+abbrev pub moved_to : ℕ → Activation → Activation
+moved_to start a = record a { arguments = start; locals = start + (a.locals - a.arguments); stack = start + (a.stack - a.arguments) }
+
 -- no frame has more values than the room for one
 abbrev pub Fit : ℕ → List Frame → Type 0
 Fit room [] = Unit {0}

@@ -1,10 +1,10 @@
 //! The frames of a thread.
 
 ghost use Rattle.std.specs.Prelude.{◌≡◌, ◌<◌, ◌≤◌, ◌+◌, ◌*◌, ◌^◌, ◌∷◌, ◌++◌, [], length, map, slice_get, None, Some, IfOk, ◌==◌, vec_len, vec_capacity};
-ghost use Rattle.std.specs.Prelude.{◌-◌, All, IfSome, drop, option_map, take};
+ghost use Rattle.std.specs.Prelude.{◌-◌, ◌↔◌, All, IfSome, IsTrue, drop, option_map, take};
 ghost use Rattle.threads_monitors.specs.Frames.{zero_value};
 ghost use Rattle.threads_monitors.specs.Roots.{AnswersAt, IsAnswer, reference_in, with_reference};
-ghost use Rattle.threads_monitors.specs.Activations.{with_constructed};
+ghost use Rattle.threads_monitors.specs.Activations.{moved_to, with_constructed};
 ghost use Rattle.object_memory.specs.declared.addresses.Addr.{Addr as AnyAddr};
 
 use cil_model::memory::NoMemory;
@@ -48,7 +48,7 @@ impl Model for FrameMemory {
 }
 
 impl FrameMemory {
-    ghost use Rattle.threads_monitors.specs.Frames.{size, new_frame, returned, with_argument, with_call, with_inserted, with_local, with_place, with_stack};
+    ghost use Rattle.threads_monitors.specs.Frames.{size, new_frame, returned, with_argument, with_call, with_inserted, with_local, with_place, with_running, with_stack};
     ghost use Rattle.threads_monitors.specs.Roots.{frames_upward, roots, values_of, with_references};
     ghost use Rattle.threads_monitors.specs.Activations.{lowest, row};
     ghost use Rattle.object_memory.specs.declared.values.Value.{Value};
@@ -257,6 +257,31 @@ impl FrameMemory {
         };
     }
 
+    /// Puts the frame that runs in other memory in the place of the one that runs here. The frames below stay, and no memory is taken.
+    pub fn set_running(&mut self, other: &FrameMemory)
+        requires { other.now.room ≤ self.old.room }
+        ensures { self.new ≡ with_running self.old other.now.running }
+    {
+        let start = self.running.arguments;
+        self.values.truncate(start);
+        push_values(
+            &mut self.values,
+            behind(&other.values, other.running.arguments),
+        );
+        self.running = moved(other.running, start);
+    }
+
+    /// Whether the frame that runs is the one that runs in other memory: the same method, place and values, and the same object to push.
+    pub fn runs_same(&self, other: &FrameMemory) -> bool
+        ensures { IsTrue result ↔ (self.now.running ≡ other.now.running) }
+    {
+        is_same_activation(self.running, other.running)
+            && are_same(
+                behind(&self.values, self.running.arguments),
+                behind(&other.values, other.running.arguments),
+            )
+    }
+
     /// Drops the running frame with its values, and the one below it runs again (ECMA-335 III.3.57).
     pub fn pop_frame(&mut self)
         requires { 0 < length self.old.below }
@@ -361,6 +386,54 @@ fn push_values(values: &mut Vec<Value>, more: &[Value])
     for value in more {
         values.push_reserved(*value);
     }
+}
+
+/// The values of a row from one place on.
+fn behind(row: &[Value], start: usize) -> &[Value]
+    requires { start ≤ length row.now }
+    ensures { result.now ≡ drop start row.now }
+{
+    &row[start..]
+}
+
+/// The activation of the same frame where its values begin at another place of a row.
+fn moved(activation: Activation, start: usize) -> Activation
+    requires order { (activation.arguments ≤ activation.locals) × (activation.locals ≤ activation.stack) }
+    requires fits { start + (activation.stack - activation.arguments) < 2 ^ 63 }
+    ensures { result ≡ moved_to start activation }
+{
+    Activation {
+        arguments: start,
+        locals: start + (activation.locals - activation.arguments),
+        stack: start + (activation.stack - activation.arguments),
+        ..activation
+    }
+}
+
+/// Whether the values are the same, one by one.
+fn are_same(one: &[Value], other: &[Value]) -> bool
+    ensures { IsTrue result ↔ (one.now ≡ other.now) }
+{
+    one == other
+}
+
+/// Whether a constructor makes the same object, or neither makes any.
+fn is_same_object(one: Option<Addr>, other: Option<Addr>) -> bool
+    ensures { IsTrue result ↔ (one ≡ other) }
+{
+    one == other
+}
+
+/// Whether two activations are of one method at one place, with as many arguments and locals and the same object to push.
+fn is_same_activation(one: Activation, other: Activation) -> bool
+    requires { (one.arguments ≤ one.locals) × (one.locals ≤ one.stack) × (other.arguments ≤ other.locals) × (other.locals ≤ other.stack) }
+    ensures { IsTrue result ↔ (moved_to 0 one ≡ moved_to 0 other) }
+{
+    one.method == other.method
+        && one.place == other.place
+        && is_same_object(one.constructed, other.constructed)
+        && one.locals - one.arguments == other.locals - other.arguments
+        && one.stack - one.arguments == other.stack - other.arguments
 }
 
 /// The values of a row from one place on to another.

@@ -1,9 +1,16 @@
+use Rattle.shared_machine.specs.Work.{HasWorked}
 use Rattle.shared_machine.proofs.TicketCounts.{worked_both}
 use Rattle.shared_machine.proofs.passing.pass.Goals as goal
-
-pub returns-then-not-lasted-2-clause-worked : goal.returns-then-not-lasted-2-clause-worked
-returns-then-not-lasted-2-clause-worked g c = worked_both _ _ _ _ c.acknowledge-lasted.ensures.worked c.step-lasted.ensures.worked
+use Rattle.shared_machine.proofs.passing.pass.Goals.{then-lasts, else-lasts, then-lasts-2, else-lasts-2}
 
 pub returns-clause-worked : goal.returns-clause-worked
 returns-clause-worked g c =
-    worked_both _ _ _ _ (worked_both _ _ _ _ c.acknowledge-lasted.ensures.worked c.step-lasted.ensures.worked) (c.collect.ensures.worked c.args.workers)
+    let first = c.acknowledge-progress.ensures.worked in
+    let stepped : HasWorked c.args.workers c.args.worker.ticket c.if-lasts.worker.ticket = elim c.if-lasts.branch [
+      | then-lasts w ↦ rw w.worker-is (worked_both _ _ _ _ first w.step_each-came.ensures)
+      | else-lasts w ↦ rw w.worker-is first
+    ] in
+    elim c.if-lasts-2.branch [
+      | then-lasts-2 w ↦ rw w.worker-is (worked_both _ _ _ _ stepped (w.collect.ensures.worked c.args.workers))
+      | else-lasts-2 w ↦ rw w.worker-is stepped
+    ]

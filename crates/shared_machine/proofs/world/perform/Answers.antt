@@ -2,7 +2,8 @@ use Rattle.std.proofs.Common.{ap, ◌∙◌, [], ◌∷◌}
 use Rattle.interleaving_core.specs.Histories.{DoesMore}
 use Rattle.interleaving_core.specs.simulation.Runs.{FollowsReference}
 use Rattle.shared_machine.proofs.Answering.{did_is, nothing_did, related_at}
-use Rattle.shared_machine.proofs.Histories.{sound_more, sound_at, history_is}
+use Rattle.shared_machine.proofs.Histories.{sound_more, history_is}
+use Rattle.shared_machine.proofs.Lendings.{world_at}
 use Rattle.shared_machine.proofs.world.perform.Goals as goal
 use Rattle.shared_machine.proofs.world.perform.Goals.{in-Ok, in-Err}
 
@@ -10,17 +11,21 @@ pub invariant_of-world-2 : goal.invariant_of-world-2
 invariant_of-world-2 g c =
     elim c.match-step.branch [
       | in-Ok w ↦ let is = w.world-inside-is in
-          sound_at _ _ _ _ _ _ _ _
-          (sound_more _ _ _ _ _ _ _ _ _ _ c.world.invariant w.in-Ok.ensures.turns c.thread_is_a_byte.ensures w.note.ensures.agreed)
+          world_at _ _ _ _ _ _ _ _ _ _
+          (sound_more _ _ _ _ _ _ _ _ _ _ c.world.invariant.sound w.in-Ok.ensures.turns c.thread_is_a_byte.ensures w.note.ensures.agreed)
           (ap (λ x. x.core) is)
           (ap (λ x. x.history.entries) is ∙ history_is _ _ _ _ _ _ _ w.add.ensures c.make_room.ensures.entries w.worker.ensures)
           (ap (λ x. x.book) is ∙ w.note.ensures.book)
+          (ap (λ x. x.rooms.items) is)
+          c.world.invariant.homes
       | in-Err w ↦ let is = w.world-inside-is in
-          sound_at _ _ _ _ _ _ _ _
-          c.world.invariant
+          world_at _ _ _ _ _ _ _ _ _ _
+          c.world.invariant.sound
           (ap (λ x. x.core) is ∙ w.in-Err.ensures.refused)
           (ap (λ x. x.history.entries) is ∙ c.make_room.ensures.entries)
           (ap (λ x. x.book) is)
+          (ap (λ x. x.rooms.items) is)
+          c.world.invariant.homes
     ]
 
 pub returns-clause-follows : goal.returns-clause-follows

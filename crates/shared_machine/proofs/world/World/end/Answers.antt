@@ -2,7 +2,7 @@ use Rattle.shared_machine.proofs.Histories.{has_run}
 use Rattle.shared_machine.proofs.world.World.end.Goals as goal
 
 pub returns-clause-ran : goal.returns-clause-ran
-returns-clause-ran g c = has_run _ _ _ c.self.invariant.turns
+returns-clause-ran g c = has_run _ _ _ c.self.invariant.sound.turns
 
 pub returns-clause-counts : goal.returns-clause-counts
-returns-clause-counts g c = λ k d below. c.self.invariant.counts _ _ (c.compare_all.ensures.counts k d below)
+returns-clause-counts g c = λ k d below. c.self.invariant.sound.counts _ _ (c.compare_all.ensures.counts k d below)

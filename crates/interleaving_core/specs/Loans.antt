@@ -1,0 +1,59 @@
+-- A thread's top frame on loan: a copy of it outside of the machine, on which local instructions are done (this profile).
+use Rattle.std.specs.Prelude.{◌≡◌, ◌⊎◌, ◌<◌, ◌≤◌, ◌+◌, ℕ}
+use Rattle.cil_model.specs.declared.trees.Tree.{Tree}
+use Rattle.threads_monitors.specs.Frames.{Frame, Frames}
+use Rattle.simulation.specs.interpreter.Local.{AreLocalSteps, EndsLocal, IsReadySomewhere, alone}
+use Rattle.simulation.specs.Lending.{RunsFrame}
+use Rattle.simulation.specs.MachineContents.{Content, frame_room}
+
+-- the program, the thread, how many steps it had left as the loan began, the frame that it had then, the frame as it is now, and how many instructions
+-- were done in between
+pub record Lent : Type 0 where
+  pub tree : Tree
+  pub thread : ℕ
+  pub left : ℕ
+  pub origin : Frame
+  pub frame : Frame
+  pub done : ℕ
+
+-- from some frame a thread that has so many steps left can go on by local instructions, as long as a step is left
+abbrev pub CanGoOnLocally : Tree → (left : ℕ) → Frame → Type 0
+CanGoOnLocally tree left f = (n : ℕ) (g : Frame) → n < left → AreLocalSteps tree frame_room n f g → IsReadySomewhere tree frame_room g
+
+-- the frame is so many local instructions from its origin, and a step is left behind them
+pub record IsLent (l : Lent) : Type 0 where
+  pub steps : AreLocalSteps l.tree frame_room l.done l.origin l.frame
+  pub less : l.done < l.left
+  pub ready : CanGoOnLocally l.tree l.left l.origin
+
+-- no further local instruction is done: the next one is not local, or would raise a fault, or is the last one of the thread's budget
+abbrev pub Stops : Lent → Type 0
+Stops l = EndsLocal l.tree frame_room l.frame ⊎ (l.left ≡ l.done + 1)
+
+-- so many more local instructions were done
+pub record RanOn (old : Lent) (n : ℕ) (new : Lent) : Type 0 where
+  pub steps : AreLocalSteps old.tree frame_room n old.frame new.frame
+  pub is : new ≡ record old { frame = new.frame; done = old.done + n }
+
+-- at most so many, and fewer only where no further one is done
+pub record RanLocally (old : Lent) (most : ℕ) (new : Lent) : Type 0 where
+  pub count : ℕ
+  pub few : count ≤ most
+  pub ran : RanOn old count new
+  pub stops : count < most → Stops new
+
+-- a loan that begins: the frame that runs in a live thread
+pub record Begins (c : Content) (t : ℕ) (l : Lent) : Type 0 where
+  pub tree : l.tree ≡ c.tree
+  pub thread : l.thread ≡ t
+  pub done : l.done ≡ 0
+  pub frame : l.frame ≡ l.origin
+  pub origin : RunsFrame c t l.left l.origin
+
+-- the thread of a loan stands as it did when the loan began
+abbrev pub IsAtOrigin : Content → Lent → Type 0
+IsAtOrigin c l = RunsFrame c l.thread l.left l.origin
+
+-- the memory of a frame that is alone
+abbrev pub IsAlone : Frames → Type 0
+IsAlone m = m ≡ alone frame_room m.running

@@ -1,0 +1,346 @@
+-- Local instructions change the frame that runs alone, whatever lies below it, and whatever else the machine holds.
+use Rattle.std.proofs.Common.{◌≡◌, ℕ, ℤ, pos, negsuc, Bool, true, false, if◌then◌else◌, List, [], ◌∷◌, Option, Some, None, Result, Ok, Err, option_map, option_and_then, refl, sym, ap, ◌∙◌, subst}
+use Rattle.std.specs.Prelude.{◌+◌, nat_lt, not, length, slice_get}
+use Rattle.std.proofs.lemmas.Option.{same_Some}
+use Rattle.cil_model.proofs.Lists.{none_is_some}
+use Rattle.std.specs.Int.{w32, cast_unsigned}
+use Rattle.std.specs.Option.{option_map_or}
+use Rattle.cil_model.specs.declared.instructions.BinaryOperation.{BinaryOperation}
+use Rattle.cil_model.specs.declared.instructions.BranchComparison.{BranchComparison}
+use Rattle.cil_model.specs.declared.instructions.BranchComparison.TheVariants as Branch
+use Rattle.cil_model.specs.declared.instructions.Comparison.{Comparison}
+use Rattle.cil_model.specs.declared.instructions.Comparison.TheVariants as Compare
+use Rattle.cil_model.specs.declared.limits.TheConstants.{MOST_INSTRUCTIONS}
+use Rattle.cil_model.specs.declared.phases.Phase.{Phase}
+use Rattle.cil_model.specs.declared.reports.Fault.{Fault}
+use Rattle.cil_model.specs.declared.trees.Tree.{Tree}
+use Rattle.cil_model.specs.Bodies.{argument_types, at_place}
+use Rattle.resolved_code.specs.declared.operations.Operation.{Operation}
+use Rattle.resolved_code.specs.declared.operations.Operation.TheVariants as Resolved
+use Rattle.object_memory.specs.declared.addresses.Addr.{Addr}
+use Rattle.object_memory.specs.declared.values.Value.{Value}
+use Rattle.object_memory.specs.declared.values.Value.TheVariants.{Int32, Int64, Native, Ref}
+use Rattle.object_memory.specs.Objects.{Objects}
+use Rattle.instructions.specs.barriers.Barriers.{are_comparable, are_same}
+use Rattle.loaded_program.specs.declared.instructions.LinkedInstruction.{LinkedInstruction}
+use Rattle.loaded_program.specs.declared.instructions.LinkedInstruction.TheVariants as Linked
+use Rattle.loaded_program.specs.AllMethods.{flat_number}
+use Rattle.loaded_program.specs.Links.{link, number_at}
+use Rattle.loaded_program.specs.Operands.{array_held, class_in, held_at, slot_at, slots_at, static_at}
+use Rattle.name_tables.specs.Numbers.{method_at}
+use Rattle.cil_model.specs.declared.types.ClassName.{ClassName}
+use Rattle.cil_model.specs.declared.trees.Method.{Method}
+use Rattle.object_memory.specs.declared.addresses.TheConstants.{FIRST_LITERAL}
+use Rattle.object_memory.specs.declared.values.ValueKind.TheVariants as Kind
+use Rattle.object_memory.specs.Cells.{literal}
+use Rattle.threads_monitors.specs.declared.mutators.Mutator.{Mutator}
+use Rattle.threads_monitors.specs.declared.effects.Effect.{Effect}
+use Rattle.threads_monitors.specs.declared.effects.Effect.TheVariants.{GoesOn, Raises}
+use Rattle.threads_monitors.specs.Frames.{Frame, Frames, size, with_argument, with_local, with_place, with_stack}
+use Rattle.instructions.specs.Frames.{Turn, argument_turn, binary_result, binary_turn, branch_false_turn, branch_if, branch_reference, branch_test, branch_true_turn, compare_turn, comparison, convert_32_turn, convert_64_turn, branch_compare_turn, duplicate_turn, given, in_32_bits, in_64_bits, is_set, jump, leaves, leaves_result, local_turn, one_or_zero, onward, pop_turn, same_reference, shift_result, shift_turn, store_argument_turn, store_local_turn, stored, switch_on, switch_turn, to_place, top_of, unary_result, unary_turn, with_top}
+use Rattle.instructions.specs.LocalTurns.{branch_integers_turn, compare_integers_turn, integers_branch, integers_compared, is_ordered, is_ordered_branch}
+use Rattle.interpreter.specs.Instructions.{MachineTurn, of_frames, operation_turn}
+use Rattle.interpreter.specs.Linked.{linked_turn}
+use Rattle.interpreter.specs.Local.{is_local, is_local_link, local_link_turn}
+
+-- ---- over other frames
+
+module _ (below : List Frame) (depth : ℕ) where
+  -- the same frame over these
+  abbrev pub moved : Frames → Frames
+  moved m = record m { below = below; depth = depth }
+
+  abbrev pub moved_turn : Turn → Turn
+  moved_turn t = option_map (λ (x : Frames × Effect). (moved x.0, x.1)) t
+
+  -- where there is a choice
+  if_moves : (b : Bool) (t u : Turn) → (if b then moved_turn t else moved_turn u) ≡ moved_turn (if b then t else u)
+  if_moves true t u = refl
+  if_moves false t u = refl
+
+  jump_moves : (place : ℕ) (m : Frames) → jump place (moved m) ≡ moved_turn (jump place m)
+  jump_moves place m = if_moves (nat_lt place MOST_INSTRUCTIONS) (Some (with_place m place, GoesOn)) None
+
+  onward_moves : (m : Frames) → onward (moved m) ≡ moved_turn (onward m)
+  onward_moves m = if_moves (nat_lt m.running.place MOST_INSTRUCTIONS) (Some (with_place m (m.running.place + 1), GoesOn)) None
+
+  leaves_moves : (v : Value) (m : Frames) → leaves v (moved m) ≡ moved_turn (leaves v m)
+  leaves_moves v m =
+      ap (λ t. if nat_lt (size m.running) m.room then t else None) (onward_moves (with_stack m (v ∷ m.running.stack)))
+      ∙ if_moves (nat_lt (size m.running) m.room) (onward (with_stack m (v ∷ m.running.stack))) None
+
+  branch_moves : (b : Bool) (place : ℕ) (m : Frames) → branch_if b place (moved m) ≡ moved_turn (branch_if b place m)
+  branch_moves true place m = jump_moves place m
+  branch_moves false place m = onward_moves m
+
+  -- what goes on with the topmost value
+  top_moves : (m : Frames) (go go' : Value → Frames → Turn) → ((v : Value) (k : Frames) → go' v (moved k) ≡ moved_turn (go v k)) → with_top (moved m) go' ≡ moved_turn (with_top m go)
+  top_moves m go go' moves = by_stack m.running.stack
+    where
+      by_stack : (stack : List Value) → top_of stack (moved m) go' ≡ moved_turn (top_of stack m go)
+      by_stack [] = refl
+      by_stack (v ∷ rest) = moves v (with_stack m rest)
+
+  -- with what is there
+  given_moves : {X : Type 0} (x : Option X) (go go' : X → Turn) → ((a : X) → go' a ≡ moved_turn (go a)) → given x go' ≡ moved_turn (given x go)
+  given_moves None go go' moves = refl
+  given_moves (Some a) go go' moves = moves a
+
+  result_moves : (m : Frames) (r : Result Value Fault) → leaves_result (moved m) r ≡ moved_turn (leaves_result m r)
+  result_moves m (Ok v) = leaves_moves v m
+  result_moves m (Err f) = refl
+
+  stored_moves : {X : Type 0} (store store' : ℕ → Frames) (xs : List X) (n : ℤ) → ((i : ℕ) → store' i ≡ moved (store i)) → stored store' xs n ≡ moved_turn (stored store xs n)
+  stored_moves store store' xs (pos n) moves =
+      ap (λ m. if nat_lt n (length xs) then onward m else None) (moves n)
+      ∙ ap (λ t. if nat_lt n (length xs) then t else None) (onward_moves (store n))
+      ∙ if_moves (nat_lt n (length xs)) (onward (store n)) None
+  stored_moves store store' xs (negsuc n) moves = refl
+
+  place_moves : (place : Option ℕ) (m : Frames) → to_place place (moved m) ≡ moved_turn (to_place place m)
+  place_moves None m = onward_moves m
+  place_moves (Some place) m = jump_moves place m
+
+  switch_moves : (places : List ℕ) (v : Value) (m : Frames) → switch_on places v (moved m) ≡ moved_turn (switch_on places v m)
+  switch_moves places (Int32 z) m = place_moves (slice_get places (cast_unsigned w32 z)) m
+  switch_moves places (Int64 z) m = refl
+  switch_moves places (Native z) m = refl
+  switch_moves places (Ref a) m = refl
+
+  -- one value for another
+  one_moves : {X : Type 0} (f : Value → Option X) (go : X → Frames → Turn) → ((x : X) (k : Frames) → go x (moved k) ≡ moved_turn (go x k)) → (m : Frames) →
+      with_top (moved m) (λ v n. given (f v) (λ x. go x n)) ≡ moved_turn (with_top m (λ v n. given (f v) (λ x. go x n)))
+  one_moves f go moves m =
+      top_moves m (λ v n. given (f v) (λ x. go x n)) (λ v n. given (f v) (λ x. go x n)) (λ v k. given_moves (f v) (λ x. go x k) (λ x. go x (moved k)) (λ x. moves x k))
+
+  -- and two for one
+  two_moves : {X : Type 0} (f : Value → Value → Option X) (go : X → Frames → Turn) → ((x : X) (k : Frames) → go x (moved k) ≡ moved_turn (go x k)) → (m : Frames) →
+      with_top (moved m) (λ w n. with_top n (λ v k. given (f v w) (λ x. go x k))) ≡ moved_turn (with_top m (λ w n. with_top n (λ v k. given (f v w) (λ x. go x k))))
+  two_moves f go moves m =
+      top_moves m (λ w n. with_top n (λ v k. given (f v w) (λ x. go x k))) (λ w n. with_top n (λ v k. given (f v w) (λ x. go x k)))
+      (λ w n. one_moves (λ v. f v w) go moves n)
+
+  -- each local instruction
+  pub local_moves : (l : LinkedInstruction) (m : Frames) → local_link_turn l (moved m) ≡ moved_turn (local_link_turn l m)
+  local_moves Linked.NoOperation m = onward_moves m
+  local_moves (Linked.LoadInt32 z) m = leaves_moves (Int32 z) m
+  local_moves (Linked.LoadInt64 z) m = leaves_moves (Int64 z) m
+  local_moves Linked.LoadNull m = leaves_moves _ m
+  local_moves (Linked.LoadString a) m = refl
+  local_moves (Linked.LoadArgument n) m = given_moves (at_place m.running.arguments n) (λ v. leaves v m) (λ v. leaves v (moved m)) (λ v. leaves_moves v m)
+  local_moves (Linked.StoreArgument n) m =
+      top_moves m (λ v k. stored (λ i. with_argument k i v) k.running.arguments n) (λ v k. stored (λ i. with_argument k i v) k.running.arguments n)
+      (λ v k. stored_moves (λ i. with_argument k i v) (λ i. with_argument (moved k) i v) k.running.arguments n (λ i. refl))
+  local_moves (Linked.LoadLocal n) m = given_moves (at_place m.running.locals n) (λ v. leaves v m) (λ v. leaves v (moved m)) (λ v. leaves_moves v m)
+  local_moves (Linked.StoreLocal n) m =
+      top_moves m (λ v k. stored (λ i. with_local k i v) k.running.locals n) (λ v k. stored (λ i. with_local k i v) k.running.locals n)
+      (λ v k. stored_moves (λ i. with_local k i v) (λ i. with_local (moved k) i v) k.running.locals n (λ i. refl))
+  local_moves Linked.Duplicate m = top_moves m (λ v n. leaves v m) (λ v n. leaves v (moved m)) (λ v k. leaves_moves v m)
+  local_moves Linked.Pop m = top_moves m (λ v n. onward n) (λ v n. onward n) (λ v k. onward_moves k)
+  local_moves (Linked.Binary op) m = two_moves (binary_result op) (λ r k. leaves_result k r) (λ r k. result_moves k r) m
+  local_moves (Linked.Unary op) m = one_moves (unary_result op) leaves leaves_moves m
+  local_moves (Linked.Shift op) m = two_moves (shift_result op) leaves leaves_moves m
+  local_moves (Linked.Compare op) m = two_moves (integers_compared op) (λ holds k. leaves (one_or_zero holds) k) (λ holds k. leaves_moves (one_or_zero holds) k) m
+  local_moves Linked.ConvertInt32 m = one_moves in_32_bits leaves leaves_moves m
+  local_moves Linked.ConvertInt64 m = one_moves in_64_bits leaves leaves_moves m
+  local_moves (Linked.Branch place) m = jump_moves place m
+  local_moves (Linked.BranchTrue place) m = one_moves is_set (λ holds k. branch_if holds place k) (λ holds k. branch_moves holds place k) m
+  local_moves (Linked.BranchFalse place) m = one_moves is_set (λ holds k. branch_if (not holds) place k) (λ holds k. branch_moves (not holds) place k) m
+  local_moves (Linked.BranchCompare op place) m = two_moves (integers_branch op) (λ holds k. branch_if holds place k) (λ holds k. branch_moves holds place k) m
+  local_moves (Linked.Switch places) m = top_moves m (switch_on places) (switch_on places) (λ v k. switch_moves places v k)
+  local_moves (Linked.LoadField slot kind) m = refl
+  local_moves (Linked.StoreField slot) m = refl
+  local_moves (Linked.LoadStaticField number) m = refl
+  local_moves (Linked.StoreStaticField number) m = refl
+  local_moves (Linked.NewArray element) m = refl
+  local_moves Linked.LoadLength m = refl
+  local_moves (Linked.LoadElement kind) m = refl
+  local_moves Linked.StoreElement m = refl
+  local_moves Linked.StoreElementReference m = refl
+  local_moves (Linked.CastClass t) m = refl
+  local_moves (Linked.IsInstance t) m = refl
+  local_moves (Linked.Call number) m = refl
+  local_moves (Linked.CallVirtual number operands) m = refl
+  local_moves (Linked.NewObject class slots number) m = refl
+  local_moves (Linked.Return b) m = refl
+
+-- ---- in any memory
+
+module _ (phase : Phase) (o : Objects) where
+  choose_none : {X : Type 0} (b : Bool) → ◌≡◌ {A = Option X} (if b then None else None) None
+  choose_none true = refl
+  choose_none false = refl
+
+  ordered_references : (op : Comparison) → is_ordered op ≡ true → (a b : Addr) → comparison phase o op (Ref a) (Ref b) ≡ None
+  ordered_references Compare.Equal e a b = absurd cc
+  ordered_references Compare.Greater e a b = choose_none (are_comparable phase o a b)
+  ordered_references Compare.Less e a b = choose_none (are_comparable phase o a b)
+
+  compared_is : (op : Comparison) → is_ordered op ≡ true → (v w : Value) → comparison phase o op v w ≡ integers_compared op v w
+  compared_is op e (Int32 x) (Int32 y) = refl
+  compared_is op e (Int32 x) (Int64 y) = refl
+  compared_is op e (Int32 x) (Native y) = refl
+  compared_is op e (Int32 x) (Ref y) = refl
+  compared_is op e (Int64 x) (Int32 y) = refl
+  compared_is op e (Int64 x) (Int64 y) = refl
+  compared_is op e (Int64 x) (Native y) = refl
+  compared_is op e (Int64 x) (Ref y) = refl
+  compared_is op e (Native x) (Int32 y) = refl
+  compared_is op e (Native x) (Int64 y) = refl
+  compared_is op e (Native x) (Native y) = refl
+  compared_is op e (Native x) (Ref y) = refl
+  compared_is op e (Ref x) (Int32 y) = refl
+  compared_is op e (Ref x) (Int64 y) = refl
+  compared_is op e (Ref x) (Native y) = refl
+  compared_is op e (Ref x) (Ref y) = ordered_references op e x y
+
+  ordered_branches : (op : BranchComparison) → is_ordered_branch op ≡ true → (a b : Addr) → branch_test phase o op (Ref a) (Ref b) ≡ None
+  ordered_branches Branch.Equal e a b = absurd cc
+  ordered_branches Branch.NotEqual e a b = absurd cc
+  ordered_branches Branch.GreaterOrEqual e a b = choose_none (are_comparable phase o a b)
+  ordered_branches Branch.Greater e a b = choose_none (are_comparable phase o a b)
+  ordered_branches Branch.LessOrEqual e a b = choose_none (are_comparable phase o a b)
+  ordered_branches Branch.Less e a b = choose_none (are_comparable phase o a b)
+
+  tested_is : (op : BranchComparison) → is_ordered_branch op ≡ true → (v w : Value) → branch_test phase o op v w ≡ integers_branch op v w
+  tested_is op e (Int32 x) (Int32 y) = refl
+  tested_is op e (Int32 x) (Int64 y) = refl
+  tested_is op e (Int32 x) (Native y) = refl
+  tested_is op e (Int32 x) (Ref y) = refl
+  tested_is op e (Int64 x) (Int32 y) = refl
+  tested_is op e (Int64 x) (Int64 y) = refl
+  tested_is op e (Int64 x) (Native y) = refl
+  tested_is op e (Int64 x) (Ref y) = refl
+  tested_is op e (Native x) (Int32 y) = refl
+  tested_is op e (Native x) (Int64 y) = refl
+  tested_is op e (Native x) (Native y) = refl
+  tested_is op e (Native x) (Ref y) = refl
+  tested_is op e (Ref x) (Int32 y) = refl
+  tested_is op e (Ref x) (Int64 y) = refl
+  tested_is op e (Ref x) (Native y) = refl
+  tested_is op e (Ref x) (Ref y) = ordered_branches op e x y
+
+  -- two operands, by two tests that agree
+  two_alike : {X : Type 0} (f g : Value → Value → Option X) (go : X → Frames → Turn) → ((v w : Value) → f v w ≡ g v w) → (m : Frames) →
+      with_top m (λ w n. with_top n (λ v k. given (f v w) (λ x. go x k))) ≡ with_top m (λ w n. with_top n (λ v k. given (g v w) (λ x. go x k)))
+  two_alike f g go alike m = by_stack m.running.stack
+    where
+      by_rest : (w : Value) (n : Frames) (stack : List Value) → top_of stack n (λ v k. given (f v w) (λ x. go x k)) ≡ top_of stack n (λ v k. given (g v w) (λ x. go x k))
+      by_rest w n [] = refl
+      by_rest w n (v ∷ rest) = ap (λ r. given r (λ x. go x (with_stack n rest))) (alike v w)
+
+      by_stack : (stack : List Value) → top_of stack m (λ w n. with_top n (λ v k. given (f v w) (λ x. go x k))) ≡ top_of stack m (λ w n. with_top n (λ v k. given (g v w) (λ x. go x k)))
+      by_stack [] = refl
+      by_stack (w ∷ rest) = by_rest w (with_stack m rest) rest
+
+  compare_is : (op : Comparison) → is_ordered op ≡ true → (m : Frames) → compare_turn phase op m o ≡ compare_integers_turn op m
+  compare_is op e m = two_alike (comparison phase o op) (integers_compared op) (λ holds k. leaves (one_or_zero holds) k) (compared_is op e) m
+
+  branch_is : (op : BranchComparison) → is_ordered_branch op ≡ true → (place : ℕ) (m : Frames) → branch_compare_turn phase op place m o ≡ branch_integers_turn op place m
+  branch_is op e place m = two_alike (branch_test phase o op) (integers_branch op) (λ holds k. branch_if holds place k) (tested_is op e) m
+
+module _ (tree : Tree) (mutator : Mutator) (m : Frames) (o : Objects) (ss : List Value) (c : List ℕ) where
+  -- what a linked one does is what it does to the frames
+  pub local_is : (l : LinkedInstruction) → is_local_link l ≡ true → linked_turn tree mutator l m o ss c ≡ of_frames o ss c (local_link_turn l m)
+  local_is Linked.NoOperation e = refl
+  local_is (Linked.LoadInt32 z) e = refl
+  local_is (Linked.LoadInt64 z) e = refl
+  local_is Linked.LoadNull e = refl
+  local_is (Linked.LoadString a) e = absurd cc
+  local_is (Linked.LoadArgument n) e = refl
+  local_is (Linked.StoreArgument n) e = refl
+  local_is (Linked.LoadLocal n) e = refl
+  local_is (Linked.StoreLocal n) e = refl
+  local_is Linked.Duplicate e = refl
+  local_is Linked.Pop e = refl
+  local_is (Linked.Binary op) e = refl
+  local_is (Linked.Unary op) e = refl
+  local_is (Linked.Shift op) e = refl
+  local_is (Linked.Compare op) e = ap (of_frames o ss c) (compare_is mutator.phase o op e m)
+  local_is Linked.ConvertInt32 e = refl
+  local_is Linked.ConvertInt64 e = refl
+  local_is (Linked.Branch place) e = refl
+  local_is (Linked.BranchTrue place) e = refl
+  local_is (Linked.BranchFalse place) e = refl
+  local_is (Linked.BranchCompare op place) e = ap (of_frames o ss c) (branch_is mutator.phase o op e place m)
+  local_is (Linked.Switch places) e = refl
+  local_is (Linked.LoadField slot kind) e = absurd cc
+  local_is (Linked.StoreField slot) e = absurd cc
+  local_is (Linked.LoadStaticField number) e = absurd cc
+  local_is (Linked.StoreStaticField number) e = absurd cc
+  local_is (Linked.NewArray element) e = absurd cc
+  local_is Linked.LoadLength e = absurd cc
+  local_is (Linked.LoadElement kind) e = absurd cc
+  local_is Linked.StoreElement e = absurd cc
+  local_is Linked.StoreElementReference e = absurd cc
+  local_is (Linked.CastClass t) e = absurd cc
+  local_is (Linked.IsInstance t) e = absurd cc
+  local_is (Linked.Call number) e = absurd cc
+  local_is (Linked.CallVirtual number operands) e = absurd cc
+  local_is (Linked.NewObject class slots number) e = absurd cc
+  local_is (Linked.Return b) e = absurd cc
+
+-- ---- links
+
+module _ (tree : Tree) (has_value : Bool) where
+  -- the link of an instruction is of its kind, where it has one
+  abbrev LinksAlike : Operation → Option LinkedInstruction → Type 0
+  LinksAlike op l = (wanted : LinkedInstruction) → l ≡ Some wanted → is_local_link wanted ≡ is_local op
+
+  here : (op : Operation) (l : LinkedInstruction) → is_local_link l ≡ is_local op → LinksAlike op (Some l)
+  here op l alike wanted e = ap is_local_link (sym (same_Some l wanted e)) ∙ alike
+
+  mapped : {X : Type 0} (op : Operation) (f : X → LinkedInstruction) → ((x : X) → is_local_link (f x) ≡ is_local op) → (x : Option X) → LinksAlike op (option_map f x)
+  mapped op f alike None wanted e = none_is_some wanted e
+  mapped op f alike (Some x) wanted e = here op (f x) (alike x) wanted e
+
+  behind : {X : Type 0} (op : Operation) (f : X → Option LinkedInstruction) → ((x : X) → LinksAlike op (f x)) → (x : Option X) → LinksAlike op (option_and_then f x)
+  behind op f alike None wanted e = none_is_some wanted e
+  behind op f alike (Some x) wanted e = alike x wanted e
+
+  chosen : (op : Operation) (l : LinkedInstruction) → is_local_link l ≡ is_local op → (b : Bool) → LinksAlike op (if b then Some l else None)
+  chosen op l alike true wanted e = here op l alike wanted e
+  chosen op l alike false wanted e = none_is_some wanted e
+
+  pub link_alike : (op : Operation) → LinksAlike op (link tree has_value op)
+  link_alike Resolved.NoOperation = here Resolved.NoOperation Linked.NoOperation refl
+  link_alike (Resolved.LoadInt32 z) = here (Resolved.LoadInt32 z) (Linked.LoadInt32 z) refl
+  link_alike (Resolved.LoadInt64 z) = here (Resolved.LoadInt64 z) (Linked.LoadInt64 z) refl
+  link_alike Resolved.LoadNull = here Resolved.LoadNull Linked.LoadNull refl
+  link_alike (Resolved.LoadString n) = chosen (Resolved.LoadString n) (Linked.LoadString (literal n)) refl (nat_lt n FIRST_LITERAL)
+  link_alike (Resolved.LoadArgument n) = here (Resolved.LoadArgument n) (Linked.LoadArgument n) refl
+  link_alike (Resolved.StoreArgument n) = here (Resolved.StoreArgument n) (Linked.StoreArgument n) refl
+  link_alike (Resolved.LoadLocal n) = here (Resolved.LoadLocal n) (Linked.LoadLocal n) refl
+  link_alike (Resolved.StoreLocal n) = here (Resolved.StoreLocal n) (Linked.StoreLocal n) refl
+  link_alike Resolved.Duplicate = here Resolved.Duplicate Linked.Duplicate refl
+  link_alike Resolved.Pop = here Resolved.Pop Linked.Pop refl
+  link_alike (Resolved.Binary op) = here (Resolved.Binary op) (Linked.Binary op) refl
+  link_alike (Resolved.Unary op) = here (Resolved.Unary op) (Linked.Unary op) refl
+  link_alike (Resolved.Shift op) = here (Resolved.Shift op) (Linked.Shift op) refl
+  link_alike (Resolved.Compare op) = here (Resolved.Compare op) (Linked.Compare op) refl
+  link_alike Resolved.ConvertInt32 = here Resolved.ConvertInt32 Linked.ConvertInt32 refl
+  link_alike Resolved.ConvertInt64 = here Resolved.ConvertInt64 Linked.ConvertInt64 refl
+  link_alike (Resolved.Branch place) = here (Resolved.Branch place) (Linked.Branch place) refl
+  link_alike (Resolved.BranchTrue place) = here (Resolved.BranchTrue place) (Linked.BranchTrue place) refl
+  link_alike (Resolved.BranchFalse place) = here (Resolved.BranchFalse place) (Linked.BranchFalse place) refl
+  link_alike (Resolved.BranchCompare op place) = here (Resolved.BranchCompare op place) (Linked.BranchCompare op place) refl
+  link_alike (Resolved.Switch places) = here (Resolved.Switch places) (Linked.Switch places) refl
+  link_alike (Resolved.LoadField owner field) = behind (Resolved.LoadField owner field) (λ slot. option_map (λ kind. Linked.LoadField slot kind) (held_at tree field)) (λ slot. mapped (Resolved.LoadField owner field) (λ kind. Linked.LoadField slot kind) (λ kind. refl) (held_at tree field)) (slot_at tree field)
+  link_alike (Resolved.StoreField owner field) = mapped (Resolved.StoreField owner field) (λ slot. Linked.StoreField slot) (λ slot. refl) (slot_at tree field)
+  link_alike (Resolved.LoadStaticField field) = mapped (Resolved.LoadStaticField field) (λ number. Linked.LoadStaticField number) (λ number. refl) (static_at tree field)
+  link_alike (Resolved.StoreStaticField field) = mapped (Resolved.StoreStaticField field) (λ number. Linked.StoreStaticField number) (λ number. refl) (static_at tree field)
+  link_alike (Resolved.NewArray t) = mapped (Resolved.NewArray t) (λ element. Linked.NewArray element) (λ element. refl) (array_held t)
+  link_alike Resolved.LoadLength = here Resolved.LoadLength Linked.LoadLength refl
+  link_alike Resolved.LoadElementInt32 = here Resolved.LoadElementInt32 (Linked.LoadElement Kind.Int32) refl
+  link_alike Resolved.LoadElementInt64 = here Resolved.LoadElementInt64 (Linked.LoadElement Kind.Int64) refl
+  link_alike Resolved.LoadElementReference = here Resolved.LoadElementReference (Linked.LoadElement Kind.Ref) refl
+  link_alike Resolved.StoreElementInt32 = here Resolved.StoreElementInt32 Linked.StoreElement refl
+  link_alike Resolved.StoreElementInt64 = here Resolved.StoreElementInt64 Linked.StoreElement refl
+  link_alike Resolved.StoreElementReference = here Resolved.StoreElementReference Linked.StoreElementReference refl
+  link_alike (Resolved.CastClass t) = here (Resolved.CastClass t) (Linked.CastClass t) refl
+  link_alike (Resolved.IsInstance t) = here (Resolved.IsInstance t) (Linked.IsInstance t) refl
+  link_alike (Resolved.Call b owner n) = mapped (Resolved.Call b owner n) (λ number. Linked.Call number) (λ number. refl) (number_at tree n)
+  link_alike (Resolved.CallVirtual owner n) = mapped (Resolved.CallVirtual owner n) (λ (found : ClassName × Method). Linked.CallVirtual (flat_number tree n.class n.place) (length (argument_types found.1 found.0))) (λ found. refl) (method_at tree (n.class, n.place))
+  link_alike (Resolved.NewObject n) = behind (Resolved.NewObject n) (λ class. option_and_then (λ slots. option_map (λ number. Linked.NewObject class slots number) (number_at tree n)) (slots_at tree n))
+      (λ class. behind (Resolved.NewObject n) (λ slots. option_map (λ number. Linked.NewObject class slots number) (number_at tree n)) (λ slots. mapped (Resolved.NewObject n) (λ number. Linked.NewObject class slots number) (λ number. refl) (number_at tree n)) (slots_at tree n)) (class_in n)
+  link_alike Resolved.Return = here Resolved.Return (Linked.Return has_value) refl

@@ -1,0 +1,159 @@
+//! Local instructions of a frame, one after another.
+
+ghost use Rattle.std.specs.Prelude.{◌≡◌, ◌⊎◌, ◌<◌, ◌≤◌, ℕ, List, IsSome, Some, length, slice_get, true, false};
+ghost use Rattle.cil_model.specs.declared.trees.Tree.{Tree};
+ghost use Rattle.loaded_program.specs.Loaded.{IsCode, IsLinkedAt, line_in};
+ghost use Rattle.threads_monitors.specs.Frames.{Frame};
+ghost use Rattle.threads_monitors.specs.declared.effects.Effect.TheVariants.{GoesOn};
+ghost use Rattle.instructions.specs.LocalTurns.{IsFaulty, is_ordered, is_ordered_branch};
+ghost use Rattle.interpreter.specs.Local.{AreLocalSteps, EndsLocal, IsNextLocal, IsReadySomewhere, alone, is_local_link, local_link_turn};
+
+use cil_model::instructions::{BranchComparison, Comparison};
+use instructions::{arithmetic, branches, places, stack};
+use loaded_program::{LinkedInstruction, LoadedProgram};
+use object_memory::{Addr, Value};
+use threads_monitors::{Effect, FrameMemory};
+
+/// Whether integers alone have the comparison.
+fn is_ordered(comparison: Comparison) -> bool
+    ensures { result ≡ is_ordered comparison }
+{
+    match comparison {
+        Comparison::Equal => false,
+        Comparison::Greater | Comparison::Less => true,
+    }
+}
+
+/// Whether integers alone have the comparison of a branch.
+fn is_ordered_branch(comparison: BranchComparison) -> bool
+    ensures { result ≡ is_ordered_branch comparison }
+{
+    match comparison {
+        BranchComparison::Equal | BranchComparison::NotEqual => false,
+        BranchComparison::GreaterOrEqual
+        | BranchComparison::Greater
+        | BranchComparison::LessOrEqual
+        | BranchComparison::Less => true,
+    }
+}
+
+/// Whether an instruction needs nothing but the frame that runs.
+fn is_local(instruction: &LinkedInstruction) -> bool
+    ensures { result ≡ is_local_link instruction.now }
+{
+    match instruction {
+        LinkedInstruction::NoOperation
+        | LinkedInstruction::LoadInt32(_)
+        | LinkedInstruction::LoadInt64(_)
+        | LinkedInstruction::LoadNull
+        | LinkedInstruction::LoadArgument(_)
+        | LinkedInstruction::StoreArgument(_)
+        | LinkedInstruction::LoadLocal(_)
+        | LinkedInstruction::StoreLocal(_)
+        | LinkedInstruction::Duplicate
+        | LinkedInstruction::Pop
+        | LinkedInstruction::Binary(_)
+        | LinkedInstruction::Unary(_)
+        | LinkedInstruction::Shift(_)
+        | LinkedInstruction::ConvertInt32
+        | LinkedInstruction::ConvertInt64
+        | LinkedInstruction::Branch(_)
+        | LinkedInstruction::BranchTrue(_)
+        | LinkedInstruction::BranchFalse(_)
+        | LinkedInstruction::Switch(_) => true,
+        LinkedInstruction::Compare(comparison) => is_ordered(*comparison),
+        LinkedInstruction::BranchCompare(comparison, _) => is_ordered_branch(*comparison),
+        _ => false,
+    }
+}
+
+/// Does a local instruction.
+fn execute_local(instruction: &LinkedInstruction, frames: &mut FrameMemory) -> Effect
+    requires local { is_local_link instruction.now ≡ true }
+    requires there { IsSome (local_link_turn instruction.now frames.old) }
+    ensures { Some (frames.new, result) ≡ local_link_turn instruction.now frames.old }
+{
+    match instruction {
+        LinkedInstruction::NoOperation => places::go_on(frames),
+        LinkedInstruction::LoadInt32(number) => places::leave(frames, Value::Int32(*number)),
+        LinkedInstruction::LoadInt64(number) => places::leave(frames, Value::Int64(*number)),
+        LinkedInstruction::LoadNull => places::leave(frames, Value::Ref(Addr::null())),
+        LinkedInstruction::LoadArgument(index) => stack::load_argument(frames, *index),
+        LinkedInstruction::StoreArgument(index) => stack::store_argument(frames, *index),
+        LinkedInstruction::LoadLocal(index) => stack::load_local(frames, *index),
+        LinkedInstruction::StoreLocal(index) => stack::store_local(frames, *index),
+        LinkedInstruction::Duplicate => stack::duplicate(frames),
+        LinkedInstruction::Pop => stack::pop(frames),
+        LinkedInstruction::Binary(operation) => arithmetic::binary(frames, *operation),
+        LinkedInstruction::Unary(operation) => arithmetic::unary(frames, *operation),
+        LinkedInstruction::Shift(operation) => arithmetic::shift(frames, *operation),
+        LinkedInstruction::Compare(comparison) => {
+            arithmetic::compare_integers(frames, *comparison)
+        }
+        LinkedInstruction::ConvertInt32 => arithmetic::convert_to_32(frames),
+        LinkedInstruction::ConvertInt64 => arithmetic::convert_to_64(frames),
+        LinkedInstruction::Branch(place) => places::jump(frames, *place),
+        LinkedInstruction::BranchTrue(place) => branches::branch_true(frames, *place),
+        LinkedInstruction::BranchFalse(place) => branches::branch_false(frames, *place),
+        LinkedInstruction::BranchCompare(comparison, place) => {
+            branches::branch_integers(frames, *comparison, *place)
+        }
+        LinkedInstruction::Switch(places) => branches::switch(frames, places.as_slice()),
+        _ => unreachable!(),
+    }
+}
+
+/// Does an instruction where it is local and raises no fault, and answers true. Else nothing changes.
+#[inline(always)]
+fn do_local(instruction: &LinkedInstruction, frames: &mut FrameMemory) -> bool
+    requires { is_local_link instruction.now ≡ true → IsSome (local_link_turn instruction.now frames.old) }
+    ensures done { result ≡ true → (is_local_link instruction.now ≡ true) × (local_link_turn instruction.now frames.old ≡ Some (frames.new, GoesOn)) }
+    ensures stays { result ≡ false → (frames.new ≡ frames.old) × ((is_local_link instruction.now ≡ false) ⊎ ((is_local_link instruction.now ≡ true) × IsFaulty (local_link_turn instruction.now frames.old))) }
+{
+    if !is_local(instruction) {
+        return false;
+    }
+    if let LinkedInstruction::Binary(operation) = instruction {
+        return arithmetic::binary_unless_faulty(frames, *operation);
+    }
+    execute_local(instruction, frames);
+    true
+}
+
+/// The instruction at a place of a method's code.
+fn line_of(code: &[LinkedInstruction], place: u32) -> &LinkedInstruction
+    requires { (tree : Tree) × (method : ℕ) × IsCode tree method code.now × IsSome (line_in tree method place) }
+    ensures { (tree : Tree) (method : ℕ) → IsCode tree method code.now → IsSome (line_in tree method place) → IsLinkedAt tree method place result.now }
+{
+    &code[place as usize]
+}
+
+/// Whether the next instruction of the frame that runs is a local one.
+pub fn is_next_local(program: &LoadedProgram, frames: &FrameMemory) -> bool
+    requires { IsReadySomewhere program.now frames.now.room frames.now.running }
+    ensures { IsNextLocal program.now frames.now.room frames.now.running result }
+{
+    is_local(program.instruction(frames.method(), frames.place()))
+}
+
+/// Does local instructions of the only frame, so many at most, and answers how many it did. It stops before one that is not local or that
+/// would raise a fault. It takes no memory, and reads nothing but the program and the frame.
+pub fn run_local(program: &LoadedProgram, frames: &mut FrameMemory, most: u32) -> u32
+    requires alone { frames.old ≡ alone frames.old.room frames.old.running }
+    requires ready { (k : ℕ) (f : Frame) → k < most → AreLocalSteps program.now frames.old.room k frames.old.running f → IsReadySomewhere program.now frames.old.room f }
+    ensures ran { AreLocalSteps program.now frames.old.room result frames.old.running frames.new.running }
+    ensures alone { frames.new ≡ alone frames.old.room frames.new.running }
+    ensures most { result ≤ most }
+    ensures ends { result < most → EndsLocal program.now frames.old.room frames.new.running }
+{
+    if most == 0 {
+        return 0;
+    }
+    let code = program.code(frames.method());
+    for count in 0..most {
+        if !do_local(line_of(code, frames.place()), frames) {
+            return count;
+        }
+    }
+    most
+}

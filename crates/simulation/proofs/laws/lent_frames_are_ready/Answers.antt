@@ -1,0 +1,5 @@
+use Rattle.simulation.proofs.LocalTurns.{local_ready}
+use Rattle.simulation.proofs.laws.lent_frames_are_ready.Goals as goal
+
+pub returns : goal.returns
+returns c = λ content s r t left n f g at less steps. local_ready content t left f at s r n g less steps
