@@ -127,8 +127,8 @@ fn integers_compared(operation: Comparison, first: Value, second: Value) -> bool
     ensures { integers_compared operation first second ≡ Some result }
 {
     match (first, second) {
-        (Value::Int32(x), Value::Int32(y)) => Integer::compare(operation, x, y),
-        (Value::Int64(x), Value::Int64(y)) => Integer::compare(operation, x, y),
+        (Value::Int32(left), Value::Int32(right)) => Integer::compare(operation, left, right),
+        (Value::Int64(left), Value::Int64(right)) => Integer::compare(operation, left, right),
         _ => unreachable!(),
     }
 }

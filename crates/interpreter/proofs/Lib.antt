@@ -15,4 +15,3 @@ pub mod Executing
 pub mod LocalRules
 pub mod LocalKeeps
 pub mod LocalSteps
-

@@ -79,13 +79,13 @@ one_room_more tree room n rooms all so is same = record {
 pub taken_rooms : (o : Content) (rooms : List (Option Tree)) (t : ℕ) → HasRooms o rooms → HasRooms o (set rooms t None)
 taken_rooms o rooms t homes = record {
   each = length-set rooms t None ∙ homes.each;
-  theirs = λ n tree there. elim (set_or_was rooms t n None (Some tree) there) [ | inl gone ↦ absurd (cc gone) | inr was ↦ homes.theirs n tree was ];
+  theirs = λ n tree there. elim (set_or_was rooms t n None (Some tree) there) [ inl gone ↦ absurd (cc gone) | inr was ↦ homes.theirs n tree was ];
 }
 
 pub room_back : (o : Content) (rooms : List (Option Tree)) (t : ℕ) (room : Tree) → HasRooms o rooms → room ≡ o.tree → HasRooms o (set rooms t (Some room))
 room_back o rooms t room homes same = record {
   each = length-set rooms t (Some room) ∙ homes.each;
-  theirs = λ n tree there. elim (set_or_was rooms t n (Some room) (Some tree) there) [ | inl here ↦ same_Some tree room here ∙ same | inr was ↦ homes.theirs n tree was ];
+  theirs = λ n tree there. elim (set_or_was rooms t n (Some room) (Some tree) there) [ inl here ↦ same_Some tree room here ∙ same | inr was ↦ homes.theirs n tree was ];
 }
 
 -- which threads are lent then

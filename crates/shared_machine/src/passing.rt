@@ -284,8 +284,14 @@ pub(crate) fn pass<M: Opening, R: Wait>(
 {
     let mut world = shared.lock(rt);
     let found = found_in(&*world);
-    let (mut progress, mut worker) =
-        acknowledge(alloc, epochs, &mut *world, worker, workers, &found);
+    let (mut progress, mut worker) = acknowledge(
+        alloc,
+        epochs,
+        &mut *world,
+        worker,
+        workers,
+        &found,
+    );
     if progress.lasts() {
         let ticket = &mut worker.ticket;
         let (came, held) = step_each(rt, alloc, shared, world, ticket, workers, &found);
