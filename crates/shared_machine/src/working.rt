@@ -19,6 +19,13 @@ pub(crate) fn set_stop_mark<M: Opening, R: Wait>(rt: &R, shared: &Shared<M>) {
     stop(&mut *world);
 }
 
+/// Lets other host threads run, where one of several workers made a pass in which nothing went on.
+fn yield_if_idle(workers: u8, progress: Progress) {
+    if workers > 1 && progress == Progress::None {
+        yield_now();
+    }
+}
+
 /// Makes passes until one has found no live thread or the stop mark, or memory did not last, and gives the ticket back. Where memory did
 /// not last, the stop mark is set. One of several workers yields after a pass in which nothing went on.
 pub(crate) fn work<M: Opening, R: Wait, G: Gate>(
@@ -43,9 +50,7 @@ pub(crate) fn work<M: Opening, R: Wait, G: Gate>(
             break;
         }
         turn = turn.saturating_add(1);
-        if workers > 1 && passed.progress == Progress::None {
-            yield_now();
-        }
+        yield_if_idle(workers, passed.progress);
     }
     worker.ticket
 }

@@ -1,15 +1,15 @@
 use Rattle.shared_machine.proofs.TicketCounts.{worked_both}
 use Rattle.shared_machine.proofs.working.work.Goals as goal
-use Rattle.shared_machine.proofs.working.work.Goals.{in-None, in-Some+then-not-lasted-2}
+use Rattle.shared_machine.proofs.working.work.Goals.{in-None, in-Some+then-passed}
 
 pub loop-preserved : goal.loop-preserved
 loop-preserved g c = record {
-  here = c.pass-lasted.ensures.here;
-  worked = worked_both _ _ _ _ c.loop.invariant.worked c.pass-lasted.ensures.worked;
+  here = c.pass-next.ensures.here;
+  worked = worked_both _ _ _ _ c.loop.invariant.worked c.pass-next.ensures.worked;
 }
 
 pub returns : goal.returns
 returns g c = elim c.match-next.branch [
   | in-None w ↦ rw w.worker-is c.loop.invariant.worked
-  | in-Some+then-not-lasted-2 w ↦ rw w.worker-is (worked_both _ _ _ _ c.loop.invariant.worked w.pass-lasted.ensures.worked)
+  | in-Some+then-passed w ↦ rw w.worker-is (worked_both _ _ _ _ c.loop.invariant.worked w.pass-next.ensures.worked)
 ]
