@@ -8,7 +8,7 @@ use Rattle.shared_machine.specs.Worlds.{AgreesWith, IfDid, added}
 use Rattle.cil_model.specs.declared.events.Event.{Event}
 use Rattle.shared_machine.specs.declared.history.Entry.{Entry}
 use Rattle.shared_machine.specs.declared.answer.Answer.{Answer}
-use Rattle.shared_machine.specs.declared.answer.Answer.TheVariants.{Did, NoMemory}
+use Rattle.shared_machine.specs.declared.answer.Answer.TheVariants.{Did, NoMemory, Away}
 
 pub did_counts : (x : Answer) (t u : Count) (e : Event) (h : List Entry) → IfDid x (λ r. u ≡ added t e r) → AgreesWith h u → IfDid x (λ r. count_of t.worker h ≡ add t.count e r)
 did_counts (Did r) t u e h did agrees =
@@ -16,6 +16,7 @@ did_counts (Did r) t u e h did agrees =
     let n : u.count ≡ add t.count e r = ap (λ (c : Count). c.count) did in
     sym (ap (λ k. count_of k h) w) ∙ sym agrees ∙ n
 did_counts NoMemory t u e h did agrees = tt
+did_counts Away t u e h did agrees = tt
 
 pub first_agrees : (h : List Entry) (all rest : List Count) (a b : Count) → all ≡ rest ++ b ∷ [] → rest ≡ a ∷ [] → All (AgreesWith h) all → AgreesWith h a
 first_agrees h all rest a b e f agree =
