@@ -37,8 +37,9 @@ const MOST_TURNS: u32 = 50_000_000;
 /// How many passes the other worker has to begin while one is held.
 const PASSES_MEANWHILE: u64 = 50;
 
-/// How many steps the thread of the other worker makes in them, at least.
-const STEPS_MEANWHILE: u64 = 40;
+/// How many steps the thread of the other worker makes in them, at least. While nobody is held there are no more than two passes of the
+/// other worker between two events, of 64 steps each.
+const STEPS_MEANWHILE: u64 = 1_000;
 
 /// How often the collector waits at the end of them, at least.
 const WAITS_MEANWHILE: u64 = 10;
