@@ -198,7 +198,7 @@ impl Engine {
     }
 
     /// A step of Reclaim: the next object of the new space loses its mark and its other copy. Where none has any, the old space is
-    /// retired, and the cycle is over: its block, all of whose words are set to 0, is kept for the next cycle.
+    /// retired, and the cycle is over: its block, with no word in use, is kept for the next cycle.
     fn clear_on(&mut self) -> Report
         requires sound { IsSoundContent (content_of self.old) }
         requires posted { self.old.posts.posted ≡ ReclaimOf }

@@ -1,6 +1,7 @@
 //! The memory of a cycle of the collector: its second block and its grey list.
 
-ghost use Rattle.std.specs.Prelude.{◌≡◌, ◌≤◌, ◌==◌, ◌&&◌, [], replicate, length, nat_le, vec_capacity, IfOk};
+ghost use Rattle.std.specs.Prelude.{◌≡◌, ◌≤◌, ◌==◌, ◌&&◌, [], length, nat_le, vec_capacity, IfOk};
+ghost use Rattle.space_block.specs.Rows.{blank};
 
 use cil_model::memory::NoMemory;
 use object_memory::Addr;
@@ -8,22 +9,23 @@ use space_block::Block;
 use std::alloc::Global;
 use std::marker::Model;
 
-/// A block of zeros and an empty grey list. A cycle that ends leaves those of its old space to the next one. Contracts see the words of
-/// the block, and the number of objects that the list has room for.
+/// A block without a word in use, and an empty grey list. A cycle that ends leaves those of its old space to the next one. Contracts see
+/// the number of words of the block, and the number of objects that the list has room for.
 pub struct CycleMemory {
     block: Block,
     grey: Vec<Addr>,
 }
 
 impl Model for CycleMemory {
-    ghost use Rattle.std.specs.Prelude.{◌≡◌, [], length, replicate, vec_capacity};
+    ghost use Rattle.std.specs.Prelude.{◌≡◌, [], length, vec_capacity};
+    ghost use Rattle.space_block.specs.Rows.{blank};
     ghost use Rattle.interleaving_core.specs.CycleMemories.{CycleRoom};
 
     ghost Value = { CycleRoom };
 
-    ghost view = { λ m. record { words = length m.block; objects = vec_capacity m.grey } };
+    ghost view = { λ m. record { words = length m.block.words; objects = vec_capacity m.grey } };
 
-    ghost invariant = { λ m. (m.block ≡ replicate (length m.block) 0) × (m.grey.items ≡ []) };
+    ghost invariant = { λ m. (m.block ≡ blank (length m.block.words)) × (m.grey.items ≡ []) };
 }
 
 /// Both parts give back their memory.
@@ -48,16 +50,16 @@ impl CycleMemory {
 
     /// The memory that a cycle leaves when it ends.
     pub fn of_parts(block: Block, grey: Vec<Addr>) -> CycleMemory
-        requires zeros { block ≡ replicate (length block) 0 }
+        requires blank { block ≡ blank (length block.words) }
         requires empty { grey.items ≡ [] }
-        ensures { result ≡ record { words = length block; objects = vec_capacity grey } }
+        ensures { result ≡ record { words = length block.words; objects = vec_capacity grey } }
     {
         CycleMemory { block, grey }
     }
 
     /// The block and the list.
     pub fn into_parts(self) -> (Block, Vec<Addr>)
-        ensures block { result.0 ≡ replicate self.words 0 }
+        ensures block { result.0 ≡ blank self.words }
         ensures grey { (result.1.items ≡ []) × (vec_capacity result.1 ≡ self.objects) }
     {
         let CycleMemory { block, grey } = self;

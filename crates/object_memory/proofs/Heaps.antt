@@ -74,14 +74,14 @@ module _ (start : ℕ) (block : List ℕ) (used : ℕ) (laid : IsLaid block used
 
   -- ---- the header words
 
-  pub header_inside : IsSome (cell_in h a) → (start ≤ a.number) × (place + 2 < length block)
+  pub header_inside : IsSome (cell_in h a) → (start ≤ a.number) × (place + 2 < used)
   header_inside some =
       let c = held some in
-      (omega (arith, c.lies.place), omega (arith, c.lies.place, c.lies.below, laid.inside))
+      (omega (arith, c.lies.place), omega (arith, c.lies.place, c.lies.below))
 
   -- its address is one of those of the block
   pub own_range : IsSome (cell_in h a) → (start ≤ a.number) × (a.number < start + length block)
-  own_range some = let inside = header_inside some in (inside.0, omega (arith, inside.0, inside.1))
+  own_range some = let inside = header_inside some in (inside.0, omega (arith, inside.0, inside.1, laid.inside))
 
   header_read : (c : Held) → get_or block place 0 ≡ header_word c.cell.kind (length c.cell.slots)
   header_read c =
@@ -121,11 +121,11 @@ module _ (start : ℕ) (block : List ℕ) (used : ℕ) (laid : IsLaid block used
   slot_held : (i : ℕ) → i < length (slots_in h a) → Held
   slot_held i less = held (some_slots h a (cell_in h a) i refl less)
 
-  pub slot_inside : (i : ℕ) → i < length (slots_in h a) → (start ≤ a.number) × (place + 3 + i < length block)
+  pub slot_inside : (i : ℕ) → i < length (slots_in h a) → (start ≤ a.number) × (place + 3 + i < used)
   slot_inside i less =
       let c = slot_held i less in
       let own = rw c.at at less in
-      (omega (arith, c.lies.place), omega (arith, c.lies.place, c.lies.below, laid.inside, own))
+      (omega (arith, c.lies.place), omega (arith, c.lies.place, c.lies.below, own))
 
   pub slot_read : (i : ℕ) → i < length (slots_in h a) → get_or block (place + 3 + i) 0 ≡ get_or (slots_in h a) i 0
   slot_read i less =

@@ -1,7 +1,8 @@
 //! Objects in one block, or in two during a cycle.
 
 ghost use Rattle.cil_model.specs.declared.limits.TheConstants.{MOST_WORDS};
-ghost use Rattle.std.specs.Prelude.{◌≡◌, ◌≢◌, ℕ, ◌+◌, ◌*◌, ◌<◌, ◌≤◌, [], true, false, length, drop, replicate, slice_index, slice_get, Some, None, IfOk, IfSome, IsSome, option_map, vec_capacity};
+ghost use Rattle.space_block.specs.Rows.{blank};
+ghost use Rattle.std.specs.Prelude.{◌≡◌, ◌≢◌, ℕ, ◌+◌, ◌*◌, ◌<◌, ◌≤◌, [], true, false, length, drop, slice_index, slice_get, Some, None, IfOk, IfSome, IsSome, option_map, vec_capacity};
 
 use crate::addresses::Addr;
 use crate::grey::GreyList;
@@ -60,14 +61,14 @@ impl Heap {
     ghost use Rattle.object_memory.specs.Spaces.{IsThere, IsPlace, cell_at, slots_at, is_old, forward, opened, closed, InOld, InBoth, Listed, InNew, is_within_cycle, room_at, room_for, with_shell, clear};
     ghost use Rattle.object_memory.specs.Objects.{no_objects, with_mark, with_birth_at, with_birth, with_cell, with_slot, monitor_at, with_monitor};
 
-    /// A heap without objects, in a block that holds zeros alone, beside so many literals, which nobody has entered.
+    /// A heap without objects, in a block of which no word is in use, beside that many literals, which nobody has entered.
     ///
     /// The memory of the literals' monitors is taken here, and no other call of a heap takes any. `NoMemory` where there
     /// is none for them; the block is then dropped.
     pub fn new(alloc: Global, block: Block, literals: u32) -> Result<Heap, NoMemory>
-        requires zeros { block ≡ replicate (length block) 0 }
-        requires limit { length block ≤ MOST_WORDS }
-        ensures { IfOk result (λ h. h ≡ no_objects (length block) literals) }
+        requires blank { block ≡ blank (length block.words) }
+        requires limit { length block.words ≤ MOST_WORDS }
+        ensures { IfOk result (λ h. h ≡ no_objects (length block.words) literals) }
     {
         let monitors = vec![in alloc; Monitor::Free; literals as usize]?;
         Ok(Heap {
@@ -375,15 +376,15 @@ impl Heap {
         }
     }
 
-    /// Begins a cycle, with a second block that holds zeros alone and an empty list that has room for every object.
+    /// Begins a cycle, with a second block of which no word is in use, and an empty list that has room for every object.
     pub fn open(&mut self, block: Block, grey: Vec<Addr>)
         requires closed { self.old.spaces.is_open ≡ false }
-        requires zeros { block ≡ replicate (length block) 0 }
-        requires limit { length block ≤ MOST_WORDS }
-        requires long { self.old.spaces.old.words ≤ length block }
+        requires blank { block ≡ blank (length block.words) }
+        requires limit { length block.words ≤ MOST_WORDS }
+        requires long { self.old.spaces.old.words ≤ length block.words }
         requires empty { grey.items ≡ [] }
         requires room { self.old.spaces.old.words ≤ 3 * vec_capacity grey + 2 }
-        ensures { self.new ≡ record self.old { spaces = opened self.old.spaces (length block) } }
+        ensures { self.new ≡ record self.old { spaces = opened self.old.spaces (length block.words) } }
     {
         let start = self.from.other_start();
         self.cycle = Some(Cycle {
@@ -393,12 +394,12 @@ impl Heap {
         });
     }
 
-    /// Ends a cycle: the new block is the only one. The old block, all zero, and the grey list, empty, are handed out: the next
-    /// cycle can be opened with them.
+    /// Ends a cycle: the new block is the only one. The old block, with no word in use, and the grey list, empty, are handed out: the
+    /// next cycle can be opened with them.
     pub fn close(&mut self) -> (Block, Vec<Addr>)
         requires { self.old.spaces.is_open ≡ true }
         ensures heap { self.new ≡ record self.old { spaces = closed self.old.spaces } }
-        ensures block { result.0 ≡ replicate self.old.spaces.old.words 0 }
+        ensures block { result.0 ≡ blank self.old.spaces.old.words }
         ensures grey { result.1.items ≡ [] }
     {
         match self.cycle.take() {

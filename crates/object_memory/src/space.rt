@@ -3,7 +3,8 @@
 ghost use Rattle.cil_model.specs.declared.limits.TheConstants.{MOST_WORDS};
 ghost use Rattle.object_memory.specs.Cells.{first, size, free_words, used_words, begins_behind, cell_in, slots_in, change_in, new_cell, with_last, next_address, store_slot, store_monitor, store_copies};
 ghost use Rattle.object_memory.specs.Spaces.{second, other_start, IsPlace};
-ghost use Rattle.std.specs.Prelude.{◌≡◌, ◌⊎◌, ℕ, ◌+◌, ◌<◌, ◌≤◌, length, replicate, slice_index, [], true, Some, IsSome, option_map};
+ghost use Rattle.space_block.specs.Rows.{blank};
+ghost use Rattle.std.specs.Prelude.{◌≡◌, ◌⊎◌, ℕ, ◌+◌, ◌<◌, ◌≤◌, length, slice_index, [], true, Some, IsSome, option_map};
 
 use crate::addresses::Addr;
 use crate::copies::Copies;
@@ -31,7 +32,6 @@ const SECOND: u32 = 1_048_577;
 #[derive(Drop)]
 pub(crate) struct Space {
     block: Block,
-    used: usize,
     start: u32,
 }
 
@@ -44,32 +44,28 @@ impl Model for Space {
 
     ghost Value = { Cells };
 
-    ghost view = { λ s. record { start = s.start; cells = cells_of (take s.used s.block); words = length s.block } };
+    ghost view = { λ s. record { start = s.start; cells = cells_of (take s.block.used s.block.words); words = length s.block.words } };
 
-    ghost invariant = { λ s. (length s.block ≤ MOST_WORDS) × IsLaid s.block s.used × ((s.start ≡ first) ⊎ (s.start ≡ second)) };
+    ghost invariant = { λ s. (length s.block.words ≤ MOST_WORDS) × IsLaid s.block.words s.block.used × ((s.start ≡ first) ⊎ (s.start ≡ second)) };
 }
 
 impl Space {
-    /// A block of zeros without objects, whose first one will have this address.
+    /// A block without objects, whose first one will have this address.
     pub(crate) fn new(block: Block, start: u32) -> Space
-        requires zeros { block ≡ replicate (length block) 0 }
-        requires limit { length block ≤ MOST_WORDS }
+        requires blank { block ≡ blank (length block.words) }
+        requires limit { length block.words ≤ MOST_WORDS }
         requires start { (start ≡ first) ⊎ (start ≡ second) }
-        ensures { result ≡ record { start = start; cells = []; words = length block } }
+        ensures { result ≡ record { start = start; cells = []; words = length block.words } }
     {
-        Space {
-            block,
-            used: 0,
-            start,
-        }
+        Space { block, start }
     }
 
-    /// The block, all of whose words are set to 0. That takes time for the words of the objects alone, since the others are 0.
+    /// The block, of which no word is in use.
     pub(crate) fn into_block(self) -> Block
-        ensures { result ≡ replicate self.words 0 }
+        ensures { result ≡ blank self.words }
     {
         let mut block = self.block;
-        block.zero(0, self.used);
+        block.reset();
         block
     }
 
@@ -86,7 +82,7 @@ impl Space {
         ensures free { result ≡ free_words self.now }
         ensures few { result ≤ MOST_WORDS }
     {
-        self.block.len() - self.used
+        self.block.len() - self.block.used()
     }
 
     /// The words that objects take, their headers counted.
@@ -94,7 +90,7 @@ impl Space {
         ensures used { result ≡ used_words self.now.cells }
         ensures few { result ≤ MOST_WORDS }
     {
-        self.used
+        self.block.used()
     }
 
     /// Makes an object with so many slots, which all hold 0 or null, at the front of what is free, and answers its
@@ -105,9 +101,9 @@ impl Space {
         ensures address { result ≡ next_address self.old }
     {
         let size = HEADER_WORDS + slots as usize;
-        let place = self.used;
+        let place = self.block.used();
+        self.block.extend(size);
         self.block.write(place, kind.header(slots));
-        self.used = place + size;
         Addr {
             number: place as u32 + self.start,
         }
@@ -126,7 +122,7 @@ impl Space {
         requires { IsPlace self.now (self.now.start + place) }
         ensures { result ≡ begins_behind self.now place }
     {
-        if place as usize == self.used {
+        if place as usize == self.block.used() {
             return None;
         }
         Some(Addr {

@@ -1,44 +1,16 @@
--- Places that all hold words are the words' list, after a store and after a range is cleared.
-use Rattle.std.proofs.Common.{◌≡◌, ℕ, zero, suc, ◌+◌, ◌-◌, ◌<◌, ◌≤◌, List, [], ◌∷◌, ◌++◌, length, take, drop, set, get_or, replicate, refl, sym, ap, ◌∙◌, arith, length-append, append_assoc, append-nil}
+-- Places whose first ones hold words are a row of words, after a store and after more words come into use.
+use Rattle.std.proofs.Common.{◌≡◌, ℕ, zero, suc, ◌+◌, ◌-◌, ◌<◌, ◌≤◌, List, [], ◌∷◌, ◌++◌, length, take, drop, set, get_or, replicate, refl, sym, ap, ap₂, ◌∙◌, arith, length-append, append_assoc, append-nil}
 use Rattle.std.specs.Prelude.{Option, Some, None, map}
-use Rattle.std.proofs.lemmas.List.{length-map, map-set, get_or-map, map-append, set-append_right, length-take-le, length-drop, length-replicate, replicate_more, take-append-drop, drop-replicate}
+use Rattle.std.proofs.Math.ListN.{length-set}
+use Rattle.std.proofs.Math.Seq.{take-set-lt, take-append_seam}
+use Rattle.std.proofs.lemmas.List.{length-map, map-set, get_or-map, get_or_append_left, get_or-take, map-append, set-append_left, set-append_right, length-take-le, length-drop, length-replicate, replicate_more, replicate-append-replicate, take-append-drop}
 use lib.Seq.{drop-cons}
-use Rattle.space_block.specs.Written.{written}
+use Rattle.space_block.specs.Rows.{blank}
+use Rattle.space_block.specs.Written.{AreWritten, row_of, written}
 
 pub written_some : (xs : List ℕ) → written (map Some xs) ≡ xs
 written_some [] = refl
 written_some (x ∷ xs) = ap (λ ys. x ∷ ys) (written_some xs)
-
--- places that are these words
-pub record Holds (cs : List (Option ℕ)) (xs : List ℕ) : Type 0 where
-  pub view : written cs ≡ xs
-  pub full : cs ≡ map Some (written cs)
-  pub long : length xs ≡ length cs
-
-pub holds : (cs : List (Option ℕ)) (xs : List ℕ) → cs ≡ map Some xs → Holds cs xs
-holds cs xs e =
-    let view : written cs ≡ xs = ap written e ∙ written_some xs in
-    record { view = view; full = e ∙ ap (map Some) (sym view); long = sym (ap length e ∙ length-map xs Some) }
-
-module _ (cs : List (Option ℕ)) (full : cs ≡ map Some (written cs)) where
-  pub length-written : length (written cs) ≡ length cs
-  length-written = sym (ap length full ∙ length-map (written cs) Some)
-
-  pub read_at : (i : ℕ) → i < length (written cs) → get_or cs i None ≡ Some (get_or (written cs) i 0)
-  read_at i lt = ap (λ ds. get_or ds i None) full ∙ get_or-map Some (written cs) i 0 None lt
-
-  pub stored_at : (i w : ℕ) → Holds (set cs i (Some w)) (set (written cs) i w)
-  stored_at i w = holds (set cs i (Some w)) (set (written cs) i w) (ap (λ ds. set ds i (Some w)) full ∙ sym (map-set Some (written cs) i w))
-
-map-take : (i : ℕ) (xs : List ℕ) → map Some (take i xs) ≡ take i (map Some xs)
-map-take zero xs = refl
-map-take (suc i) [] = refl
-map-take (suc i) (x ∷ xs) = ap (λ ys. Some x ∷ ys) (map-take i xs)
-
-map-drop : (i : ℕ) (xs : List ℕ) → map Some (drop i xs) ≡ drop i (map Some xs)
-map-drop zero xs = refl
-map-drop (suc i) [] = refl
-map-drop (suc i) (x ∷ xs) = map-drop i xs
 
 abbrev zero_words : ℕ → List ℕ
 zero_words n = replicate n 0
@@ -53,18 +25,6 @@ map-zeros (suc n) = ap (λ ys. Some 0 ∷ ys) (map-zeros n)
 -- the places with 0 in those from `from` on and below `to`
 abbrev pub cleared : List (Option ℕ) → ℕ → ℕ → List (Option ℕ)
 cleared cs from to = take from cs ++ zero_places (to - from) ++ drop to cs
-
-pub cleared_words : (cs : List (Option ℕ)) → cs ≡ map Some (written cs) → (from to : ℕ)
-    → Holds (cleared cs from to) (take from (written cs) ++ replicate (to - from) 0 ++ drop to (written cs))
-cleared_words cs full from to =
-    let xs : List ℕ = written cs in let zeros : List ℕ = zero_words (to - from) in
-    holds (cleared cs from to) (take from xs ++ zeros ++ drop to xs)
-    (ap (λ ds. cleared ds from to) full
-    ∙ ap (λ ds. take from (map Some xs) ++ ds ++ drop to (map Some xs)) (sym (map-zeros (to - from)))
-    ∙ ap (λ ds. take from (map Some xs) ++ map Some zeros ++ ds) (sym (map-drop to xs))
-    ∙ ap (λ ds. ds ++ map Some zeros ++ map Some (drop to xs)) (sym (map-take from xs))
-    ∙ ap (λ ds. ds ++ map Some (drop to xs)) (sym (map-append Some (take from xs) zeros))
-    ∙ sym (map-append Some (take from xs ++ zeros) (drop to xs)))
 
 -- a range without places
 pub cleared_none : (cs : List (Option ℕ)) (from : ℕ) → cs ≡ cleared cs from from
@@ -92,20 +52,6 @@ cleared_more cs from i le lt =
     ∙ ap (λ ds. front ++ ds ++ drop (i + 1) cs) (replicate_more (i - from) (Some 0))
     ∙ ap (λ k. front ++ zero_places k ++ drop (i + 1) cs) next
 
--- all places of a new block
-pub cleared_new : (n : ℕ) → Holds (cleared (replicate n None) 0 n) (zero_words n)
-cleared_new n =
-    let all : n - 0 ≡ n = omega arith in
-    let none : n - n ≡ 0 = omega arith in
-    holds (cleared (replicate n None) 0 n) (zero_words n)
-    (ap (λ k. zero_places k ++ drop n (replicate n None)) all
-    ∙ ap (λ ds. zero_places n ++ ds) (drop-replicate n n None ∙ ap (λ k. replicate k None) none)
-    ∙ append-nil (zero_places n)
-    ∙ sym (map-zeros n))
-
-pub length-zero_words : (n : ℕ) → length (zero_words n) ≡ n
-length-zero_words n = length-replicate {A = ℕ} n 0
-
 pub length-cleared : (cs : List (Option ℕ)) (from to : ℕ) → from ≤ to → to ≤ length cs → length (cleared cs from to) ≡ length cs
 length-cleared cs from to le inside =
     let front = take from cs in let zeros : List (Option ℕ) = zero_places (to - from) in
@@ -119,3 +65,74 @@ length-cleared cs from to le inside =
       length-replicate {A = Option ℕ} (to - from) (Some 0),
       length-drop to cs,
     )
+
+-- places of which the first are these words
+pub record Holds (cs : List (Option ℕ)) (used : ℕ) (xs : List ℕ) : Type 0 where
+  pub view : written (take used cs) ≡ xs
+  pub full : AreWritten cs used
+
+pub holds : (cs : List (Option ℕ)) (used : ℕ) (xs : List ℕ) → take used cs ≡ map Some xs → Holds cs used xs
+holds cs used xs e =
+    let view : written (take used cs) ≡ xs = ap written e ∙ written_some xs in
+    record { view = view; full = e ∙ ap (map Some) (sym view) }
+
+module _ (cs : List (Option ℕ)) (used : ℕ) (full : AreWritten cs used) (inside : used ≤ length cs) where
+  pub length-front : length (written (take used cs)) ≡ used
+  length-front = sym (length-map (written (take used cs)) Some) ∙ sym (ap length full) ∙ length-take-le used cs inside
+
+  pub length-row : length (row_of cs used).words ≡ length cs
+  length-row =
+      omega (arith, inside, length-append (written (take used cs)) (replicate (length cs - used) 0), length-front, length-replicate {A = ℕ} (length cs - used) 0)
+
+  pub read_at : (i : ℕ) → i < used → get_or cs i None ≡ Some (get_or (row_of cs used).words i 0)
+  read_at i lt =
+      sym (get_or-take used cs i None lt)
+      ∙ ap (λ ds. get_or ds i None) full
+      ∙ get_or-map Some (written (take used cs)) i 0 None (omega (arith, lt, length-front))
+      ∙ ap Some (sym (get_or_append_left (written (take used cs)) (replicate (length cs - used) 0) 0 i (omega (arith, lt, length-front))))
+
+  pub stored_at : (i w : ℕ) → i < used → Holds (set cs i (Some w)) used (set (written (take used cs)) i w)
+  stored_at i w lt =
+      holds (set cs i (Some w)) used (set (written (take used cs)) i w)
+      (take-set-lt used cs i (Some w) lt ∙ ap (λ ds. set ds i (Some w)) full ∙ sym (map-set Some (written (take used cs)) i w))
+
+  pub stored_row : (i w : ℕ) → i < used → row_of (set cs i (Some w)) used ≡ record { words = set (row_of cs used).words i w; used = used }
+  stored_row i w lt =
+      ap₂ (λ (xs : List ℕ) (k : ℕ). record { words = xs ++ replicate (k - used) 0; used = used }) (stored_at i w lt).view (length-set cs i (Some w))
+      ∙ ap (λ (xs : List ℕ). record { words = xs; used = used })
+      (sym (set-append_left (written (take used cs)) (replicate (length cs - used) 0) i w (omega (arith, lt, length-front))))
+
+  -- the next places come into use
+  module _ (m : ℕ) (more : used ≤ m) (within : m ≤ length cs) where
+    long : length (take used cs ++ zero_places (m - used)) ≡ m
+    long =
+        omega (
+          arith,
+          more,
+          within,
+          length-append (take used cs) (zero_places (m - used)),
+          length-take-le used cs inside,
+          length-replicate {A = Option ℕ} (m - used) (Some 0),
+        )
+
+    pub extended : Holds (cleared cs used m) m (written (take used cs) ++ zero_words (m - used))
+    extended =
+        holds (cleared cs used m) m (written (take used cs) ++ zero_words (m - used))
+        (ap (λ k. take k (cleared cs used m)) (sym long)
+        ∙ take-append_seam (take used cs ++ zero_places (m - used)) (drop m cs)
+        ∙ ap (λ ds. ds ++ zero_places (m - used)) full
+        ∙ ap (λ ds. map Some (written (take used cs)) ++ ds) (sym (map-zeros (m - used)))
+        ∙ sym (map-append Some (written (take used cs)) (zero_words (m - used))))
+
+    pub extended_row : row_of (cleared cs used m) m ≡ record { words = (row_of cs used).words; used = m }
+    extended_row =
+        let rest : (m - used) + (length cs - m) ≡ length cs - used = omega (arith, more, within) in
+        ap₂ (λ (xs : List ℕ) (k : ℕ). record { words = xs ++ zero_words (k - m); used = m }) extended.view (length-cleared cs used m more within)
+        ∙ ap (λ (xs : List ℕ). record { words = xs; used = m })
+        (append_assoc (written (take used cs)) (zero_words (m - used)) (zero_words (length cs - m))
+        ∙ ap (λ xs. written (take used cs) ++ xs) (replicate-append-replicate (m - used) (length cs - m) 0)
+        ∙ ap (λ k. written (take used cs) ++ zero_words k) rest)
+
+-- no place is in use
+pub blank_row : (cs : List (Option ℕ)) → row_of cs 0 ≡ blank (length cs)
+blank_row cs = let none : length cs - 0 ≡ length cs = omega arith in ap blank none

@@ -1,9 +1,10 @@
-//! Blocks of raw memory: words of 64 bits in a row, zero at first.
+//! Blocks of raw memory: words of 64 bits in a row. A word is cleared as it comes into use, so a block costs what is used of it.
 //! Four functions follow a pointer. Each is proved by hand against what its caller owns, so no word outside a held block is read or written, and
 //! none after the block was given back.
 #![tactic(auto)]
 
-ghost use Rattle.std.specs.Prelude.{◌≡◌, ◌<◌, ◌≤◌, ◌-◌, ◌++◌, replicate, take, drop, length, slice_index, slice_set, IfOk};
+ghost use Rattle.std.specs.Prelude.{◌≡◌, ◌+◌, ◌<◌, ◌≤◌, length, slice_index, slice_set, IfOk};
+ghost use Rattle.space_block.specs.Rows.{blank};
 
 mod words;
 
@@ -14,24 +15,27 @@ use std::marker::Model;
 /// No block has more words, since their bytes fit an `isize`.
 const MOST_WORDS: usize = 1_152_921_504_606_846_975;
 
-/// Words that are held until the block is dropped. Contracts see the list of them, and their number never changes.
+/// Words that are held until the block is dropped, the first of which are in use. Contracts see the words, of which those that are not in use
+/// are 0, and how many are in use. The number of words never changes.
 pub struct Block {
     front: Front,
     count: usize,
+    used: usize,
     words: Words,
     lease: Lease<Global>,
     alloc: Global,
 }
 
 impl Model for Block {
-    ghost use Rattle.std.specs.Prelude.{ℕ, List, ◌≡◌, length, map, Some};
-    ghost use Rattle.space_block.specs.Written.{written};
+    ghost use Rattle.std.specs.Prelude.{◌≡◌, ◌≤◌, length};
+    ghost use Rattle.space_block.specs.Rows.{Row};
+    ghost use Rattle.space_block.specs.Written.{AreWritten, row_of};
 
-    ghost Value = { List ℕ };
+    ghost Value = { Row };
 
-    ghost view = { λ b. written b.words.places };
+    ghost view = { λ b. row_of b.words.places b.used };
 
-    ghost invariant = { λ b. (b.words.at ≡ b.front.start) × (b.words.places ≡ map Some (written b.words.places)) × (b.count ≡ length b.words.places)
+    ghost invariant = { λ b. (b.words.at ≡ b.front.start) × AreWritten b.words.places b.used × (b.used ≤ b.count) × (b.count ≡ length b.words.places)
         × (b.lease.at ≡ b.front.start) × (b.lease.count ≡ b.count) × (b.lease.alloc ≡ b.alloc) };
 }
 
@@ -41,6 +45,7 @@ impl Drop for Block {
         let Block {
             front,
             count,
+            used: _used,
             words,
             lease,
             alloc,
@@ -50,53 +55,68 @@ impl Drop for Block {
 }
 
 impl Block {
-    /// Takes a block of that many words, all zero. `AllocError` where there is no memory for it; nothing is taken then.
+    /// Takes a block of that many words, of which none is in use. `AllocError` where there is no memory for it; nothing is taken then.
     pub fn new(alloc: Global, words: usize) -> Result<Block, AllocError>
-        ensures { IfOk result (λ b. b ≡ replicate words 0) }
+        ensures { IfOk result (λ b. b ≡ blank words) }
     {
         if words > MOST_WORDS {
             return Err(AllocError);
         }
-        let (front, mut held, lease) = take(&alloc, words)?;
-        held.clear(front, 0, words);
+        let (front, held, lease) = take(&alloc, words)?;
         Ok(Block {
             front,
             count: words,
+            used: 0,
             words: held,
             lease,
             alloc,
         })
     }
 
-    /// How many words it has.
+    /// The number of its words.
     pub fn len(&self) -> usize
-        ensures { result ≡ length self.now }
+        ensures { result ≡ length self.now.words }
     {
         self.count
     }
 
-    /// The word at a place. Places count from 0.
-    pub fn read(&self, place: usize) -> u64
-        requires { place < length self.now }
-        ensures { result ≡ slice_index self.now place }
+    /// The number of its words in use.
+    pub fn used(&self) -> usize
+        ensures { result ≡ self.now.used }
     {
-        self.words.read(self.front, place)
+        self.used
     }
 
-    /// Stores a word at a place. All other words stay.
-    pub fn write(&mut self, place: usize, word: u64)
-        requires { place < length self.old }
-        ensures { self.new ≡ slice_set self.old place word }
+    /// The word at an index, which counts from 0. The word is in use.
+    pub fn read(&self, index: usize) -> u64
+        requires { index < self.now.used }
+        ensures { result ≡ slice_index self.now.words index }
     {
-        self.words.write(self.front, place, word);
+        self.words.read(self.front, index)
     }
 
-    /// Stores 0 in each place from `from` on and below `to`. All other words stay.
-    pub fn zero(&mut self, from: usize, to: usize)
-        requires order { from ≤ to }
-        requires inside { to ≤ length self.old }
-        ensures { self.new ≡ take from self.old ++ replicate (to - from) 0 ++ drop to self.old }
+    /// Stores a word at an index. The word there is in use. All other words stay.
+    pub fn write(&mut self, index: usize, word: u64)
+        requires { index < self.old.used }
+        ensures { self.new ≡ record self.old { words = slice_set self.old.words index word } }
     {
-        self.words.clear(self.front, from, to);
+        self.words.write(self.front, index, word);
+    }
+
+    /// Brings the next `count` words into use, all of them 0. That takes time for these words alone.
+    pub fn extend(&mut self, count: usize)
+        requires { self.old.used + count ≤ length self.old.words }
+        ensures { self.new ≡ record self.old { used = self.old.used + count } }
+    {
+        let end = self.used + count;
+        self.words.clear(self.front, self.used, end);
+        self.used = end;
+    }
+
+    /// Takes all words out of use. That takes the same short time for every block.
+    pub fn reset(&mut self)
+        ensures { self.new ≡ blank (length self.old.words) }
+    {
+        self.used = 0;
     }
 }

@@ -1,15 +1,19 @@
-use Rattle.std.proofs.Common.{sym}
+use Rattle.std.proofs.Common.{◌≤◌, sym, arith, length}
 use Rattle.space_block.proofs.Written.{read_at}
 use Rattle.space_block.proofs.Block.read.Goals as goal
 
 pub read-requires : goal.read-requires
 read-requires c =
+    let inv = c.self.invariant in let old = c.self.inside.words.places in let used = c.self.inside.used in
+    let inside : used ≤ length old = omega (arith, inv.2, inv.3) in
     let given = rw (← c.self.view_is) at c.requires in
-    (sym c.self.invariant.0, (_, read_at c.self.inside.words.places c.self.invariant.1 c.args.place given))
+    (sym inv.0, (_, read_at old used inv.1 inside c.args.index given))
 
 pub returns : goal.returns
 returns c =
+    let inv = c.self.invariant in let old = c.self.inside.words.places in let used = c.self.inside.used in
+    let inside : used ≤ length old = omega (arith, inv.2, inv.3) in
     let given = rw (← c.self.view_is) at c.requires in
-    let here = read_at c.self.inside.words.places c.self.invariant.1 c.args.place given in
+    let here = read_at old used inv.1 inside c.args.index given in
     let told = c.read.ensures in
     rw (← c.self.view_is) cc

@@ -4,16 +4,16 @@ use Rattle.object_memory.proofs.Heaps.{shown}
 use Rattle.object_memory.proofs.Places.{begins_here, begins_last, place-le-end}
 use Rattle.object_memory.proofs.space.Space.at.Goals as goal
 
-pub returns-then-place-self : goal.returns-then-place-self
-returns-then-place-self c =
+pub returns-then-place-used : goal.returns-then-place-used
+returns-then-place-used c =
     rw (← c.self.view_is)
-    (sym (begins_last (shown c.self.inside.start c.self.inside.block c.self.inside.used) c.args.place (c.if-place-self.true ∙ sym (used_words_held c.self.inside.block c.self.inside.used c.self.invariant.1))))
+    (sym (begins_last (shown c.self.inside.start c.self.inside.block.words c.self.inside.block.used) c.args.place (c.if-place-used.true ∙ c.used.ensures ∙ sym (used_words_held c.self.inside.block.words c.self.inside.block.used c.self.invariant.1))))
 
 pub overflow_add-result : goal.overflow_add-result
 overflow_add-result c =
     let given = rw (← c.self.view_is) at c.requires in
-    let last = place-le-end (shown c.self.inside.start c.self.inside.block c.self.inside.used) (c.self.inside.start + c.args.place) given in
-    let held = used_words_held c.self.inside.block c.self.inside.used c.self.invariant.1 in
+    let last = place-le-end (shown c.self.inside.start c.self.inside.block.words c.self.inside.block.used) (c.self.inside.start + c.args.place) given in
+    let held = used_words_held c.self.inside.block.words c.self.inside.block.used c.self.invariant.1 in
     elim c.self.invariant.2 [
       | inl start ↦ record { fits = omega (arith, start, last.1, held, c.self.invariant.0, c.self.invariant.1.inside) }
       | inr start ↦ record { fits = omega (arith, start, last.1, held, c.self.invariant.0, c.self.invariant.1.inside) }
@@ -22,7 +22,7 @@ overflow_add-result c =
 pub returns : goal.returns
 returns c =
     let given = rw (← c.self.view_is) at c.requires in
-    let held = used_words_held c.self.inside.block c.self.inside.used c.self.invariant.1 in
-    let more = c.if-place-self.false in
+    let held = used_words_held c.self.inside.block.words c.self.inside.block.used c.self.invariant.1 in
+    let more = c.if-place-used.false in
     rw (← c.self.view_is)
-    (sym (begins_here (shown c.self.inside.start c.self.inside.block c.self.inside.used) c.args.place given (λ e. more (e ∙ held))))
+    (sym (begins_here (shown c.self.inside.start c.self.inside.block.words c.self.inside.block.used) c.args.place given (λ e. more (e ∙ held ∙ sym c.used.ensures))))
