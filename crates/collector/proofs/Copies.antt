@@ -1,6 +1,6 @@
 -- The work of Copy keeps the heap sound: a word of an object is copied, and at the end of it each object with two copies has all its words in both.
 use Rattle.std.proofs.Common.{◌≡◌, ◌≢◌, ◌⊎◌, inl, inr, ℕ, zero, suc, ◌+◌, ◌-◌, ◌<◌, ◌≤◌, Bool, true, false, length, refl, sym, ap, subst, ◌∙◌, arith}
-use Rattle.std.specs.Prelude.{◌==◌, ◌||◌, nat_lt, if◌then◌else◌, is_some, Option, Some, None, slice_get}
+use Rattle.std.specs.Prelude.{◌==◌, ◌||◌, nat_lt, if◌then◌else◌, is_some, Option, Some, None}
 use Rattle.std.proofs.lemmas.Bool.{or_left}
 use Rattle.std.proofs.lemmas.Bool.Decides.{nat_tests}
 use Rattle.std.proofs.lemmas.Option.{same_Some}
@@ -17,8 +17,8 @@ use Rattle.collector.specs.References.{SlotsPass, holds_reference, reference_in}
 use Rattle.collector.specs.Attempts.{has_loaded, most_spent, no_attempt, spent, stage_number, with_loaded}
 use Rattle.collector.specs.Marking.{word_of}
 use Rattle.collector.specs.Phases.{HasCopied, is_live, is_marked_old, is_new, is_new_address, no_progress}
-use Rattle.collector.specs.Soundness.{AreBlocks, AreCopies, AreCopied, HasPlace, HasStored, IsCopiedWord, IsInCopy, IsLoaded, IsSoundHeap, copied_word}
-use Rattle.collector.specs.Copying.{before_word, behind_word, copied_at, copied_on, object_copied, word_begun, word_checked, word_step, word_stored}
+use Rattle.collector.specs.Soundness.{AreBlocks, AreCopies, AreCopied, HasPlace, IsCopiedWord, IsInCopy, IsLoaded, IsSoundHeap, copied_word}
+use Rattle.collector.specs.Copying.{before_word, behind_word, copied_at, copied_on, object_copied, word_step, word_stored}
 use Rattle.collector.specs.declared.progress.Attempt.{Attempt}
 use Rattle.collector.specs.declared.progress.Progress.{Progress}
 use Rattle.collector.specs.declared.progress.Stage.{Stage}

@@ -1,7 +1,6 @@
 -- What a step of Copy needs of the heap at the object that it finds, and what it comes to where a loaded word is stored.
 use Rattle.std.proofs.Common.{◌≡◌, ℕ, suc, ◌+◌, ◌-◌, ◌<◌, ◌≤◌, Bool, true, length, refl, sym, ap, ◌∙◌, arith}
 use Rattle.std.specs.Prelude.{IsSome, is_some, Option, Some, None, option_map}
-use Rattle.std.proofs.lemmas.Option.{same_Some}
 use Rattle.cil_model.specs.declared.phases.Phase.TheVariants.{Copy}
 use Rattle.cil_model.specs.declared.trees.Tree.{Tree}
 use Rattle.class_layout.specs.Laid.{IsLayout}
@@ -15,9 +14,8 @@ use Rattle.collector.specs.References.{reference_in}
 use Rattle.collector.specs.Phases.{is_live}
 use Rattle.collector.specs.Soundness.{AreCopies, IsSoundHeap}
 use Rattle.collector.specs.Conditions.{IsForwardable, IsReadable, found_at}
-use Rattle.collector.specs.Attempts.{spent, stage_number}
+use Rattle.collector.specs.Attempts.{stage_number}
 use Rattle.collector.specs.Copying.{before_word, copied_on, word_step, word_stored}
-use Rattle.collector.specs.declared.progress.Attempt.{Attempt}
 use Rattle.collector.specs.declared.progress.Progress.{Progress}
 use Rattle.collector.specs.declared.progress.Stage.{Stage}
 use Rattle.collector.specs.declared.progress.Stage.TheVariants.{Loaded, Stored}

@@ -50,28 +50,25 @@ pub fn copy_step(progress: &mut Progress, heap: &mut Heap, layout: &Layout) -> b
     requires { IsSoundFor layout.now Copy progress.old heap.old }
     ensures { (tree : Tree) → IsLayout tree layout.now → (progress.new, heap.new, result) ≡ copied_on tree progress.old heap.old }
 {
-    let Some(next) = next_copied(heap, progress.place) else {
-        return false;
-    };
-    let Some(copy) = heap.other(next.object) else {
+    let Some(twin) = next_copied(heap, progress.place) else {
         return false;
     };
     match progress.attempt.stage {
-        Stage::Begins => begin_word(progress, heap, layout, next, copy),
+        Stage::Begins => begin_word(progress, heap, layout, twin.found, twin.copy),
         Stage::Loaded => {
             let attempt = progress.attempt;
             store_word(
                 heap,
                 layout,
-                next.object,
-                copy,
+                twin.found.object,
+                twin.copy,
                 progress.copied_words,
                 attempt,
             );
-            progress.place = next.place;
+            progress.place = twin.found.place;
             progress.attempt.stage = Stage::Stored;
         }
-        Stage::Stored => check_word(progress, heap, next),
+        Stage::Stored => check_word(progress, heap, twin.found),
     }
     true
 }

@@ -1,6 +1,7 @@
 //! The work of HeapFlip and of Reclaim: static fields get forwards, and the new block becomes the only one.
 
-ghost use Rattle.std.specs.Prelude.{◌≡◌, ◌<◌, ◌^◌, [], true, length, replicate};
+ghost use Rattle.std.specs.Prelude.{◌≡◌, ◌<◌, ◌^◌, [], true, length};
+ghost use Rattle.space_block.specs.Rows.{blank};
 ghost use Rattle.cil_model.specs.declared.phases.Phase.TheVariants.{Reclaim};
 ghost use Rattle.collector.specs.Conditions.{AreThere, IsSoundIn};
 ghost use Rattle.collector.specs.Flips.{cleared_on, flipped_on, retired};
@@ -41,12 +42,12 @@ pub fn clear_step(progress: &mut Progress, heap: &mut Heap) -> bool
     true
 }
 
-/// Retires the old block: the new one is the only one, and the cycle is over. The old block, all zero, and the empty grey list are handed
-/// out.
+/// Retires the old block: the new one is the only one, and the cycle is over. The old block, with no word in use, and the empty
+/// grey list are handed out.
 pub fn retire(heap: &mut Heap) -> (Block, Vec<Addr>)
     requires { heap.old.spaces.is_open ≡ true }
     ensures heap { heap.new ≡ retired heap.old }
-    ensures block { result.0 ≡ replicate heap.old.spaces.old.words 0 }
+    ensures block { result.0 ≡ blank heap.old.spaces.old.words }
     ensures grey { result.1.items ≡ [] }
 {
     heap.close()

@@ -2,7 +2,7 @@
 
 ghost use Rattle.std.specs.Prelude.{◌≡◌, ◌+◌, Some, IfSome, IsSome, option_map};
 ghost use Rattle.object_memory.specs.Cells.{Cell, cell_in};
-ghost use Rattle.object_memory.specs.Spaces.{AreSpaces, IsPlace, found_in, has_other, is_noted};
+ghost use Rattle.object_memory.specs.Spaces.{AreSpaces, IsPlace, cell_at, found_in, has_other, is_noted};
 ghost use Rattle.collector.specs.Conditions.{found_at};
 
 use object_memory::{Addr, Heap};
@@ -14,17 +14,26 @@ pub(crate) struct Found {
     pub object: Addr,
 }
 
-/// The first object of the old block that has another copy, at a place or behind it.
-pub(crate) fn next_copied(heap: &Heap, place: u32) -> Option<Found>
+/// An old object with two copies, and the address of the new one.
+#[derive(Clone, Copy)]
+pub(crate) struct Twin {
+    pub found: Found,
+    pub copy: Addr,
+}
+
+/// The first object of the old block that has another copy, at a place or after it.
+pub(crate) fn next_copied(heap: &Heap, place: u32) -> Option<Twin>
     requires spaces { AreSpaces heap.now.spaces }
     requires place { IsPlace heap.now.spaces.old (heap.now.spaces.old.start + place) }
-    ensures found { result ≡ option_map (found_at heap.now.spaces.old) (found_in has_other heap.now.spaces.old (heap.now.spaces.old.start + place)) }
-    ensures there { IfSome result (λ f. IsSome (cell_in heap.now.spaces.old f.object)) }
+    ensures found { option_map (λ t. t.found) result ≡ option_map (found_at heap.now.spaces.old) (found_in has_other heap.now.spaces.old (heap.now.spaces.old.start + place)) }
+    ensures there { IfSome result (λ t. IsSome (cell_in heap.now.spaces.old t.found.object)) }
+    ensures copy { IfSome result (λ t. option_map (λ c. c.other) (cell_at heap.now.spaces t.found.object) ≡ Some (Some t.copy)) }
 {
     let mut at = place;
     while let Some(object) = heap.old_at(at) {
-        if heap.other(object).is_some() {
-            return Some(Found { place: at, object });
+        if let Some(copy) = heap.other(object) {
+            let found = Found { place: at, object };
+            return Some(Twin { found, copy });
         }
         at += heap.size(object);
     }

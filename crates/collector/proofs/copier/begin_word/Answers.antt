@@ -1,9 +1,6 @@
-use Rattle.std.proofs.Common.{◌≡◌, ◌-◌, true, ap, sym, subst, ◌∙◌}
-use Rattle.object_memory.specs.Objects.{Objects}
+use Rattle.std.proofs.Common.{◌≡◌, true, ap, sym, subst, ◌∙◌}
 use Rattle.object_memory.specs.Spaces.{is_there}
 use Rattle.collector.specs.References.{reference_in}
-use Rattle.collector.specs.declared.progress.Attempt.{Attempt}
-use Rattle.collector.specs.declared.progress.Progress.{Progress}
 use Rattle.collector.specs.declared.walks.Found.{Found}
 use Rattle.collector.proofs.Copied.{begun_loads, begun_stores, loaded_word}
 use Rattle.collector.proofs.copier.begin_word.Goals as goal

@@ -7,12 +7,12 @@ use Rattle.collector.proofs.Reading.{begun, ends_below, told, walk_fits}
 use Rattle.collector.proofs.Walked.{found_none, found_now, passed}
 use Rattle.collector.proofs.walks.next_copied.Goals as goal
 
-pub returns-then-is_some-clause-found : goal.returns-then-is_some-clause-found
-returns-then-is_some-clause-found c =
+pub returns-in-Some-other-clause-found : goal.returns-in-Some-other-clause-found
+returns-in-Some-other-clause-found c =
     let m = c.args.heap.now.spaces in
     let at = begun m.old c.loop-object.at c.in-Some.object (sym c.in-Some.ensures) in
     let other = told (λ (x : Cell). x.other) (cell_at m c.in-Some.object) at.0 c.other.result (old_is_cell m c.in-Some.object at.0 at.1) c.other.ensures in
-    found_now has_other m.old c.args.place c.loop-object.at c.loop-object.invariant c.in-Some.object at.0 at.2 at.1 (ap is_some (sym other) ∙ sym c.is_some.ensures ∙ c.if-is_some.true)
+    found_now has_other m.old c.args.place c.loop-object.at c.loop-object.invariant c.in-Some.object at.0 at.2 at.1 (ap is_some (sym other ∙ c.in-Some-other.is))
 
 pub overflow_add-at : goal.overflow_add-at
 overflow_add-at c =
@@ -35,7 +35,7 @@ loop-object-preserved c =
     let other = told (λ (x : Cell). x.other) (cell_at m c.in-Some.object) at.0 c.other.result (old_is_cell m c.in-Some.object at.0 at.1) c.other.ensures in
     let long = told size (cell_at m c.in-Some.object) at.0 c.size-at.result (old_is_cell m c.in-Some.object at.0 at.1) c.size-at.ensures in
     rw long
-    (passed has_other m.old c.args.place c.loop-object.at c.loop-object.invariant c.in-Some.object at.0 at.2 at.1 (ap is_some (sym other) ∙ sym c.is_some.ensures ∙ c.if-is_some.false))
+    (passed has_other m.old c.args.place c.loop-object.at c.loop-object.invariant c.in-Some.object at.0 at.2 at.1 (ap is_some (sym other ∙ c.in_default-other.is)))
 
 pub returns-clause-found : goal.returns-clause-found
 returns-clause-found c = found_none has_other c.args.heap.now.spaces.old c.args.place c.loop-object.at c.loop-object.invariant (sym c.in_default.ensures)
